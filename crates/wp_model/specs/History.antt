@@ -1,0 +1,31 @@
+-- Legal histories.
+use Rattle.std.specs.Prelude.{◌≡◌, ℕ, ◌+◌, ⊤, List, [], ◌∷◌}
+use Rattle.wp_model.specs.Opening.{Opening}
+use Rattle.wp_model.specs.State.{State, opening_state}
+use Rattle.wp_model.specs.Step.{step}
+use Rattle.wp_model.specs.declared.entry.Entry.{Entry}
+
+-- what a machine has answered, from what it began with
+pub record History : Type 0 where
+  pub opening : Opening
+  pub entries : List Entry
+
+-- the state after entries, from another
+abbrev pub state_from : Opening → State → List Entry → State
+state_from opening state [] = state
+state_from opening state (entry ∷ entries) = state_from opening (step opening state entry.command).state entries
+
+-- the state after a history
+abbrev pub state_after : History → State
+state_after history = state_from history.opening (opening_state history.opening) history.entries
+
+-- each entry has the next number and the reply that its command gets in the state before it
+abbrev pub IsLegalFrom : Opening → ℕ → State → List Entry → Type 0
+IsLegalFrom opening number state [] = ⊤
+IsLegalFrom opening number state (entry ∷ entries) =
+    (entry.number ≡ number) × (entry.reply ≡ (step opening state entry.command).reply)
+    × IsLegalFrom opening (number + 1) (step opening state entry.command).state entries
+
+-- a legal history of its opening
+abbrev pub IsLegal : History → Type 0
+IsLegal history = IsLegalFrom history.opening 0 (opening_state history.opening) history.entries

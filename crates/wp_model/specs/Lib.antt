@@ -1,0 +1,13 @@
+pub mod Name
+pub mod Number
+pub mod Location
+pub mod Journal
+pub mod Opening
+pub mod Sums
+pub mod State
+pub mod Demand
+pub mod Overlap
+pub mod Change
+pub mod Step
+pub mod History
+pub mod Sound

@@ -1,0 +1,28 @@
+-- Locations as tables and commands write them.
+use Rattle.std.specs.Prelude.{ℕ, ◌==◌, Bool, List, [], ◌∷◌, Option, Some, None, option_map, option_and_then, if◌then◌else◌}
+use Rattle.std.specs.List.{before_first, after_first}
+use Rattle.wp_model.specs.Number.{number_of}
+use Rattle.wp_model.specs.declared.location.Side.{Side}
+use Rattle.wp_model.specs.declared.location.Side.TheVariants.{L, R}
+use Rattle.wp_model.specs.declared.location.Location.{Location}
+
+-- the dash between the parts of a location
+abbrev pub is_dash : ℕ → Bool
+is_dash b = b == 45
+
+-- `L` or `R`
+abbrev pub side_of : List ℕ → Option Side
+side_of [] = None
+side_of (b ∷ []) = if b == 76 then Some L else if b == 82 then Some R else None
+side_of (b ∷ c ∷ rest) = None
+
+-- the location whose parts these texts write
+abbrev pub location_from : List ℕ → List ℕ → List ℕ → Option Location
+location_from aisle slot side =
+    option_and_then (λ a. option_and_then (λ s. option_map (λ d. record { aisle = a; slot = s; side = d }) (side_of side)) (number_of 5 slot)) (number_of 5 aisle)
+
+-- the location that a text writes: an aisle, a dash, a slot, a dash and a side
+abbrev pub location_of : List ℕ → Option Location
+location_of text =
+    let rest = after_first is_dash text in
+    location_from (before_first is_dash text) (before_first is_dash rest) (after_first is_dash rest)

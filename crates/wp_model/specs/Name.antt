@@ -1,0 +1,15 @@
+-- Names of waves, orders and articles.
+use Rattle.std.specs.Prelude.{ℕ, ◌-◌, ◌&&◌, ◌||◌, ◌==◌, Bool, nat_le, nat_lt, List, ◌++◌, length, replicate}
+use Rattle.std.specs.List.{list_all}
+
+-- a byte that may stand in a name: an ASCII digit, an ASCII letter, a dash, an underscore or a dot
+abbrev pub is_name_byte : ℕ → Bool
+is_name_byte b = (nat_le 48 b && nat_le b 57) || (nat_le 65 b && nat_le b 90) || (nat_le 97 b && nat_le b 122) || (b == 45) || (b == 95) || (b == 46)
+
+-- a name has 1 to 40 such bytes
+abbrev pub is_name : List ℕ → Bool
+is_name text = nat_lt 0 (length text) && (nat_le (length text) 40 && list_all is_name_byte text)
+
+-- the bytes, and zeros up to 40
+abbrev pub padded_out : List ℕ → List ℕ
+padded_out text = text ++ replicate (40 - length text) 0

@@ -1,0 +1,23 @@
+//! The words in which the whole product speaks of a warehouse: names, locations, commands, replies and lists of
+//! them, and in `specs/` the definitions that contracts cite.
+#![tactic(auto)]
+
+mod command;
+mod entry;
+mod listing;
+mod location;
+mod memory;
+mod name;
+mod number;
+mod reply;
+mod row;
+
+pub use command::Command;
+pub use entry::{Entries, Entry};
+pub use listing::Listing;
+pub use location::{Location, Side};
+pub use memory::Memory;
+pub use name::{LONGEST_NAME, Name, Names};
+pub use number::read_number;
+pub use reply::{Reply, WaveState};
+pub use row::{Line, Row, StockRow};
