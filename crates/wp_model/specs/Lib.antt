@@ -11,3 +11,4 @@ pub mod Change
 pub mod Step
 pub mod History
 pub mod Sound
+pub mod FirstForm

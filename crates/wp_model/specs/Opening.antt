@@ -28,19 +28,29 @@ most_on_hand = 1000000
 abbrev pub most_orders : ℕ
 most_orders = 64
 
+-- the most units that a line may want
+abbrev pub most_quantity : ℕ
+most_quantity = 100000
+
+-- the most lines that an order may have
+abbrev pub most_lines : ℕ
+most_lines = 50
+
 -- a row has an article of the stock, and no more units than a row may have
 pub record IsStockRow (articles : List (List ℕ)) (row : StockRow) : Type 0 where
   pub article : row.article < length articles
   pub on_hand : row.on_hand ≤ most_on_hand
 
--- a line wants at least one unit of an article of the stock
+-- a line wants at least one unit of an article of the stock, and not too many
 pub record IsLine (articles : List (List ℕ)) (line : Line) : Type 0 where
   pub article : line.article < length articles
   pub quantity : 0 < line.quantity
+  pub most : line.quantity ≤ most_quantity
 
--- an order has at least one line
+-- an order has at least one line, and not too many
 pub record IsOrder (articles : List (List ℕ)) (order : Order) : Type 0 where
   pub some : 0 < length order.lines
+  pub most : length order.lines ≤ most_lines
   pub lines : All (IsLine articles) order.lines
 
 -- what every opening that was read keeps

@@ -4,6 +4,7 @@
 
 mod command;
 mod entry;
+mod line;
 mod listing;
 mod location;
 mod memory;
@@ -14,6 +15,7 @@ mod row;
 
 pub use command::Command;
 pub use entry::{Entries, Entry};
+pub use line::{OrderLine, StockLine, Submission};
 pub use listing::Listing;
 pub use location::{Location, Side};
 pub use memory::Memory;

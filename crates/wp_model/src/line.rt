@@ -1,0 +1,25 @@
+use crate::location::Location;
+use crate::name::{Name, Names};
+use crate::row::Line;
+
+/// A line of a stock file: so many units, 0 to 1,000,000, of an article at a location.
+#[derive(Clone, Copy, Debug)]
+pub struct StockLine {
+    pub location: Location,
+    pub article: Name,
+    pub on_hand: u32,
+}
+
+/// A line of an order file: the order's name, and the line.
+#[derive(Clone, Copy, Debug)]
+pub struct OrderLine {
+    pub order: Name,
+    pub line: Line,
+}
+
+/// What a desk of the first form submits and then releases: a wave of 1 to 64 different orders.
+#[derive(Debug, Drop)]
+pub struct Submission {
+    pub wave: Name,
+    pub orders: Names,
+}
