@@ -1,2 +1,5 @@
 pub mod Digits
 pub mod Ascii
+pub mod FirstStock
+pub mod Joins
+pub mod NameEq

@@ -12,3 +12,4 @@ pub mod Step
 pub mod History
 pub mod Sound
 pub mod FirstForm
+pub mod FirstOpening

@@ -1,1 +1,4 @@
 pub mod AllRecords
+pub mod ByPlace
+pub mod ByLocation
+pub mod Joins
