@@ -144,3 +144,18 @@ kept_by_records (fields ∷ records) before stock first e =
 -- the stock with no rows
 pub empty_is_first : IsFirstStock empty_stock
 empty_is_first = record { rows = tt; single = tt; most = lit≤ tt; few = lit≤ tt }
+
+-- an article more needs a row more
+pub few_kept : (stock : Stock) (line : StockLine) → length stock.articles ≤ length stock.rows → length (add_line stock line).articles ≤ length (add_line stock line).rows
+few_kept stock line few =
+    let names = join_longer (is_among stock.articles line.article) stock.articles line.article in
+    omega (arith, names, length_put (row_of (join stock.articles line.article) line) stock.rows)
+  where
+    join_longer : (b : Bool) (names : List (List ℕ)) (name : List ℕ) → length (if b then names else names ++ name ∷ []) ≤ length names + 1
+    join_longer true names name = omega arith
+    join_longer false names name = omega (arith, length-append names (name ∷ []))
+
+-- a line that may join is taken in
+pub taken_in : (stock next : Stock) (fields : List (List ℕ)) (records : List (List (List ℕ))) (line : StockLine)
+    → stock_line fields ≡ Some line → may_join stock line ≡ true → next ≡ add_line stock line → stock_with stock (fields ∷ records) ≡ stock_with next records
+taken_in stock next fields records line read may is = rw (read, may, is) refl

@@ -3,3 +3,4 @@ pub mod Ascii
 pub mod FirstStock
 pub mod Joins
 pub mod NameEq
+pub mod Places

@@ -1,14 +1,15 @@
 -- Names are compared by their padded bytes and their lengths, which says whether they are one list of bytes.
-use Rattle.std.proofs.Common.{◌≡◌, ◌∙◌, refl, sym, ap, ap₂, ℕ, ◌-◌, Bool, true, false, List, [], ◌∷◌, ◌++◌, length, take, eqb, eq-eqb, Decides}
-use Rattle.std.specs.Prelude.{◌&&◌, ◌||◌, if◌then◌else◌, replicate}
-use Rattle.std.specs.List.{list_any, position_or_len}
+use Rattle.std.proofs.Common.{◌≡◌, ◌∙◌, refl, sym, ap, ap₂, ℕ, suc, arith, ◌+◌, ◌-◌, Bool, true, false, List, [], ◌∷◌, ◌++◌, length, take, eqb, eq-eqb, Decides}
+use Rattle.std.specs.Prelude.{◌&&◌, ◌||◌, ◌<◌, Option, Some, None, if◌then◌else◌, nat_lt, not, replicate}
+use Rattle.std.specs.List.{list_any, position, position_or_len}
 use Rattle.std.specs.Str.{bytes_eq}
 use Rattle.std.proofs.Math.Seq.{take-append_seam}
 use Rattle.std.proofs.lemmas.Bool.{eqb-true}
-use Rattle.std.proofs.lemmas.Bool.Decides.{same_from_decides}
+use Rattle.std.proofs.lemmas.Option.{cond_some}
+use Rattle.std.proofs.lemmas.Bool.Decides.{nat_tests, same_from_decides}
 use Rattle.std.proofs.lemmas.Slice.Eq.{bytes_eq-Decides}
 use Rattle.wp_model.specs.Name.{padded_out}
-use Rattle.wp_model.specs.FirstForm.{join, number_among}
+use Rattle.wp_model.specs.FirstForm.{article_in, join, number_among}
 use Rattle.wp_model.specs.Step.{is_among}
 use Rattle.wp_model.specs.contracts.name.NamePartialEq.TheImpl as eq
 
@@ -77,3 +78,38 @@ number_joined name names = number_if (is_among names name) name names
 -- what an insertion into an ordered set does
 pub joins : (name : List ℕ) (names : List (List ℕ)) → (if list_any (name_eq name) names then names else names ++ name ∷ []) ≡ join names name
 joins name names = rw (among_names name names) refl
+
+suc_below : (n m : ℕ) → nat_lt (1 + n) (suc m) ≡ nat_lt n m
+suc_below n m = grind (arith, nat_tests)
+
+zero_below : (m : ℕ) → nat_lt 0 (suc m) ≡ true
+zero_below m = grind (arith, nat_tests)
+
+number_below_if : (b : Bool) (rest len : ℕ) (among : Bool) → nat_lt rest len ≡ among → nat_lt (if not b then 1 + rest else 0) (suc len) ≡ (b || among)
+number_below_if true rest len among e = zero_below len
+number_below_if false rest len among e = suc_below rest len ∙ e
+
+-- a name is among names where its place is below their number
+pub number_below : (name : List ℕ) (names : List (List ℕ)) → nat_lt (number_among names name) (length names) ≡ is_among names name
+number_below name [] = refl
+number_below name (other ∷ names) =
+    rw (← bytes_eq_flips name other) (number_below_if (bytes_eq name other) (number_among names name) (length names) (is_among names name) (number_below name names))
+
+-- what a look-up in an ordered set gives
+pub number_found : (name : List ℕ) (names : List (List ℕ)) → position (name_eq name) names ≡ article_in names name
+number_found name names = rw (number_of_name name names, number_below name names) refl
+
+-- a name that is found is there, at its place
+pub found_there : (name : List ℕ) (names : List (List ℕ)) (i : ℕ) → article_in names name ≡ Some i → (number_among names name ≡ i) × (i < length names) × (is_among names name ≡ true)
+found_there name names i e =
+    let parts = cond_some (is_among names name) (number_among names name) i e in
+    let below : nat_lt (number_among names name) (length names) ≡ true = number_below name names ∙ parts.0 in
+    (parts.1, grind (arith, nat_tests), parts.0)
+
+-- a name that isn't found isn't there
+pub not_there : (name : List ℕ) (names : List (List ℕ)) → article_in names name ≡ None → is_among names name ≡ false
+not_there name names e = not_there_if (is_among names name) (number_among names name) e
+  where
+    not_there_if : (b : Bool) (n : ℕ) → (if b then Some n else None) ≡ None → b ≡ false
+    not_there_if true n e = absurd (cc e)
+    not_there_if false n e = refl

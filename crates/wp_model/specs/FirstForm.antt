@@ -133,7 +133,7 @@ order_line articles [] = None
 order_line articles (a ∷ []) = None
 order_line articles (a ∷ b ∷ []) = None
 order_line articles (order ∷ article ∷ quantity ∷ []) =
-    option_and_then (λ o. option_and_then (λ a. option_map (λ n. record { order = o; line = record { article = a; quantity = n } }) (number_within 1 most_quantity quantity)) (article_in articles article)) (name_in order)
+    option_and_then (λ o. option_and_then (λ a. option_map (λ n. record { order = o; line = record { article = a; quantity = n } }) (number_within 1 most_quantity quantity)) (option_and_then (article_in articles) (name_in article))) (name_in order)
 order_line articles (a ∷ b ∷ c ∷ d ∷ rest) = None
 
 -- the orders with one more line: the last of the order of its name, or the first of a new order, the last of all

@@ -117,7 +117,7 @@ put_by_location cmp agrees row (r ∷ rows) new =
     let before : is_lt o ≡ is_before row.location r.location = before_by_cmp row.location r.location in
     let parts = neither (same_location r.location row.location) (list_any (lies_at row.location) rows) new in
     rw there (put_case o (same_location r.location row.location) (is_before row.location r.location) row r rows ((r.location, row) ∷ by_location rows)
-        (insert_entry cmp (by_location rows) row.location row) same before parts.0 (put_by_location cmp agrees row rows parts.1))
+    (insert_entry cmp (by_location rows) row.location row) same before parts.0 (put_by_location cmp agrees row rows parts.1))
 
 -- the rows of rows by their locations
 pub rows_back : (rows : List StockRow) → map (λ (e : Location × StockRow). e.1) (by_location rows) ≡ rows

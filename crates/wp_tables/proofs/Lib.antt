@@ -1,4 +1,5 @@
 pub mod AllRecords
 pub mod ByPlace
 pub mod ByLocation
-pub mod Joins
+pub mod Headings
+pub mod Parts

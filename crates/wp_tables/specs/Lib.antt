@@ -1,2 +1,4 @@
 pub mod Records
 pub mod Stock
+pub mod Reading
+pub mod Orders

@@ -3,8 +3,10 @@
 
 mod fields;
 mod first;
+mod orders;
 mod records;
 mod stock;
 
 pub use first::FirstFault;
-pub use records::read_records;
+pub use orders::Orders;
+pub use stock::{Stock, read_stock};

@@ -1,0 +1,15 @@
+-- Orders by their names and their lines.
+use Rattle.std.specs.Prelude.{ℕ, List, [], ◌∷◌, Vec}
+use Rattle.std.specs.declared.alloc.Global.{Global}
+use Rattle.wp_model.specs.Opening.{Order}
+use Rattle.wp_model.specs.declared.row.Line.{Line}
+
+-- the orders of these names with these lines, one by one
+abbrev pub orders_of_parts : List (List ℕ) → List (Vec Line Global) → List Order
+orders_of_parts [] lines = []
+orders_of_parts (name ∷ names) [] = []
+orders_of_parts (name ∷ names) (lines ∷ more) = record { name = name; lines = lines.items } ∷ orders_of_parts names more
+
+-- an order's name
+abbrev pub name_of : Order → List ℕ
+name_of order = order.name
