@@ -4,3 +4,7 @@ pub mod FirstStock
 pub mod Joins
 pub mod NameEq
 pub mod Places
+pub mod Sums
+pub mod Overlap
+pub mod Demand
+pub mod Elements

@@ -4,6 +4,7 @@
 
 mod command;
 mod entry;
+mod laws;
 mod line;
 mod listing;
 mod location;
@@ -15,6 +16,7 @@ mod row;
 
 pub use command::Command;
 pub use entry::{Entries, Entry};
+pub use laws::{overlaps_give_each_its_demand, short_articles_are_the_first};
 pub use line::{OrderLine, StockLine, Submission};
 pub use listing::Listing;
 pub use location::{Location, Side};

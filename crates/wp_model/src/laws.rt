@@ -1,0 +1,18 @@
+ghost use Rattle.std.specs.Prelude.{◌≡◌, ℕ, ◌<◌, ◌≤◌, ◌↔◌, List, Option, Some, None, length};
+ghost use Rattle.wp_model.specs.Demand.{IsCovered, free_units, short_article, wave_demand};
+ghost use Rattle.wp_model.specs.Opening.{Opening, IsOpening};
+ghost use Rattle.wp_model.specs.Overlap.{overlap};
+ghost use Rattle.wp_model.specs.Sums.{sum_below};
+ghost use Rattle.wp_model.specs.declared.row.Row.{Row};
+
+/// A law: there is no short article exactly where free stock covers the orders, and it is the first that isn't covered.
+pub fn short_articles_are_the_first()
+    ensures covered { (opening : Opening) (rows : List Row) (orders : List (List ℕ)) (except : Option ℕ) → IsOpening opening → (short_article opening rows orders except ≡ None) ↔ IsCovered opening rows orders except }
+    ensures short { (opening : Opening) (rows : List Row) (orders : List (List ℕ)) (except : Option ℕ) (article : ℕ) → short_article opening rows orders except ≡ Some article → (article < length opening.stock.articles) × (free_units rows article except < wave_demand opening orders article) × ((before : ℕ) → before < article → wave_demand opening orders before ≤ free_units rows before except) }
+{}
+
+/// A law of holding by overlap: where the offers cover the demands each order gets just what it wants, and no row gives more than it offers.
+pub fn overlaps_give_each_its_demand()
+    ensures order { (demand offer : ℕ → ℕ) (orders rows order : ℕ) → sum_below orders demand ≤ sum_below rows offer → order < orders → sum_below rows (overlap demand offer order) ≡ demand order }
+    ensures row { (demand offer : ℕ → ℕ) (orders row : ℕ) → sum_below orders (λ order. overlap demand offer order row) ≤ offer row }
+{}
