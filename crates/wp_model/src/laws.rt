@@ -1,9 +1,21 @@
-ghost use Rattle.std.specs.Prelude.{◌≡◌, ℕ, ◌<◌, ◌≤◌, ◌↔◌, List, Option, Some, None, length};
+ghost use Rattle.std.specs.Prelude.{◌≡◌, ℕ, ◌<◌, ◌≤◌, ◌↔◌, List, Option, Some, None, length, take};
 ghost use Rattle.wp_model.specs.Demand.{IsCovered, free_units, short_article, wave_demand};
+ghost use Rattle.wp_model.specs.History.{History, state_after};
 ghost use Rattle.wp_model.specs.Opening.{Opening, IsOpening};
 ghost use Rattle.wp_model.specs.Overlap.{overlap};
+ghost use Rattle.wp_model.specs.Sound.{IsSound};
+ghost use Rattle.wp_model.specs.State.{State, opening_state};
+ghost use Rattle.wp_model.specs.Step.{step};
 ghost use Rattle.wp_model.specs.Sums.{sum_below};
+ghost use Rattle.wp_model.specs.declared.command.Command.{Command};
 ghost use Rattle.wp_model.specs.declared.row.Row.{Row};
+
+/// A law: the opening state is sound, each command keeps a sound state sound, and so every state of a history is.
+pub fn states_are_sound()
+    ensures opening { (opening : Opening) → IsOpening opening → IsSound opening (opening_state opening) }
+    ensures step { (opening : Opening) (state : State) (command : Command) → IsOpening opening → IsSound opening state → IsSound opening (step opening state command).state }
+    ensures history { (history : History) → IsOpening history.opening → (n : ℕ) → IsSound history.opening (state_after (record history { entries = take n history.entries })) }
+{}
 
 /// A law: there is no short article exactly where free stock covers the orders, and it is the first that isn't covered.
 pub fn short_articles_are_the_first()
