@@ -74,7 +74,7 @@ pub number_within_bounds : (least most : ℕ) (field : List ℕ) (m : ℕ) → n
 number_within_bounds least most field m e =
     option_and_then_some _ (number_of 18 field) m e (λ n found checked. within least most n m checked)
 
-option_map_some : {A B P : Type 0} (o : Option A) (f : A → B) (y : B) → option_map f o ≡ Some y → ((x : A) → o ≡ Some x → f x ≡ y → P) → P
+pub option_map_some : {A B P : Type 0} (o : Option A) (f : A → B) (y : B) → option_map f o ≡ Some y → ((x : A) → o ≡ Some x → f x ≡ y → P) → P
 option_map_some (Some x) f y e k = k x refl (cc e)
 option_map_some None f y e k = absurd (cc e)
 

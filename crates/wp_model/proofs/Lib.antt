@@ -1,6 +1,7 @@
 pub mod Digits
 pub mod Ascii
 pub mod FirstStock
+pub mod FirstOrders
 pub mod Joins
 pub mod NameEq
 pub mod Places

@@ -9,7 +9,7 @@ use Rattle.wp_model.specs.Step.{is_among}
 use Rattle.wp_model.specs.declared.line.OrderLine.{OrderLine}
 use Rattle.wp_model.specs.declared.row.Line.{Line}
 use Rattle.wp_model.proofs.NameEq.{bytes_eq_flips, found_there}
-use Rattle.wp_tables.specs.Orders.{name_of, orders_of_parts}
+use Rattle.wp_tables.specs.Orders.{lines_in, name_of, orders_of_parts}
 
 pub parts_length : (names : List (List ℕ)) (lines : List (Vec Line Global)) → length lines ≡ length names → length (orders_of_parts names lines) ≡ length names
 parts_length [] lines same = refl
@@ -119,3 +119,14 @@ pub item_at : {A : Type 0} (xs : List A) (i : ℕ) (x : A) → i < length xs →
 item_at [] i x below is = absurd (omega arith)
 item_at (y ∷ xs) zero x below is = ap Some (sym is)
 item_at (y ∷ xs) (suc i) x below is = item_at xs i x (omega arith) is
+
+-- the name of the order at a place
+pub name_at : (names : List (List ℕ)) (lines : List (Vec Line Global)) (i : ℕ) (name : List ℕ) → length lines ≡ length names → slice_get names i ≡ Some name → slice_get (map name_of (orders_of_parts names lines)) i ≡ Some name
+name_at names lines i name same at = rw (names_back names lines same) at
+
+-- its lines
+pub lines_at : (names : List (List ℕ)) (lines : List (Vec Line Global)) (i : ℕ) (v : Vec Line Global) → length lines ≡ length names → slice_get lines i ≡ Some v → slice_get (map lines_in (orders_of_parts names lines)) i ≡ Some v.items
+lines_at names [] i v same at = absurd (cc at)
+lines_at [] (w ∷ lines) i v same at = absurd (omega arith)
+lines_at (name ∷ names) (w ∷ lines) zero v same at = let e : w ≡ v = cc in ap (λ (x : Vec Line Global). Some x.items) e
+lines_at (name ∷ names) (w ∷ lines) (suc i) v same at = lines_at names lines i v (omega arith) at

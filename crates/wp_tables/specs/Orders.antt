@@ -13,3 +13,7 @@ orders_of_parts (name ∷ names) (lines ∷ more) = record { name = name; lines 
 -- an order's name
 abbrev pub name_of : Order → List ℕ
 name_of order = order.name
+
+-- an order's lines
+abbrev pub lines_in : Order → List Line
+lines_in order = order.lines

@@ -8,5 +8,5 @@ mod records;
 mod stock;
 
 pub use first::FirstFault;
-pub use orders::Orders;
+pub use orders::{Orders, read_orders};
 pub use stock::{Stock, read_stock};

@@ -6,11 +6,11 @@ use Rattle.wp_tables.proofs.orders.Orders.add.Goals as goal
 pub add_to-requires : goal.add_to-requires
 add_to-requires c =
     let names = c.self.inside.names.keys in
-    rw (← c.self.view_is, names_back names c.self.inside.lines.items c.self.invariant)
+    rw (← c.self.view_is, names_back names c.self.inside.lines.items c.self.invariant.0)
     (sym (number_found c.args.line.order names) ∙ sym c.get_index_of.ensures.index ∙ c.in-Some.is)
 
 pub add_order-requires : goal.add_order-requires
 add_order-requires c =
     let names = c.self.inside.names.keys in
     let none = sym (number_found c.args.line.order names) ∙ sym c.get_index_of.ensures.index ∙ c.in-None.is in
-    rw (← c.self.view_is) (parts_known names c.self.inside.lines.items c.args.line.order c.self.invariant ∙ not_there c.args.line.order names none)
+    rw (← c.self.view_is) (parts_known names c.self.inside.lines.items c.args.line.order c.self.invariant.0 ∙ not_there c.args.line.order names none)

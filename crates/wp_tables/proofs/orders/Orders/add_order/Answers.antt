@@ -20,33 +20,35 @@ pub returns-then-len-ge-MOST_ORDERS-clause-refused :
 returns-then-len-ge-MOST_ORDERS-clause-refused c _ =
     let names = c.self.inside.names.keys in
     let lines = c.self.inside.lines.items in
-    let new = sym (parts_known names lines c.args.line.order c.self.invariant) ∙ rw (← c.self.view_is) at c.requires in
+    let new = sym (parts_known names lines c.args.line.order c.self.invariant.0) ∙ rw (← c.self.view_is) at c.requires in
     let many : most_order_names ≤ length names = omega (arith, c.len.ensures.len) in
-    rw (← c.self.view_is) (room_new names lines c.args.line new c.self.invariant ∙ not_below (length names) most_order_names many)
+    rw (← c.self.view_is) (room_new names lines c.args.line new c.self.invariant.0 ∙ not_below (length names) most_order_names many)
 
 pub returns-clause-room : goal.returns-clause-room
 returns-clause-room c =
     let names = c.self.inside.names.keys in
     let lines = c.self.inside.lines.items in
-    let new = sym (parts_known names lines c.args.line.order c.self.invariant) ∙ rw (← c.self.view_is) at c.requires in
+    let new = sym (parts_known names lines c.args.line.order c.self.invariant.0) ∙ rw (← c.self.view_is) at c.requires in
     let few : length names < most_order_names = omega (arith, c.len.ensures.len) in
-    rw (← c.self.view_is) (room_new names lines c.args.line new c.self.invariant ∙ below (length names) most_order_names few)
+    rw (← c.self.view_is) (room_new names lines c.args.line new c.self.invariant.0 ∙ below (length names) most_order_names few)
 
 pub invariant_of-self-2 : goal.invariant_of-self-2
 invariant_of-self-2 c =
     let names = c.self.inside.names.keys in
     let lines = c.self.inside.lines.items in
-    let new = sym (parts_known names lines c.args.line.order c.self.invariant) ∙ rw (← c.self.view_is) at c.requires in
+    let new = sym (parts_known names lines c.args.line.order c.self.invariant.0) ∙ rw (← c.self.view_is) at c.requires in
     let inserted = rw (c.reserve.ensures.keys) at (rw c.unwrap.ensures at c.insert.ensures.keys) in
     let keys = inserted ∙ joins c.args.line.order names ∙ join_new names c.args.line.order new in
-    omega (arith, ap length c.in_ok-push-2.ensures.items ∙ length-append lines (c.push.new.self ∷ []), ap length keys ∙ length-append names (c.args.line.order ∷ []), c.self.invariant)
+    let few : length names < most_order_names = omega (arith, c.len.ensures.len) in
+    let longer = ap length keys ∙ length-append names (c.args.line.order ∷ []) in
+    (omega (arith, ap length c.in_ok-push-2.ensures.items ∙ length-append lines (c.push.new.self ∷ []), longer, c.self.invariant.0), omega (arith, longer))
 
 pub returns-clause-ok : goal.returns-clause-ok
 returns-clause-ok c =
     let names = c.self.inside.names.keys in
     let lines = c.self.inside.lines.items in
-    let new = sym (parts_known names lines c.args.line.order c.self.invariant) ∙ rw (← c.self.view_is) at c.requires in
+    let new = sym (parts_known names lines c.args.line.order c.self.invariant.0) ∙ rw (← c.self.view_is) at c.requires in
     let inserted = rw (c.reserve.ensures.keys) at (rw c.unwrap.ensures at c.insert.ensures.keys) in
     let keys = inserted ∙ joins c.args.line.order names ∙ join_new names c.args.line.order new in
     let only = rw c.new-first.ensures.items at c.in_ok-push.ensures.items in
-    rw (← c.self.view_is, keys, c.in_ok-push-2.ensures.items) (sym (parts_new names lines c.args.line c.push.new.self new only c.self.invariant))
+    rw (← c.self.view_is, keys, c.in_ok-push-2.ensures.items) (sym (parts_new names lines c.args.line c.push.new.self new only c.self.invariant.0))

@@ -15,12 +15,12 @@ below n m less = grind (arith, nat_tests)
 
 pub index-requires : goal.index-requires
 index-requires c =
-    let there = order_there c.self.inside.names.keys c.self.inside.lines.items c.args.line.order c.args.order c.self.invariant (rw (← c.self.view_is) at c.requires) in
+    let there = order_there c.self.inside.names.keys c.self.inside.lines.items c.args.line.order c.args.order c.self.invariant.0 (rw (← c.self.view_is) at c.requires) in
     omega (arith, there.1)
 
 pub index_mut-requires : goal.index_mut-requires
 index_mut-requires c =
-    let there = order_there c.self.inside.names.keys c.self.inside.lines.items c.args.line.order c.args.order c.self.invariant (rw (← c.self.view_is) at c.requires) in
+    let there = order_there c.self.inside.names.keys c.self.inside.lines.items c.args.line.order c.args.order c.self.invariant.0 (rw (← c.self.view_is) at c.requires) in
     omega (arith, there.1)
 
 pub returns-then-len-ge-MOST_LINES-clause-refused :
@@ -28,25 +28,25 @@ pub returns-then-len-ge-MOST_LINES-clause-refused :
 returns-then-len-ge-MOST_LINES-clause-refused c _ =
     let names = c.self.inside.names.keys in
     let lines = c.self.inside.lines.items in
-    let there = order_there names lines c.args.line.order c.args.order c.self.invariant (rw (← c.self.view_is) at c.requires) in
+    let there = order_there names lines c.args.line.order c.args.order c.self.invariant.0 (rw (← c.self.view_is) at c.requires) in
     let at = item_at lines c.args.order c.index.result.now there.1 c.index.ensures in
-    let room = room_known names lines c.args.line c.index.result.now (rw there.0 at) there.2 c.self.invariant in
+    let room = room_known names lines c.args.line c.index.result.now (rw there.0 at) there.2 c.self.invariant.0 in
     rw (← c.self.view_is) (room ∙ not_below (length c.index.result.now.items) most_lines (omega arith))
 
 pub returns-clause-room : goal.returns-clause-room
 returns-clause-room c =
     let names = c.self.inside.names.keys in
     let lines = c.self.inside.lines.items in
-    let there = order_there names lines c.args.line.order c.args.order c.self.invariant (rw (← c.self.view_is) at c.requires) in
+    let there = order_there names lines c.args.line.order c.args.order c.self.invariant.0 (rw (← c.self.view_is) at c.requires) in
     let at = item_at lines c.args.order c.index.result.now there.1 c.index.ensures in
-    let room = room_known names lines c.args.line c.index.result.now (rw there.0 at) there.2 c.self.invariant in
+    let room = room_known names lines c.args.line c.index.result.now (rw there.0 at) there.2 c.self.invariant.0 in
     rw (← c.self.view_is) (room ∙ below (length c.index.result.now.items) most_lines (omega arith))
 
 pub returns-clause-ok : goal.returns-clause-ok
 returns-clause-ok c =
     let names = c.self.inside.names.keys in
     let lines = c.self.inside.lines.items in
-    let there = order_there names lines c.args.line.order c.args.order c.self.invariant (rw (← c.self.view_is) at c.requires) in
+    let there = order_there names lines c.args.line.order c.args.order c.self.invariant.0 (rw (← c.self.view_is) at c.requires) in
     let at = item_at lines c.args.order c.index_mut.result.now there.1 c.index_mut.ensures.value in
-    let added = parts_added names lines c.args.line c.index_mut.result.now c.push.new.self (rw there.0 at) c.in_ok-push.ensures.items c.self.invariant in
+    let added = parts_added names lines c.args.line c.index_mut.result.now c.push.new.self (rw there.0 at) c.in_ok-push.ensures.items c.self.invariant.0 in
     rw (← c.self.view_is) (sym (rw there.0 at added))

@@ -1,0 +1,18 @@
+use Rattle.std.proofs.Common.{◌≡◌, ◌∙◌, ◌∷◌, ◌+◌, Some, ap, sym, drop, map, arith}
+use Rattle.csv.specs.Records.{fields_of}
+use Rattle.wp_model.specs.FirstForm.{order_line, orders_with}
+use Rattle.wp_model.proofs.FirstOrders.{order_taken_in}
+use Rattle.wp_model.proofs.Places.{drop_at}
+use Rattle.wp_tables.proofs.orders.read_lines.Goals as goal
+
+pub loop-fields-preserved : goal.loop-fields-preserved
+loop-fields-preserved c =
+    let records = c.args.records.now in
+    let i = c.loop-fields.fields-index in
+    let item = c.fields-item.result in
+    let articles = c.args.stock.now.articles in
+    let before = c.loop-fields.orders in
+    let read : order_line articles (fields_of item) ≡ Some c.in_ok-line.line = sym c.read_order_line.ensures ∙ c.in_ok-line.ensures.ok_part in
+    let cons : drop i records ≡ item ∷ drop (i + 1) records = drop_at records i item (omega arith) c.fields-item.is in
+    let taken = order_taken_in articles before c.add.new.self (fields_of item) (map fields_of (drop (i + 1) records)) c.in_ok-line.line read c.in_ok-add.ensures.room c.in_ok-add.ensures.ok in
+    c.loop-fields.invariant ∙ ap (λ rest. orders_with articles before (map fields_of rest)) cons ∙ taken
