@@ -6,7 +6,8 @@ use Rattle.std.specs.Str.{bytes_eq}
 use Rattle.std.proofs.lemmas.Bool.Decides.{nat_tests}
 use Rattle.std.proofs.lemmas.List.Elements.{All-nil, All-push}
 use Rattle.std.proofs.lemmas.Option.{option_and_then_some}
-use Rattle.wp_model.specs.FirstForm.{add_order_line, article_in, has_room, most_order_names, name_in, number_among, number_within, order_line, orders_heading, orders_of, orders_with, under_heading}
+use Rattle.wp_model.specs.Name.{name_in}
+use Rattle.wp_model.specs.FirstForm.{add_order_line, article_in, has_room, most_order_names, number_among, number_within, order_line, orders_heading, orders_of, orders_with, under_heading}
 use Rattle.wp_model.specs.FirstOpening.{AreFirstOrders}
 use Rattle.wp_model.specs.Opening.{IsLine, IsOrder, Order, Stock, is_known_order, lines_of, most_lines, most_quantity}
 use Rattle.wp_model.specs.declared.line.OrderLine.{OrderLine}

@@ -3,7 +3,8 @@ use Rattle.std.proofs.Common.{◌≡◌, ◌∙◌, refl, sym, ap, ℕ, zero, su
 use Rattle.std.specs.Prelude.{nat_eq, if◌then◌else◌, option_map, option_and_then, ◌&&◌, ◌||◌, not, nat_le, nat_lt}
 use Rattle.std.specs.List.{AllByRecursion}
 use Rattle.std.proofs.lemmas.Bool.Decides.{nat_tests}
-use Rattle.wp_model.specs.FirstForm.{add_line, empty_stock, is_before, join, location_within, may_join, name_in, number_among, number_within, put_row, row_of, stock_line, stock_with}
+use Rattle.wp_model.specs.Name.{name_in}
+use Rattle.wp_model.specs.FirstForm.{add_line, empty_stock, is_before, join, location_within, may_join, number_among, number_within, put_row, row_of, stock_line, stock_with}
 use Rattle.std.proofs.lemmas.Option.{option_and_then_some}
 use Rattle.wp_model.specs.Number.{number_of}
 use Rattle.wp_model.specs.FirstOpening.{AreDistinct, IsFirstStock, article_of}

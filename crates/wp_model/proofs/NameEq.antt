@@ -113,3 +113,8 @@ not_there name names e = not_there_if (is_among names name) (number_among names 
     not_there_if : (b : Bool) (n : ℕ) → (if b then Some n else None) ≡ None → b ≡ false
     not_there_if true n e = absurd (cc e)
     not_there_if false n e = refl
+
+-- whether a list contains a name, as the type compares
+pub contains_name : (name : List ℕ) (names : List (List ℕ)) → list_any (λ other. name_eq other name) names ≡ is_among names name
+contains_name name [] = refl
+contains_name name (other ∷ names) = ap₂ (λ p q. p || q) (name_eq_is other name) (contains_name name names)

@@ -4,7 +4,7 @@ use Rattle.std.specs.List.{list_any, list_all, position_or_len}
 use Rattle.std.specs.Option.{option_map_or}
 use Rattle.std.specs.Str.{bytes_eq}
 use Rattle.wp_model.specs.Location.{location_of}
-use Rattle.wp_model.specs.Name.{is_name}
+use Rattle.wp_model.specs.Name.{is_name, name_in}
 use Rattle.wp_model.specs.Number.{number_of}
 use Rattle.wp_model.specs.Opening.{Order, Stock, is_known_order, lines_of, most_lines, most_on_hand, most_orders, most_quantity}
 use Rattle.wp_model.specs.Step.{is_among, same_location}
@@ -21,10 +21,6 @@ use Rattle.wp_model.specs.declared.row.StockRow.{StockRow}
 -- a record is the list of its fields
 abbrev pub Record : Type 0
 Record = List (List ℕ)
-
--- a field that is a name
-abbrev pub name_in : List ℕ → Option (List ℕ)
-name_in field = if is_name field then Some field else None
 
 -- a field that is a number within bounds
 abbrev pub number_within : ℕ → ℕ → List ℕ → Option ℕ
@@ -170,6 +166,10 @@ are_different before (name ∷ names) = not (is_among before name) && are_differ
 abbrev pub are_orders : List (List ℕ) → Bool
 are_orders names = nat_lt 0 (length names) && nat_le (length names) most_orders && list_all is_name names && are_different [] names
 
+-- the names, where they are 1 to 64 different order names
+abbrev pub orders_in : List (List ℕ) → Option (List (List ℕ))
+orders_in names = if are_orders names then Some names else None
+
 -- the field is the number of the one desk
 abbrev pub is_desk_one : List ℕ → Bool
 is_desk_one field = option_map_or (λ n. n == 1) (number_of 18 field) false
@@ -180,7 +180,7 @@ submission [] = None
 submission (a ∷ []) = None
 submission (a ∷ b ∷ []) = None
 submission (desk ∷ word ∷ wave ∷ orders) =
-    if is_desk_one desk && bytes_eq word (codes "submit") && is_name wave && are_orders orders then Some (record { wave = wave; orders = orders }) else None
+    if is_desk_one desk && bytes_eq word (codes "submit") && is_name wave then option_map (λ names. record { wave = wave; orders = names }) (orders_in orders) else None
 
 -- whether a record is the one by which desk 1 releases the wave
 abbrev pub releases : List ℕ → Record → Bool

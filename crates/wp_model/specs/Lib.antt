@@ -13,3 +13,4 @@ pub mod History
 pub mod Sound
 pub mod FirstForm
 pub mod FirstOpening
+pub mod Plain

@@ -1,5 +1,5 @@
 -- Names of waves, orders and articles.
-use Rattle.std.specs.Prelude.{ℕ, ◌-◌, ◌&&◌, ◌||◌, ◌==◌, Bool, nat_le, nat_lt, List, ◌++◌, length, replicate}
+use Rattle.std.specs.Prelude.{ℕ, ◌-◌, ◌&&◌, ◌||◌, ◌==◌, Bool, nat_le, nat_lt, List, ◌++◌, length, replicate, Option, Some, None, if◌then◌else◌}
 use Rattle.std.specs.List.{list_all}
 
 -- a byte that may stand in a name: an ASCII digit, an ASCII letter, a dash, an underscore or a dot
@@ -9,6 +9,10 @@ is_name_byte b = (nat_le 48 b && nat_le b 57) || (nat_le 65 b && nat_le b 90) ||
 -- a name has 1 to 40 such bytes
 abbrev pub is_name : List ℕ → Bool
 is_name text = nat_lt 0 (length text) && (nat_le (length text) 40 && list_all is_name_byte text)
+
+-- the name that a text is, where it is one
+abbrev pub name_in : List ℕ → Option (List ℕ)
+name_in text = if is_name text then Some text else None
 
 -- the bytes, and zeros up to 40
 abbrev pub padded_out : List ℕ → List ℕ

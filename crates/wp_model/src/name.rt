@@ -1,6 +1,6 @@
-ghost use Rattle.std.specs.Prelude.{◌≡◌, ◌↔◌, ◌≤◌, length, replicate, IsTrue, IsSome, IfSome, Some};
+ghost use Rattle.std.specs.Prelude.{◌≡◌, ◌≤◌, length, replicate, IsTrue, Some};
 ghost use Rattle.std.specs.List.{list_all};
-ghost use Rattle.wp_model.specs.Name.{is_name, is_name_byte, padded_out};
+ghost use Rattle.wp_model.specs.Name.{is_name, is_name_byte, name_in, padded_out};
 
 use crate::listing::Listing;
 use std::fmt;
@@ -74,8 +74,7 @@ fn is_name_text(text: &[u8]) -> bool
 impl Name {
     /// The name that this text is. None comes exactly where the text is no name.
     pub fn new(text: &[u8]) -> Option<Name>
-        ensures name { IfSome result (λ name. name ≡ text.now) }
-        ensures exact { IsSome result ↔ IsTrue (is_name text.now) }
+        ensures { result ≡ name_in text.now }
     {
         if !is_name_text(text) {
             return None;

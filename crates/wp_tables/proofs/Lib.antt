@@ -3,3 +3,4 @@ pub mod ByPlace
 pub mod ByLocation
 pub mod Headings
 pub mod Parts
+pub mod OrderNames

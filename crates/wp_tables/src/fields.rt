@@ -2,7 +2,7 @@
 ghost use Rattle.std.specs.Prelude.{◌≡◌, ◌≢◌, ◌∷◌, [], ◌≤◌, ◌<◌, ◌^◌, length, IfSome, IfNone, Some, slice_get};
 ghost use Rattle.std.specs.Option.{option_map};
 ghost use Rattle.csv.specs.Records.{fields_of};
-ghost use Rattle.wp_model.specs.FirstForm.{name_in, number_within, location_within, same_record};
+ghost use Rattle.wp_model.specs.FirstForm.{location_within, number_within};
 
 use csv::ByteRecord;
 use wp_model::{Location, Name, read_number};

@@ -5,8 +5,10 @@ mod fields;
 mod first;
 mod orders;
 mod records;
+mod scripts;
 mod stock;
 
 pub use first::FirstFault;
 pub use orders::{Orders, read_orders};
+pub use scripts::{Scripts, read_desks};
 pub use stock::{Stock, read_stock};
