@@ -1,7 +1,9 @@
 pub mod Digits
 pub mod Ascii
 pub mod FirstStock
+pub mod FirstOpenings
 pub mod FirstOrders
+pub mod Histories
 pub mod Joins
 pub mod NameEq
 pub mod Places

@@ -1,8 +1,9 @@
 -- Legal histories.
-use Rattle.std.specs.Prelude.{◌≡◌, ℕ, ◌+◌, ⊤, List, [], ◌∷◌}
+use Rattle.std.specs.Prelude.{◌≡◌, ℕ, ◌+◌, ⊤, List, [], ◌∷◌, ◌++◌, length, map}
 use Rattle.wp_model.specs.Opening.{Opening}
 use Rattle.wp_model.specs.State.{State, opening_state}
 use Rattle.wp_model.specs.Step.{step}
+use Rattle.wp_model.specs.declared.command.Command.{Command}
 use Rattle.wp_model.specs.declared.entry.Entry.{Entry}
 
 -- what a machine has answered, from what it began with
@@ -29,3 +30,29 @@ IsLegalFrom opening number state (entry ∷ entries) =
 -- a legal history of its opening
 abbrev pub IsLegal : History → Type 0
 IsLegal history = IsLegalFrom history.opening 0 (opening_state history.opening) history.entries
+
+-- the entry that answers a desk's command after a history
+abbrev pub next_entry : History → ℕ → Command → Entry
+next_entry history desk command = record {
+  number = length history.entries;
+  desk = desk;
+  command = command;
+  reply = (step history.opening (state_after history) command).reply;
+}
+
+-- a history with one more answer
+abbrev pub answered : History → ℕ → Command → History
+answered history desk command = record history { entries = history.entries ++ next_entry history desk command ∷ [] }
+
+-- nothing was answered yet
+abbrev pub opened : Opening → History
+opened opening = record { opening = opening; entries = [] }
+
+-- the commands of entries, in order
+abbrev pub commands_of : List Entry → List Command
+commands_of entries = map (λ entry. entry.command) entries
+
+-- the history in which one desk gives these commands, after another history
+abbrev pub answered_all : History → ℕ → List Command → History
+answered_all history desk [] = history
+answered_all history desk (command ∷ commands) = answered_all (answered history desk command) desk commands

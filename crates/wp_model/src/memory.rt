@@ -1,27 +1,35 @@
+ghost use Rattle.std.specs.Prelude.{◌≡◌, Some, codes};
+
 use std::alloc::{AllocError, AllocFailed};
 use std::error::Error;
 use std::fmt;
 
-/// The answer of a call for want of memory.
+/// The answer for want of memory: a growth was refused.
 #[derive(Clone, Copy, Debug, PartialEq, Eq, Hash)]
 pub struct Memory;
 
 impl fmt::Display for Memory {
+    ghost output = { λ _. Some (codes "out of memory") };
+
     fn fmt<W: fmt::Write>(&self, f: &mut fmt::Formatter<W>) -> fmt::Result {
-        f.write_str("out of memory")
+        write!(f, "out of memory")
     }
 }
 
 impl Error for Memory {}
 
 impl From<AllocError> for Memory {
-    fn from(_error: AllocError) -> Memory {
+    ghost from_gives = { λ _ answer. answer ≡ record {} };
+
+    fn from(_refused: AllocError) -> Memory {
         Memory
     }
 }
 
 impl<T: Drop> From<AllocFailed<T>> for Memory {
-    fn from(_error: AllocFailed<T>) -> Memory {
+    ghost from_gives = { λ _ answer. answer ≡ record {} };
+
+    fn from(_refused: AllocFailed<T>) -> Memory {
         Memory
     }
 }

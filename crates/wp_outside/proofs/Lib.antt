@@ -1,0 +1,2 @@
+mod Shelves
+pub mod Taking

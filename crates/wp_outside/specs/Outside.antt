@@ -1,0 +1,27 @@
+-- What reading and writing promise, over the meanings that an implementation gives.
+use Rattle.std.specs.Prelude.{◌≡◌, ℕ, ◌<◌, ◌≤◌, List, ◌++◌, length, take, Option, option_map}
+use Rattle.wp_outside.specs.declared.files.TheConstants.{MAX_FILE_BYTES}
+
+-- a file has more bytes than a file may have
+abbrev pub IsTooLong : List ℕ → Type 0
+IsTooLong bytes = MAX_FILE_BYTES < length bytes
+
+-- each name holds what it held, told or not
+abbrev pub SameBytes : (List ℕ → Option (List ℕ)) → (List ℕ → Option (List ℕ)) → Type 0
+SameBytes old new = (name : List ℕ) → new name ≡ old name
+
+-- the count of no name falls
+abbrev pub NoneFalls : (List ℕ → ℕ) → (List ℕ → ℕ) → Type 0
+NoneFalls old new = (name : List ℕ) → old name ≤ new name
+
+-- the bytes taken grew by these, where they are told
+abbrev pub Grows : Option (List ℕ) → Option (List ℕ) → List ℕ → Type 0
+Grows old new more = new ≡ option_map (λ bytes. bytes ++ more) old
+
+-- the bytes taken grew by a beginning of the text, where they are told
+abbrev pub TookPrefix : Option (List ℕ) → Option (List ℕ) → List ℕ → Type 0
+TookPrefix old new text = (n : ℕ) × (n ≤ length text) × Grows old new (take n text)
+
+-- the bytes taken grew by a beginning of the text that isn't all of it, where they are told
+abbrev pub TookPart : Option (List ℕ) → Option (List ℕ) → List ℕ → Type 0
+TookPart old new text = (n : ℕ) × (n < length text) × Grows old new (take n text)

@@ -1,0 +1,38 @@
+ghost use Rattle.std.specs.Prelude.{◌≡◌, ◌+◌, OnOk, OnErr};
+
+use std::marker::Model;
+use wp_model::Memory;
+
+/// How often a device has failed. Clauses see a number.
+#[derive(Drop)]
+pub(crate) struct FaultCount {
+    count: u64,
+}
+
+impl Model for FaultCount {
+    ghost use Rattle.std.specs.Prelude.{ℕ};
+
+    ghost Value = { ℕ };
+
+    ghost view = { λ s. s.count };
+}
+
+impl FaultCount {
+    pub(crate) fn zero() -> FaultCount
+        ensures { result ≡ 0 }
+    {
+        FaultCount { count: 0 }
+    }
+
+    /// One fault more. A count at its end cannot rise, which is answered as want of memory.
+    pub(crate) fn raise(&mut self) -> Result<(), Memory>
+        ensures risen { OnOk result (self.new ≡ self.old + 1) }
+        ensures at_its_end { OnErr result ((self.old ≡ u64.MAX) × (self.new ≡ self.old)) }
+    {
+        if self.count == u64::MAX {
+            return Err(Memory);
+        }
+        self.count += 1;
+        Ok(())
+    }
+}

@@ -1,0 +1,81 @@
+ghost use Rattle.std.specs.Prelude.{◌≡◌, ℕ, ◌<◌, ◌⊎◌, List, Option, Some, IfOk, IfSome, IsErrOf};
+ghost use Rattle.wp_outside.specs.Faults.{file_fault_text};
+ghost use Rattle.wp_outside.specs.Outside.{SameBytes, NoneFalls, IsTooLong};
+ghost use Rattle.wp_outside.specs.declared.files.FileFault.TheVariants.{Memory as MemoryFault};
+
+use std::alloc::{AllocError, Global};
+use std::error::Error;
+use std::fmt;
+use wp_model::Memory;
+
+/// The most bytes that a file may have.
+pub const MAX_FILE_BYTES: usize = 16_777_216;
+
+/// Why a file was not read.
+#[derive(Clone, Copy, Debug, PartialEq, Eq)]
+pub enum FileFault {
+    /// The file is not there, or the device failed.
+    Failed,
+    /// The file has more than `MAX_FILE_BYTES` bytes.
+    TooLong,
+    /// There was no memory for its bytes.
+    Memory,
+}
+
+impl fmt::Display for FileFault {
+    ghost output = { λ fault. Some (file_fault_text fault) };
+
+    fn fmt<W: fmt::Write>(&self, f: &mut fmt::Formatter<W>) -> fmt::Result {
+        match self {
+            FileFault::Failed => write!(f, "the file could not be read"),
+            FileFault::TooLong => write!(f, "the file is too long"),
+            FileFault::Memory => write!(f, "out of memory"),
+        }
+    }
+}
+
+impl Error for FileFault {}
+
+impl From<Memory> for FileFault {
+    ghost from_gives = { λ _ fault. fault ≡ MemoryFault };
+
+    fn from(_want: Memory) -> FileFault {
+        FileFault::Memory
+    }
+}
+
+impl From<AllocError> for FileFault {
+    ghost from_gives = { λ _ fault. fault ≡ MemoryFault };
+
+    fn from(_refused: AllocError) -> FileFault {
+        FileFault::Memory
+    }
+}
+
+/// Named files that are read whole.
+pub trait Files {
+    /// The bytes that each name holds, by the bytes of the name. `None` where they are not told.
+    ghost holds: { Self → List ℕ → Option (List ℕ) };
+
+    /// How often reading failed, for each name. One number may serve for all names.
+    ghost faults: { Self → List ℕ → ℕ };
+
+    /// All the bytes of the file of this name. No read changes what a name holds, nor whether that is
+    /// told, and no count falls. `Failed` comes only where the count of this name rose in this call.
+    /// Where the bytes are told, `TooLong` comes exactly where they are more than `MAX_FILE_BYTES`
+    /// and that count did not rise, want of memory apart.
+    fn read(&mut self, alloc: Global, name: &str) -> Result<Vec<u8>, FileFault>
+        ensures bytes { IfOk result (λ read.
+            IfSome (holds self.old name.now) (λ told. read.items ≡ told)) }
+        ensures same { SameBytes (holds self.old) (holds self.new) }
+        ensures counts { NoneFalls (faults self.old) (faults self.new) }
+        ensures failed { IsErrOf result FileFault.Failed
+            → faults self.old name.now < faults self.new name.now }
+        ensures too_long { IsErrOf result FileFault.TooLong
+            → IfSome (holds self.old name.now) (λ told.
+            IsTooLong told × (faults self.new name.now ≡ faults self.old name.now)) }
+        ensures long { IfSome (holds self.old name.now) (λ told.
+            IsTooLong told
+            → faults self.new name.now ≡ faults self.old name.now
+            → IsErrOf result FileFault.TooLong ⊎ IsErrOf result FileFault.Memory) };
+}

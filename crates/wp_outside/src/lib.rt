@@ -1,0 +1,33 @@
+//! What a program meets outside itself: files that are read whole, a sink that takes text, and the
+//! answer for want of memory.
+//!
+//! Files and a sink are traits with a written meaning: the bytes that each name holds, the bytes
+//! that a sink has taken, and counts of faults that never fall. Code that is generic over them is
+//! proved once. `MemFiles`, `MemSink` and `NeverFails` stand in memory and tell all of this.
+//! `RealFiles` and `StdSink` reach the system, and tell their counts alone.
+#![tactic(auto)]
+
+mod calls;
+mod fault_count;
+mod files;
+mod mem_files;
+mod mem_sink;
+mod never_fails;
+mod real_files;
+mod shelf;
+mod sink;
+mod std_sink;
+mod writing;
+
+pub use files::{FileFault, Files, MAX_FILE_BYTES};
+pub use mem_files::MemFiles;
+pub use mem_sink::MemSink;
+pub use never_fails::NeverFails;
+pub use real_files::RealFiles;
+pub use sink::{Sink, SinkFault};
+pub use std_sink::StdSink;
+pub use wp_model::Memory;
+pub use writing::write_text;
+
+#[cfg(test)]
+mod tests;
