@@ -1,2 +1,4 @@
 pub mod Opening
 pub mod Chain
+pub mod Floor
+pub mod Machine

@@ -2,6 +2,7 @@ ghost use Rattle.std.specs.Prelude.{◌≡◌, ◌++◌, ◌∷◌, [], IfOk};
 
 use std::alloc::Global;
 use std::marker::Model;
+use std::mem;
 use wp_model::{Command, Entry, Memory};
 
 /// Entries in a chain of boxes, so that one more takes no memory. Contracts see the list of them, the newest last.
@@ -46,6 +47,7 @@ impl Drop for Chain {
 }
 
 /// Room for one entry.
+#[derive(Drop)]
 pub struct Cell {
     room: Box<Chain>,
 }
@@ -65,14 +67,14 @@ impl Chain {
     }
 
     /// Appends an entry. It takes no memory.
-    pub fn append(self, entry: Entry, cell: Cell) -> Chain
-        ensures { result ≡ self ++ entry ∷ [] }
+    pub fn push(&mut self, entry: Entry, cell: Cell)
+        ensures { self.new ≡ self.old ++ entry ∷ [] }
     {
         let Cell { mut room } = cell;
-        *room = self;
-        Chain {
+        *room = mem::replace(self, Chain { top: Link::End });
+        *self = Chain {
             top: Link::More(entry, room),
-        }
+        };
     }
 
     /// The entries in order.

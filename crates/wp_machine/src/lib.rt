@@ -2,6 +2,10 @@
 #![tactic(auto)]
 
 mod chain;
+mod demand;
+mod floor;
+mod machine;
 mod opening;
 
+pub use machine::{Answer, Machine, Ready, prepare};
 pub use opening::Opening;
