@@ -1,0 +1,7 @@
+use Rattle.std.proofs.Common.{◌≡◌, take}
+use Rattle.wp_model.specs.History.{answered_all, opened}
+use Rattle.wp_top.proofs.answering.answer_script.Given as goal
+
+-- the commands so far were answered
+abbrev pub invariant-loop-command : goal.invariant-loop-command
+invariant-loop-command l = l.machine ≡ answered_all (opened l.opening) 1 (take l.command-index l.script)

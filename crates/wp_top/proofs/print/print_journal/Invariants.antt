@@ -1,0 +1,9 @@
+use Rattle.std.proofs.Common.{◌≡◌, ◌++◌, take, string_bytes}
+use Rattle.std.specs.Prelude.{codes}
+use Rattle.std.specs.List.{flat_map}
+use Rattle.wp_model.specs.Journal.{entry_line, line}
+use Rattle.wp_top.proofs.print.print_journal.Given as goal
+
+-- the entries so far were printed
+abbrev pub invariant-loop-entry : goal.invariant-loop-entry
+invariant-loop-entry l = string_bytes l.text ≡ line (codes "journal") ++ flat_map entry_line (take l.entry-index l.entries)

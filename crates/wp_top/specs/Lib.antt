@@ -1,0 +1,5 @@
+pub mod Words
+pub mod Texts
+pub mod Runs
+pub mod Stops
+pub mod Ends
