@@ -26,11 +26,7 @@ fn answer_script<'a>(
 }
 
 /// The journal of desk 1's commands, one after the other.
-pub fn journal_of(
-    alloc: Global,
-    opening: &Opening,
-    script: &[Command],
-) -> Result<String, Memory>
+pub fn journal_of(alloc: Global, opening: &Opening, script: &[Command]) -> Result<String, Memory>
     requires { IsFirstScript script.now }
     ensures { IfOk result (λ text. string_bytes text ≡ journal (answered_all (opened opening.now) 1 script.now).entries) }
 {

@@ -80,11 +80,7 @@ fn journal_from(alloc: Global, tables: Tables) -> Result<String, Memory>
 }
 
 /// How a run of these words ends.
-pub fn ending_of<F: Files>(
-    alloc: Global,
-    words: &[String],
-    files: &mut F,
-) -> Result<Ending, Memory>
+pub fn ending_of<F: Files>(alloc: Global, words: &[String], files: &mut F) -> Result<Ending, Memory>
     ensures is { IfOk result (IsEnding (F.holds files.old) (map string_bytes words.now) (F.faults files.old) (F.faults files.new)) }
     ensures same { SameBytes (F.holds files.old) (F.holds files.new) }
     ensures counts { NoneFalls (F.faults files.old) (F.faults files.new) }

@@ -49,3 +49,6 @@ pub fn run<R: Sync, F: Files, K: Sink>(
         Err(_) => 5,
     }
 }
+
+#[cfg(test)]
+mod tests;
