@@ -53,13 +53,17 @@ pub struct Cell {
 }
 
 impl Cell {
-    pub fn new(alloc: Global) -> Result<Cell, Memory> {
+    /// Empty room.
+    pub fn new(alloc: Global) -> Result<Cell, Memory>
+        ensures { IfOk result (λ cell. cell.room.value ≡ []) }
+    {
         let room = Box::new(alloc, Chain { top: Link::End })?;
         Ok(Cell { room })
     }
 }
 
 impl Chain {
+    /// No entries.
     pub fn new() -> Chain
         ensures { result ≡ [] }
     {
