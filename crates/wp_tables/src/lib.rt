@@ -12,3 +12,7 @@ pub use first::FirstFault;
 pub use orders::{Orders, read_orders};
 pub use scripts::{Scripts, read_desks};
 pub use stock::{Stock, read_stock};
+pub use wp_model::{Command, Line, Memory, Name, StockRow};
+
+#[cfg(test)]
+mod tests;
