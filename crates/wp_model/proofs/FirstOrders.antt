@@ -1,13 +1,13 @@
 -- Orders of the first form keep what all such orders keep, line by line.
-use Rattle.std.proofs.Common.{◌≡◌, ◌∙◌, refl, sym, ap, subst, ℕ, suc, ◌+◌, ◌<◌, ◌≤◌, Bool, true, false, List, [], ◌∷◌, ◌++◌, length, Option, Some, None, arith, length-append, lit≤}
+use Rattle.std.proofs.Common.{◌≡◌, refl, subst, ℕ, suc, ◌+◌, ◌<◌, ◌≤◌, Bool, true, false, List, [], ◌∷◌, ◌++◌, length, Option, Some, None, arith, length-append, lit≤}
 use Rattle.std.specs.Prelude.{nat_lt, if◌then◌else◌, option_and_then, ◌&&◌, ◌||◌}
-use Rattle.std.specs.List.{All, AllByRecursion}
+use Rattle.std.specs.List.{AllByRecursion}
 use Rattle.std.specs.Str.{bytes_eq}
 use Rattle.std.proofs.lemmas.Bool.Decides.{nat_tests}
 use Rattle.std.proofs.lemmas.List.Elements.{All-nil, All-push}
 use Rattle.std.proofs.lemmas.Option.{option_and_then_some}
 use Rattle.wp_model.specs.Name.{name_in}
-use Rattle.wp_model.specs.FirstForm.{add_order_line, article_in, has_room, most_order_names, number_among, number_within, order_line, orders_heading, orders_of, orders_with, under_heading}
+use Rattle.wp_model.specs.FirstForm.{add_order_line, article_in, has_room, most_order_names, number_within, order_line, orders_heading, orders_of, orders_with, under_heading}
 use Rattle.wp_model.specs.FirstOpening.{AreFirstOrders}
 use Rattle.wp_model.specs.Opening.{IsLine, IsOrder, Order, Stock, is_known_order, lines_of, most_lines, most_quantity}
 use Rattle.wp_model.specs.declared.line.OrderLine.{OrderLine}

@@ -1,6 +1,6 @@
 -- A stock of the first form keeps what every such stock keeps, line by line.
-use Rattle.std.proofs.Common.{◌≡◌, ◌∙◌, refl, sym, ap, ℕ, zero, suc, ◌+◌, ◌<◌, ◌≤◌, Bool, true, false, List, [], ◌∷◌, ◌++◌, length, map, Option, Some, None, subst, arith, lit≤, length-append}
-use Rattle.std.specs.Prelude.{nat_eq, if◌then◌else◌, option_map, option_and_then, ◌&&◌, ◌||◌, not, nat_le, nat_lt}
+use Rattle.std.proofs.Common.{◌≡◌, ◌∙◌, refl, ap, ℕ, ◌+◌, ◌<◌, ◌≤◌, Bool, true, false, List, [], ◌∷◌, ◌++◌, length, map, Option, Some, None, subst, arith, lit≤, length-append}
+use Rattle.std.specs.Prelude.{nat_eq, if◌then◌else◌, option_map, ◌&&◌, ◌||◌, nat_le}
 use Rattle.std.specs.List.{AllByRecursion}
 use Rattle.std.proofs.lemmas.Bool.Decides.{nat_tests}
 use Rattle.wp_model.specs.Name.{name_in}

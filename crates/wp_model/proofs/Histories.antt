@@ -1,6 +1,6 @@
 -- Histories grow answer by answer.
-use Rattle.std.proofs.Common.{◌≡◌, ◌∙◌, refl, sym, ap, ℕ, suc, zero, ◌+◌, List, [], ◌∷◌, ◌++◌, length, map, arith, append_assoc, length-append, add-zero}
-use Rattle.wp_model.specs.History.{History, IsLegal, IsLegalFrom, answered, answered_all, commands_of, next_entry, opened, state_after, state_from}
+use Rattle.std.proofs.Common.{◌≡◌, ◌∙◌, refl, ℕ, suc, ◌+◌, List, [], ◌∷◌, ◌++◌, length, arith, add-zero}
+use Rattle.wp_model.specs.History.{History, IsLegal, IsLegalFrom, answered, answered_all, next_entry, state_after, state_from}
 use Rattle.wp_model.specs.Opening.{Opening}
 use Rattle.wp_model.specs.State.{State, opening_state}
 use Rattle.wp_model.specs.Step.{step}

@@ -1,6 +1,6 @@
 -- Names are compared by their padded bytes and their lengths, which says whether they are one list of bytes.
 use Rattle.std.proofs.Common.{◌≡◌, ◌∙◌, refl, sym, ap, ap₂, ℕ, suc, arith, ◌+◌, ◌-◌, Bool, true, false, List, [], ◌∷◌, ◌++◌, length, take, eqb, eq-eqb, Decides}
-use Rattle.std.specs.Prelude.{◌&&◌, ◌||◌, ◌<◌, Option, Some, None, if◌then◌else◌, nat_lt, not, replicate}
+use Rattle.std.specs.Prelude.{◌&&◌, ◌||◌, ◌<◌, Some, None, if◌then◌else◌, nat_lt, not, replicate}
 use Rattle.std.specs.List.{list_any, position, position_or_len}
 use Rattle.std.specs.Str.{bytes_eq}
 use Rattle.std.proofs.Math.Seq.{take-append_seam}

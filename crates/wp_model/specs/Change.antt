@@ -1,5 +1,5 @@
 -- What moves units and waves.
-use Rattle.std.specs.Prelude.{ℕ, ◌+◌, ◌-◌, ◌&&◌, ◌==◌, List, [], ◌∷◌, Option, Some, None, if◌then◌else◌, length, slice_get, slice_set}
+use Rattle.std.specs.Prelude.{ℕ, ◌+◌, ◌-◌, ◌&&◌, ◌==◌, List, [], ◌∷◌, Option, if◌then◌else◌, length, slice_get, slice_set}
 use Rattle.std.specs.Option.{option_map_or}
 use Rattle.wp_model.specs.Demand.{offer_at}
 use Rattle.wp_model.specs.Overlap.{overlap}

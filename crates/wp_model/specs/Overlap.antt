@@ -1,6 +1,6 @@
 -- Holding by overlap. The free units of an article's rows lie end to end on a line from 0, in row order, and so do
 -- the demands of a wave's orders, in wave order. An order takes from a row what their two intervals have in common.
-use Rattle.std.specs.Prelude.{ℕ, suc, ◌+◌, ◌-◌, min, max}
+use Rattle.std.specs.Prelude.{ℕ, suc, ◌-◌, min, max}
 use Rattle.wp_model.specs.Sums.{sum_below}
 
 -- how many units the interval from a to b and that from c to d have in common

@@ -1,5 +1,5 @@
 -- Sound states.
-use Rattle.std.specs.Prelude.{◌≡◌, ◌≢◌, ℕ, ◌+◌, ◌≤◌, ◌<◌, ◌==◌, ◌&&◌, IsTrue, false, Bool, List, length, Option, Some, if◌then◌else◌, slice_get, IfSome}
+use Rattle.std.specs.Prelude.{◌≡◌, ◌≢◌, ℕ, ◌+◌, ◌≤◌, ◌<◌, ◌==◌, IsTrue, false, Bool, List, length, Some, if◌then◌else◌, slice_get, IfSome}
 use Rattle.std.specs.List.{All}
 use Rattle.std.specs.Option.{option_map_or}
 use Rattle.wp_model.specs.Demand.{demand_at}

@@ -1,5 +1,5 @@
 -- Where the stock and the waves stand.
-use Rattle.std.specs.Prelude.{ℕ, Bool, List, [], ◌∷◌, length, map, ◌+◌}
+use Rattle.std.specs.Prelude.{ℕ, Bool, List, [], length, map}
 use Rattle.wp_model.specs.Opening.{Opening}
 use Rattle.wp_model.specs.Sums.{sum_below}
 use Rattle.wp_model.specs.declared.reply.WaveState.{WaveState}

@@ -25,3 +25,6 @@ pub use name::{LONGEST_NAME, Name, Names};
 pub use number::read_number;
 pub use reply::{Reply, WaveState};
 pub use row::{Line, Row, StockRow};
+
+#[cfg(test)]
+mod tests;
