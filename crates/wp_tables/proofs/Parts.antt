@@ -1,10 +1,10 @@
 -- Orders kept by their names and their lines.
-use Rattle.std.proofs.Common.{◌≡◌, ◌∙◌, refl, sym, ap, ap₂, ℕ, zero, suc, ◌+◌, ◌<◌, Bool, true, false, List, [], ◌∷◌, ◌++◌, Vec, get_or, length, map, set, Option, Some, None, arith}
+use Rattle.std.proofs.Common.{◌≡◌, refl, sym, ap, ℕ, zero, suc, ◌+◌, ◌<◌, Bool, true, false, List, [], ◌∷◌, ◌++◌, Vec, get_or, length, map, set, Some, arith}
 use Rattle.std.specs.Prelude.{if◌then◌else◌, nat_lt, not, slice_get, ◌&&◌, ◌||◌}
 use Rattle.std.specs.Str.{bytes_eq}
 use Rattle.std.specs.declared.alloc.Global.{Global}
 use Rattle.wp_model.specs.FirstForm.{add_order_line, article_in, has_room, most_order_names, number_among}
-use Rattle.wp_model.specs.Opening.{Order, is_known_order, lines_of, most_lines}
+use Rattle.wp_model.specs.Opening.{is_known_order, lines_of, most_lines}
 use Rattle.wp_model.specs.Step.{is_among}
 use Rattle.wp_model.specs.declared.line.OrderLine.{OrderLine}
 use Rattle.wp_model.specs.declared.row.Line.{Line}

@@ -1,5 +1,5 @@
 -- What the readers of the first form answer.
-use Rattle.std.specs.Prelude.{◌≡◌, ℕ, ◌==◌, ◌&&◌, Bool, false, List, [], ◌∷◌, Option, Some, None, if◌then◌else◌, Result, Ok, Err, ⊤, option_and_then}
+use Rattle.std.specs.Prelude.{◌≡◌, ℕ, Bool, false, List, [], ◌∷◌, Option, Some, None, if◌then◌else◌, Result, Ok, Err, ⊤, option_and_then}
 use Rattle.csv.specs.Reading.{is_bom}
 use Rattle.wp_model.specs.FirstForm.{Record, orders_of, scripts_of, stock_of}
 use Rattle.wp_model.specs.Opening.{Order, Stock}

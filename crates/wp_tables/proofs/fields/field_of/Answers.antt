@@ -1,4 +1,4 @@
-use Rattle.std.proofs.Common.{◌≡◌, ◌∙◌, sym, ap, Some}
+use Rattle.std.proofs.Common.{◌∙◌, sym, ap}
 use Rattle.std.specs.Option.{option_map}
 use Rattle.csv.specs.Records.{fields_of}
 use Rattle.wp_tables.proofs.ByPlace.{field_at_is, got_there}

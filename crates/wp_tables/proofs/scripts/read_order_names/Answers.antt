@@ -1,4 +1,4 @@
-use Rattle.std.proofs.Common.{◌≡◌, ◌∙◌, ◌+◌, ap, sym, subst, drop, false, true, append_assoc, ◌++◌, ◌∷◌, [], arith}
+use Rattle.std.proofs.Common.{◌≡◌, ◌∙◌, ◌+◌, ap, sym, drop, false, append_assoc, ◌++◌, ◌∷◌, [], arith}
 use Rattle.csv.specs.Records.{fields_of}
 use Rattle.wp_model.specs.Step.{is_among}
 use Rattle.wp_tables.proofs.OrderNames.{drop_got, go_on, goes_on, named, no_orders, stops_twice, stops_unnamed, unnamed}

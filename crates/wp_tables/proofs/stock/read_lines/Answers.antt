@@ -1,6 +1,6 @@
-use Rattle.std.proofs.Common.{◌≡◌, ◌∙◌, ◌∷◌, ◌+◌, ◌≤◌, Some, ap, sym, drop, length, map, arith}
+use Rattle.std.proofs.Common.{◌≡◌, ◌∙◌, ◌∷◌, ◌+◌, Some, ap, sym, drop, map, arith}
 use Rattle.csv.specs.Records.{fields_of}
-use Rattle.wp_model.specs.FirstForm.{empty_stock, stock_line, stock_with}
+use Rattle.wp_model.specs.FirstForm.{stock_line, stock_with}
 use Rattle.wp_model.proofs.FirstStock.{few_kept, taken_in}
 use Rattle.wp_model.proofs.Places.{drop_at}
 use Rattle.wp_tables.proofs.stock.read_lines.Goals as goal

@@ -1,11 +1,9 @@
-use Rattle.std.proofs.Common.{◌≡◌, ◌∙◌, ◌<◌, ◌≤◌, ◌∷◌, ◌++◌, [], ℕ, ap, sym, length, true, false, arith, length-append}
+use Rattle.std.proofs.Common.{◌≡◌, ◌∙◌, ◌<◌, ◌≤◌, ◌∷◌, [], ℕ, ap, sym, length, true, false, arith, length-append}
 use Rattle.std.specs.Prelude.{nat_lt}
 use Rattle.std.proofs.lemmas.Bool.Decides.{nat_tests}
 use Rattle.wp_model.specs.FirstForm.{most_order_names}
-use Rattle.wp_model.specs.Step.{is_among}
 use Rattle.wp_model.proofs.FirstStock.{join_new}
 use Rattle.wp_model.proofs.NameEq.{joins}
-use Rattle.wp_tables.specs.Orders.{orders_of_parts}
 use Rattle.wp_tables.proofs.Parts.{parts_known, parts_new, room_new}
 use Rattle.wp_tables.proofs.orders.Orders.add_order.Goals as goal
 

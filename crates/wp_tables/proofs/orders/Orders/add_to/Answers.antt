@@ -1,9 +1,7 @@
-use Rattle.std.proofs.Common.{◌≡◌, ◌∙◌, ◌<◌, ◌≤◌, ℕ, sym, length, map, Some, arith, true, false}
-use Rattle.std.specs.Prelude.{nat_lt, slice_get}
+use Rattle.std.proofs.Common.{◌≡◌, ◌∙◌, ◌<◌, ◌≤◌, ℕ, sym, length, arith, true, false}
+use Rattle.std.specs.Prelude.{nat_lt}
 use Rattle.std.proofs.lemmas.Bool.Decides.{nat_tests}
-use Rattle.wp_model.specs.FirstForm.{article_in, has_room, number_among}
 use Rattle.wp_model.specs.Opening.{most_lines}
-use Rattle.wp_tables.specs.Orders.{name_of, orders_of_parts}
 use Rattle.wp_tables.proofs.Parts.{item_at, order_there, parts_added, room_known}
 use Rattle.wp_tables.proofs.orders.Orders.add_to.Goals as goal
 

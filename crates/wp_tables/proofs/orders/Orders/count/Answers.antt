@@ -1,4 +1,4 @@
-use Rattle.std.proofs.Common.{◌≡◌, length, arith}
+use Rattle.std.proofs.Common.{arith}
 use Rattle.wp_tables.proofs.Parts.{parts_length}
 use Rattle.wp_tables.proofs.orders.Orders.count.Goals as goal
 

@@ -1,4 +1,4 @@
-use Rattle.std.proofs.Common.{◌∙◌, sym, arith, Some}
+use Rattle.std.proofs.Common.{◌∙◌, sym, arith}
 use Rattle.wp_model.proofs.NameEq.{found_there, number_found}
 use Rattle.wp_tables.proofs.Parts.{names_back}
 use Rattle.wp_tables.proofs.orders.Orders.find.Goals as goal

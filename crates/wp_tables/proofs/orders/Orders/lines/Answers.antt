@@ -1,4 +1,4 @@
-use Rattle.std.proofs.Common.{◌≡◌, ◌<◌, ap, length, arith, Some}
+use Rattle.std.proofs.Common.{arith}
 use Rattle.wp_tables.proofs.Parts.{item_at, lines_at, parts_length}
 use Rattle.wp_tables.proofs.orders.Orders.lines.Goals as goal
 

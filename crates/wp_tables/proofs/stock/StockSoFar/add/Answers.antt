@@ -1,9 +1,6 @@
-use Rattle.std.proofs.Common.{◌≡◌, ◌∙◌, ap, ap₂, sym, map, false, true}
-use Rattle.std.specs.List.{list_any}
-use Rattle.wp_model.specs.FirstForm.{add_line, lies_at, may_join, number_among, put_row}
-use Rattle.wp_model.specs.Step.{is_among}
+use Rattle.std.proofs.Common.{◌≡◌, ◌∙◌, ap, ap₂, sym, map, true}
+use Rattle.wp_model.specs.FirstForm.{may_join}
 use Rattle.wp_model.proofs.NameEq.{joins, number_joined, number_of_name}
-use Rattle.wp_tables.specs.Stock.{by_location}
 use Rattle.wp_tables.proofs.ByLocation.{cmp_is, kept_by_location, put_by_location, rows_back}
 use Rattle.wp_model.proofs.Joins.{new_line}
 use Rattle.wp_tables.proofs.stock.StockSoFar.add.Goals as goal
