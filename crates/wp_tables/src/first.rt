@@ -1,5 +1,6 @@
 ghost use Rattle.wp_tables.specs.declared.first.FirstFault.TheVariants as fault;
-ghost use Rattle.std.specs.Prelude.{◌≡◌};
+ghost use Rattle.std.specs.Prelude.{◌≡◌, Some};
+ghost use Rattle.wp_tables.specs.Faults.{first_fault_text};
 
 use std::alloc::{AllocError, AllocFailed};
 use std::error::Error;
@@ -11,10 +12,13 @@ use wp_model::Memory;
 pub enum FirstFault {
     /// The text hasn't the first form.
     NotFirst,
+    /// There was no memory for what it says.
     Memory,
 }
 
 impl fmt::Display for FirstFault {
+    ghost output = { λ fault. Some (first_fault_text fault) };
+
     fn fmt<W: fmt::Write>(&self, f: &mut fmt::Formatter<W>) -> fmt::Result {
         f.write_str(match self {
             FirstFault::NotFirst => "the text hasn't the first form",
