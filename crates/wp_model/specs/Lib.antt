@@ -11,6 +11,8 @@ pub mod Change
 pub mod Step
 pub mod History
 pub mod Sound
+pub mod Book
 pub mod FirstForm
 pub mod FirstOpening
 pub mod Plain
+pub mod Chain

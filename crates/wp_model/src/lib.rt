@@ -2,6 +2,7 @@
 //! them, and in `specs/` the definitions that contracts cite.
 #![tactic(auto)]
 
+mod chain;
 mod command;
 mod entry;
 mod laws;
@@ -14,6 +15,7 @@ mod number;
 mod reply;
 mod row;
 
+pub use chain::{Cell, Chain};
 pub use command::Command;
 pub use entry::{Entries, Entry};
 pub use laws::{overlaps_give_each_its_demand, short_articles_are_the_first, states_are_sound};
@@ -24,7 +26,7 @@ pub use memory::Memory;
 pub use name::{LONGEST_NAME, Name, Names};
 pub use number::read_number;
 pub use reply::{Reply, WaveState};
-pub use row::{Line, Row, StockRow};
+pub use row::{Hold, Holds, Line, Row, StockRow};
 
 #[cfg(test)]
 mod tests;

@@ -1,3 +1,4 @@
+use crate::listing::Listing;
 use crate::location::Location;
 
 /// A row of the stock file: so many units of an article, 0 to 1,000,000, at a location. Articles are numbered
@@ -25,3 +26,15 @@ pub struct Line {
     pub article: u32,
     pub quantity: u32,
 }
+
+/// Units held for an order of a wave at a row: the order by its place in its wave, and the row by its number, both
+/// counted from 0.
+#[derive(Clone, Copy, Debug, PartialEq, Eq)]
+pub struct Hold {
+    pub order: u32,
+    pub row: u32,
+    pub quantity: u32,
+}
+
+/// A list of holds.
+pub type Holds = Listing<Hold>;

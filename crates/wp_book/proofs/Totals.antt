@@ -1,0 +1,136 @@
+-- The units of all chains of a book.
+use Rattle.std.proofs.Common.{◌≡◌, ◌≢◌, ◌∙◌, refl, sym, ap, ℕ, zero, suc, ◌+◌, ◌<◌, ◌≤◌, ◌%◌, ◌==◌, false, inl, inr, List, [], ◌∷◌, length, map, get_or, slice_get, Some, arith, eq-eqb, ne_eqb, get_or-set_same, get_or-set_other}
+use Rattle.std.proofs.Math.ListN.{set}
+use Rattle.std.proofs.lemmas.Bool.{and_left, cases_eq, cond-false, cond-true, cond_both}
+use Rattle.std.proofs.lemmas.List.{get_or_default}
+use Rattle.std.proofs.lemmas.List.Sums.{sum_by-append, sum_by-cons, sum_by-set}
+use Rattle.std.specs.List.{flat_map, sum_by}
+use Rattle.wp_model.proofs.Elements.{All-at, at_some}
+use Rattle.wp_model.proofs.Rows.{All-change_rows, IfSome-change_rows, length-change_rows}
+use Rattle.wp_model.specs.Book.{IsBook, Where, held_where, hold_units_where, is_at, is_for, is_for_wave, is_of, of_wave, units_where}
+use Rattle.wp_model.specs.Change.{change_rows}
+use Rattle.wp_model.specs.Sound.{IsBalanced}
+use Rattle.wp_model.specs.declared.row.Hold.{Hold}
+use Rattle.wp_model.specs.declared.row.Row.{Row}
+use Rattle.wp_book.specs.Chains.{all_units, chain_units, holdings_of, node_units}
+use Rattle.wp_book.specs.Kept.{IsKept, book_of, chain_count}
+use Rattle.wp_book.specs.declared.room.WaveHolds.{WaveHolds}
+use Rattle.wp_book.proofs.HoldSums.{sum_by-within}
+
+sum_by-map : {A B : Type 0} (f : B → ℕ) (g : A → B) (xs : List A) → sum_by f (map g xs) ≡ sum_by (λ x. f (g x)) xs
+sum_by-map f g [] = refl
+sum_by-map f g (x ∷ xs) = omega (arith, sum_by-cons f (g x) (map g xs), sum_by-cons (λ x. f (g x)) x xs, sum_by-map f g xs)
+
+sum_by-flat : {A B : Type 0} (f : B → ℕ) (g : A → List B) (h : A → ℕ) (xs : List A) → ((x : A) → sum_by f (g x) ≡ h x) → sum_by f (flat_map g xs) ≡ sum_by h xs
+sum_by-flat f g h [] each = refl
+sum_by-flat f g h (x ∷ xs) each = omega (arith, sum_by-append f (g x) (flat_map g xs), sum_by-cons h x xs, each x, sum_by-flat f g h xs each)
+
+-- the units of a book are those of its chains
+pub total_is : (passes : Where) (rows : List Row) (chains : List (List WaveHolds)) → held_where passes (book_of rows chains) ≡ all_units passes chains
+total_is passes rows chains =
+    sum_by-flat (units_where passes) (flat_map holdings_of) (chain_units passes) chains (λ nodes.
+    sum_by-flat (units_where passes) holdings_of (node_units passes) nodes (λ node. sum_by-map (units_where passes) (of_wave node.wave) node.holds.items))
+
+-- a sum of which all terms but one are 0
+pub sum_by-one : {X : Type 0} (f : X → ℕ) (xs : List X) (i : ℕ) (d : X) → i < length xs → ((k : ℕ) → k < length xs → k ≢ i → f (get_or xs k d) ≡ 0) → sum_by f xs ≡ f (get_or xs i d)
+sum_by-one f [] i d within others = absurd (omega arith)
+sum_by-one f (x ∷ xs) zero d within others =
+    let rest = sum_by-zeros f xs d (λ k below. others (suc k) (omega arith) (omega arith)) in
+    omega (arith, sum_by-cons f x xs, rest)
+  where
+    sum_by-zeros : {X : Type 0} (f : X → ℕ) (xs : List X) (d : X) → ((k : ℕ) → k < length xs → f (get_or xs k d) ≡ 0) → sum_by f xs ≡ 0
+    sum_by-zeros f [] d none = refl
+    sum_by-zeros f (x ∷ xs) d none = omega (arith, sum_by-cons f x xs, none 0 (omega arith), sum_by-zeros f xs d (λ k below. none (suc k) (omega arith)))
+sum_by-one f (x ∷ xs) (suc i) d within others =
+    let rest = sum_by-one f xs i d (omega arith) (λ k below other. others (suc k) (omega arith) (omega arith)) in
+    omega (arith, sum_by-cons f x xs, rest, others 0 (omega arith) (omega arith))
+
+-- a test that only what is held for a wave passes
+abbrev pub IsOfWave : ℕ → Where → Type 0
+IsOfWave wave passes = (w o r : ℕ) → w ≢ wave → passes w o r ≡ false
+
+pub is_for-of : (wave order row : ℕ) → IsOfWave wave (is_for wave order row)
+is_for-of wave order row w o r other = and_left _ _ (ne_eqb w wave other)
+
+pub is_for_wave-of : (wave row : ℕ) → IsOfWave wave (is_for_wave wave row)
+is_for_wave-of wave row w o r other = and_left _ _ (ne_eqb w wave other)
+
+pub is_of-of : (wave : ℕ) → IsOfWave wave (is_of wave)
+is_of-of wave w o r other = ne_eqb w wave other
+
+-- no more passes than is held for the wave
+wave_most : (wave : ℕ) (passes : Where) (w : ℕ) (hold : Hold) → IsOfWave wave passes → hold_units_where passes w hold ≤ hold_units_where (is_of wave) w hold
+wave_most wave passes w hold of = elim (cases_eq w wave) [
+  | inl same ↦
+      let all = cond-true (w == wave) hold.quantity 0 (eq-eqb w wave same) in
+      cond_both (passes w hold.order hold.row) hold.quantity 0 (λ n. n ≤ hold_units_where (is_of wave) w hold) (λ e. omega (arith, all)) (λ e. omega arith)
+  | inr other ↦ omega (arith, cond-false (passes w hold.order hold.row) hold.quantity 0 (of w hold.order hold.row other))
+]
+
+pub chain_most : (wave : ℕ) (passes : Where) (nodes : List WaveHolds) → IsOfWave wave passes → chain_units passes nodes ≤ chain_units (is_of wave) nodes
+chain_most wave passes nodes of =
+    sum_by-within (node_units passes) (node_units (is_of wave)) nodes (λ node.
+    sum_by-within (hold_units_where passes node.wave) (hold_units_where (is_of wave) node.wave) node.holds.items (λ hold. wave_most wave passes node.wave hold of))
+
+-- the chain of a wave
+abbrev pub chain_for : List (List WaveHolds) → ℕ → List WaveHolds
+chain_for chains wave = get_or chains (wave % chain_count) []
+
+pub chain_place : (wave : ℕ) → wave % chain_count < chain_count
+chain_place wave = omega arith
+
+-- has all that is held for it
+pub wave_total : (rows : List Row) (chains : List (List WaveHolds)) (wave : ℕ) (passes : Where) → IsKept rows chains → IsOfWave wave passes → all_units passes chains ≡ chain_units passes (chain_for chains wave)
+wave_total rows chains wave passes kept of =
+    sum_by-one (chain_units passes) chains (wave % chain_count) [] (omega (arith, kept.count, chain_place wave)) (λ k below other.
+    omega (arith, chain_most wave passes (get_or chains k []) of, kept.placed k wave (omega (arith, kept.count)) (λ e. other (sym e))))
+
+pub wave_held : (rows : List Row) (chains : List (List WaveHolds)) (wave : ℕ) (passes : Where) → IsKept rows chains → IsOfWave wave passes → held_where passes (book_of rows chains) ≡ chain_units passes (chain_for chains wave)
+wave_held rows chains wave passes kept of = total_is passes rows chains ∙ wave_total rows chains wave passes kept of
+
+-- after a chain has changed
+pub total_moved : (rows : List Row) (chains : List (List WaveHolds)) (wave : ℕ) (new : List WaveHolds) (passes : Where) → IsKept rows chains
+    → all_units passes (set chains (wave % chain_count) new) + chain_units passes (chain_for chains wave) ≡ all_units passes chains + chain_units passes new
+total_moved rows chains wave new passes kept =
+    sum_by-set (chain_units passes) chains (wave % chain_count) new [] (omega (arith, kept.count, chain_place wave))
+
+-- where the chain holds nothing for waves of other chains
+pub placed_moved : (rows : List Row) (chains : List (List WaveHolds)) (wave : ℕ) (new : List WaveHolds) → IsKept rows chains
+    → ((other : ℕ) → other % chain_count ≢ wave % chain_count → chain_units (is_of other) new ≡ 0)
+    → (i other : ℕ) → i < chain_count → other % chain_count ≢ i → chain_units (is_of other) (get_or (set chains (wave % chain_count) new) i []) ≡ 0
+placed_moved rows chains wave new kept none i other within elsewhere = elim (cases_eq i (wave % chain_count)) [
+  | inl here ↦
+      let at = ap (get_or (set chains (wave % chain_count) new)) here in
+      let now = get_or-set_same chains (wave % chain_count) new [] (omega (arith, kept.count, chain_place wave)) in
+      ap (chain_units (is_of other)) (ap (λ k. get_or (set chains (wave % chain_count) new) k []) here ∙ now) ∙ none other (λ e. elsewhere (e ∙ sym here))
+  | inr away ↦ ap (chain_units (is_of other)) (get_or-set_other chains (wave % chain_count) i new [] away) ∙ kept.placed i other within elsewhere
+]
+
+-- what is known of a row of a book
+pub record IsRow (chains : List (List WaveHolds)) (k : ℕ) (r : Row) : Type 0 where
+  pub balance : IsBalanced r
+  pub held : r.held ≡ all_units (is_at k) chains
+
+pub row_is : (rows : List Row) (chains : List (List WaveHolds)) (k : ℕ) (r : Row) → IsBook (book_of rows chains) → slice_get rows k ≡ Some r → IsRow chains k r
+row_is rows chains k r book there = record {
+  balance = All-at IsBalanced rows k r book.rows there;
+  held = at_some _ (λ (r : Row). r.held ≡ held_where (is_at k) (book_of rows chains)) r there (book.held k) ∙ total_is (is_at k) rows chains;
+}
+
+pub nowhere_else : (rows : List Row) (chains : List (List WaveHolds)) (k : ℕ) → IsBook (book_of rows chains) → length rows ≤ k → all_units (is_at k) chains ≡ 0
+nowhere_else rows chains k book past = sym (total_is (is_at k) rows chains) ∙ book.nowhere_else k past
+
+-- a book whose rows have changed, each to what is held there now
+pub book_moved : (change : ℕ → Row → Row) (rows : List Row) (chains new : List (List WaveHolds)) → IsBook (book_of rows chains)
+    → ((k : ℕ) (r : Row) → slice_get rows k ≡ Some r → IsRow chains k r → IsRow new k (change k r)) → ((k : ℕ) → length rows ≤ k → all_units (is_at k) new ≡ 0)
+    → IsBook (book_of (change_rows change 0 rows) new)
+book_moved change rows chains new book each nowhere = record {
+  rows = All-change_rows change rows IsBalanced (λ k r there. (each k r there (row_is rows chains k r book there)).balance);
+  held = λ k. IfSome-change_rows change rows k _ (λ r there. (each k r there (row_is rows chains k r book there)).held ∙ sym (total_is (is_at k) (change_rows change 0 rows) new));
+  nowhere_else = λ k past. total_is (is_at k) (change_rows change 0 rows) new ∙ nowhere k (omega (arith, length-change_rows change rows));
+}
+
+-- the chain that was looked up is the wave's
+pub chain_found : (chains : List (List WaveHolds)) (wave i : ℕ) (found : List WaveHolds) → length chains ≡ chain_count → i ≡ wave % chain_count → found ≡ get_or chains i found → found ≡ chain_for chains wave
+chain_found chains wave i found count place at =
+    at ∙ (get_or_default chains i found [] (omega (arith, count, place, chain_place wave)) ∙ ap (λ k. get_or chains k []) place)

@@ -1,0 +1,42 @@
+use Rattle.std.proofs.Common.{◌∙◌, sym, refl, ap, subst, ◌<◌, ◌≤◌, ◌^◌, ◌+◌, List, length, take, inl, inr, IfSome, slice_get, slice_index_or, arith}
+use Rattle.std.proofs.lemmas.Bool.{cases_lt}
+use Rattle.std.proofs.lemmas.List.Sums.{get_or-le-sum_by, sum_by_more, sum_by_more_le}
+use Rattle.wp_model.proofs.Elements.{at_some}
+use Rattle.wp_model.proofs.Rows.{IfSome-change_rows}
+use Rattle.wp_model.specs.Book.{hold_at, units_at}
+use Rattle.wp_model.specs.Change.{change_rows, hold_units}
+use Rattle.wp_model.specs.declared.row.Hold.{Hold}
+use Rattle.wp_model.specs.declared.row.Row.{Row}
+use Rattle.wp_book.proofs.HoldSums.{held_more, held_none, hold_at-own}
+use Rattle.wp_book.proofs.holds.hold_in_rows.Goals as goal
+
+abbrev none : Hold
+none = record { order = 0; row = 0; quantity = 0 }
+
+pub loop-hold-init : goal.loop-hold-init
+loop-hold-init c = sym (held_none _ c.args.rows.now (λ k. refl))
+
+pub hold_once-requires-clause-within : goal.hold_once-requires-clause-within
+hold_once-requires-clause-within c = λ some.
+    let hold = slice_index_or c.args.holds.now c.loop-hold.hold-index none in
+    elim (cases_lt hold.row (length c.loop-hold.rows)) [
+      | inl within ↦ within
+      | inr past ↦ absurd (omega (arith, get_or-le-sum_by (hold_at hold.row) c.args.holds.now c.loop-hold.hold-index none c.loop-hold-test.true, hold_at-own hold, c.requires.within hold.row (omega arith)))
+    ]
+
+pub hold_once-requires-clause-free : goal.hold_once-requires-clause-free
+hold_once-requires-clause-free c =
+    let i = c.loop-hold.hold-index in
+    let hold = slice_index_or c.args.holds.now i none in
+    let part = sum_by_more_le (hold_at hold.row) c.args.holds.now i none c.loop-hold-test.true in
+    subst (λ (rows : List Row). IfSome (slice_get rows hold.row) (λ r. (hold.quantity ≤ r.free) × (r.held + r.free < 2 ^ 32))) (sym c.loop-hold.invariant)
+    (IfSome-change_rows _ c.args.rows.now hold.row _ (λ r there.
+    let enough = at_some _ _ r there (c.requires.free hold.row) in
+    (omega (arith, part, hold_at-own hold, enough.0), omega (arith, part, enough.0, enough.1))))
+
+pub loop-hold-preserved : goal.loop-hold-preserved
+loop-hold-preserved c =
+    let i = c.loop-hold.hold-index in
+    let hold = slice_index_or c.args.holds.now i none in
+    c.hold_once.ensures ∙ ap (λ rows. change_rows (λ row. hold_units (hold_at row hold)) 0 rows) c.loop-hold.invariant
+    ∙ held_more (λ row. units_at (take i c.args.holds.now) row) (λ row. hold_at row hold) _ c.args.rows.now (λ row. sum_by_more (hold_at row) c.args.holds.now i none c.loop-hold-test.true)

@@ -1,0 +1,4 @@
+pub mod Room
+pub mod Chains
+pub mod Kept
+pub mod Calls

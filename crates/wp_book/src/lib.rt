@@ -1,0 +1,11 @@
+//! The stock book: the rows as they stand, and the units that are held in them for the orders of waves.
+#![tactic(auto)]
+
+mod book;
+mod holds;
+mod room;
+mod rows;
+
+pub use book::StockBook;
+pub use room::Room;
+pub use wp_model::{Hold, Row};

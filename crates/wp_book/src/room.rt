@@ -1,0 +1,90 @@
+ghost use Rattle.std.specs.Prelude.{◌≡◌, ◌<◌, ◌==◌, ◌++◌, ◌∷◌, [], length, IfOk};
+
+use std::alloc::Global;
+use std::marker::Model;
+use wp_model::{Cell, Hold, Memory};
+
+/// What one call held for a wave.
+#[derive(Debug, Drop)]
+pub struct WaveHolds {
+    pub wave: u32,
+    pub holds: Vec<Hold>,
+}
+
+/// Room for so many holds, and the holds that are in it. Contracts see both.
+#[derive(Drop)]
+pub struct Room {
+    size: u32,
+    holds: Vec<Hold>,
+    cell: Cell<WaveHolds>,
+}
+
+impl Model for Room {
+    ghost use Rattle.std.specs.Prelude.{◌<◌, ◌≤◌, ◌^◌, vec_len, vec_capacity};
+    ghost use Rattle.wp_book.specs.Room.{Content};
+
+    ghost Value = { Content };
+
+    ghost view = { λ r. record { size = r.size; holds = r.holds.items } };
+
+    ghost invariant = { λ r. (r.size < 2 ^ 32) × (r.size ≤ vec_capacity r.holds) × (vec_len r.holds ≤ r.size) };
+}
+
+impl Room {
+    /// Empty room for so many holds.
+    pub fn new(alloc: Global, size: u32) -> Result<Room, Memory>
+        ensures { IfOk result (λ room. room ≡ record { size = size; holds = [] }) }
+    {
+        let holds = Vec::with_capacity(alloc, size as usize)?;
+        let cell = Cell::new(alloc)?;
+        Ok(Room { size, holds, cell })
+    }
+
+    /// How many holds it has room for.
+    pub fn size(&self) -> u32
+        ensures { result ≡ self.now.size }
+    {
+        self.size
+    }
+
+    /// How many holds are in it.
+    pub fn len(&self) -> u32
+        ensures { result ≡ length self.now.holds }
+    {
+        self.holds.len() as u32
+    }
+
+    /// Whether no hold is in it.
+    pub fn is_empty(&self) -> bool
+        ensures { result ≡ (length self.now.holds == 0) }
+    {
+        self.holds.is_empty()
+    }
+
+    /// Puts a hold in, the last. It takes no memory.
+    pub fn put(&mut self, hold: Hold)
+        requires { length self.old.holds < self.old.size }
+        ensures { self.new ≡ record self.old { holds = self.old.holds ++ hold ∷ [] } }
+    {
+        self.holds.push_reserved(hold);
+    }
+
+    /// The holds, in the order in which they were put in.
+    pub fn as_slice(&self) -> &[Hold]
+        ensures { result.now ≡ self.now.holds }
+    {
+        self.holds.as_slice()
+    }
+
+    /// The holds, and the room for them in a chain.
+    pub fn into_parts(self) -> (Vec<Hold>, Cell<WaveHolds>)
+        ensures { result.0.items ≡ self.holds }
+    {
+        let Room {
+            size: _,
+            holds,
+            cell,
+        } = self;
+        (holds, cell)
+    }
+}
