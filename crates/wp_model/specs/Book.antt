@@ -1,5 +1,5 @@
 -- The stock book: the rows as they stand, and the units that are held in them for the orders of waves.
-use Rattle.std.specs.Prelude.{◌≡◌, ℕ, ◌≤◌, ◌&&◌, ◌==◌, not, List, length, if◌then◌else◌, slice_get, IfSome, Bool}
+use Rattle.std.specs.Prelude.{◌≡◌, ℕ, zero, suc, ◌≤◌, ◌&&◌, ◌==◌, not, List, [], ◌∷◌, ◌++◌, length, if◌then◌else◌, slice_get, IfSome, Bool}
 use Rattle.std.specs.List.{All, sum_by}
 use Rattle.wp_model.specs.Sound.{IsBalanced}
 use Rattle.wp_model.specs.declared.row.Hold.{Hold}
@@ -89,3 +89,14 @@ pub record IsBook (book : Book) : Type 0 where
   pub rows : All IsBalanced book.rows
   pub held : (row : ℕ) → IfSome (slice_get book.rows row) (λ r. r.held ≡ held_in_row book row)
   pub nowhere_else : (row : ℕ) → length book.rows ≤ row → held_in_row book row ≡ 0
+
+-- the holds of one order, at so many rows, wherever it has units
+abbrev pub order_held_list : ℕ → ℕ → (ℕ → ℕ) → List Hold
+order_held_list order zero units = []
+order_held_list order (suc row) units =
+    order_held_list order row units ++ (if units row == 0 then [] else record { order = order; row = row; quantity = units row } ∷ [])
+
+-- the holds of so many orders at so many rows, by order and then by row, wherever units are held
+abbrev pub held_list : ℕ → ℕ → (ℕ → ℕ → ℕ) → List Hold
+held_list zero rows held = []
+held_list (suc order) rows held = held_list order rows held ++ order_held_list order rows (held order)
