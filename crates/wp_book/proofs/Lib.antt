@@ -6,3 +6,4 @@ pub mod Back
 pub mod Taking
 pub mod Opening
 pub mod Free
+pub mod Sorting

@@ -1,4 +1,5 @@
 ghost use Rattle.std.specs.Prelude.{◌≡◌, ◌<◌, ◌==◌, ◌++◌, ◌∷◌, [], length, IfOk};
+ghost use Rattle.wp_book.specs.Room.{IsInOrder};
 
 use std::alloc::Global;
 use std::marker::Model;
@@ -69,7 +70,15 @@ impl Room {
         self.holds.push_reserved(hold);
     }
 
-    /// The holds, in the order in which they were put in.
+    /// Puts the holds into the order of their orders, and those of one order into that of their rows. It takes no memory.
+    pub fn sort(&mut self)
+        ensures { IsInOrder self.old self.new }
+    {
+        self.holds
+            .sort_unstable_by_key(|hold| (hold.order, hold.row));
+    }
+
+    /// The holds, in the order in which they were put in, or in which they were sorted.
     pub fn as_slice(&self) -> &[Hold]
         ensures { result.now ≡ self.now.holds }
     {
