@@ -1,2 +1,9 @@
 pub mod Wanted
 pub mod Enough
+pub mod Single
+pub mod Serving
+pub mod Line
+pub mod Articles
+pub mod Filling
+pub mod Ordered
+pub mod Allotting

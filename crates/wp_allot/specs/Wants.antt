@@ -1,5 +1,5 @@
 -- What a wave wants, whether free stock covers it, and how stock is held for it.
-use Rattle.std.specs.Prelude.{◌≡◌, ℕ, ◌+◌, ◌<◌, ◌≤◌, ◌^◌, ◌&&◌, ◌==◌, nat_lt, List, [], length, Option, Some, None, if◌then◌else◌, slice_get}
+use Rattle.std.specs.Prelude.{◌≡◌, ℕ, ◌+◌, ◌<◌, ◌≤◌, ◌^◌, ◌&&◌, ◌==◌, nat_lt, Bool, List, [], length, Option, Some, None, if◌then◌else◌, slice_get}
 use Rattle.std.specs.List.{All, count_by, sum_by}
 use Rattle.wp_model.specs.Book.{Book, held_for, held_list}
 use Rattle.wp_model.specs.Change.{change_rows, hold_units, share}
@@ -51,9 +51,13 @@ abbrev pub IsShort : List Row → List Want → Option ℕ → Option Short → 
 IsShort rows wants except None = (article : ℕ) → IsEnough rows wants except article
 IsShort rows wants except (Some short) = IsFirstShort rows wants except short
 
+-- whether any unit of an article is wanted
+abbrev pub is_wanted : List Want → ℕ → Bool
+is_wanted wants article = nat_lt 0 (wanted_of wants article)
+
 -- how many rows are of articles that are wanted
 abbrev pub wanted_rows : List Row → List Want → ℕ
-wanted_rows rows wants = count_by (λ (row : Row). nat_lt 0 (wanted_of wants row.article)) rows
+wanted_rows rows wants = count_by (λ (row : Row). is_wanted wants row.article) rows
 
 -- room in which no hold is yet, and that has space for one hold a wanted row and one a want
 pub record IsRoomFor (rows : List Row) (wants : List Want) (room : Content) : Type 0 where

@@ -4,7 +4,11 @@
 #![tactic(auto)]
 
 mod cover;
+mod deal;
+mod mark;
+mod serve;
 mod want;
 
 pub use cover::short_article;
+pub use deal::{allot, holds_by_overlap};
 pub use want::{Short, Want};

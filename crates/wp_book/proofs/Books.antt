@@ -54,7 +54,7 @@ chain_order-le-wave wave order row nodes =
     sum_by-within (hold_units_where (is_for wave order row) node.wave) (hold_units_where (is_for_wave wave row) node.wave) node.holds.items (order-le-wave wave order row node.wave))
 
 -- what is held at a row: for a wave, and for all others
-sum_by-plus : {X : Type 0} (f g h : X → ℕ) (xs : List X) → ((x : X) → f x ≡ g x + h x) → sum_by f xs ≡ sum_by g xs + sum_by h xs
+pub sum_by-plus : {X : Type 0} (f g h : X → ℕ) (xs : List X) → ((x : X) → f x ≡ g x + h x) → sum_by f xs ≡ sum_by g xs + sum_by h xs
 sum_by-plus f g h [] each = refl
 sum_by-plus f g h (x ∷ xs) each = omega (arith, sum_by-cons f x xs, sum_by-cons g x xs, sum_by-cons h x xs, each x, sum_by-plus f g h xs each)
 

@@ -13,6 +13,7 @@ pub mod Demand
 pub mod Elements
 pub mod Rows
 pub mod Held
+pub mod HeldList
 pub mod Share
 pub mod Stock
 pub mod Holds

@@ -90,11 +90,14 @@ pub record IsBook (book : Book) : Type 0 where
   pub held : (row : ℕ) → IfSome (slice_get book.rows row) (λ r. r.held ≡ held_in_row book row)
   pub nowhere_else : (row : ℕ) → length book.rows ≤ row → held_in_row book row ≡ 0
 
+-- a hold for an order at a row, where it is of any unit
+abbrev pub hold_of_any : ℕ → ℕ → ℕ → List Hold
+hold_of_any order row units = if units == 0 then [] else record { order = order; row = row; quantity = units } ∷ []
+
 -- the holds of one order, at so many rows, wherever it has units
 abbrev pub order_held_list : ℕ → ℕ → (ℕ → ℕ) → List Hold
 order_held_list order zero units = []
-order_held_list order (suc row) units =
-    order_held_list order row units ++ (if units row == 0 then [] else record { order = order; row = row; quantity = units row } ∷ [])
+order_held_list order (suc row) units = order_held_list order row units ++ hold_of_any order row (units row)
 
 -- the holds of so many orders at so many rows, by order and then by row, wherever units are held
 abbrev pub held_list : ℕ → ℕ → (ℕ → ℕ → ℕ) → List Hold
