@@ -14,3 +14,5 @@ pub mod Sound
 pub mod FirstForm
 pub mod FirstOpening
 pub mod Plain
+pub mod Warehouse
+pub mod Tours

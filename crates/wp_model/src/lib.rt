@@ -11,6 +11,7 @@ mod location;
 mod memory;
 mod name;
 mod number;
+mod point;
 mod reply;
 mod row;
 
@@ -23,6 +24,7 @@ pub use location::{Location, Side};
 pub use memory::Memory;
 pub use name::{LONGEST_NAME, Name, Names};
 pub use number::read_number;
+pub use point::Point;
 pub use reply::{Reply, WaveState};
 pub use row::{Line, Row, StockRow};
 
