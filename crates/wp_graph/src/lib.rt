@@ -2,8 +2,12 @@
 #![tactic(auto)]
 
 mod layout;
+mod moves;
+mod walks;
 
 pub use layout::Layout;
+pub use moves::is_move;
+pub use walks::walk_length;
 pub use wp_model::Point;
 
 #[cfg(test)]
