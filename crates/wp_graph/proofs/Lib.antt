@@ -1,1 +1,4 @@
 pub mod Walking
+pub mod Members
+pub mod Marking
+pub mod Picking

@@ -1,0 +1,2 @@
+pub mod PickSets
+pub mod Required
