@@ -2,3 +2,8 @@ pub mod Walking
 pub mod Members
 pub mod Marking
 pub mod Picking
+pub mod Distances
+pub mod Having
+pub mod Places
+pub mod Stretching
+pub mod Requiring

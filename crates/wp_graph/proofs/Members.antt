@@ -1,7 +1,7 @@
 -- Membership in a list by recursion, and what filters, maps and ranges have.
 use Rattle.std.proofs.Common.{◌≡◌, ℕ, zero, suc, ◌+◌, ◌<◌, ◌≤◌, Bool, true, false, cond, List, [], ◌∷◌, ◌++◌, length, get_or, filter, map, arith, refl, inl, inr, ap, sym, ◌∙◌, subst, ◌⊎◌, ⊎_elim, Contains}
 use Rattle.std.specs.List.{flat_map, range_with_len}
-use Rattle.std.proofs.lemmas.Bool.{both_ways, cases_eq}
+use Rattle.std.proofs.lemmas.Bool.{cases_eq}
 
 -- an element is one of a list
 abbrev pub Among : {X : Type 0} → List X → X → Type 0

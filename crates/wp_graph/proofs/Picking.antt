@@ -1,5 +1,5 @@
 -- What adding a slot, joining a set and looking a slot up come to, in points.
-use Rattle.std.proofs.Common.{◌≡◌, ℕ, ◌+◌, ◌*◌, ◌/◌, ◌%◌, ◌<◌, ◌≤◌, ◌↔◌, Bool, true, List, length, get_or, arith, refl, inl, inr, ap, sym, subst, ◌⊎◌, ⊎_elim, Contains, bit_or}
+use Rattle.std.proofs.Common.{◌≡◌, ℕ, ◌+◌, ◌*◌, ◌/◌, ◌%◌, ◌<◌, ◌↔◌, true, List, length, get_or, arith, inl, inr, sym, subst, ◌⊎◌, ⊎_elim, Contains, bit_or}
 use Rattle.wp_model.specs.declared.point.Point.{Point}
 use Rattle.wp_model.specs.Warehouse.{Layout, IsSlot}
 use Rattle.wp_graph.specs.PickSets.{MarksSlots, is_marked, points_where}

@@ -1,5 +1,5 @@
 -- What a tour must pass in an aisle, and the lengths of the six ways through it.
-use Rattle.std.specs.Prelude.{ℕ, ◌+◌, ◌-◌, ◌*◌, ◌==◌, ◌&&◌, nat_le, Bool, List, [], ◌∷◌, Option, Some, None, option_map, filter, map, length, max, slice_get, if◌then◌else◌}
+use Rattle.std.specs.Prelude.{ℕ, ◌+◌, ◌-◌, ◌<◌, ◌==◌, ◌&&◌, Bool, List, [], ◌∷◌, filter, map, max}
 use Rattle.std.specs.List.{list_any, range_with_len}
 use Rattle.wp_model.specs.declared.point.Point.{Point}
 use Rattle.wp_model.specs.Sums.{sum_below}
@@ -17,9 +17,13 @@ aisle_length layout = distance layout (back_end layout)
 abbrev pub is_at : ℕ → ℕ → Point → Bool
 is_at aisle place point = (point.aisle == aisle) && (point.slot == place)
 
+-- whether a point of the list is this place of this aisle
+unfoldable pub has_point : List Point → ℕ → ℕ → Bool
+has_point points aisle place = list_any (is_at aisle place) points
+
 -- whether a tour must pass a place of an aisle: the depot lies there, or it is picked
 unfoldable pub is_required : Layout → List Point → ℕ → ℕ → Bool
-is_required layout picks aisle place = list_any (is_at aisle place) (depot_point layout ∷ picks)
+is_required layout picks aisle place = has_point (depot_point layout ∷ picks) aisle place
 
 -- the places of an aisle that a tour must pass, from the front on
 unfoldable pub required_places : Layout → List Point → ℕ → List ℕ
@@ -34,3 +38,9 @@ abbrev pub largest_gap : List ℕ → ℕ
 largest_gap [] = 0
 largest_gap (near ∷ []) = 0
 largest_gap (near ∷ next ∷ far) = max (next - near) (largest_gap (next ∷ far))
+
+-- each distance is less than the next
+abbrev pub IsAscending : List ℕ → Type 0
+IsAscending [] = Unit {0}
+IsAscending (near ∷ []) = Unit {0}
+IsAscending (near ∷ next ∷ far) = (near < next) × IsAscending (next ∷ far)

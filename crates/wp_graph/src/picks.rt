@@ -1,7 +1,8 @@
 ghost use Rattle.std.specs.Prelude.{◌≡◌, ◌+◌, ◌*◌, ◌/◌, ◌<◌, ◌≤◌, ◌==◌, ◌↔◌, ◌⊎◌, ℕ, [], IsTrue, Contains, length, replicate, slice_index, bit_or};
 ghost use Rattle.wp_model.specs.declared.point.Point.{Point as PointData};
 ghost use Rattle.std.specs.Int.{bit_at};
-ghost use Rattle.wp_model.specs.Warehouse.{IsLayout, IsSlot};
+ghost use Rattle.wp_model.specs.Warehouse.{IsLayout, IsSlot, IsUpTo};
+ghost use Rattle.wp_graph.specs.Required.{has_point};
 
 use crate::layout::{Layout, MOST_AISLES};
 use std::marker::Model;
@@ -106,6 +107,21 @@ impl Picks {
     {
         is_slot(&self.layout, point)
             && has_bit(self.words[word_of(&self.layout, point)], point.slot % 64)
+    }
+}
+
+impl Picks {
+    // The word of an aisle whose bits stand for the places from 64 times its index on.
+    pub(crate) fn word(&self, aisle: u32, index: usize) -> u64
+        requires aisle { IsUpTo self.now.layout.aisles aisle }
+        requires index { index < 4 }
+        ensures bits { (k : ℕ) → k < 64 → (bit_at result k == 1) ≡ has_point self.now.points aisle (64 * index + k) }
+        ensures slots { (p : PointData) → Contains self.now.points p → IsSlot self.now.layout p }
+    {
+        let last = AISLE_WORDS * self.layout.aisles() as usize + AISLE_WORDS;
+        let enough = last <= WORDS;
+        prove!(enough);
+        self.words[AISLE_WORDS * aisle as usize + index]
     }
 }
 

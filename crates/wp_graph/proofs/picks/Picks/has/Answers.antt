@@ -1,4 +1,4 @@
-use Rattle.std.proofs.Common.{◌≡◌, ◌==◌, ◌∙◌, ap, sym, subst, slice_index, ◌%◌}
+use Rattle.std.proofs.Common.{◌≡◌, ◌==◌, ◌∙◌, ap, slice_index, ◌%◌}
 use Rattle.std.specs.Int.{bit_at}
 use Rattle.std.proofs.lemmas.Bool.{both_ways}
 use Rattle.wp_graph.specs.PickSets.{is_marked}

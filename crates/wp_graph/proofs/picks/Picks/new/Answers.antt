@@ -1,4 +1,3 @@
-use Rattle.wp_graph.specs.PickSets.{is_marked}
 use Rattle.wp_graph.proofs.Marking.{listed_passes, none_marked}
 use Rattle.wp_graph.proofs.Members.{nil_from_none}
 use Rattle.wp_graph.proofs.picks.Picks.new.Goals as goal
