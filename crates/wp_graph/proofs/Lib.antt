@@ -7,3 +7,4 @@ pub mod Having
 pub mod Places
 pub mod Stretching
 pub mod Requiring
+pub mod Bounding

@@ -1,0 +1,4 @@
+pub mod Leasts
+pub mod Going
+pub mod Small
+pub mod Planning

@@ -1,0 +1,4 @@
+pub mod Tables
+pub mod Least
+pub mod Choices
+pub mod Onward
