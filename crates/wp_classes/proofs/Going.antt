@@ -1,5 +1,5 @@
 -- The least lengths by one way and by one crossing.
-use Rattle.std.proofs.Common.{◌≡◌, ℕ, suc, ◌+◌, ◌*◌, ◌≤◌, Bool, true, false, IsTrue, if◌then◌else◌, Option, Some, None, option_map, option_and_then, arith, refl, inl, inr, ◌⊎◌, ⊎_elim, ap, sym, ◌∙◌, subst}
+use Rattle.std.proofs.Common.{◌≡◌, ℕ, suc, ◌+◌, ◌*◌, Bool, true, false, IsTrue, if◌then◌else◌, Option, Some, None, option_map, option_and_then, arith, refl, inl, inr, ◌⊎◌, sym, ◌∙◌, subst}
 use Rattle.std.proofs.lemmas.Bool.{both_ways}
 use Rattle.std.proofs.lemmas.Option.{none-some, same_Some}
 use Rattle.wp_graph.specs.declared.ways.AisleWays.{AisleWays}
@@ -9,11 +9,11 @@ use Rattle.wp_classes.specs.declared.class.Way.TheVariants.{Pass, Back, Front, G
 use Rattle.wp_classes.specs.declared.class.Cross.{Cross}
 use Rattle.wp_classes.specs.declared.class.Cross.TheVariants.{C00, C11, C20, C02, C22}
 use Rattle.wp_classes.specs.declared.lengths.Lengths.{Lengths}
-use Rattle.wp_classes.specs.Choices.{Block, TakesCross, TakesWay}
-use Rattle.wp_classes.specs.Least.{by_cross, by_way, least_by_cross, least_by_way, length_at, lesser, sum_of}
+use Rattle.wp_classes.specs.Choices.{Block}
+use Rattle.wp_classes.specs.Least.{by_cross, by_way, least_by_cross, least_by_way, length_at, sum_of}
 use Rattle.wp_classes.specs.Onward.{Across, AreOnward, ByCross, ByWay, IsLeastOf, Onward, Through}
 use Rattle.wp_classes.specs.Tables.{class_after_cross, class_after_way, copies, is_whole, way_length}
-use Rattle.wp_classes.proofs.Leasts.{least_lesser, least_like, least_more, least_none}
+use Rattle.wp_classes.proofs.Leasts.{least_lesser, least_like, least_more}
 
 -- the least length by one way
 least_by : (onward : Class → ℕ → Type 0) (ways : AisleWays) (after : Lengths) (class : Class) (way : Way) →

@@ -1,5 +1,7 @@
 -- The least of numbers with a property.
-use Rattle.std.proofs.Common.{◌≡◌, ℕ, ◌+◌, ◌*◌, ◌≤◌, min, Option, Some, None, option_map, arith, refl, inl, inr, ◌⊎◌, ⊎_elim, ap, sym, ◌∙◌}
+use Rattle.std.specs.Option.{option_eq}
+use Rattle.std.proofs.lemmas.Bool.{eq-eqb, false≢true}
+use Rattle.std.proofs.Common.{◌≡◌, ℕ, ◌+◌, ◌≤◌, true, false, eqb, subst, min, Option, Some, None, option_map, arith, refl, inl, inr, ◌⊎◌, ⊎_elim, ap, sym, ◌∙◌}
 use Rattle.wp_classes.specs.Least.{lesser}
 use Rattle.wp_classes.specs.Onward.{IsLeastOf}
 
@@ -34,3 +36,31 @@ least_lesser P Q (Some m) (Some n) is there =
 pub least_more : (P : ℕ → Type 0) (a : ℕ) (least : Option ℕ) → IsLeastOf P least → IsLeastOf (λ t. (r : ℕ) × P r × (t ≡ a + r)) (option_map (λ r. a + r) least)
 least_more P a None is = λ t h. is h.0 h.1
 least_more P a (Some m) is = ((m, is.0, refl), λ t h. let up = is.1 h.0 h.1 in omega (arith, up, h.2))
+
+-- the lesser of two is one of them
+pub lesser_one : (a b : Option ℕ) → (lesser a b ≡ a) ⊎ (lesser a b ≡ b)
+lesser_one None b = inr refl
+lesser_one (Some m) None = inl refl
+lesser_one (Some m) (Some n) = ⊎_elim (λ (low : m ≤ n). let e : min m n ≡ m = omega arith in inl (ap (λ k. Some k) e)) (λ (low : n ≤ m). let e : min m n ≡ n = omega arith in inr (ap (λ k. Some k) e)) (cases_le m n)
+  where
+    cases_le : (a b : ℕ) → (a ≤ b) ⊎ (b ≤ a)
+    cases_le a b = grind arith
+
+other_one : (a b least : Option ℕ) → least ≡ lesser a b → (a ≡ least → ⊥) → least ≡ b
+other_one a b least is not_first = ⊎_elim (λ e. absurd (not_first (sym (is ∙ e)))) (λ e. is ∙ e) (lesser_one a b)
+
+-- of six, the last is the least where the first five are not
+pub last_of_six : (a b c d e f least : Option ℕ) → least ≡ lesser a (lesser b (lesser c (lesser d (lesser e f)))) →
+    (a ≡ least → ⊥) → (b ≡ least → ⊥) → (c ≡ least → ⊥) → (d ≡ least → ⊥) → (e ≡ least → ⊥) → f ≡ least
+last_of_six a b c d e f least is na nb nc nd ne =
+    sym (other_one e f least (other_one d _ least (other_one c _ least (other_one b _ least (other_one a _ least is na) nb) nc) nd) ne)
+
+option_same : (a : Option ℕ) → option_eq eqb a a ≡ true
+option_same None = refl
+option_same (Some n) = eq-eqb n n refl
+
+-- what a failed test tells of the values that it compared
+pub unequal : (a b x y : Option ℕ) → a ≡ x → b ≡ y → false ≡ option_eq eqb a b → x ≡ y → ⊥
+unequal a b x y ax bY fails same =
+    let e : a ≡ b = ax ∙ same ∙ sym bY in
+    false≢true (fails ∙ subst (λ o. option_eq eqb a o ≡ true) e (option_same a))

@@ -1,9 +1,8 @@
 -- From how a tour goes on to a plan, and back.
-use Rattle.std.proofs.Common.{◌≡◌, ℕ, zero, suc, ◌+◌, ◌-◌, ◌*◌, ◌≤◌, ◌<◌, ◌==◌, true, IsTrue, List, Option, Some, is_some, if◌then◌else◌, cond, arith, refl, sym, ◌∙◌, ap, subst}
+use Rattle.std.proofs.Common.{◌≡◌, ℕ, zero, suc, ◌+◌, ◌-◌, ◌*◌, ◌≤◌, ◌==◌, true, IsTrue, List, Option, Some, is_some, if◌then◌else◌, arith, refl, sym, ◌∙◌, ap, subst}
 use Rattle.std.proofs.lemmas.Bool.{cond-false, cond-true, eq-eqb, ne_eqb, some_since}
 use Rattle.wp_model.specs.declared.point.Point.{Point}
 use Rattle.wp_model.specs.Warehouse.{Layout}
-use Rattle.wp_graph.specs.AisleLengths.{ways_of}
 use Rattle.wp_graph.specs.declared.ways.AisleWays.{AisleWays}
 use Rattle.wp_classes.specs.declared.class.Class.{Class}
 use Rattle.wp_classes.specs.declared.class.Class.TheVariants.{EE1, Z00}
@@ -20,22 +19,22 @@ use Rattle.wp_classes.proofs.Going.{least_ways}
 
 -- two plans are alike up to an aisle
 pub record AreAlike (one other : Plan) (more : ℕ) : Type 0 where
-  pub ways : (aisle : ℕ) → aisle ≤ suc more → one.way aisle ≡ other.way aisle
-  pub crosses : (aisle : ℕ) → aisle ≤ more → one.cross aisle ≡ other.cross aisle
+  pub ways : (aisle : ℕ) → 1 ≤ aisle → aisle ≤ suc more → one.way aisle ≡ other.way aisle
+  pub crosses : (aisle : ℕ) → 1 ≤ aisle → aisle ≤ more → one.cross aisle ≡ other.cross aisle
 
 -- a plan comes where one that is alike comes
 pub comes_alike : (block : Block) (one other : Plan) (more : ℕ) (class : Class) (t : ℕ) → AreAlike one other more → ComesTo block one more class t → ComesTo block other more class t
-comes_alike block one other zero class t alike takes = subst (λ (w : Way). TakesWay (block.ways 1) w Z00 class t) (alike.ways 1 (omega arith)) takes
+comes_alike block one other zero class t alike takes = subst (λ (w : Way). TakesWay (block.ways 1) w Z00 class t) (alike.ways 1 (omega arith) (omega arith)) takes
 comes_alike block one other (suc more) class t alike (before, between, so_far, across, through, comes, crosses, takes, total) =
-    let nearer : AreAlike one other more = record { ways = λ aisle le. alike.ways aisle (omega arith); crosses = λ aisle le. alike.crosses aisle (omega arith) } in (
+    let nearer : AreAlike one other more = record { ways = λ aisle some le. alike.ways aisle some (omega arith); crosses = λ aisle some le. alike.crosses aisle some (omega arith) } in (
       before,
       between,
       so_far,
       across,
       through,
       comes_alike block one other more before so_far nearer comes,
-      subst (λ (c : Cross). TakesCross (block.spacing (suc more)) c before between across) (alike.crosses (suc more) (omega arith)) crosses,
-      subst (λ (w : Way). TakesWay (block.ways (suc (suc more))) w between class through) (alike.ways (suc (suc more)) (omega arith)) takes,
+      subst (λ (c : Cross). TakesCross (block.spacing (suc more)) c before between across) (alike.crosses (suc more) (omega arith) (omega arith)) crosses,
+      subst (λ (w : Way). TakesWay (block.ways (suc (suc more))) w between class through) (alike.ways (suc (suc more)) (omega arith) (omega arith)) takes,
       total,
     )
 
@@ -49,8 +48,8 @@ pub comes_further : (block : Block) (plan : Plan) (more : ℕ) (before between c
 comes_further block plan more before between class so_far across through cross way comes crosses takes =
     let next = then_takes plan (suc more) cross way in
     let alike : AreAlike plan next more = record {
-      ways = λ aisle le. sym (cond-false (aisle == suc (suc more)) way (plan.way aisle) (ne_eqb _ _ (λ e. omega arith)));
-      crosses = λ aisle le. sym (cond-false (aisle == suc more) cross (plan.cross aisle) (ne_eqb _ _ (λ e. omega arith)));
+      ways = λ aisle some le. sym (cond-false (aisle == suc (suc more)) way (plan.way aisle) (ne_eqb _ _ (λ e. omega arith)));
+      crosses = λ aisle some le. sym (cond-false (aisle == suc more) cross (plan.cross aisle) (ne_eqb _ _ (λ e. omega arith)));
     } in (
       before,
       between,

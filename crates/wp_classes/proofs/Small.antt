@@ -1,5 +1,5 @@
 -- Bounds of lengths, which show that no sum of them wraps.
-use Rattle.std.proofs.Common.{◌≡◌, ℕ, zero, suc, ◌+◌, ◌-◌, ◌*◌, ◌^◌, ◌≤◌, List, subst, Option, Some, None, IfSome, ap, arith, lit≤, refl, sym, ◌∙◌}
+use Rattle.std.proofs.Common.{◌≡◌, ℕ, zero, suc, ◌+◌, ◌-◌, ◌*◌, ◌^◌, ◌≤◌, List, subst, Option, Some, None, IfSome, ap, arith, lit≤, sym, ◌∙◌}
 use Rattle.std.proofs.lemmas.Nat.{mul-le}
 use Rattle.std.proofs.lemmas.Option.{same_Some}
 use Rattle.wp_model.specs.declared.point.Point.{Point}

@@ -1,5 +1,5 @@
 -- A choice of ways and crossings, what the tables allow of it and how long it is.
-use Rattle.std.specs.Prelude.{◌≡◌, ℕ, zero, suc, ◌+◌, ◌-◌, ◌*◌, ◌≤◌, IsTrue, List, Some, slice_index_or}
+use Rattle.std.specs.Prelude.{◌≡◌, ℕ, zero, suc, ◌+◌, ◌-◌, ◌*◌, ◌≤◌, IsTrue, List, Some, length, slice_index_or}
 use Rattle.wp_model.specs.declared.point.Point.{Point}
 use Rattle.wp_model.specs.Warehouse.{Layout, spacing_after}
 use Rattle.wp_graph.specs.declared.ways.AisleWays.{AisleWays}
@@ -65,3 +65,9 @@ pub record IsAllowed (layout : Layout) (picks : List Point) (plan : Plan) (total
 pub record IsLeastPlan (layout : Layout) (picks : List Point) (total : ℕ) : Type 0 where
   pub some : (plan : Plan) × IsAllowed layout picks plan total
   pub least : (plan : Plan) (other : ℕ) → IsAllowed layout picks plan other → total ≤ other
+
+-- a way for each aisle and a crossing for each two neighbouring aisles, which the tables allow with this length
+pub record IsChoiceOf (layout : Layout) (picks : List Point) (choices : Choices) (total : ℕ) : Type 0 where
+  pub ways : length choices.ways ≡ layout.aisles
+  pub crosses : length choices.crosses ≡ layout.aisles - 1
+  pub allowed : IsAllowed layout picks (plan_of choices) total

@@ -1,5 +1,5 @@
 -- The least length from each class on, one way and one crossing at a time.
-use Rattle.std.specs.Prelude.{ℕ, ◌+◌, ◌*◌, min, Option, Some, None, option_and_then, option_map, if◌then◌else◌}
+use Rattle.std.specs.Prelude.{ℕ, ◌+◌, ◌*◌, min, Option, Some, None, option_and_then, option_map}
 use Rattle.wp_graph.specs.declared.ways.AisleWays.{AisleWays}
 use Rattle.wp_classes.specs.declared.class.Class.{Class}
 use Rattle.wp_classes.specs.declared.class.Class.TheVariants.{UU1, E01, ZE1, EE1, EE2, Z00, Z01}
@@ -8,7 +8,7 @@ use Rattle.wp_classes.specs.declared.class.Way.TheVariants.{Pass, Back, Front, G
 use Rattle.wp_classes.specs.declared.class.Cross.{Cross}
 use Rattle.wp_classes.specs.declared.class.Cross.TheVariants.{C00, C11, C20, C02, C22}
 use Rattle.wp_classes.specs.declared.lengths.Lengths.{Lengths}
-use Rattle.wp_classes.specs.Tables.{class_after_cross, class_after_way, copies, is_whole, way_length}
+use Rattle.wp_classes.specs.Tables.{class_after_cross, class_after_way, copies, way_length}
 
 -- the length from a class
 abbrev pub length_at : Lengths → Class → Option ℕ

@@ -1,4 +1,4 @@
-ghost use Rattle.std.specs.Prelude.{◌≡◌, ◌≤◌, length};
+ghost use Rattle.std.specs.Prelude.{◌≡◌, ◌-◌, ◌≤◌, length, take};
 ghost use Rattle.wp_classes.specs.Choices.{plan_of};
 
 use crate::class::{Cross, Way};
@@ -24,6 +24,19 @@ impl Model for Choice {
 }
 
 impl Choice {
+    /// The ways and crossings of so many aisles, at the fronts of these arrays.
+    pub(crate) fn of(aisles: u32, ways: [Way; 64], crosses: [Cross; 64]) -> Choice
+        requires { aisles ≤ 64 }
+        ensures ways { result.ways ≡ take aisles ways }
+        ensures crosses { result.crosses ≡ take (aisles - 1) crosses }
+    {
+        Choice {
+            aisles,
+            ways,
+            crosses,
+        }
+    }
+
     /// The way through an aisle, aisles being counted from 1.
     pub fn way(&self, aisle: u32) -> Way
         requires first { 1 ≤ aisle }

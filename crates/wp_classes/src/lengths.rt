@@ -1,8 +1,9 @@
-ghost use Rattle.std.specs.Prelude.{◌≡◌, ◌+◌, ◌*◌, ◌≤◌, ◌^◌, Option, Some, None, IfSome, is_some, if◌then◌else◌};
+ghost use Rattle.std.specs.Prelude.{◌≡◌, ◌+◌, ◌*◌, ◌<◌, ◌≤◌, ◌^◌, ℕ, Some, None, IfSome, length, slice_index_or, if◌then◌else◌};
 ghost use Rattle.wp_classes.specs.Least.{by_cross, by_way, least_by_cross, least_by_way, length_at, lesser as lesser_of, sum_of};
 ghost use Rattle.wp_classes.specs.Tables.{is_whole, way_length};
 ghost use Rattle.wp_classes.specs.declared.class.Class.{Class as ClassData};
 ghost use Rattle.wp_classes.specs.declared.class.Way.{Way as WayData};
+ghost use Rattle.wp_classes.specs.declared.lengths.Lengths.{Lengths as LengthsData};
 
 use crate::class::{Class, Cross, Way, after_cross, after_way, copies_of, length_of_way};
 use wp_graph::AisleWays;
@@ -178,4 +179,59 @@ pub(crate) fn before_cross(spacing: u64, after: &Lengths) -> Lengths
         z00: least_length_by_cross(spacing, after, Class::Z00),
         z01: least_length_by_cross(spacing, after, Class::Z01),
     }
+}
+
+/// A way of the least length.
+pub(crate) fn best_way(ways: &AisleWays, after: &Lengths, class: Class) -> Way
+    requires ways { (w : WayData) → IfSome (way_length ways.now w) (λ t. t ≤ 2 ^ 40) }
+    requires after { (c : ClassData) → IfSome (length_at after.now c) (λ t. t ≤ 2 ^ 40) }
+    ensures { by_way ways.now after.now class result ≡ least_by_way ways.now after.now class }
+{
+    let least = least_length_by_way(ways, after, class);
+    if length_by_way(ways, after, class, Way::Pass) == least {
+        return Way::Pass;
+    }
+    if length_by_way(ways, after, class, Way::Back) == least {
+        return Way::Back;
+    }
+    if length_by_way(ways, after, class, Way::Front) == least {
+        return Way::Front;
+    }
+    if length_by_way(ways, after, class, Way::Gap) == least {
+        return Way::Gap;
+    }
+    if length_by_way(ways, after, class, Way::Double) == least {
+        return Way::Double;
+    }
+    Way::Skip
+}
+
+/// A crossing of the least length.
+pub(crate) fn best_cross(spacing: u64, after: &Lengths, class: Class) -> Cross
+    requires spacing { spacing ≤ 2 ^ 38 }
+    requires after { (c : ClassData) → IfSome (length_at after.now c) (λ t. t ≤ 2 ^ 40) }
+    ensures { by_cross spacing after.now class result ≡ least_by_cross spacing after.now class }
+{
+    let least = least_length_by_cross(spacing, after, class);
+    if length_by_cross(spacing, after, class, Cross::C00) == least {
+        return Cross::C00;
+    }
+    if length_by_cross(spacing, after, class, Cross::C11) == least {
+        return Cross::C11;
+    }
+    if length_by_cross(spacing, after, class, Cross::C20) == least {
+        return Cross::C20;
+    }
+    if length_by_cross(spacing, after, class, Cross::C02) == least {
+        return Cross::C02;
+    }
+    Cross::C22
+}
+
+/// The lengths at the end, for each aisle.
+pub(crate) fn all_at_the_end() -> [Lengths; 64]
+    ensures whole { length result ≡ 64 }
+    ensures each { (k : ℕ) (d : LengthsData) (class : ClassData) → k < 64 → length_at (slice_index_or result k d) class ≡ (if is_whole class then Some 0 else None) }
+{
+    [Lengths::at_the_end(); 64]
 }

@@ -9,4 +9,7 @@ mod tour;
 
 pub use choice::Choice;
 pub use class::{Class, Cross, Way, after_cross, after_way};
-pub use tour::tour_length;
+pub use tour::{tour_choice, tour_length};
+
+#[cfg(test)]
+mod tests;
