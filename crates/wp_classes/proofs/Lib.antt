@@ -4,3 +4,7 @@ pub mod Small
 pub mod Planning
 pub mod Stepping
 pub mod Progress
+pub mod Pathing
+pub mod Parting
+pub mod Turning
+pub mod Serving

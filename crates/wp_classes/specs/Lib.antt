@@ -3,3 +3,5 @@ pub mod Least
 pub mod Choices
 pub mod Onward
 pub mod Steps
+pub mod Paths
+pub mod Parts

@@ -47,7 +47,7 @@ unfolding ways_of ways_from
 ways_small layout picks aisle valid = record {
   pass = omega (arith, small);
   back = elim (aisle == layout.depot) as (λ b. IfSome (if b then None else option_map (λ r. 2 * (whole - r)) (slice_get ds 0)) (λ t. t ≤ 4020000))
-    [ true ↦ tt | false ↦ mapped (slice_get ds 0) (λ r. omega (arith, small)) ];
+      [ true ↦ tt | false ↦ mapped (slice_get ds 0) (λ r. omega (arith, small)) ];
   front = ends (slice_get ds (length ds - 1)) refl;
   gap = elim (nat_le 2 (length ds)) as (λ b. IfSome (if b then Some (2 * (whole - largest)) else None) (λ t. t ≤ 4020000)) [ true ↦ omega (arith, small) | false ↦ tt ];
   double = omega (arith, small);
@@ -56,20 +56,25 @@ ways_small layout picks aisle valid = record {
   where
     whole : ℕ
     whole = aisle_length layout
+
     ds : List ℕ
     ds = required_distances layout picks aisle
+
     largest : ℕ
     largest = largest_gap ds
+
     small : aisle_length layout ≤ 2010000
     small = aisle_length_small layout valid
+
     mapped : (o : Option ℕ) → ((r : ℕ) → 2 * (aisle_length layout - r) ≤ 4020000) → IfSome (option_map (λ r. 2 * (aisle_length layout - r)) o) (λ t. t ≤ 4020000)
     mapped None h = tt
     mapped (Some r) h = h r
+
     ends : (o : Option ℕ) → slice_get (required_distances layout picks aisle) (length (required_distances layout picks aisle) - 1) ≡ o → IfSome (option_map (λ r. 2 * r) o) (λ t. t ≤ 4020000)
     ends None e = tt
     ends (Some r) e =
-      let all = required_distances layout picks aisle in
-      let last = length all - 1 in
-      let at = get_or_from_slice_get all last r 0 e in
-      let near : r ≤ aisle_length layout = required_near layout picks aisle r (among_at all last r 0 (slice_get_within all last r e) at) in
-      omega (arith, near, small)
+        let all = required_distances layout picks aisle in
+        let last = length all - 1 in
+        let at = get_or_from_slice_get all last r 0 e in
+        let near : r ≤ aisle_length layout = required_near layout picks aisle r (among_at all last r 0 (slice_get_within all last r e) at) in
+        omega (arith, near, small)

@@ -8,3 +8,4 @@ pub mod Places
 pub mod Stretching
 pub mod Requiring
 pub mod Bounding
+pub mod Ascending

@@ -8,16 +8,12 @@ use Rattle.std.proofs.lemmas.List.Sums.{fold-append}
 use Rattle.std.proofs.lemmas.List.Elements.{filter-append}
 use Rattle.wp_model.specs.declared.point.Point.{Point}
 use Rattle.wp_model.specs.Warehouse.{Layout, IsLayout, IsSlot, depot_point, step_length}
+use Rattle.wp_graph.specs.PickSets.{AreSlots}
 use Rattle.wp_graph.specs.Required.{IsAscending, distance, has_point, is_at, is_required, required_distances, required_places}
 use Rattle.wp_graph.specs.Stretches.{bit_places}
 use Rattle.wp_graph.proofs.Having.{has_among}
 use Rattle.wp_graph.proofs.Members.{Contains-from_among}
 use Rattle.wp_graph.proofs.Places.{agreeing, none_passes, range_parts}
-
--- a set of slots of a layout
-pub record AreSlots (layout : Layout) (points : List Point) : Type 0 where
-  pub ranges : IsLayout layout
-  pub slots : (p : Point) → Contains points p → IsSlot layout p
 
 pub slot_had : (layout : Layout) (points : List Point) (aisle place : ℕ) → AreSlots layout points → has_point points aisle place ≡ true → IsSlot layout (record { aisle = aisle; slot = place })
 slot_had layout points aisle place are has = are.slots (record { aisle = aisle; slot = place }) (Contains-from_among _ _ (has_among points aisle place has))
@@ -72,7 +68,7 @@ required_parts layout points aisle n are within =
     [ true ↦ refl | false ↦ refl ])
 
 -- distances of places from the front on ascend
-ascending_after : (p : ℕ → Bool) (f : ℕ → ℕ) (a n x : ℕ) → ((k : ℕ) → a ≤ k → k < a + n → x < f k) → ((k : ℕ) → a ≤ k → k + 1 < a + n → f k < f (k + 1)) →
+pub ascending_after : (p : ℕ → Bool) (f : ℕ → ℕ) (a n x : ℕ) → ((k : ℕ) → a ≤ k → k < a + n → x < f k) → ((k : ℕ) → a ≤ k → k + 1 < a + n → f k < f (k + 1)) →
     IsAscending (x ∷ map f (filter p (range_with_len a n)))
 ascending_after p f a zero x above up = tt
 ascending_after p f a (suc n) x above up =
@@ -95,7 +91,7 @@ steps_up layout valid k =
     let step : 0 < step_length layout k = elim (k == 0 || k == layout.slots) as (λ b. 0 < (if b then layout.clearance else layout.pitch)) [ true ↦ valid.clearance.0 | false ↦ valid.pitch.0 ] in
     rw s (omega (arith, step))
 
-tail_ascending : (x : ℕ) (xs : List ℕ) → IsAscending (x ∷ xs) → IsAscending xs
+pub tail_ascending : (x : ℕ) (xs : List ℕ) → IsAscending (x ∷ xs) → IsAscending xs
 tail_ascending x [] up = tt
 tail_ascending x (y ∷ ys) up = up.1
 

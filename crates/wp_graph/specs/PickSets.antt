@@ -1,5 +1,5 @@
 -- Sets of slots, as contracts see them and as words of bits keep them.
-use Rattle.std.specs.Prelude.{ℕ, ◌+◌, ◌*◌, ◌/◌, ◌%◌, ◌<◌, ◌≤◌, ◌==◌, Bool, List, filter, map, slice_index, IsTrue}
+use Rattle.std.specs.Prelude.{ℕ, ◌+◌, ◌*◌, ◌/◌, ◌%◌, ◌<◌, ◌≤◌, ◌==◌, Bool, Contains, List, filter, map, slice_index, IsTrue}
 use Rattle.std.specs.Int.{bit_at}
 use Rattle.std.specs.List.{flat_map, range_with_len}
 use Rattle.wp_model.specs.declared.point.Point.{Point}
@@ -9,6 +9,11 @@ use Rattle.wp_model.specs.Warehouse.{Layout, IsLayout, IsSlot}
 pub record PickSet : Type 0 where
   pub layout : Layout
   pub points : List Point
+
+-- points of a layout that are all slots of it
+pub record AreSlots (layout : Layout) (points : List Point) : Type 0 where
+  pub ranges : IsLayout layout
+  pub slots : (p : Point) → Contains points p → IsSlot layout p
 
 -- the slots of an aisle at which the test passes
 unfoldable pub slots_where : Layout → (ℕ → ℕ → Bool) → ℕ → List ℕ

@@ -3,6 +3,7 @@ ghost use Rattle.std.specs.Int.{bit_at};
 ghost use Rattle.wp_model.specs.Warehouse.{IsLayout, IsUpTo};
 ghost use Rattle.wp_graph.specs.AisleLengths.{ways_of};
 ghost use Rattle.wp_graph.specs.Required.{aisle_length, distance, required_distances};
+ghost use Rattle.wp_graph.specs.PickSets.{AreSlots};
 ghost use Rattle.wp_graph.specs.Stretches.{bit_places, reach_to, ways_by_stretch};
 
 use crate::layout::Layout;
@@ -105,6 +106,7 @@ fn reach_aisle(layout: &Layout, picks: &Picks, aisle: u32) -> Option<Stretch>
     requires picks { picks.now.layout ≡ layout.now }
     requires aisle { IsUpTo layout.now.aisles aisle }
     ensures value { result ≡ fold reach_to None (required_distances layout.now picks.now.points aisle) }
+    ensures slots { AreSlots layout.now picks.now.points }
     ensures last { IfSome result (λ s. s.last ≤ 2000000) }
 {
     let mut stretch = reach_depot(layout, aisle);
@@ -161,7 +163,8 @@ fn ways_by(has_depot: bool, whole: u64, stretch: Option<Stretch>) -> AisleWays
 pub fn aisle_ways(layout: &Layout, picks: &Picks, aisle: u32) -> AisleWays
     requires picks { picks.now.layout ≡ layout.now }
     requires aisle { IsUpTo layout.now.aisles aisle }
-    ensures { result ≡ ways_of layout.now picks.now.points aisle }
+    ensures value { result ≡ ways_of layout.now picks.now.points aisle }
+    ensures slots { AreSlots layout.now picks.now.points }
 {
     ways_by(
         aisle == layout.depot(),

@@ -17,14 +17,14 @@ choosing c =
     let more : c.args.layout.now.aisles - (c.args.aisle - 1) ≡ suc left = omega (arith, c.requires.first, c.requires.last) in
     record {
       are = subst (λ (a : ℕ). AreOnward block left a c.args.after.now) next c.requires.after;
-      ways_are = c.aisle_ways-ways.ensures ∙ ap block.ways next;
+      ways_are = c.aisle_ways-ways.ensures.value ∙ ap block.ways next;
       spacing_is = c.from-spacing.ensures ∙ c.spacing.ensures.value;
       by_ways = c.before_way-through.ensures;
       goes_on = (c.requires.goes_on.0, subst (λ (n : ℕ). Onward block n (c.args.aisle - 1) c.args.class c.requires.goes_on.0) more c.requires.goes_on.1);
     }
 
 pub before_way-through-requires-clause-ways : goal.before_way-through-requires-clause-ways
-before_way-through-requires-clause-ways c = λ way. ways_within _ _ _ _ c.spacing.ensures.valid c.aisle_ways-ways.ensures way
+before_way-through-requires-clause-ways c = λ way. ways_within _ _ _ _ c.spacing.ensures.valid c.aisle_ways-ways.ensures.value way
 
 pub before_way-through-requires-clause-after : goal.before_way-through-requires-clause-after
 before_way-through-requires-clause-after c = λ class.
@@ -32,14 +32,14 @@ before_way-through-requires-clause-after c = λ class.
 
 pub best_cross-cross-requires-clause-after : goal.best_cross-cross-requires-clause-after
 best_cross-cross-requires-clause-after c = λ class.
-    through_within _ _ _ _ _ _ _ c.spacing.ensures.valid (omega (arith, c.spacing.ensures.valid.aisles)) c.requires.after c.aisle_ways-ways.ensures c.before_way-through.ensures class
+    through_within _ _ _ _ _ _ _ c.spacing.ensures.valid (omega (arith, c.spacing.ensures.valid.aisles)) c.requires.after c.aisle_ways-ways.ensures.value c.before_way-through.ensures class
 
 pub unwrap-between-requires : goal.unwrap-between-requires
 unwrap-between-requires c =
     rw c.after_cross.ensures (cross_some (best_crosses (choosing (goal.at.unwrap-between-requires c).After-before_way-through) c.best_cross-cross.result c.best_cross-cross.ensures))
 
 pub best_way-way-requires-clause-ways : goal.best_way-way-requires-clause-ways
-best_way-way-requires-clause-ways c = λ way. ways_within _ _ _ _ c.spacing.ensures.valid c.aisle_ways-ways.ensures way
+best_way-way-requires-clause-ways c = λ way. ways_within _ _ _ _ c.spacing.ensures.valid c.aisle_ways-ways.ensures.value way
 
 pub best_way-way-requires-clause-after : goal.best_way-way-requires-clause-after
 best_way-way-requires-clause-after c = λ class.

@@ -11,7 +11,7 @@ abbrev nothing : Lengths
 nothing = record { uu1 = None; e01 = None; ze1 = None; ee1 = None; ee2 = None; z00 = None; z01 = None }
 
 pub best_way-first-requires-clause-ways : goal.best_way-first-requires-clause-ways
-best_way-first-requires-clause-ways c = λ way. ways_within _ _ _ _ c.onward_table-table.ensures.valid c.aisle_ways.ensures way
+best_way-first-requires-clause-ways c = λ way. ways_within _ _ _ _ c.onward_table-table.ensures.valid c.aisle_ways.ensures.value way
 
 pub best_way-first-requires-clause-after : goal.best_way-first-requires-clause-after
 best_way-first-requires-clause-after c = λ class.
@@ -24,7 +24,7 @@ loop-left-init c =
     record {
       ways_whole = length-set _ 0 _ ∙ c.blank_ways-ways.ensures;
       crosses_whole = c.blank_crosses-crosses.ensures;
-      progress = progress_first _ _ _ _ _ _ _ _ (c.onward_table-table.ensures.each 1 nothing (omega arith, valid.aisles.0)) c.aisle_ways.ensures c.best_way-first.ensures (sym c.after_way.ensures ∙ c.unwrap-class.ensures) (omega (arith, c.blank_ways-ways.ensures));
+      progress = progress_first _ _ _ _ _ _ _ _ (c.onward_table-table.ensures.each 1 nothing (omega arith, valid.aisles.0)) c.aisle_ways.ensures.value c.best_way-first.ensures (sym c.after_way.ensures ∙ c.unwrap-class.ensures) (omega (arith, c.blank_ways-ways.ensures));
     }
 
 pub best_step-step-requires-clause-after : goal.best_step-step-requires-clause-after

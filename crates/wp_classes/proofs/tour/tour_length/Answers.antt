@@ -15,10 +15,10 @@ least : (c : After-least_length_by_way) → IsLeastFirst (block_of c.args.layout
 least c =
     let valid = c.aisles-done-end.ensures.valid in
     let on = at_first _ c.args.layout.now.aisles c.loop-done.done _ valid.aisles.0 (omega arith) (omega (arith, valid.aisles)) c.loop-done.invariant in
-    least_first _ _ _ _ _ on c.aisle_ways.ensures c.least_length_by_way.ensures
+    least_first _ _ _ _ _ on c.aisle_ways.ensures.value c.least_length_by_way.ensures
 
 pub least_length_by_way-requires-clause-ways : goal.least_length_by_way-requires-clause-ways
-least_length_by_way-requires-clause-ways c = λ way. ways_within _ _ _ _ c.aisles-done-end.ensures.valid c.aisle_ways.ensures way
+least_length_by_way-requires-clause-ways c = λ way. ways_within _ _ _ _ c.aisles-done-end.ensures.valid c.aisle_ways.ensures.value way
 
 pub least_length_by_way-requires-clause-after : goal.least_length_by_way-requires-clause-after
 least_length_by_way-requires-clause-after c = λ class.

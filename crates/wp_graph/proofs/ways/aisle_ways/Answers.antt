@@ -6,9 +6,9 @@ use Rattle.wp_graph.proofs.Requiring.{required_ascending}
 use Rattle.wp_graph.proofs.Stretching.{ways_reached}
 use Rattle.wp_graph.proofs.ways.aisle_ways.Goals as goal
 
-pub returns : goal.returns
+pub returns-clause-value : goal.returns-clause-value
 unfolding ways_of
-returns c =
+returns-clause-value c =
     let layout = c.args.layout.now in
     let distances = required_distances layout c.args.picks.now.points c.args.aisle in
     let summed = ways_reached (c.args.aisle == layout.depot) c.length_of_aisle.result distances (required_ascending layout c.args.picks.now.points c.args.aisle c.depot.ensures.valid) in

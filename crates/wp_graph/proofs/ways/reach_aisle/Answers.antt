@@ -2,9 +2,10 @@ use Rattle.std.proofs.Common.{◌*◌, ◌∙◌, None, ap, arith, filter, fold,
 use Rattle.std.specs.List.{range_with_len}
 use Rattle.std.proofs.lemmas.Bool.{eq-eqb}
 use Rattle.std.proofs.lemmas.List.Sums.{fold-append}
+use Rattle.wp_graph.specs.PickSets.{AreSlots}
 use Rattle.wp_graph.specs.Required.{distance, has_point}
 use Rattle.wp_graph.specs.Stretches.{reach_to}
-use Rattle.wp_graph.proofs.Requiring.{AreSlots, depot_distances, required_parts, slot_had, words_more}
+use Rattle.wp_graph.proofs.Requiring.{depot_distances, required_parts, slot_had, words_more}
 use Rattle.wp_graph.proofs.ways.reach_aisle.Goals as goal
 use Rattle.wp_graph.proofs.ways.reach_aisle.Goals.{After-word}
 
@@ -34,3 +35,6 @@ returns-clause-value c =
     c.loop-index.invariant.value
     ∙ sym (fold-append reach_to None (depot_distances c.args.layout.now c.args.aisle) places)
     ∙ ap (fold reach_to None) (sym (required_parts c.args.layout.now c.args.picks.now.points c.args.aisle n are (omega (arith, valid.slots))))
+
+pub returns-clause-slots : goal.returns-clause-slots
+returns-clause-slots c = record { ranges = c.reach_depot-stretch.ensures.valid; slots = c.loop-index.invariant.slots (omega arith) }
