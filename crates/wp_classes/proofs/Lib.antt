@@ -8,3 +8,4 @@ pub mod Pathing
 pub mod Parting
 pub mod Turning
 pub mod Serving
+pub mod Touring
