@@ -16,3 +16,5 @@ pub mod FirstForm
 pub mod FirstOpening
 pub mod Plain
 pub mod Chain
+pub mod Warehouse
+pub mod Tours

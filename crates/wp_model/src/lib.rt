@@ -12,6 +12,7 @@ mod location;
 mod memory;
 mod name;
 mod number;
+mod point;
 mod reply;
 mod row;
 
@@ -25,6 +26,7 @@ pub use location::{Location, Side};
 pub use memory::Memory;
 pub use name::{LONGEST_NAME, Name, Names};
 pub use number::read_number;
+pub use point::Point;
 pub use reply::{Reply, WaveState};
 pub use row::{Hold, Holds, Line, Row, StockRow};
 

@@ -1,0 +1,11 @@
+pub mod Leasts
+pub mod Going
+pub mod Small
+pub mod Planning
+pub mod Stepping
+pub mod Progress
+pub mod Pathing
+pub mod Parting
+pub mod Turning
+pub mod Serving
+pub mod Touring

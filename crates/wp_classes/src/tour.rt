@@ -1,0 +1,119 @@
+ghost use Rattle.std.specs.Prelude.{◌≡◌, ◌+◌, ◌-◌, ◌≤◌, ℕ, length, slice_index_or};
+ghost use Rattle.wp_model.specs.Warehouse.{IsLayout, IsUpTo};
+ghost use Rattle.wp_classes.specs.Choices.{IsChoiceOf, IsLeastPlan, block_of};
+ghost use Rattle.wp_classes.specs.Onward.{AreOnward, Onward};
+ghost use Rattle.wp_classes.specs.Steps.{IsBestStep};
+ghost use Rattle.wp_classes.specs.declared.lengths.Lengths.{Lengths as LengthsData};
+
+use crate::choice::Choice;
+use crate::class::{Class, Cross, Way, after_cross, after_way};
+use crate::lengths::{
+    Lengths, all_at_the_end, before_cross, before_way, best_cross, best_way, least_length_by_way,
+};
+use wp_graph::{Layout, Picks, aisle_ways};
+
+// The least lengths on from an aisle, from those on from the next.
+fn onward_before(layout: &Layout, picks: &Picks, aisle: u32, after: &Lengths) -> Lengths
+    requires picks { picks.now.layout ≡ layout.now }
+    requires first { 2 ≤ aisle }
+    requires last { aisle ≤ layout.now.aisles }
+    requires after { AreOnward (block_of layout.now picks.now.points) (layout.now.aisles - aisle) aisle after.now }
+    ensures { AreOnward (block_of layout.now picks.now.points) (layout.now.aisles - (aisle - 1)) (aisle - 1) result }
+{
+    let spacing = u64::from(layout.spacing());
+    let through = before_way(&aisle_ways(layout, picks, aisle), after);
+    before_cross(spacing, &through)
+}
+
+/// A crossing, the way through the aisle behind it, and the class after both.
+#[derive(Clone, Copy)]
+struct Step {
+    cross: Cross,
+    way: Way,
+    class: Class,
+}
+
+// The best step to an aisle, where some tour goes on from the class after the way through the aisle before it.
+fn best_step(layout: &Layout, picks: &Picks, aisle: u32, after: &Lengths, class: Class) -> Step
+    requires picks { picks.now.layout ≡ layout.now }
+    requires first { 2 ≤ aisle }
+    requires last { aisle ≤ layout.now.aisles }
+    requires after { AreOnward (block_of layout.now picks.now.points) (layout.now.aisles - aisle) aisle after.now }
+    requires goes_on { (rest : ℕ) × Onward (block_of layout.now picks.now.points) (layout.now.aisles - (aisle - 1)) (aisle - 1) class rest }
+    ensures { IsBestStep (block_of layout.now picks.now.points) (layout.now.aisles - (aisle - 1)) aisle after.now class result }
+{
+    let spacing = u64::from(layout.spacing());
+    let ways = aisle_ways(layout, picks, aisle);
+    let through = before_way(&ways, after);
+    let cross = best_cross(spacing, &through, class);
+    let between = after_cross(class, cross).unwrap();
+    let way = best_way(&ways, after, between);
+    Step {
+        cross,
+        way,
+        class: after_way(between, way).unwrap(),
+    }
+}
+
+/// The length of the shortest tour of the picks: the least sum over all ways and crossings that the tables allow.
+pub fn tour_length(layout: &Layout, picks: &Picks) -> u64
+    requires { picks.now.layout ≡ layout.now }
+    ensures { IsLeastPlan layout.now picks.now.points result }
+{
+    let mut onward = Lengths::at_the_end();
+    for done in 1..layout.aisles() {
+        onward = onward_before(layout, picks, layout.aisles() + 1 - done, &onward);
+    }
+    least_length_by_way(&aisle_ways(layout, picks, 1), &onward, Class::Z00).unwrap()
+}
+
+// The least lengths on from each aisle, the first aisle's first.
+fn onward_table(layout: &Layout, picks: &Picks) -> [Lengths; 64]
+    requires { picks.now.layout ≡ layout.now }
+    ensures valid { IsLayout layout.now }
+    ensures whole { length result ≡ 64 }
+    ensures each { (aisle : ℕ) (d : LengthsData) → IsUpTo layout.now.aisles aisle
+        → AreOnward (block_of layout.now picks.now.points) (layout.now.aisles - aisle) aisle (slice_index_or result (aisle - 1) d) }
+{
+    let mut table = all_at_the_end();
+    for done in 1..layout.aisles() {
+        let aisle = layout.aisles() + 1 - done;
+        let before = onward_before(layout, picks, aisle, &table[aisle as usize - 1]);
+        table[aisle as usize - 2] = before;
+    }
+    table
+}
+
+// No way yet.
+fn blank_ways() -> [Way; 64]
+    ensures { length result ≡ 64 }
+{
+    [Way::Skip; 64]
+}
+
+// No crossing yet.
+fn blank_crosses() -> [Cross; 64]
+    ensures { length result ≡ 64 }
+{
+    [Cross::C00; 64]
+}
+
+/// Ways and crossings of a shortest tour of the picks.
+pub fn tour_choice(layout: &Layout, picks: &Picks) -> Choice
+    requires { picks.now.layout ≡ layout.now }
+    ensures { (total : ℕ) × IsChoiceOf layout.now picks.now.points result total × IsLeastPlan layout.now picks.now.points total }
+{
+    let table = onward_table(layout, picks);
+    let mut ways = blank_ways();
+    let mut crosses = blank_crosses();
+    let first = best_way(&aisle_ways(layout, picks, 1), &table[0], Class::Z00);
+    ways[0] = first;
+    let mut class = after_way(Class::Z00, first).unwrap();
+    for left in 1..layout.aisles() {
+        let step = best_step(layout, picks, left + 1, &table[left as usize], class);
+        crosses[left as usize - 1] = step.cross;
+        ways[left as usize] = step.way;
+        class = step.class;
+    }
+    Choice::of(layout.aisles(), ways, crosses)
+}

@@ -1,0 +1,11 @@
+pub mod Walking
+pub mod Members
+pub mod Marking
+pub mod Picking
+pub mod Distances
+pub mod Having
+pub mod Places
+pub mod Stretching
+pub mod Requiring
+pub mod Bounding
+pub mod Ascending

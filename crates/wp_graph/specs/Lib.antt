@@ -1,0 +1,4 @@
+pub mod PickSets
+pub mod Required
+pub mod AisleLengths
+pub mod Stretches

@@ -1,0 +1,37 @@
+-- Sets of slots, as contracts see them and as words of bits keep them.
+use Rattle.std.specs.Prelude.{ℕ, ◌+◌, ◌*◌, ◌/◌, ◌%◌, ◌<◌, ◌≤◌, ◌==◌, Bool, Contains, List, filter, map, slice_index, IsTrue}
+use Rattle.std.specs.Int.{bit_at}
+use Rattle.std.specs.List.{flat_map, range_with_len}
+use Rattle.wp_model.specs.declared.point.Point.{Point}
+use Rattle.wp_model.specs.Warehouse.{Layout, IsLayout, IsSlot}
+
+-- a set of slots of a layout, in the order of their aisles and then of their slots
+pub record PickSet : Type 0 where
+  pub layout : Layout
+  pub points : List Point
+
+-- points of a layout that are all slots of it
+pub record AreSlots (layout : Layout) (points : List Point) : Type 0 where
+  pub ranges : IsLayout layout
+  pub slots : (p : Point) → Contains points p → IsSlot layout p
+
+-- the slots of an aisle at which the test passes
+unfoldable pub slots_where : Layout → (ℕ → ℕ → Bool) → ℕ → List ℕ
+slots_where layout test aisle = filter (test aisle) (range_with_len 1 layout.slots)
+
+-- the points of an aisle
+unfoldable pub points_in : ℕ → List ℕ → List Point
+points_in aisle slots = map (λ slot. record { aisle = aisle; slot = slot }) slots
+
+-- the slots of a layout at which the test passes
+unfoldable pub points_where : Layout → (ℕ → ℕ → Bool) → List Point
+points_where layout test = flat_map (λ aisle. points_in aisle (slots_where layout test aisle)) (range_with_len 1 layout.aisles)
+
+-- whether a slot's bit is set: each aisle has four words of 64 bits
+unfoldable pub is_marked : List ℕ → ℕ → ℕ → Bool
+is_marked words aisle slot = bit_at (slice_index words (4 * aisle + slot / 64)) (slot % 64) == 1
+
+-- bits are set at slots of the layout alone
+pub record MarksSlots (layout : Layout) (words : List ℕ) : Type 0 where
+  pub ranges : IsLayout layout
+  pub slots : (aisle slot : ℕ) → aisle ≤ 64 → slot < 256 → IsTrue (is_marked words aisle slot) → IsSlot layout (record { aisle = aisle; slot = slot })
