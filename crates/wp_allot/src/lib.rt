@@ -12,3 +12,6 @@ mod want;
 pub use cover::short_article;
 pub use deal::{allot, holds_by_overlap};
 pub use want::{Short, Want};
+
+#[cfg(test)]
+mod tests;

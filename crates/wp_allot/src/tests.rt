@@ -1,0 +1,285 @@
+ghost use Rattle.std.specs.Prelude.{All, ◌≡◌, ◌+◌, ◌≤◌, ◌<◌, ℕ, Some, length, IsTrue, IfOk, slice_get};
+ghost use Rattle.wp_allot.specs.Wants.{AreRegular, IsRoomFor};
+ghost use Rattle.wp_allot.specs.declared.want.Want.{Want as WantData};
+ghost use Rattle.wp_model.specs.declared.row.StockRow.{StockRow as StockRowData};
+
+use super::*;
+use std::alloc::{AllocError, Global};
+use std::process::Abort;
+use std::test::Fail;
+use wp_book::{Hold, Room, StockBook};
+use wp_model::{Location, Side, StockRow};
+
+/// Two rows of the article 0 and one of the article 1.
+const STOCK: [(u32, u32); 3] = [(0, 3), (0, 4), (1, 5)];
+
+fn want(order: u32, article: u32, quantity: u64) -> Want
+    ensures { result ≡ record { order = order; article = article; quantity = quantity } }
+{
+    Want {
+        order,
+        article,
+        quantity,
+    }
+}
+
+/// Whether no row has more units than a row may have, and there aren't too many rows.
+fn are_small(rows: &[StockRow]) -> bool
+    ensures units { IsTrue result → All (λ (row : StockRowData). row.on_hand ≤ 1000000) rows.now }
+    ensures few { IsTrue result → length rows.now ≤ 1000 }
+{
+    rows.len() <= 1000 && rows.iter().all(|row| row.on_hand <= 1_000_000)
+}
+
+/// A book with rows of these articles and units, slot by slot.
+fn book_of(rt: &impl Abort, alloc: Global, stock: &[(u32, u32)]) -> Result<StockBook, Fail> {
+    let mut rows = Vec::new(alloc);
+    for (article, on_hand) in stock {
+        let location = Location {
+            aisle: 1,
+            slot: 1,
+            side: Side::L,
+        };
+        rows.push(StockRow {
+            location,
+            article: *article,
+            on_hand: *on_hand,
+        })?;
+    }
+    assert!(rt; are_small(rows.as_slice()));
+    Ok(StockBook::of_rows(alloc, rows.as_slice())?)
+}
+
+/// Whether the want at a place may stand after all before it.
+fn follows(wants: &[Want], place: usize) -> bool
+    requires { place < length wants.now }
+    ensures { IsTrue result → (k : ℕ) (v w : WantData) → k < place → slice_get wants.now k ≡ Some v → slice_get wants.now place ≡ Some w → (v.order ≤ w.order) × (v.order ≡ w.order → v.article ≡ w.article → ⊥) }
+{
+    let last = wants[place];
+    for k in 0..place {
+        let other = wants[k];
+        if other.order > last.order || other.order == last.order && other.article == last.article {
+            return false;
+        }
+    }
+    true
+}
+
+/// Whether each want may stand after all before it.
+fn all_follow(wants: &[Want]) -> bool
+    ensures { IsTrue result → (j k : ℕ) (v w : WantData) → k < j → slice_get wants.now k ≡ Some v → slice_get wants.now j ≡ Some w → (v.order ≤ w.order) × (v.order ≡ w.order → v.article ≡ w.article → ⊥) }
+{
+    for place in 0..wants.len() {
+        if !follows(wants, place) {
+            return false;
+        }
+    }
+    true
+}
+
+/// Whether the wants are regular, and no more than 1,000.
+fn are_regular(wants: &[Want]) -> bool
+    ensures regular { IsTrue result → AreRegular wants.now }
+    ensures few { IsTrue result → length wants.now ≤ 1000 }
+{
+    wants.len() <= 1000
+        && all_follow(wants)
+        && wants
+            .iter()
+            .all(|want| 0 < want.quantity && want.quantity <= 1_000_000)
+}
+
+/// Room for what is held for the wants.
+fn room_for(rt: &impl Abort, alloc: Global, book: &StockBook, wants: &[Want]) -> Result<Room, Fail>
+    requires { length wants.now ≤ 1000 }
+    ensures { IfOk result (λ room. IsRoomFor book.now.rows wants.now room) }
+{
+    assert!(rt; book.rows() <= 1_000_000);
+    Ok(Room::new(alloc, book.rows() + wants.len() as u32)?)
+}
+
+/// The holds of an allotment, one after another: the order, the row and the units.
+fn overlaps_text(
+    rt: &impl Abort,
+    alloc: Global,
+    book: &StockBook,
+    wants: &[Want],
+    except: Option<u32>,
+) -> Result<String, Fail> {
+    assert!(rt; are_regular(wants));
+    assert!(rt; short_article(book, wants, except).is_none());
+    let mut room = room_for(rt, alloc, book, wants)?;
+    holds_by_overlap(book, wants, except, &mut room);
+    let mut said = String::new(alloc);
+    for hold in room.as_slice() {
+        let order = hold.order;
+        let row = hold.row;
+        let units = hold.quantity;
+        said.push_str(format!(in alloc; "{order} {row} {units};")?.as_str())?;
+    }
+    Ok(said)
+}
+
+fn allot_all(
+    rt: &impl Abort,
+    alloc: Global,
+    book: &mut StockBook,
+    wave: u32,
+    wants: &[Want],
+    except: Option<u32>,
+) -> Result<(), Fail> {
+    assert!(rt; are_regular(wants));
+    assert!(rt; short_article(book, wants, except).is_none());
+    let room = room_for(rt, alloc, book, wants)?;
+    allot(book, wave, wants, except, room);
+    Ok(())
+}
+
+/// Free and held in each row.
+fn rows_text(alloc: Global, book: &StockBook) -> Result<String, AllocError> {
+    let mut said = String::new(alloc);
+    for number in 0..book.rows() {
+        let row = book.row(number);
+        let free = row.free;
+        let held = row.held;
+        said.push_str(format!(in alloc; "{free} {held};")?.as_str())?;
+    }
+    Ok(said)
+}
+
+#[test]
+fn orders_take_what_overlaps(rt: HostRuntime) -> Result<(), Fail> {
+    let alloc = rt.alloc();
+    for (wants, except, holds, rows) in [
+        (
+            [want(0, 0, 2), want(1, 0, 4)],
+            None,
+            "0 0 2;1 0 1;1 1 3;",
+            "0 3;1 3;5 0;",
+        ),
+        (
+            [want(0, 0, 3), want(1, 0, 4)],
+            None,
+            "0 0 3;1 1 4;",
+            "0 3;0 4;5 0;",
+        ),
+        (
+            [want(0, 1, 5), want(0, 0, 7)],
+            None,
+            "0 0 3;0 1 4;0 2 5;",
+            "0 3;0 4;0 5;",
+        ),
+        (
+            [want(2, 0, 1), want(5, 1, 1)],
+            None,
+            "2 0 1;5 2 1;",
+            "2 1;4 0;4 1;",
+        ),
+        (
+            [want(0, 0, 3), want(1, 0, 1)],
+            Some(0),
+            "0 1 3;1 1 1;",
+            "3 0;0 4;5 0;",
+        ),
+        (
+            [want(0, 0, 3), want(1, 0, 1)],
+            Some(2),
+            "0 0 3;1 1 1;",
+            "0 3;3 1;5 0;",
+        ),
+    ] {
+        let mut book = book_of(&rt, alloc, STOCK.as_slice())?;
+        assert_eq!(rt;
+            overlaps_text(&rt, alloc, &book, wants.as_slice(), except)?.as_str(),
+            holds
+        );
+        allot_all(&rt, alloc, &mut book, 3, wants.as_slice(), except)?;
+        assert_eq!(rt; rows_text(alloc, &book)?.as_str(), rows);
+    }
+    Ok(())
+}
+
+#[test]
+fn short_articles_are_told(rt: HostRuntime) -> Result<(), Fail> {
+    let alloc = rt.alloc();
+    let mut book = book_of(&rt, alloc, STOCK.as_slice())?;
+    for (wants, except, short) in [
+        ([want(0, 0, 4), want(1, 0, 4)], None, Some((0, 8, 7))),
+        ([want(0, 0, 4), want(1, 0, 3)], None, None),
+        ([want(0, 0, 5), want(1, 1, 1)], Some(0), Some((0, 5, 4))),
+        ([want(0, 0, 4), want(1, 1, 1)], Some(0), None),
+        ([want(0, 1, 9), want(0, 0, 9)], None, Some((0, 9, 7))),
+        ([want(0, 2, 1), want(0, 1, 6)], None, Some((1, 6, 5))),
+        ([want(0, 7, 1), want(1, 0, 7)], None, Some((7, 1, 0))),
+    ] {
+        assert!(rt; are_regular(wants.as_slice()));
+        let found = short_article(&book, wants.as_slice(), except);
+        let short = short.map(|(article, wanted, free)| Short {
+            article,
+            wanted,
+            free,
+        });
+        assert_eq!(rt; found, short);
+    }
+    assert_eq!(rt; rows_text(alloc, &book)?.as_str(), "3 0;4 0;5 0;");
+    allot_all(&rt, alloc, &mut book, 0, [want(0, 0, 2)].as_slice(), None)?;
+    allot_all(
+        &rt,
+        alloc,
+        &mut book,
+        0,
+        [want(0, 0, 4)].as_slice(),
+        Some(0),
+    )?;
+    allot_all(&rt, alloc, &mut book, 1, [].as_slice(), None)?;
+    assert_eq!(rt; rows_text(alloc, &book)?.as_str(), "1 2;0 4;5 0;");
+    assert_eq!(rt; book.held_at(0, 0, 1), 4);
+    assert!(rt; book.holds_none(1));
+    Ok(())
+}
+
+
+#[test]
+fn long_line_is_dealt(rt: HostRuntime) -> Result<(), Fail> {
+    let alloc = rt.alloc();
+    let mut book = book_of(&rt, alloc, [(0, 3); 1000].as_slice())?;
+    assert_eq!(rt; book.rows(), 1000);
+    let mut wants = Vec::new(alloc);
+    for order in 0..64 {
+        wants.push(want(order, 0, 46))?;
+    }
+    assert!(rt; are_regular(wants.as_slice()));
+    assert!(rt; short_article(&book, wants.as_slice(), None).is_none());
+    let mut room = room_for(&rt, alloc, &book, wants.as_slice())?;
+    holds_by_overlap(&book, wants.as_slice(), None, &mut room);
+    let mut units = 0u64;
+    for hold in room.as_slice() {
+        let order = u64::from(hold.order);
+        let row = u64::from(hold.row);
+        let start = (46 * order).max(3 * row);
+        let end = (46 * order + 46).min(3 * row + 3);
+        assert_eq!(rt;
+            start + u64::from(hold.quantity),
+            end,
+            "order {order}, row {row}"
+        );
+        units = units.saturating_add(u64::from(hold.quantity));
+    }
+    assert_eq!(rt; units, 2944);
+    allot_all(&rt, alloc, &mut book, 0, wants.as_slice(), None)?;
+    assert_eq!(rt; book.free_of(0, None), 56);
+    for (order, row, units) in [
+        (0, 14, 3),
+        (0, 15, 1),
+        (1, 15, 2),
+        (63, 981, 1),
+        (63, 982, 0),
+    ] {
+        assert_eq!(rt;
+            book.held_at(0, order, row),
+            units,
+            "order {order}, row {row}"
+        );
+    }
+    Ok(())
+}
