@@ -1,10 +1,8 @@
 -- What the part of a tour left of and with an aisle keeps, as ways and crossings are added to it.
-use Rattle.std.proofs.Common.{◌≡◌, ℕ, zero, suc, ◌+◌, ◌-◌, ◌*◌, ◌≤◌, ◌<◌, List, [], ◌∷◌, ◌++◌, Some, None, IfSome, arith, refl, sym, ◌∙◌, ap, subst, inl, inr, ◌⊎◌, ⊎_elim}
-use Rattle.std.proofs.lemmas.Option.{none-some}
+use Rattle.std.proofs.Common.{◌≡◌, ℕ, suc, ◌+◌, ◌-◌, ◌*◌, ◌≤◌, ◌<◌, List, [], ◌∷◌, ◌++◌, IfSome, arith, refl, sym, ap, subst, inl, inr, ◌⊎◌}
 use Rattle.wp_model.specs.declared.point.Point.{Point}
-use Rattle.wp_model.specs.Warehouse.{Layout, IsUpTo, back_end, depot_point, spacing_after}
+use Rattle.wp_model.specs.Warehouse.{Layout, IsUpTo, back_end, spacing_after}
 use Rattle.wp_graph.specs.Required.{aisle_length, distance}
-use Rattle.wp_graph.proofs.Members.{Among}
 use Rattle.wp_classes.specs.declared.class.Class.{Class}
 use Rattle.wp_classes.specs.declared.class.Class.TheVariants.{UU1, E01, ZE1, EE1, EE2, Z00, Z01}
 use Rattle.wp_classes.specs.declared.class.Cross.{Cross}
@@ -12,7 +10,7 @@ use Rattle.wp_classes.specs.declared.class.Cross.TheVariants.{C00, C11, C20, C02
 use Rattle.wp_classes.specs.Parts.{Part, class_with_back, class_with_pass, with_back, with_cross, with_front, with_pass}
 use Rattle.wp_classes.specs.Paths.{On, Path, ahead, at, behind, from_back, from_front, pass_down, pass_up}
 use Rattle.wp_classes.specs.Tables.{class_after_cross, copies}
-use Rattle.wp_classes.proofs.Pathing.{IsCrossway, on_ahead, on_behind, on_end, on_first, on_second, on_start, path_ahead, path_behind, path_join, path_left, path_right}
+use Rattle.wp_classes.proofs.Pathing.{IsCrossway, on_ahead, on_behind, on_first, on_second, path_ahead, path_behind, path_join, path_left, path_right}
 
 -- the paths of a part run between the ends of an aisle, as its class says, with this length together
 abbrev pub Shape : Layout → ℕ → Class → Part → ℕ → Type 0

@@ -1,12 +1,10 @@
 -- Paths, joined where they meet, along an aisle and across to the next.
-use Rattle.std.proofs.Common.{◌≡◌, ℕ, zero, suc, ◌+◌, ◌-◌, ◌≤◌, ◌<◌, List, [], ◌∷◌, ◌++◌, Some, length, slice_get, get_or, Contains, arith, refl, sym, ◌∙◌, ap, subst, inl, inr, ◌⊎◌, ⊎_elim}
+use Rattle.std.proofs.Common.{◌≡◌, ℕ, zero, suc, ◌+◌, ◌≤◌, ◌<◌, List, [], ◌∷◌, ◌++◌, arith, refl, sym, ap, subst, inl, inr, ◌⊎◌, ⊎_elim}
 use Rattle.std.proofs.lemmas.Bool.{cases_eq}
 use Rattle.wp_model.specs.declared.point.Point.{Point}
-use Rattle.wp_model.specs.Warehouse.{Layout, IsFurther, IsMove, IsPoint, IsUpTo, Step, back_end, spacing_after, step_length}
+use Rattle.wp_model.specs.Warehouse.{Layout, IsFurther, IsMove, IsUpTo, back_end, spacing_after, step_length}
 use Rattle.wp_model.specs.Warehouse.Step.{back, deeper, further, nearer}
-use Rattle.wp_model.specs.Tours.{IsClosedWalk, IsWalk}
 use Rattle.wp_graph.specs.Required.{distance}
-use Rattle.wp_graph.proofs.Members.{Among, Contains-from_among}
 use Rattle.wp_classes.specs.Paths.{On, Path, ahead, at, behind}
 
 -- two paths that meet

@@ -1,6 +1,7 @@
 -- From how a tour goes on to a plan, and back.
-use Rattle.std.proofs.Common.{◌≡◌, ℕ, zero, suc, ◌+◌, ◌-◌, ◌*◌, ◌≤◌, ◌==◌, true, IsTrue, List, Option, Some, is_some, if◌then◌else◌, arith, refl, sym, ◌∙◌, ap, subst}
+use Rattle.std.proofs.Common.{◌≡◌, ℕ, zero, suc, ◌+◌, ◌-◌, ◌*◌, ◌≤◌, ◌<◌, ◌==◌, true, IsTrue, List, Option, Some, is_some, if◌then◌else◌, arith, refl, sym, ◌∙◌, ap, subst}
 use Rattle.std.proofs.lemmas.Bool.{cond-false, cond-true, eq-eqb, ne_eqb, some_since}
+use Rattle.std.proofs.lemmas.Option.{same_Some}
 use Rattle.wp_model.specs.declared.point.Point.{Point}
 use Rattle.wp_model.specs.Warehouse.{Layout}
 use Rattle.wp_graph.specs.declared.ways.AisleWays.{AisleWays}
@@ -14,7 +15,7 @@ use Rattle.wp_classes.specs.Choices.{Block, ComesTo, IsAllowed, IsLeastPlan, Pla
 use Rattle.wp_classes.specs.Onward.{AreOnward, IsLeastOf, Onward, Through}
 use Rattle.wp_classes.specs.Least.{least_by_way}
 use Rattle.wp_classes.specs.declared.lengths.Lengths.{Lengths}
-use Rattle.wp_classes.specs.Tables.{copies, is_whole}
+use Rattle.wp_classes.specs.Tables.{class_after_cross, class_after_way, copies, is_whole}
 use Rattle.wp_classes.proofs.Going.{least_ways}
 
 -- two plans are alike up to an aisle
@@ -140,3 +141,48 @@ least_first block left ways lengths least are is by =
 pub at_first : (block : Block) (all done : ℕ) (lengths : Lengths) → 1 ≤ all → all ≤ done → done ≤ all → AreOnward block (all - (all + 1 - done)) (all + 1 - done) lengths → AreOnward block (all - 1) 1 lengths
 at_first block all done lengths some low high are =
     let first : all + 1 - done ≡ 1 = omega arith in subst (λ (a : ℕ). AreOnward block (all - a) a lengths) first are
+
+-- a plan comes to one class with one length
+pub comes_same : (block : Block) (plan : Plan) (more : ℕ) (c d : Class) (s t : ℕ) → ComesTo block plan more c s → ComesTo block plan more d t → (c ≡ d) × (s ≡ t)
+comes_same block plan zero c d s t one two = (same_Some _ _ (sym one.allowed ∙ two.allowed), same_Some _ _ (sym one.applies ∙ two.applies))
+comes_same block plan (suc more) c d s t (b, m, o, a, h, comes, crosses, takes, sum) (b', m', o', a', h', comes', crosses', takes', sum') =
+    let before = comes_same block plan more b b' o o' comes comes' in
+    let between : m ≡ m' = same_Some _ _ (sym crosses.allowed ∙ subst (λ (x : Class). class_after_cross x (plan.cross (suc more)) ≡ Some m') (sym before.0) crosses'.allowed) in
+    let after : c ≡ d = same_Some _ _ (sym takes.allowed ∙ subst (λ (x : Class). class_after_way x (plan.way (suc (suc more))) ≡ Some d) (sym between) takes'.allowed) in
+    let through : h ≡ h' = same_Some _ _ (sym takes.applies ∙ takes'.applies) in
+    (after, omega (arith, before.1, crosses.length_is, crosses'.length_is, through, sum, sum'))
+
+-- how a plan comes from one aisle to the next
+pub record ComesOn (block : Block) (plan : Plan) (more : ℕ) (class : Class) (so_far : ℕ) : Type 0 where
+  pub between : Class
+  pub next : Class
+  pub across : ℕ
+  pub through : ℕ
+  pub crosses : TakesCross (block.spacing (suc more)) (plan.cross (suc more)) class between across
+  pub takes : TakesWay (block.ways (suc (suc more))) (plan.way (suc (suc more))) between next through
+  pub comes : ComesTo block plan (suc more) next (so_far + across + through)
+
+-- a plan that comes to a later aisle comes to each earlier one
+pub comes_earlier : (block : Block) (plan : Plan) (more further : ℕ) (class : Class) (t : ℕ) → ComesTo block plan (more + further) class t → (c : Class) × (s : ℕ) × ComesTo block plan more c s
+comes_earlier block plan more zero class t comes = let same : more + 0 ≡ more = omega arith in (class, t, subst (λ (n : ℕ). ComesTo block plan n class t) same comes)
+comes_earlier block plan more (suc further) class t comes =
+    let same : more + suc further ≡ suc (more + further) = omega arith in
+    let last = subst (λ (n : ℕ). ComesTo block plan n class t) same comes in
+    comes_earlier block plan more further last.0 last.2 last.5
+
+pub comes_on : (block : Block) (plan : Plan) (more all : ℕ) (class end : Class) (so_far total : ℕ) → more < all → ComesTo block plan more class so_far → ComesTo block plan all end total → ComesOn block plan more class so_far
+comes_on block plan more all class end so_far total early here whole =
+    let same : all ≡ suc more + (all - suc more) = omega arith in
+    let next = comes_earlier block plan (suc more) (all - suc more) end total (subst (λ (n : ℕ). ComesTo block plan n end total) same whole) in
+    let step = next.2 in
+    let before = comes_same block plan more step.0 class step.2 so_far step.5 here in
+    let crosses = subst (λ (c : Class). TakesCross (block.spacing (suc more)) (plan.cross (suc more)) c step.1 step.3) before.0 step.6 in
+    record {
+      between = step.1;
+      next = next.0;
+      across = step.3;
+      through = step.4;
+      crosses = crosses;
+      takes = step.7;
+      comes = (class, step.1, so_far, step.3, step.4, here, crosses, step.7, refl);
+    }

@@ -1,15 +1,15 @@
 -- A part of a tour passes all that is required so far, and so a whole plan makes a tour.
-use Rattle.std.proofs.Common.{◌≡◌, ℕ, zero, suc, ◌+◌, ◌-◌, ◌*◌, ◌≤◌, ◌<◌, true, false, List, [], ◌∷◌, ◌++◌, Option, Some, None, IfSome, Contains, length, map, filter, slice_get, arith, refl, sym, ◌∙◌, ap, subst, inl, inr, ◌⊎◌, ⊎_elim}
+use Rattle.std.proofs.Common.{◌≡◌, ℕ, suc, ◌+◌, ◌-◌, ◌*◌, ◌≤◌, ◌<◌, List, ◌∷◌, ◌++◌, Some, length, arith, refl, sym, ◌∙◌, ap, subst, inl, inr, ⊎_elim}
 use Rattle.std.specs.List.{range_with_len}
 use Rattle.std.proofs.lemmas.Bool.{cases_eq}
 use Rattle.std.proofs.lemmas.Option.{get_or_from_slice_get, none-some, same_Some, slice_get_within}
 use Rattle.wp_model.proofs.Elements.{at_some}
 use Rattle.wp_model.proofs.Sums.{sum-grows}
 use Rattle.wp_model.specs.declared.point.Point.{Point}
-use Rattle.wp_model.specs.Warehouse.{Layout, IsLayout, IsUpTo, back_end, depot_point, spacing_after, step_length}
+use Rattle.wp_model.specs.Warehouse.{Layout, IsUpTo, back_end, depot_point, spacing_after, step_length}
 use Rattle.wp_graph.specs.AisleLengths.{ways_of}
 use Rattle.wp_graph.specs.PickSets.{AreSlots}
-use Rattle.wp_graph.specs.Required.{IsAscending, aisle_length, distance, is_required, largest_gap, required_distances, required_places}
+use Rattle.wp_graph.specs.Required.{IsAscending, aisle_length, is_required, required_places}
 use Rattle.wp_graph.proofs.Ascending.{first_least, last_most, neighbours_ascend, neighbours_part, places_ascend}
 use Rattle.wp_graph.proofs.Bounding.{required_within}
 use Rattle.wp_graph.proofs.Having.{among_has}
@@ -21,7 +21,7 @@ use Rattle.wp_classes.specs.declared.class.Way.TheVariants.{Pass, Back, Front, G
 use Rattle.wp_classes.specs.declared.class.Cross.{Cross}
 use Rattle.wp_classes.specs.Choices.{TakesCross, TakesWay}
 use Rattle.wp_classes.specs.Parts.{AreTurns, Part, class_with_back, class_with_pass, with_back, with_cross, with_front, with_pass, with_way}
-use Rattle.wp_classes.specs.Paths.{at, from_back, from_front}
+use Rattle.wp_classes.specs.Paths.{at}
 use Rattle.wp_classes.specs.Tables.{class_after_cross, class_after_way, copies}
 use Rattle.wp_classes.proofs.Parting.{OnPart, Shape, back_adds, back_keeps, back_path, back_shape, class_with_front, cross_keeps, cross_shape, crossways, front_adds, front_keeps, front_path, front_shape, on_from_back, on_from_front, pass_adds, pass_keeps, pass_shape}
 use Rattle.wp_classes.proofs.Turning.{back_is, double_is, front_is, gap_is, pass_is, skip_is}

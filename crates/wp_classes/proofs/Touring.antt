@@ -1,11 +1,9 @@
 -- A whole part is a closed path past all that is needed, and makes a tour that begins at the depot.
-use Rattle.std.proofs.Common.{◌≡◌, ℕ, zero, suc, ◌+◌, ◌-◌, ◌*◌, ◌≤◌, ◌<◌, ◌==◌, Bool, true, false, if◌then◌else◌, IsTrue, List, [], ◌∷◌, ◌++◌, Option, Some, None, option_map, Contains, length, map, max, slice_get, take, drop, get_or, nat_le, arith, refl, sym, ◌∙◌, ap, subst, inl, inr, ◌⊎◌, ⊎_elim}
-use Rattle.std.proofs.lemmas.Bool.{leb-true}
-use Rattle.std.proofs.lemmas.List.{get_or_default, length-map}
+use Rattle.std.proofs.Common.{◌≡◌, ℕ, zero, suc, ◌+◌, ◌-◌, ◌≤◌, ◌==◌, Bool, true, false, if◌then◌else◌, IsTrue, List, [], ◌∷◌, ◌++◌, Some, None, option_map, length, map, slice_get, take, drop, get_or, nat_le, arith, refl, sym, ◌∙◌, ap, subst, inl, inr, ◌⊎◌, ⊎_elim}
 use Rattle.std.proofs.lemmas.Option.{none-some, slice_get-get_or}
 use Rattle.wp_model.specs.declared.point.Point.{Point}
-use Rattle.wp_model.specs.Warehouse.{Layout, IsMove, IsUpTo, back_end, depot_point, spacing_after}
-use Rattle.wp_model.specs.Tours.{IsClosedWalk, IsTour, IsWalk}
+use Rattle.wp_model.specs.Warehouse.{Layout, IsUpTo, back_end, depot_point}
+use Rattle.wp_model.specs.Tours.{IsTour, IsWalk}
 use Rattle.wp_graph.specs.AisleLengths.{ways_from, ways_of}
 use Rattle.wp_graph.specs.PickSets.{AreSlots}
 use Rattle.wp_graph.specs.Required.{distance, largest_gap, required_distances, required_places}
@@ -15,36 +13,16 @@ use Rattle.wp_classes.specs.declared.class.Class.TheVariants.{UU1, E01, ZE1, EE1
 use Rattle.wp_classes.specs.declared.class.Way.{Way}
 use Rattle.wp_classes.specs.declared.class.Way.TheVariants.{Pass, Back, Front, Gap, Double, Skip}
 use Rattle.wp_classes.specs.Choices.{ComesTo, IsAllowed, Plan, block_of}
-use Rattle.wp_classes.specs.Parts.{AreNeighbours, AreTurns, Part, with_cross, with_way}
-use Rattle.wp_classes.specs.Paths.{On, Path, at}
+use Rattle.wp_classes.specs.Parts.{AreNeighbours, AreTurns, Part, round_points, round_start, with_cross, with_way}
+use Rattle.wp_classes.specs.Paths.{On, Path, after_moves, at}
 use Rattle.wp_classes.specs.Tables.{is_whole, way_length}
-use Rattle.wp_classes.proofs.Parting.{OnPart, Shape}
-use Rattle.wp_classes.proofs.Pathing.{on_end, on_first, on_second, on_start, path_join}
-use Rattle.wp_classes.proofs.Serving.{IsNeeded, IsPart, IsTaking, cross_part, way_part}
+use Rattle.wp_classes.proofs.Pathing.{on_first, on_second, path_join}
+use Rattle.wp_classes.proofs.Serving.{IsNeeded, IsPart, cross_part, way_part}
 
 -- a closed path past all that is needed
 pub record IsRound (layout : Layout) (picks : List Point) (start : Point) (points : List Point) (total : ℕ) : Type 0 where
   pub path : Path layout start points start total
   pub serves : (p : Point) → IsNeeded layout picks p → On start points p
-
--- the start and the points of a whole part
-abbrev pub round_start : Layout → ℕ → Class → Part → Point
-round_start layout aisle UU1 part = part.start
-round_start layout aisle E01 part = at aisle (back_end layout)
-round_start layout aisle ZE1 part = at aisle 0
-round_start layout aisle EE1 part = at aisle (back_end layout)
-round_start layout aisle EE2 part = part.start
-round_start layout aisle Z00 part = part.start
-round_start layout aisle Z01 part = part.start
-
-abbrev pub round_points : Class → Part → List Point
-round_points UU1 part = part.first
-round_points E01 part = part.first
-round_points ZE1 part = part.first
-round_points EE1 part = part.first ++ part.second
-round_points EE2 part = part.first
-round_points Z00 part = part.first
-round_points Z01 part = part.first
 
 pub whole_round : (layout : Layout) (picks : List Point) (class : Class) (part : Part) (total : ℕ) → ((p : Point) → IsNeeded layout picks p → p.aisle ≤ layout.aisles) → IsTrue (is_whole class) →
     IsPart layout picks layout.aisles layout.aisles class part total → IsRound layout picks (round_start layout layout.aisles class part) (round_points class part) total
@@ -59,12 +37,6 @@ whole_round layout picks EE1 part total near whole is = record {
 whole_round layout picks EE2 part total near whole is = absurd (cc)
 whole_round layout picks Z00 part total near whole is = absurd (cc)
 whole_round layout picks Z01 part total near whole is = record { path = is.shape; serves = λ p needed. is.serves p needed (near p needed) }
-
--- the point of a path after so many moves
-abbrev pub after_moves : Point → List Point → ℕ → Point
-after_moves from points zero = from
-after_moves from [] (suc n) = from
-after_moves from (next ∷ points) (suc n) = after_moves next points n
 
 -- a path in two parts
 pub path_split : (layout : Layout) (from to : Point) (points : List Point) (t n : ℕ) → Path layout from points to t →
@@ -200,3 +172,10 @@ tour_of_plan layout picks plan total are allowed =
     let home = on_after start points (depot_point layout) (round.serves (depot_point layout) (inl refl)) in
     let turned = subst (λ (p : Point). IsRound layout picks p (drop home.0 points ++ take home.0 points) total) home.2 (round_turned layout picks start points total home.0 round) in
     (depot_point layout ∷ drop home.0 points ++ take home.0 points, tour_of_round layout picks (drop home.0 points ++ take home.0 points) total turned)
+
+-- the same, where it begins at the depot after some moves
+pub tour_turned : (layout : Layout) (picks : List Point) (start : Point) (points : List Point) (total n : ℕ) → after_moves start points n ≡ depot_point layout → IsRound layout picks start points total →
+    IsTour layout picks (depot_point layout ∷ drop n points ++ take n points) total
+tour_turned layout picks start points total n home round =
+    tour_of_round layout picks (drop n points ++ take n points) total
+    (subst (λ (p : Point). IsRound layout picks p (drop n points ++ take n points) total) home (round_turned layout picks start points total n round))

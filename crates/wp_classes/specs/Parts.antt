@@ -1,5 +1,5 @@
 -- The part of a tour left of and with an aisle, as at most two paths that begin at ends of the aisle.
-use Rattle.std.specs.Prelude.{◌≡◌, ℕ, suc, ◌+◌, ◌-◌, ◌≤◌, List, [], ◌∷◌, ◌++◌, ◌⊎◌, Some, length, map, slice_get}
+use Rattle.std.specs.Prelude.{◌≡◌, ℕ, suc, ◌-◌, List, [], ◌∷◌, ◌++◌, Some, length, slice_get}
 use Rattle.wp_model.specs.declared.point.Point.{Point}
 use Rattle.wp_model.specs.Warehouse.{Layout, back_end}
 use Rattle.wp_graph.specs.Required.{distance, largest_gap, required_distances, required_places}
@@ -134,3 +134,22 @@ AreTurns layout picks aisle Front near far = slice_get (required_places layout p
 AreTurns layout picks aisle Gap near far = AreNeighbours (required_places layout picks aisle) near far × (distance layout far - distance layout near ≡ largest_gap (required_distances layout picks aisle))
 AreTurns layout picks aisle Double near far = Unit {0}
 AreTurns layout picks aisle Skip near far = Unit {0}
+
+-- the start and the points of a whole part
+abbrev pub round_start : Layout → ℕ → Class → Part → Point
+round_start layout aisle UU1 part = part.start
+round_start layout aisle E01 part = at aisle (back_end layout)
+round_start layout aisle ZE1 part = at aisle 0
+round_start layout aisle EE1 part = at aisle (back_end layout)
+round_start layout aisle EE2 part = part.start
+round_start layout aisle Z00 part = part.start
+round_start layout aisle Z01 part = part.start
+
+abbrev pub round_points : Class → Part → List Point
+round_points UU1 part = part.first
+round_points E01 part = part.first
+round_points ZE1 part = part.first
+round_points EE1 part = part.first ++ part.second
+round_points EE2 part = part.first
+round_points Z00 part = part.first
+round_points Z01 part = part.first

@@ -42,3 +42,9 @@ from_back layout aisle place = behind aisle place (back_end layout - place) ++ a
 -- from the front end to a place, and back
 abbrev pub from_front : ℕ → ℕ → List Point
 from_front aisle place = ahead aisle 0 place ++ behind aisle 0 place
+
+-- the point of a path after so many moves
+abbrev pub after_moves : Point → List Point → ℕ → Point
+after_moves from points zero = from
+after_moves from [] (suc n) = from
+after_moves from (next ∷ points) (suc n) = after_moves next points n

@@ -1,6 +1,5 @@
 -- Bounds of the lengths of the ways through an aisle.
-use Rattle.std.proofs.Common.{◌≡◌, ℕ, suc, ◌+◌, ◌-◌, ◌*◌, ◌<◌, ◌≤◌, ◌==◌, Bool, true, false, List, [], ◌∷◌, Option, Some, None, option_map, IfSome, length, slice_get, nat_le, if◌then◌else◌, arith, refl, sym, ◌∙◌, subst}
-use Rattle.std.specs.List.{range_with_len}
+use Rattle.std.proofs.Common.{◌≡◌, ℕ, ◌+◌, ◌-◌, ◌*◌, ◌≤◌, ◌==◌, true, false, List, Option, Some, None, option_map, IfSome, length, slice_get, nat_le, if◌then◌else◌, arith, refl, subst}
 use Rattle.std.proofs.lemmas.Nat.{mul-le}
 use Rattle.std.proofs.lemmas.Option.{get_or_from_slice_get, slice_get_within}
 use Rattle.wp_model.proofs.Sums.{sum-grows}

@@ -2,6 +2,7 @@ ghost use Rattle.std.specs.Prelude.{◌≡◌, ◌+◌, ◌*◌, ◌/◌, ◌<�
 ghost use Rattle.wp_model.specs.declared.point.Point.{Point as PointData};
 ghost use Rattle.std.specs.Int.{bit_at};
 ghost use Rattle.wp_model.specs.Warehouse.{IsLayout, IsSlot, IsUpTo};
+ghost use Rattle.wp_graph.specs.PickSets.{AreSlots};
 ghost use Rattle.wp_graph.specs.Required.{has_point};
 
 use crate::layout::{Layout, MOST_AISLES};
@@ -103,7 +104,8 @@ impl Picks {
 
     /// Whether a slot is in the set. A point that is no slot of the layout is in none.
     pub fn has(&self, point: Point) -> bool
-        ensures { IsTrue result ↔ Contains self.now.points point }
+        ensures exact { IsTrue result ↔ Contains self.now.points point }
+        ensures slots { AreSlots self.now.layout self.now.points }
     {
         is_slot(&self.layout, point)
             && has_bit(self.words[word_of(&self.layout, point)], point.slot % 64)

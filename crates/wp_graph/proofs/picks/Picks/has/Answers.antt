@@ -5,13 +5,19 @@ use Rattle.wp_graph.specs.PickSets.{is_marked}
 use Rattle.wp_graph.proofs.Picking.{contained_marked, marked_contained}
 use Rattle.wp_graph.proofs.picks.Picks.has.Goals as goal
 
-pub returns-then-is_slot : goal.returns-then-is_slot
+pub returns-then-is_slot-clause-exact : goal.returns-then-is_slot-clause-exact
 unfolding is_marked
-returns-then-is_slot c =
+returns-then-is_slot-clause-exact c =
     let marks : c.has_bit.result ≡ is_marked c.self.inside.words c.args.point.aisle c.args.point.slot =
     c.has_bit.ensures ∙ ap (λ at. bit_at (slice_index c.self.inside.words at) (c.args.point.slot % 64) == 1) c.word_of.ensures.value in
     rw (← c.self.view_is, marks) (λ set. marked_contained _ _ _ (c.is_slot.ensures.0 c.if-is_slot.true) set, λ has. (contained_marked _ _ _ has).1)
 
-pub returns-else-is_slot : goal.returns-else-is_slot
-returns-else-is_slot c =
+pub returns-else-is_slot-clause-exact : goal.returns-else-is_slot-clause-exact
+returns-else-is_slot-clause-exact c =
     rw (← c.self.view_is) (λ slot. absurd (both_ways c.is_slot.result c.if-is_slot.false slot), λ has. c.is_slot.ensures.1 (contained_marked _ _ _ has).0)
+
+pub returns-then-is_slot-clause-slots : goal.returns-then-is_slot-clause-slots
+returns-then-is_slot-clause-slots c = rw (← c.self.view_is) (record { ranges = c.self.invariant.ranges; slots = λ p has. (contained_marked _ _ p has).0 })
+
+pub returns-else-is_slot-clause-slots : goal.returns-else-is_slot-clause-slots
+returns-else-is_slot-clause-slots c = rw (← c.self.view_is) (record { ranges = c.self.invariant.ranges; slots = λ p has. (contained_marked _ _ p has).0 })

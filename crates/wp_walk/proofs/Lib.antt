@@ -1,0 +1,4 @@
+pub mod Places
+pub mod Reaching
+pub mod Moving
+pub mod Walks
