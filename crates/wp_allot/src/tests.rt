@@ -238,7 +238,6 @@ fn short_articles_are_told(rt: HostRuntime) -> Result<(), Fail> {
     Ok(())
 }
 
-
 #[test]
 fn long_line_is_dealt(rt: HostRuntime) -> Result<(), Fail> {
     let alloc = rt.alloc();

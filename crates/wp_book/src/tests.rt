@@ -182,7 +182,13 @@ fn what_is_held_and_free_is_told(rt: HostRuntime) -> Result<(), Fail> {
     let alloc = rt.alloc();
     let mut book = book_of(&rt, alloc, STOCK.as_slice())?;
     assert!(rt; book.holds_none(0) && book.holds_none(512));
-    hold_all(&rt, alloc, &mut book, 0, [hold(0, 0, 2), hold(1, 0, 1), hold(1, 1, 3)].as_slice())?;
+    hold_all(
+        &rt,
+        alloc,
+        &mut book,
+        0,
+        [hold(0, 0, 2), hold(1, 0, 1), hold(1, 1, 3)].as_slice(),
+    )?;
     hold_all(&rt, alloc, &mut book, 512, [hold(1, 1, 1)].as_slice())?;
     hold_all(&rt, alloc, &mut book, 1, [hold(0, 2, 0)].as_slice())?;
     for (wave, order, row, units) in [
@@ -195,7 +201,11 @@ fn what_is_held_and_free_is_told(rt: HostRuntime) -> Result<(), Fail> {
         (1, 0, 2, 0),
         (0, 2, 9, 0),
     ] {
-        assert_eq!(rt; book.held_at(wave, order, row), units, "wave {wave}, order {order}, row {row}");
+        assert_eq!(rt;
+            book.held_at(wave, order, row),
+            units,
+            "wave {wave}, order {order}, row {row}"
+        );
     }
     for (article, except, units) in [
         (0, None, 0),

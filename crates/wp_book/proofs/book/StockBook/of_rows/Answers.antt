@@ -9,9 +9,8 @@ use Rattle.wp_book.proofs.book.StockBook.of_rows.Goals as goal
 
 pub invariant_of-result : goal.invariant_of-result
 invariant_of-result c =
-    let rows = c.args.rows.now in
-    (
+    let rows = c.args.rows.now in (
       subst (λ (rows : List Row). IsKept rows c.in_ok-chains.chains.items) (sym c.in_ok-rows.ensures)
-      (subst (λ (chains : List (List WaveHolds)). IsKept (map opening_row rows) chains) (sym c.in_ok-chains.ensures) (opens rows c.requires.units)),
+          (subst (λ (chains : List (List WaveHolds)). IsKept (map opening_row rows) chains) (sym c.in_ok-chains.ensures) (opens rows c.requires.units)),
       omega (arith, ap length c.in_ok-rows.ensures, length-map rows opening_row, c.in_ok-rows.rows.ok.0),
     )
