@@ -1,4 +1,6 @@
-ghost use Rattle.std.specs.Prelude.{◌≡◌, ◌+◌, ◌-◌, ◌≤◌, ℕ, length, slice_index_or};
+ghost use Rattle.std.specs.Prelude.{◌≡◌, ◌+◌, ◌-◌, ◌≤◌, List, ℕ, length, slice_index_or};
+ghost use Rattle.wp_model.specs.declared.point.Point.{Point as PointData};
+ghost use Rattle.wp_model.specs.Tours.{IsTour};
 ghost use Rattle.wp_model.specs.Warehouse.{IsLayout, IsUpTo};
 ghost use Rattle.wp_classes.specs.Choices.{IsChoiceOf, IsLeastPlan, block_of};
 ghost use Rattle.wp_classes.specs.Onward.{AreOnward, Onward};
@@ -55,10 +57,12 @@ fn best_step(layout: &Layout, picks: &Picks, aisle: u32, after: &Lengths, class:
     }
 }
 
-/// The length of the shortest tour of the picks: the least sum over all ways and crossings that the tables allow.
+/// The length of the shortest tour of the picks: the least sum over all ways and crossings that the tables allow. Some
+/// closed walk past all picks has this length.
 pub fn tour_length(layout: &Layout, picks: &Picks) -> u64
     requires { picks.now.layout ≡ layout.now }
-    ensures { IsLeastPlan layout.now picks.now.points result }
+    ensures least { IsLeastPlan layout.now picks.now.points result }
+    ensures walk { (points : List PointData) × IsTour layout.now picks.now.points points result }
 {
     let mut onward = Lengths::at_the_end();
     for done in 1..layout.aisles() {
