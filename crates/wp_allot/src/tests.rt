@@ -77,16 +77,24 @@ fn all_follow(wants: &[Want]) -> bool
     true
 }
 
+/// Whether each want is of 1 to 1,000,000 units.
+fn are_moderate(wants: &[Want]) -> bool
+    ensures { IsTrue result → All (λ (want : WantData). (0 < want.quantity) × (want.quantity ≤ 1000000)) wants.now }
+{
+    for want in wants {
+        if want.quantity == 0 || want.quantity > 1_000_000 {
+            return false;
+        }
+    }
+    true
+}
+
 /// Whether the wants are regular, and no more than 1,000.
 fn are_regular(wants: &[Want]) -> bool
     ensures regular { IsTrue result → AreRegular wants.now }
     ensures few { IsTrue result → length wants.now ≤ 1000 }
 {
-    wants.len() <= 1000
-        && all_follow(wants)
-        && wants
-            .iter()
-            .all(|want| 0 < want.quantity && want.quantity <= 1_000_000)
+    wants.len() <= 1000 && all_follow(wants) && are_moderate(wants)
 }
 
 /// Room for what is held for the wants.
@@ -98,20 +106,25 @@ fn room_for(rt: &impl Abort, alloc: Global, book: &StockBook, wants: &[Want]) ->
     Ok(Room::new(alloc, book.rows() + wants.len() as u32)?)
 }
 
-/// The holds of an allotment, one after another: the order, the row and the units.
-fn overlaps_text(
+/// What is held for the wants.
+fn overlaps(
     rt: &impl Abort,
     alloc: Global,
     book: &StockBook,
     wants: &[Want],
     except: Option<u32>,
-) -> Result<String, Fail> {
+) -> Result<Room, Fail> {
     assert!(rt; are_regular(wants));
     assert!(rt; short_article(book, wants, except).is_none());
     let mut room = room_for(rt, alloc, book, wants)?;
     holds_by_overlap(book, wants, except, &mut room);
+    Ok(room)
+}
+
+/// Holds one after another: the order, the row and the units.
+fn holds_text(alloc: Global, holds: &[Hold]) -> Result<String, AllocError> {
     let mut said = String::new(alloc);
-    for hold in room.as_slice() {
+    for hold in holds {
         let order = hold.order;
         let row = hold.row;
         let units = hold.quantity;
@@ -189,10 +202,8 @@ fn orders_take_what_overlaps(rt: HostRuntime) -> Result<(), Fail> {
         ),
     ] {
         let mut book = book_of(&rt, alloc, STOCK.as_slice())?;
-        assert_eq!(rt;
-            overlaps_text(&rt, alloc, &book, wants.as_slice(), except)?.as_str(),
-            holds
-        );
+        let room = overlaps(&rt, alloc, &book, wants.as_slice(), except)?;
+        assert_eq!(rt; holds_text(alloc, room.as_slice())?.as_str(), holds);
         allot_all(&rt, alloc, &mut book, 3, wants.as_slice(), except)?;
         assert_eq!(rt; rows_text(alloc, &book)?.as_str(), rows);
     }
@@ -247,10 +258,7 @@ fn long_line_is_dealt(rt: HostRuntime) -> Result<(), Fail> {
     for order in 0..64 {
         wants.push(want(order, 0, 46))?;
     }
-    assert!(rt; are_regular(wants.as_slice()));
-    assert!(rt; short_article(&book, wants.as_slice(), None).is_none());
-    let mut room = room_for(&rt, alloc, &book, wants.as_slice())?;
-    holds_by_overlap(&book, wants.as_slice(), None, &mut room);
+    let room = overlaps(&rt, alloc, &book, wants.as_slice(), None)?;
     let mut units = 0u64;
     for hold in room.as_slice() {
         let order = u64::from(hold.order);
