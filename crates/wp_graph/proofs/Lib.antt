@@ -9,3 +9,5 @@ pub mod Stretching
 pub mod Requiring
 pub mod Bounding
 pub mod Ascending
+pub mod Circuits
+pub mod Joining
