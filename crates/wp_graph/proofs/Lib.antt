@@ -11,3 +11,4 @@ pub mod Bounding
 pub mod Ascending
 pub mod Circuits
 pub mod Joining
+pub mod Measuring

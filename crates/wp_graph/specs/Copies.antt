@@ -32,3 +32,15 @@ copies_of layout points = record {
   behind = λ aisle. sum_moves (along_cross (back_end layout) aisle) points;
   front = λ aisle. sum_moves (along_cross 0 aisle) points;
 }
+
+-- the length of what is walked of an aisle
+abbrev pub aisle_walked : Layout → Copies → ℕ → ℕ
+aisle_walked layout copies aisle = sum_below (back_end layout) (λ place. copies.deep aisle place * step_length layout place)
+
+-- the length of what is walked from an aisle to the next
+abbrev pub cross_walked : Layout → Copies → ℕ → ℕ
+cross_walked layout copies aisle = (copies.behind aisle + copies.front aisle) * spacing_after layout aisle
+
+-- the length of all that is walked
+abbrev pub all_walked : Layout → Copies → ℕ
+all_walked layout copies = sum_below layout.aisles (λ a. aisle_walked layout copies (suc a) + cross_walked layout copies (suc a))
