@@ -12,3 +12,4 @@ pub mod Ascending
 pub mod Circuits
 pub mod Joining
 pub mod Measuring
+pub mod OneAisle
