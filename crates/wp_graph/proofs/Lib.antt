@@ -13,3 +13,4 @@ pub mod Circuits
 pub mod Joining
 pub mod Measuring
 pub mod OneAisle
+pub mod EachAisle
