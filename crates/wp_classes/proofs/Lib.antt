@@ -9,3 +9,4 @@ pub mod Parting
 pub mod Turning
 pub mod Serving
 pub mod Touring
+pub mod Fitting
