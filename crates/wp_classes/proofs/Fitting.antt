@@ -74,21 +74,21 @@ everywhere x a s = x
 -- a class fits the tour after the way through an aisle
 abbrev pub Fits : Toured → ℕ → Class → Type 0
 Fits t j UU1 = t.copies.front j % 2 ≡ 1
-Fits t j E01 = IsEvenAt t j × ((c : ℕ → ℕ → Bool) × Sides t j c × OneSided t j c true)
-Fits t j ZE1 = IsEvenAt t j × ((c : ℕ → ℕ → Bool) × Sides t j c × OneSided t j c false)
+Fits t j E01 = IsEvenAt t j × (c : ℕ → ℕ → Bool) × Sides t j c × OneSided t j c true
+Fits t j ZE1 = IsEvenAt t j × (c : ℕ → ℕ → Bool) × Sides t j c × OneSided t j c false
 Fits t j EE1 = IsEvenAt t j × Tells t j (everywhere true) true
-Fits t j EE2 = IsEvenAt t j × ((c : ℕ → ℕ → Bool) × Sides t j c × TwoSided t j c)
-Fits t j Z00 = IsEvenAt t j × ((c : ℕ → ℕ → Bool) × Sides t j c × NoneLeft t j)
+Fits t j EE2 = IsEvenAt t j × (c : ℕ → ℕ → Bool) × Sides t j c × TwoSided t j c
+Fits t j Z00 = IsEvenAt t j × (c : ℕ → ℕ → Bool) × Sides t j c × NoneLeft t j
 Fits t j Z01 = AllLeft t j
 
 -- a class fits the tour after the crossing from an aisle to the next
 abbrev pub Crossed : Toured → ℕ → Class → Type 0
 Crossed t j UU1 = t.copies.front j % 2 ≡ 1
-Crossed t j E01 = IsEvenAt t j × ((c : ℕ → ℕ → Bool) × Linked t j c × OneSided t j c true)
-Crossed t j ZE1 = IsEvenAt t j × ((c : ℕ → ℕ → Bool) × Linked t j c × OneSided t j c false)
+Crossed t j E01 = IsEvenAt t j × (c : ℕ → ℕ → Bool) × Linked t j c × OneSided t j c true
+Crossed t j ZE1 = IsEvenAt t j × (c : ℕ → ℕ → Bool) × Linked t j c × OneSided t j c false
 Crossed t j EE1 = IsEvenAt t j × Tells t j (everywhere true) true
-Crossed t j EE2 = IsEvenAt t j × ((c : ℕ → ℕ → Bool) × Linked t j c × TwoSided t j c)
-Crossed t j Z00 = IsEvenAt t j × ((c : ℕ → ℕ → Bool) × Linked t j c × NoneLeft t j)
+Crossed t j EE2 = IsEvenAt t j × (c : ℕ → ℕ → Bool) × Linked t j c × TwoSided t j c
+Crossed t j Z00 = IsEvenAt t j × (c : ℕ → ℕ → Bool) × Linked t j c × NoneLeft t j
 Crossed t j Z01 = AllLeft t j
 
 -- a colouring up to an aisle, and beyond it one by the place

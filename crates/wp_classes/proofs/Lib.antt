@@ -10,3 +10,4 @@ pub mod Turning
 pub mod Serving
 pub mod Touring
 pub mod Fitting
+pub mod FitCrossing
