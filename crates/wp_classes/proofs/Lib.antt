@@ -11,3 +11,4 @@ pub mod Serving
 pub mod Touring
 pub mod Fitting
 pub mod FitCrossing
+pub mod FitThrough
