@@ -62,7 +62,7 @@ not_true false e = refl
 false_everywhere : (t : Toured) (j : ℕ) → Tells t j (everywhere true) true → Tells t j (everywhere false) false
 false_everywhere t j tells = λ other kept agrees. not_true (home t other) (tells (λ a s. not (other a s)) (kept_not t other kept) (λ a s low. ap not (agrees a s low)))
 
-everywhere_left : (t : Toured) (j : ℕ) (x : Bool) → IsLeft t j (everywhere x)
+pub everywhere_left : (t : Toured) (j : ℕ) (x : Bool) → IsLeft t j (everywhere x)
 everywhere_left t j x = record { deep = λ a s low some. refl; behind = λ a low some. refl; front = λ a low some. refl }
 
 cross_odd : (t : Toured) (j : ℕ) → Fits t j UU1 → CrossesOn t j UU1

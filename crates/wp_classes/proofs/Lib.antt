@@ -12,3 +12,4 @@ pub mod Touring
 pub mod Fitting
 pub mod FitCrossing
 pub mod FitThrough
+pub mod Shortest
