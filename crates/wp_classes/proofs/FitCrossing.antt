@@ -1,19 +1,14 @@
 -- From a class that fits what a tour walks, some crossing that the tables allow and that is no longer leads to a class
 -- that fits.
-use Rattle.std.proofs.Common.{◌≡◌, ℕ, zero, suc, ◌+◌, ◌-◌, ◌*◌, ◌%◌, ◌<◌, ◌≤◌, Bool, true, false, IsTrue, Some, List, [], ◌∷◌, not, arith, refl, sym, ap, ◌∙◌, subst, ◌⊎◌, inl, inr, ⊎_elim}
-use Rattle.std.proofs.lemmas.Nat.{mul-le}
-use Rattle.wp_model.specs.declared.point.Point.{Point}
-use Rattle.wp_model.specs.Warehouse.{Layout, back_end, depot_point, spacing_after}
-use Rattle.wp_graph.specs.Copies.{Copies, cross_walked}
-use Rattle.wp_graph.proofs.EachAisle.{AreTour, IsOnTour}
+use Rattle.std.proofs.Common.{◌≡◌, ℕ, zero, suc, ◌+◌, ◌<◌, ◌≤◌, Bool, true, false, IsTrue, Some, not, arith, refl, sym, ap, ◌∙◌, ◌⊎◌, inl, inr, ⊎_elim}
+use Rattle.wp_model.specs.Warehouse.{back_end, depot_point}
 use Rattle.wp_graph.proofs.Joining.{IsKept}
 use Rattle.wp_classes.specs.declared.class.Class.{Class}
 use Rattle.wp_classes.specs.declared.class.Class.TheVariants.{UU1, E01, ZE1, EE1, EE2, Z00, Z01}
 use Rattle.wp_classes.specs.declared.class.Cross.{Cross}
 use Rattle.wp_classes.specs.declared.class.Cross.TheVariants.{C00, C11, C20, C02, C22}
-use Rattle.wp_classes.specs.Choices.{TakesCross}
 use Rattle.wp_classes.specs.Tables.{class_after_cross, copies, is_whole}
-use Rattle.wp_classes.proofs.Fitting.{AllLeft, Agrees, Crossed, Fits, IsLeft, Linked, OneSided, Sides, Tells, Toured, TwoSided, beside, beside_left, beside_right, everywhere, home, kept_beside, split_cases, true_false}
+use Rattle.wp_classes.proofs.Fitting.{AllLeft, Agrees, Crossed, Fits, IsLeft, Linked, Sides, Tells, Toured, beside, beside_left, beside_right, everywhere, home, kept_beside, split_cases, true_false}
 
 -- a crossing that is no longer than what the tour walks there
 pub record CrossesOn (t : Toured) (j : ℕ) (class : Class) : Type 0 where
@@ -37,8 +32,8 @@ beside_agrees t j c x = λ a s low. beside_left j c (λ s. x) a s low
 all_left : (t : Toured) (j : ℕ) (c : ℕ → ℕ → Bool) (x y : Bool) → (x ≡ y → ⊥) → Tells t j c x → IsKept t.layout t.copies (beside j c (λ s. y)) → AllLeft t j
 all_left t j c x y apart tells kept p on = ⊎_elim (λ low. low)
     (λ high.
-        let there = t.are.joined.needed (beside j c (λ s. y)) kept p on in
-        absurd (apart (sym (tells (beside j c (λ s. y)) kept (beside_agrees t j c y)) ∙ sym there ∙ beside_right j c (λ s. y) p.aisle p.slot high)))
+    let there = t.are.joined.needed (beside j c (λ s. y)) kept p on in
+    absurd (apart (sym (tells (beside j c (λ s. y)) kept (beside_agrees t j c y)) ∙ sym there ∙ beside_right j c (λ s. y) p.aisle p.slot high)))
     (split_cases p.aisle j)
 
 -- a walked crossing tells the colour of the end where it begins
@@ -73,8 +68,13 @@ cross_back t j (even, c, sides, one) =
     let across = t.are.even.across j in
     elim (positive (t.copies.behind j)) [
       | inl b ↦ elim (positive (t.copies.front j)) [
-        | inl f ↦ record { cross = C00; next = Z01; takes = refl; least = omega arith;
-            fits = all_left t j c true false true_false one.tells (kept_beside t j c false sides.left (λ some. absurd (omega (arith, some, b))) (λ some. sides.front)) }
+        | inl f ↦ record {
+          cross = C00;
+          next = Z01;
+          takes = refl;
+          least = omega arith;
+          fits = all_left t j c true false true_false one.tells (kept_beside t j c false sides.left (λ some. absurd (omega (arith, some, b))) (λ some. sides.front));
+        }
         | inr f ↦ absurd (never_both t j c (beside j c (λ s. false)) one.tells (front_tells t j c false f sides.front)
             (kept_beside t j c false sides.left (λ some. absurd (omega (arith, some, b))) (λ some. sides.front)) (beside_agrees t j c false))
       ]
@@ -89,8 +89,13 @@ cross_front t j (even, c, sides, one) =
     let across = t.are.even.across j in
     elim (positive (t.copies.behind j)) [
       | inl b ↦ elim (positive (t.copies.front j)) [
-        | inl f ↦ record { cross = C00; next = Z01; takes = refl; least = omega arith;
-            fits = all_left t j c false true (λ e. true_false (sym e)) one.tells (kept_beside t j c true sides.left (λ some. sides.back) (λ some. absurd (omega (arith, some, f)))) }
+        | inl f ↦ record {
+          cross = C00;
+          next = Z01;
+          takes = refl;
+          least = omega arith;
+          fits = all_left t j c false true (λ e. true_false (sym e)) one.tells (kept_beside t j c true sides.left (λ some. sides.back) (λ some. absurd (omega (arith, some, f))));
+        }
         | inr f ↦ record { cross = C02; next = ZE1; takes = refl; least = omega (arith, across, even, b, f); fits = (even, c, sides_linked t j c sides, one) }
       ]
       | inr b ↦ elim (positive (t.copies.front j)) [
@@ -105,15 +110,30 @@ cross_both t j (even, tells) =
     let across = t.are.even.across j in
     elim (positive (t.copies.behind j)) [
       | inl b ↦ elim (positive (t.copies.front j)) [
-        | inl f ↦ record { cross = C00; next = Z01; takes = refl; least = omega arith;
-            fits = all_left t j (everywhere true) true false true_false tells
-                (kept_beside t j (everywhere true) false (everywhere_left t j true) (λ some. absurd (omega (arith, some, b))) (λ some. absurd (omega (arith, some, f)))) }
-        | inr f ↦ record { cross = C02; next = ZE1; takes = refl; least = omega (arith, across, even, b, f);
-            fits = (even, everywhere false, record { left = everywhere_left t j false; back = λ some. absurd (omega (arith, some, b)); front = λ some. refl }, record { all = λ p on low. refl; tells = false_everywhere t j tells }) }
+        | inl f ↦ record {
+          cross = C00;
+          next = Z01;
+          takes = refl;
+          least = omega arith;
+          fits = all_left t j (everywhere true) true false true_false tells
+              (kept_beside t j (everywhere true) false (everywhere_left t j true) (λ some. absurd (omega (arith, some, b))) (λ some. absurd (omega (arith, some, f))));
+        }
+        | inr f ↦ record {
+          cross = C02;
+          next = ZE1;
+          takes = refl;
+          least = omega (arith, across, even, b, f);
+          fits = (even, everywhere false, record { left = everywhere_left t j false; back = λ some. absurd (omega (arith, some, b)); front = λ some. refl }, record { all = λ p on low. refl; tells = false_everywhere t j tells });
+        }
       ]
       | inr b ↦ elim (positive (t.copies.front j)) [
-        | inl f ↦ record { cross = C20; next = E01; takes = refl; least = omega (arith, across, even, b, f);
-            fits = (even, everywhere true, record { left = everywhere_left t j true; back = λ some. refl; front = λ some. absurd (omega (arith, some, f)) }, record { all = λ p on low. refl; tells = tells }) }
+        | inl f ↦ record {
+          cross = C20;
+          next = E01;
+          takes = refl;
+          least = omega (arith, across, even, b, f);
+          fits = (even, everywhere true, record { left = everywhere_left t j true; back = λ some. refl; front = λ some. absurd (omega (arith, some, f)) }, record { all = λ p on low. refl; tells = tells });
+        }
         | inr f ↦ record { cross = C22; next = EE1; takes = refl; least = omega (arith, across, even, b, f); fits = (even, tells) }
       ]
     ]

@@ -1,12 +1,12 @@
 -- From a class that fits what a tour walks, some way through the next aisle that the tables allow, that applies and that
 -- is no longer leads to a class that fits.
-use Rattle.std.proofs.Common.{◌≡◌, ℕ, zero, suc, ◌+◌, ◌-◌, ◌*◌, ◌%◌, ◌<◌, ◌≤◌, Bool, true, false, Some, List, [], ◌∷◌, length, arith, refl, sym, ap, ◌∙◌, subst, ◌⊎◌, inl, inr, ⊎_elim}
+use Rattle.std.proofs.Common.{◌≡◌, ℕ, suc, ◌+◌, ◌%◌, ◌<◌, ◌≤◌, Bool, true, false, Some, [], arith, refl, sym, ap, ◌∙◌, subst, ◌⊎◌, inl, inr, ⊎_elim}
 use Rattle.wp_model.specs.declared.point.Point.{Point}
-use Rattle.wp_model.specs.Warehouse.{Layout, back_end, depot_point}
+use Rattle.wp_model.specs.Warehouse.{back_end, depot_point}
 use Rattle.wp_graph.specs.AisleLengths.{ways_from, ways_of}
-use Rattle.wp_graph.specs.Copies.{Copies, aisle_walked}
+use Rattle.wp_graph.specs.Copies.{aisle_walked}
 use Rattle.wp_graph.specs.Required.{required_distances, required_places}
-use Rattle.wp_graph.proofs.EachAisle.{AreTour, HasCut, IsOnTour, even_aisle, odd_aisle, place_on_tour, tour_place}
+use Rattle.wp_graph.proofs.EachAisle.{HasCut, IsOnTour, even_aisle, odd_aisle, place_on_tour, tour_place}
 use Rattle.wp_graph.proofs.Members.{Among, Contains-from_among, nil_from_none}
 use Rattle.wp_graph.proofs.OneAisle.{IsCut}
 use Rattle.wp_graph.proofs.OneAisle.IsCut.{skips, fronts, backs, gaps}
@@ -16,7 +16,7 @@ use Rattle.wp_classes.specs.declared.class.Way.{Way}
 use Rattle.wp_classes.specs.declared.class.Way.TheVariants.{Back, Double, Front, Gap, Pass, Skip}
 use Rattle.wp_classes.specs.Choices.{TakesWay}
 use Rattle.wp_classes.specs.Tables.{class_after_way, way_length}
-use Rattle.wp_classes.proofs.Fitting.{AllLeft, Agrees, Crossed, Fits, IsEvenAt, Linked, OneSided, Tells, Toured, TwoSided, beside, beside_left, beside_right, everywhere, everywhere_tells, next_sides, next_tells, split_at, split_cases, split_high, split_low}
+use Rattle.wp_classes.proofs.Fitting.{Crossed, Fits, IsEvenAt, Linked, OneSided, Tells, Toured, beside, beside_left, beside_right, everywhere, everywhere_tells, next_sides, next_tells, split_at, split_cases, split_high, split_low}
 
 -- a way through the next aisle that is no longer than what the tour walks there
 pub record GoesOn (t : Toured) (j : ℕ) (class : Class) : Type 0 where
@@ -69,9 +69,9 @@ goes_even t j class even pass double cut = elim (two_cases (t.copies.front (suc 
 on_next : (t : Toured) (j : ℕ) (p : Point) → IsOnTour t.layout t.picks p → p.aisle ≤ suc j → (p.aisle ≤ j) ⊎ ((p.aisle ≡ suc j) × Among (required_places t.layout t.picks (suc j)) p.slot)
 on_next t j p on upto = ⊎_elim (λ low. inl low)
     (λ high.
-        let here : p.aisle ≡ suc j = omega (arith, high, upto) in
-        let within : p.slot ≤ back_end t.layout = ⊎_elim (λ (e : depot_point t.layout ≡ p). let at = ap (λ (q : Point). q.slot) e in omega (arith, at)) (λ h. let slot = (t.slots.slots p (Contains-from_among t.picks p h)).slot in omega (arith, slot)) on in
-        inr (here, subst (λ a. Among (required_places t.layout t.picks a) p.slot) here (tour_place t.layout t.picks p on within)))
+    let here : p.aisle ≡ suc j = omega (arith, high, upto) in
+    let within : p.slot ≤ back_end t.layout = ⊎_elim (λ (e : depot_point t.layout ≡ p). let at = ap (λ (q : Point). q.slot) e in omega (arith, at)) (λ h. let slot = (t.slots.slots p (Contains-from_among t.picks p h)).slot in omega (arith, slot)) on in
+    inr (here, subst (λ a. Among (required_places t.layout t.picks a) p.slot) here (tour_place t.layout t.picks p on within)))
     (split_cases p.aisle j)
 
 -- all is on one side still, where the next aisle's required places are
@@ -93,38 +93,70 @@ none_required t j r none h = subst (λ xs. Among xs r) none h
 cut_back : (t : Toured) (j : ℕ) (c : ℕ → ℕ → Bool) (z y most : ℕ) → IsEvenAt t (suc j) → Linked t j c → OneSided t j c true → z ≤ y → y < back_end t.layout → t.copies.deep (suc j) z ≡ 0 → most ≤ aisle_walked t.layout t.copies (suc j) →
     IsCut (ways_of t.layout t.picks (suc j)) (required_places t.layout t.picks (suc j)) z y most → GoesOn t j E01
 cut_back t j c z y most even linked one order within none least (skips empty applies) = record {
-  way = Skip; next = E01; through = 0; takes = record { allowed = refl; applies = applies }; least = omega arith;
+  way = Skip;
+  next = E01;
+  through = 0;
+  takes = record { allowed = refl; applies = applies };
+  least = omega arith;
   fits = (even, beside j c (split_at z), next_sides t j z c linked (omega (arith, order, within)) none, record { all = next_all t j z c true one.all (λ r h. absurd (none_required t j r empty h)); tells = next_tells t j c (split_at z) true one.tells });
 }
 cut_back t j c z y most even linked one order within none least (fronts l x applies short on low all) = record {
-  way = Front; next = EE2; through = l; takes = record { allowed = refl; applies = applies }; least = omega (arith, short, least);
+  way = Front;
+  next = EE2;
+  through = l;
+  takes = record { allowed = refl; applies = applies };
+  least = omega (arith, short, least);
   fits = (even, beside j c (split_at z), next_sides t j z c linked (omega (arith, order, within)) none, record { one = next_tells t j c (split_at z) true one.tells; other = place_tells t j z x c false on (split_low z x low) });
 }
 cut_back t j c z y most even linked one order within none least (backs l x applies short on high all) = record {
-  way = Back; next = E01; through = l; takes = record { allowed = refl; applies = applies }; least = omega (arith, short, least);
+  way = Back;
+  next = E01;
+  through = l;
+  takes = record { allowed = refl; applies = applies };
+  least = omega (arith, short, least);
   fits = (even, beside j c (split_at z), next_sides t j z c linked (omega (arith, order, within)) none, record { all = next_all t j z c true one.all (λ r h. let far = all r h in split_high z r (omega (arith, far, order))); tells = next_tells t j c (split_at z) true one.tells });
 }
 cut_back t j c z y most even linked one order within none least (gaps l x r applies short on low on' high) = record {
-  way = Gap; next = EE2; through = l; takes = record { allowed = refl; applies = applies }; least = omega (arith, short, least);
+  way = Gap;
+  next = EE2;
+  through = l;
+  takes = record { allowed = refl; applies = applies };
+  least = omega (arith, short, least);
   fits = (even, beside j c (split_at z), next_sides t j z c linked (omega (arith, order, within)) none, record { one = next_tells t j c (split_at z) true one.tells; other = place_tells t j z x c false on (split_low z x low) });
 }
 
 cut_front : (t : Toured) (j : ℕ) (c : ℕ → ℕ → Bool) (z y most : ℕ) → IsEvenAt t (suc j) → Linked t j c → OneSided t j c false → z ≤ y → y < back_end t.layout → t.copies.deep (suc j) z ≡ 0 → most ≤ aisle_walked t.layout t.copies (suc j) →
     IsCut (ways_of t.layout t.picks (suc j)) (required_places t.layout t.picks (suc j)) z y most → GoesOn t j ZE1
 cut_front t j c z y most even linked one order within none least (skips empty applies) = record {
-  way = Skip; next = ZE1; through = 0; takes = record { allowed = refl; applies = applies }; least = omega arith;
+  way = Skip;
+  next = ZE1;
+  through = 0;
+  takes = record { allowed = refl; applies = applies };
+  least = omega arith;
   fits = (even, beside j c (split_at z), next_sides t j z c linked (omega (arith, order, within)) none, record { all = next_all t j z c false one.all (λ r h. absurd (none_required t j r empty h)); tells = next_tells t j c (split_at z) false one.tells });
 }
 cut_front t j c z y most even linked one order within none least (fronts l x applies short on low all) = record {
-  way = Front; next = ZE1; through = l; takes = record { allowed = refl; applies = applies }; least = omega (arith, short, least);
+  way = Front;
+  next = ZE1;
+  through = l;
+  takes = record { allowed = refl; applies = applies };
+  least = omega (arith, short, least);
   fits = (even, beside j c (split_at z), next_sides t j z c linked (omega (arith, order, within)) none, record { all = next_all t j z c false one.all (λ r h. split_low z r (all r h)); tells = next_tells t j c (split_at z) false one.tells });
 }
 cut_front t j c z y most even linked one order within none least (backs l x applies short on high all) = record {
-  way = Back; next = EE2; through = l; takes = record { allowed = refl; applies = applies }; least = omega (arith, short, least);
+  way = Back;
+  next = EE2;
+  through = l;
+  takes = record { allowed = refl; applies = applies };
+  least = omega (arith, short, least);
   fits = (even, beside j c (split_at z), next_sides t j z c linked (omega (arith, order, within)) none, record { one = place_tells t j z x c true on (split_high z x (omega (arith, high, order))); other = next_tells t j c (split_at z) false one.tells });
 }
 cut_front t j c z y most even linked one order within none least (gaps l x r applies short on low on' high) = record {
-  way = Gap; next = EE2; through = l; takes = record { allowed = refl; applies = applies }; least = omega (arith, short, least);
+  way = Gap;
+  next = EE2;
+  through = l;
+  takes = record { allowed = refl; applies = applies };
+  least = omega (arith, short, least);
   fits = (even, beside j c (split_at z), next_sides t j z c linked (omega (arith, order, within)) none, record { one = place_tells t j z r c true on' (split_high z r (omega (arith, high, order))); other = next_tells t j c (split_at z) false one.tells });
 }
 
@@ -134,19 +166,35 @@ next_none t j before empty p on upto = ⊎_elim (λ low. before p on low) (λ he
 cut_none : (t : Toured) (j : ℕ) (c : ℕ → ℕ → Bool) (z y most : ℕ) → IsEvenAt t (suc j) → Linked t j c → ((p : Point) → IsOnTour t.layout t.picks p → p.aisle ≤ j → ⊥) → z ≤ y → y < back_end t.layout → t.copies.deep (suc j) z ≡ 0 → most ≤ aisle_walked t.layout t.copies (suc j) →
     IsCut (ways_of t.layout t.picks (suc j)) (required_places t.layout t.picks (suc j)) z y most → GoesOn t j Z00
 cut_none t j c z y most even linked before order within none least (skips empty applies) = record {
-  way = Skip; next = Z00; through = 0; takes = record { allowed = refl; applies = applies }; least = omega arith;
+  way = Skip;
+  next = Z00;
+  through = 0;
+  takes = record { allowed = refl; applies = applies };
+  least = omega arith;
   fits = (even, beside j c (split_at z), next_sides t j z c linked (omega (arith, order, within)) none, next_none t j before empty);
 }
 cut_none t j c z y most even linked before order within none least (fronts l x applies short on low all) = record {
-  way = Front; next = ZE1; through = l; takes = record { allowed = refl; applies = applies }; least = omega (arith, short, least);
+  way = Front;
+  next = ZE1;
+  through = l;
+  takes = record { allowed = refl; applies = applies };
+  least = omega (arith, short, least);
   fits = (even, beside j c (split_at z), next_sides t j z c linked (omega (arith, order, within)) none, record { all = next_all t j z c false (λ p h upto. absurd (before p h upto)) (λ r h. split_low z r (all r h)); tells = place_tells t j z x c false on (split_low z x low) });
 }
 cut_none t j c z y most even linked before order within none least (backs l x applies short on high all) = record {
-  way = Back; next = E01; through = l; takes = record { allowed = refl; applies = applies }; least = omega (arith, short, least);
+  way = Back;
+  next = E01;
+  through = l;
+  takes = record { allowed = refl; applies = applies };
+  least = omega (arith, short, least);
   fits = (even, beside j c (split_at z), next_sides t j z c linked (omega (arith, order, within)) none, record { all = next_all t j z c true (λ p h upto. absurd (before p h upto)) (λ r h. let far = all r h in split_high z r (omega (arith, far, order))); tells = place_tells t j z x c true on (split_high z x (omega (arith, high, order))) });
 }
 cut_none t j c z y most even linked before order within none least (gaps l x r applies short on low on' high) = record {
-  way = Gap; next = EE2; through = l; takes = record { allowed = refl; applies = applies }; least = omega (arith, short, least);
+  way = Gap;
+  next = EE2;
+  through = l;
+  takes = record { allowed = refl; applies = applies };
+  least = omega (arith, short, least);
   fits = (even, beside j c (split_at z), next_sides t j z c linked (omega (arith, order, within)) none, record { one = place_tells t j z r c true on' (split_high z r (omega (arith, high, order))); other = place_tells t j z x c false on (split_low z x low) });
 }
 

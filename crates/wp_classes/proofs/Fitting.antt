@@ -1,9 +1,9 @@
 -- When a class fits what a tour walks left of and with an aisle, seen by colourings that no walked piece changes.
-use Rattle.std.proofs.Common.{◌≡◌, ◌≢◌, ℕ, zero, suc, ◌+◌, ◌-◌, ◌*◌, ◌%◌, ◌<◌, ◌≤◌, nat_le, nat_lt, Bool, true, false, List, [], ◌∷◌, cond, if◌then◌else◌, arith, refl, sym, ap, ◌∙◌, subst, ◌⊎◌, inl, inr, ⊎_elim}
-use Rattle.std.proofs.lemmas.Bool.{cases_eq, le-leb}
+use Rattle.std.proofs.Common.{◌≡◌, ◌≢◌, ℕ, suc, ◌%◌, ◌<◌, ◌≤◌, nat_le, nat_lt, Bool, true, false, List, if◌then◌else◌, arith, refl, sym, ap, ◌∙◌, subst, ◌⊎◌, ⊎_elim}
+use Rattle.std.proofs.lemmas.Bool.{le-leb}
 use Rattle.std.proofs.lemmas.Bool.Decides.{nat_tests}
 use Rattle.wp_model.specs.declared.point.Point.{Point}
-use Rattle.wp_model.specs.Warehouse.{Layout, back_end, depot_point}
+use Rattle.wp_model.specs.Warehouse.{Layout, back_end}
 use Rattle.wp_graph.specs.Copies.{Copies}
 use Rattle.wp_graph.specs.PickSets.{AreSlots}
 use Rattle.wp_graph.proofs.EachAisle.{AreTour, IsOnTour}
@@ -117,16 +117,16 @@ kept_beside t j c x left back front = record {
   behind = λ a some. ⊎_elim
       (λ low. beside_left j c (λ s. x) a (back_end t.layout) (omega (arith, low)) ∙ left.behind a low some ∙ sym (beside_left j c (λ s. x) (suc a) (back_end t.layout) (omega (arith, low))))
       (λ rest. ⊎_elim
-          (λ e. beside_left j c (λ s. x) a (back_end t.layout) (omega (arith, e)) ∙ ap (λ b. c b (back_end t.layout)) e ∙ back (subst (λ b. 0 < t.copies.behind b) e some) ∙ sym (beside_right j c (λ s. x) (suc a) (back_end t.layout) (omega (arith, e))))
-          (λ high. beside_right j c (λ s. x) a (back_end t.layout) high ∙ sym (beside_right j c (λ s. x) (suc a) (back_end t.layout) (omega (arith, high))))
-          rest)
+      (λ e. beside_left j c (λ s. x) a (back_end t.layout) (omega (arith, e)) ∙ ap (λ b. c b (back_end t.layout)) e ∙ back (subst (λ b. 0 < t.copies.behind b) e some) ∙ sym (beside_right j c (λ s. x) (suc a) (back_end t.layout) (omega (arith, e))))
+      (λ high. beside_right j c (λ s. x) a (back_end t.layout) high ∙ sym (beside_right j c (λ s. x) (suc a) (back_end t.layout) (omega (arith, high))))
+      rest)
       (split_three a j);
   front = λ a some. ⊎_elim
       (λ low. beside_left j c (λ s. x) a 0 (omega (arith, low)) ∙ left.front a low some ∙ sym (beside_left j c (λ s. x) (suc a) 0 (omega (arith, low))))
       (λ rest. ⊎_elim
-          (λ e. beside_left j c (λ s. x) a 0 (omega (arith, e)) ∙ ap (λ b. c b 0) e ∙ front (subst (λ b. 0 < t.copies.front b) e some) ∙ sym (beside_right j c (λ s. x) (suc a) 0 (omega (arith, e))))
-          (λ high. beside_right j c (λ s. x) a 0 high ∙ sym (beside_right j c (λ s. x) (suc a) 0 (omega (arith, high))))
-          rest)
+      (λ e. beside_left j c (λ s. x) a 0 (omega (arith, e)) ∙ ap (λ b. c b 0) e ∙ front (subst (λ b. 0 < t.copies.front b) e some) ∙ sym (beside_right j c (λ s. x) (suc a) 0 (omega (arith, e))))
+      (λ high. beside_right j c (λ s. x) a 0 high ∙ sym (beside_right j c (λ s. x) (suc a) 0 (omega (arith, high))))
+      rest)
       (split_three a j);
 }
 
@@ -148,23 +148,23 @@ next_left t j z c linked within none = record {
   deep = λ a s upto some. ⊎_elim
       (λ low. beside_left j c (split_at z) a s low ∙ linked.left.deep a s low some ∙ sym (beside_left j c (split_at z) a (suc s) low))
       (λ high.
-          let here : a ≡ suc j = omega (arith, high, upto) in
-          let other : s ≢ z = λ e. let at = ap (λ b. t.copies.deep b s) here ∙ ap (t.copies.deep (suc j)) e in omega (arith, at, some, none) in
-          beside_right j c (split_at z) a s high ∙ split_same z s other ∙ sym (beside_right j c (split_at z) a (suc s) high))
+      let here : a ≡ suc j = omega (arith, high, upto) in
+      let other : s ≢ z = λ e. let at = ap (λ b. t.copies.deep b s) here ∙ ap (t.copies.deep (suc j)) e in omega (arith, at, some, none) in
+      beside_right j c (split_at z) a s high ∙ split_same z s other ∙ sym (beside_right j c (split_at z) a (suc s) high))
       (split_cases a j);
   behind = λ a upto some. ⊎_elim
       (λ low. beside_left j c (split_at z) a (back_end t.layout) (omega (arith, low)) ∙ linked.left.behind a low some ∙ sym (beside_left j c (split_at z) (suc a) (back_end t.layout) (omega (arith, low))))
       (λ rest. ⊎_elim
-          (λ e. beside_left j c (split_at z) a (back_end t.layout) (omega (arith, e)) ∙ ap (λ b. c b (back_end t.layout)) e ∙ linked.back (subst (λ b. 0 < t.copies.behind b) e some) ∙ sym (beside_right j c (split_at z) (suc a) (back_end t.layout) (omega (arith, e)) ∙ split_high z (back_end t.layout) within))
-          (λ high. absurd (omega (arith, high, upto)))
-          rest)
+      (λ e. beside_left j c (split_at z) a (back_end t.layout) (omega (arith, e)) ∙ ap (λ b. c b (back_end t.layout)) e ∙ linked.back (subst (λ b. 0 < t.copies.behind b) e some) ∙ sym (beside_right j c (split_at z) (suc a) (back_end t.layout) (omega (arith, e)) ∙ split_high z (back_end t.layout) within))
+      (λ high. absurd (omega (arith, high, upto)))
+      rest)
       (split_three a j);
   front = λ a upto some. ⊎_elim
       (λ low. beside_left j c (split_at z) a 0 (omega (arith, low)) ∙ linked.left.front a low some ∙ sym (beside_left j c (split_at z) (suc a) 0 (omega (arith, low))))
       (λ rest. ⊎_elim
-          (λ e. beside_left j c (split_at z) a 0 (omega (arith, e)) ∙ ap (λ b. c b 0) e ∙ linked.front (subst (λ b. 0 < t.copies.front b) e some) ∙ sym (beside_right j c (split_at z) (suc a) 0 (omega (arith, e)) ∙ split_low z 0 (omega arith)))
-          (λ high. absurd (omega (arith, high, upto)))
-          rest)
+      (λ e. beside_left j c (split_at z) a 0 (omega (arith, e)) ∙ ap (λ b. c b 0) e ∙ linked.front (subst (λ b. 0 < t.copies.front b) e some) ∙ sym (beside_right j c (split_at z) (suc a) 0 (omega (arith, e)) ∙ split_low z 0 (omega arith)))
+      (λ high. absurd (omega (arith, high, upto)))
+      rest)
       (split_three a j);
 }
 

@@ -1,16 +1,15 @@
 -- No tour is shorter than the least plan that the tables allow (Ratliff and Rosenthal, 1983).
-use Rattle.std.proofs.Common.{◌≡◌, ℕ, zero, suc, ◌+◌, ◌-◌, ◌*◌, ◌%◌, ◌<◌, ◌≤◌, Bool, true, false, IsTrue, List, [], ◌∷◌, Some, None, Contains, length, get_or, slice_get, arith, refl, sym, ap, ◌∙◌, subst, ◌⊎◌, inl, inr, ⊎_elim}
+use Rattle.std.proofs.Common.{◌≡◌, ℕ, zero, suc, ◌+◌, ◌-◌, ◌*◌, ◌≤◌, true, List, [], ◌∷◌, Some, None, length, slice_get, arith, refl, sym, ap, ◌∙◌, subst, inl, ⊎_elim}
 use Rattle.std.proofs.lemmas.Nat.{mul-le}
 use Rattle.std.proofs.lemmas.Option.{same_Some}
 use Rattle.wp_model.specs.Sums.{sum_below}
 use Rattle.wp_model.specs.declared.point.Point.{Point}
-use Rattle.wp_model.specs.Tours.{IsShortest, IsTour, IsWalk}
-use Rattle.wp_model.specs.Warehouse.{Layout, back_end, depot_point, spacing_after}
-use Rattle.wp_graph.specs.AisleLengths.{ways_of}
-use Rattle.wp_graph.specs.Copies.{Copies, aisle_walked, all_walked, copies_of, cross_walked}
+use Rattle.wp_model.specs.Tours.{IsShortest, IsTour}
+use Rattle.wp_model.specs.Warehouse.{Layout, depot_point, spacing_after}
+use Rattle.wp_graph.specs.Copies.{aisle_walked, all_walked, copies_of, cross_walked}
 use Rattle.wp_graph.specs.PickSets.{AreSlots}
 use Rattle.wp_graph.proofs.Circuits.{closed_even, last_point}
-use Rattle.wp_graph.proofs.EachAisle.{AreTour, IsOnTour}
+use Rattle.wp_graph.proofs.EachAisle.{IsOnTour}
 use Rattle.wp_graph.proofs.Joining.{walk_joined}
 use Rattle.wp_graph.proofs.Measuring.{walk_walked}
 use Rattle.wp_graph.proofs.Members.{Among, among_from_Contains, Contains-from_among}
@@ -90,7 +89,7 @@ plan_within t =
     let whole = whole_from_onward block plan (t.layout.aisles - 1) 0 (t.layout.aisles - 1) first.next first.through far.rest (omega arith) first.takes far.on in
     let all : suc 0 + (t.layout.aisles - 1) ≡ t.layout.aisles = omega (arith, some) in
     let sum = subst (λ n. sum_below 0 (λ a. aisle_walked t.layout t.copies (suc a) + cross_walked t.layout t.copies (suc a)) + (aisle_walked t.layout t.copies 1 + rest_walked t (t.layout.aisles - 1) 1)
-        ≤ sum_below n (λ a. aisle_walked t.layout t.copies (suc a) + cross_walked t.layout t.copies (suc a))) all (walked_sum t (t.layout.aisles - 1) 0) in
+    ≤ sum_below n (λ a. aisle_walked t.layout t.copies (suc a) + cross_walked t.layout t.copies (suc a))) all (walked_sum t (t.layout.aisles - 1) 0) in
     record {
       plan = whole.0;
       total = first.through + far.rest;

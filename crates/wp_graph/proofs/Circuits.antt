@@ -1,8 +1,8 @@
 -- How often a closed walk goes along the pieces of a cut: an even number of times.
-use Rattle.std.proofs.Common.{◌≡◌, ℕ, zero, suc, ◌+◌, ◌-◌, ◌*◌, ◌%◌, ◌<◌, ◌≤◌, ◌==◌, ◌&&◌, Bool, true, false, nat_le, List, [], ◌∷◌, min, if◌then◌else◌, arith, refl, ap, ⊎_elim}
+use Rattle.std.proofs.Common.{◌≡◌, ℕ, suc, ◌+◌, ◌%◌, ◌<◌, ◌≤◌, ◌==◌, ◌&&◌, nat_le, List, [], ◌∷◌, if◌then◌else◌, arith, refl, ap, ⊎_elim}
 use Rattle.std.proofs.lemmas.Bool.Decides.{nat_tests}
 use Rattle.wp_model.specs.declared.point.Point.{Point}
-use Rattle.wp_model.specs.Warehouse.{Layout, IsDeeper, IsFurther, IsMove, Step, back_end}
+use Rattle.wp_model.specs.Warehouse.{Layout, IsMove, Step, back_end}
 use Rattle.wp_model.specs.Warehouse.Step.{deeper, nearer, further, back}
 use Rattle.wp_model.specs.Tours.{IsWalk}
 use Rattle.wp_graph.specs.Copies.{Copies, along_aisle, along_cross, copies_of, sum_moves}

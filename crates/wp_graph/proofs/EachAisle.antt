@@ -1,17 +1,15 @@
 -- Each aisle of a closed walk: an odd number of times through it, an even number of times, or with a cut.
-use Rattle.std.proofs.Common.{◌≡◌, ◌≢◌, ℕ, zero, suc, ◌+◌, ◌-◌, ◌*◌, ◌%◌, ◌<◌, ◌≤◌, ◌==◌, ◌&&◌, nat_le, nat_lt, Bool, true, false, List, [], ◌∷◌, filter, map, if◌then◌else◌, arith, refl, sym, ap, ◌∙◌, subst, ◌⊎◌, inl, inr, ⊎_elim}
+use Rattle.std.proofs.Common.{◌≡◌, ◌≢◌, ℕ, suc, ◌+◌, ◌-◌, ◌*◌, ◌%◌, ◌<◌, ◌≤◌, ◌==◌, ◌&&◌, nat_le, nat_lt, Bool, true, false, List, ◌∷◌, arith, refl, sym, ap, ◌∙◌, subst, ◌⊎◌, inl, inr, ⊎_elim}
 use Rattle.std.specs.List.{range_with_len}
 use Rattle.std.proofs.lemmas.Bool.{cases_eq, eqb-true}
 use Rattle.std.proofs.lemmas.Bool.Decides.{nat_tests}
 use Rattle.wp_model.proofs.Sums.{sum-grows}
 use Rattle.wp_model.specs.declared.point.Point.{Point}
 use Rattle.wp_model.specs.Warehouse.{Layout, back_end, depot_point, step_length}
-use Rattle.wp_graph.specs.declared.ways.AisleWays.{AisleWays}
 use Rattle.wp_graph.specs.AisleLengths.{ways_from, ways_of}
 use Rattle.wp_graph.specs.Copies.{Copies, aisle_walked}
-use Rattle.wp_graph.specs.Required.{distance, has_point, is_required, required_distances, required_places}
+use Rattle.wp_graph.specs.Required.{distance, is_required, required_distances, required_places}
 use Rattle.wp_graph.proofs.Ascending.{places_ascend}
-use Rattle.wp_graph.proofs.Bounding.{required_within}
 use Rattle.wp_graph.proofs.Circuits.{AreEven}
 use Rattle.wp_graph.proofs.Having.{among_has, has_among}
 use Rattle.wp_graph.proofs.Joining.{AreJoined, IsKept}
@@ -65,8 +63,8 @@ between_kept : (layout : Layout) (copies : Copies) (aisle z y : ℕ) → copies.
 between_kept layout copies aisle z y low high within = record {
   deep = λ a s some. ⊎_elim
       (λ here. ⊎_elim (λ e. absurd (let at = ap (λ x. copies.deep x s) here ∙ ap (copies.deep aisle) e in omega (arith, at, some, low)))
-          (λ apart. ⊎_elim (λ e. absurd (let at = ap (λ x. copies.deep x s) here ∙ ap (copies.deep aisle) e in omega (arith, at, some, high))) (λ apart'. between_same aisle z y a s here apart apart') (cases_eq s y))
-          (cases_eq s z))
+      (λ apart. ⊎_elim (λ e. absurd (let at = ap (λ x. copies.deep x s) here ∙ ap (copies.deep aisle) e in omega (arith, at, some, high))) (λ apart'. between_same aisle z y a s here apart apart') (cases_eq s y))
+      (cases_eq s z))
       (λ other. between_else aisle z y a s (suc s) other)
       (cases_eq a aisle);
   behind = λ a some. between_back aisle z y a (back_end layout) within ∙ sym (between_back aisle z y (suc a) (back_end layout) within);

@@ -1,8 +1,8 @@
 -- What a walk joins: a colouring of the places that no walked piece changes is one colour on the whole walk.
-use Rattle.std.proofs.Common.{◌≡◌, ℕ, zero, suc, ◌+◌, ◌<◌, ◌≤◌, ◌==◌, ◌&&◌, Bool, true, false, List, [], ◌∷◌, min, if◌then◌else◌, arith, refl, sym, ap, ◌∙◌, subst, ◌⊎◌, inl, inr, ⊎_elim}
+use Rattle.std.proofs.Common.{◌≡◌, ℕ, zero, suc, ◌+◌, ◌<◌, Bool, List, [], ◌∷◌, arith, refl, sym, ap, ◌∙◌, ◌⊎◌, inl, inr, ⊎_elim}
 use Rattle.std.proofs.lemmas.Bool.Decides.{nat_tests}
 use Rattle.wp_model.specs.declared.point.Point.{Point}
-use Rattle.wp_model.specs.Warehouse.{Layout, IsDeeper, IsFurther, IsMove, Step, back_end}
+use Rattle.wp_model.specs.Warehouse.{Layout, Step, back_end}
 use Rattle.wp_model.specs.Warehouse.Step.{deeper, nearer, further, back}
 use Rattle.wp_model.specs.Tours.{IsWalk}
 use Rattle.wp_graph.specs.Copies.{Copies, along_aisle, along_cross, copies_of, sum_moves}

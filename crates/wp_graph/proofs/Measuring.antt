@@ -1,5 +1,5 @@
 -- The length of a walk is that of the copies of its pieces.
-use Rattle.std.proofs.Common.{◌≡◌, ◌≢◌, ℕ, zero, suc, ◌+◌, ◌-◌, ◌*◌, ◌<◌, ◌≤◌, ◌==◌, ◌&&◌, Bool, true, false, List, [], ◌∷◌, min, if◌then◌else◌, arith, refl, sym, ap, ◌∙◌, subst, ◌⊎◌, inl, inr, ⊎_elim}
+use Rattle.std.proofs.Common.{◌≡◌, ◌≢◌, ℕ, suc, ◌+◌, ◌-◌, ◌*◌, ◌<◌, List, [], ◌∷◌, arith, refl, sym, ap, ◌∙◌, ⊎_elim}
 use Rattle.std.proofs.lemmas.Bool.Decides.{nat_tests}
 use Rattle.wp_model.proofs.Sums.{sum-add, sum-agree, sum-one_changed, sum-zero}
 use Rattle.wp_model.specs.Sums.{sum_below}
@@ -7,7 +7,7 @@ use Rattle.wp_model.specs.declared.point.Point.{Point}
 use Rattle.wp_model.specs.Warehouse.{Layout, IsDeeper, IsFurther, IsMove, Step, back_end, spacing_after, step_length}
 use Rattle.wp_model.specs.Warehouse.Step.{deeper, nearer, further, back}
 use Rattle.wp_model.specs.Tours.{IsWalk}
-use Rattle.wp_graph.specs.Copies.{Copies, aisle_walked, all_walked, along_aisle, along_cross, copies_of, cross_walked, sum_moves}
+use Rattle.wp_graph.specs.Copies.{Copies, aisle_walked, all_walked, along_aisle, along_cross, copies_of, cross_walked}
 
 -- the pieces of one move
 abbrev pub move_copies : Layout → Point → Point → Copies
@@ -27,11 +27,11 @@ pub walked_both : (layout : Layout) (f g : Copies) → all_walked layout (both_c
 walked_both layout f g =
     sum-agree layout.aisles _ (λ a. (aisle_walked layout f (suc a) + cross_walked layout f (suc a)) + (aisle_walked layout g (suc a) + cross_walked layout g (suc a)))
     (λ a within.
-        let inner = sum-agree (back_end layout) (λ s. (f.deep (suc a) s + g.deep (suc a) s) * step_length layout s) (λ s. f.deep (suc a) s * step_length layout s + g.deep (suc a) s * step_length layout s)
-            (λ s low. both_times (f.deep (suc a) s) (g.deep (suc a) s) (step_length layout s)) in
-        let apart = sum-add (back_end layout) (λ s. f.deep (suc a) s * step_length layout s) (λ s. g.deep (suc a) s * step_length layout s) in
-        let crossing = four_times (f.behind (suc a)) (g.behind (suc a)) (f.front (suc a)) (g.front (suc a)) (spacing_after layout (suc a)) in
-        omega (arith, inner, apart, crossing))
+    let inner = sum-agree (back_end layout) (λ s. (f.deep (suc a) s + g.deep (suc a) s) * step_length layout s) (λ s. f.deep (suc a) s * step_length layout s + g.deep (suc a) s * step_length layout s)
+    (λ s low. both_times (f.deep (suc a) s) (g.deep (suc a) s) (step_length layout s)) in
+    let apart = sum-add (back_end layout) (λ s. f.deep (suc a) s * step_length layout s) (λ s. g.deep (suc a) s * step_length layout s) in
+    let crossing = four_times (f.behind (suc a)) (g.behind (suc a)) (f.front (suc a)) (g.front (suc a)) (spacing_after layout (suc a)) in
+    omega (arith, inner, apart, crossing))
     ∙ sum-add layout.aisles (λ a. aisle_walked layout f (suc a) + cross_walked layout f (suc a)) (λ a. aisle_walked layout g (suc a) + cross_walked layout g (suc a))
 
 sum-only : (n : ℕ) (f : ℕ → ℕ) (at : ℕ) → at < n → ((k : ℕ) → k ≢ at → f k ≡ 0) → sum_below n f ≡ f at
@@ -88,8 +88,8 @@ deeper_walked layout p q t move is =
     let low : p.slot < back_end layout = omega (arith, is.slot, move.to_point.slot) in
     let crossing : (a : ℕ) → cross_walked layout (move_copies layout p q) a ≡ 0 = λ a. zero_times (along_cross (back_end layout) a p q) (along_cross 0 a p q) (spacing_after layout a) (deep_none (back_end layout) a p q is.slot) (deep_none 0 a p q is.slot) in
     let one = sum-only layout.aisles each at (omega (arith, here, move.from_point.aisle.1)) (λ a other.
-        let none = sum-zero (back_end layout) (λ s. along_aisle (suc a) s p q * step_length layout s) (λ s within. times_none _ _ (aisle_else (suc a) s p q (λ e. other (omega (arith, e, here))))) in
-        omega (arith, none, crossing (suc a))) in
+    let none = sum-zero (back_end layout) (λ s. along_aisle (suc a) s p q * step_length layout s) (λ s within. times_none _ _ (aisle_else (suc a) s p q (λ e. other (omega (arith, e, here))))) in
+    omega (arith, none, crossing (suc a))) in
     let inner = sum-only (back_end layout) (λ s. along_aisle p.aisle s p q * step_length layout s) p.slot low (λ s other. times_none _ _ (place_else p.aisle s p q is.slot other)) in
     let unit : along_aisle p.aisle p.slot p q * step_length layout p.slot ≡ step_length layout p.slot = ap (λ x. x * step_length layout p.slot) (deep_one p q is.aisle is.slot) ∙ omega arith in
     one ∙ ap (λ a. aisle_walked layout (move_copies layout p q) a + cross_walked layout (move_copies layout p q) a) here ∙ omega (arith, inner, unit, crossing p.aisle, is.length_is)
@@ -102,9 +102,9 @@ further_walked layout p q t move is =
     let here : suc at ≡ p.aisle = omega (arith, move.from_point.aisle.0) in
     let inner : (a : ℕ) → aisle_walked layout (move_copies layout p q) a ≡ 0 = λ a. sum-zero (back_end layout) (λ s. along_aisle a s p q * step_length layout s) (λ s within. times_none _ _ (further_none a s p q is.aisle)) in
     let one = sum-only layout.aisles each at (omega (arith, here, move.from_point.aisle.1)) (λ a other.
-        let apart : suc a ≡ p.aisle → ⊥ = λ e. other (omega (arith, e, here)) in
-        let none = zero_times (along_cross (back_end layout) (suc a) p q) (along_cross 0 (suc a) p q) (spacing_after layout (suc a)) (cross_else (back_end layout) (suc a) p q is.aisle apart) (cross_else 0 (suc a) p q is.aisle apart) in
-        omega (arith, none, inner (suc a))) in
+    let apart : suc a ≡ p.aisle → ⊥ = λ e. other (omega (arith, e, here)) in
+    let none = zero_times (along_cross (back_end layout) (suc a) p q) (along_cross 0 (suc a) p q) (spacing_after layout (suc a)) (cross_else (back_end layout) (suc a) p q is.aisle apart) (cross_else 0 (suc a) p q is.aisle apart) in
+    omega (arith, none, inner (suc a))) in
     let count : along_cross (back_end layout) p.aisle p q + along_cross 0 p.aisle p q ≡ 1 = ⊎_elim (λ e. front_one (back_end layout) p q (omega arith) e is.aisle is.slot) (λ e. behind_one (back_end layout) p q (omega arith) e is.aisle is.slot) is.end in
     let unit : cross_walked layout (move_copies layout p q) p.aisle ≡ spacing_after layout p.aisle = ap (λ x. x * spacing_after layout p.aisle) count ∙ omega arith in
     one ∙ ap (λ a. aisle_walked layout (move_copies layout p q) a + cross_walked layout (move_copies layout p q) a) here ∙ omega (arith, inner p.aisle, unit, is.length_is)

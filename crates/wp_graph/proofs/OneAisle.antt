@@ -1,17 +1,15 @@
 -- What a closed walk walks of one aisle is at least as long as one of the six ways through it.
-use Rattle.std.proofs.Common.{◌≡◌, ◌≢◌, ℕ, zero, suc, ◌+◌, ◌-◌, ◌*◌, ◌%◌, ◌<◌, ◌≤◌, ◌==◌, ◌&&◌, nat_le, nat_lt, Bool, true, false, List, [], ◌∷◌, Option, Some, None, option_map, length, map, max, slice_get, if◌then◌else◌, arith, refl, sym, ap, ◌∙◌, subst, ◌⊎◌, inl, inr, ⊎_elim}
+use Rattle.std.proofs.Common.{◌≡◌, ◌≢◌, ℕ, zero, suc, ◌+◌, ◌-◌, ◌*◌, ◌%◌, ◌<◌, ◌≤◌, nat_le, Bool, true, false, List, [], ◌∷◌, Some, None, option_map, length, map, slice_get, if◌then◌else◌, arith, refl, sym, ap, ◌∙◌, subst, ◌⊎◌, inl, inr, ⊎_elim}
 use Rattle.std.proofs.lemmas.Bool.{cases_eq, le-leb}
-use Rattle.std.proofs.lemmas.Bool.Decides.{nat_tests}
 use Rattle.std.proofs.lemmas.Nat.{mul-le}
 use Rattle.wp_model.proofs.Sums.{sum-grows}
 use Rattle.wp_model.specs.Sums.{sum_below}
-use Rattle.wp_model.specs.Warehouse.{Layout, back_end, step_length}
 use Rattle.wp_graph.specs.declared.ways.AisleWays.{AisleWays}
 use Rattle.wp_graph.specs.AisleLengths.{ways_from}
 use Rattle.wp_graph.specs.Required.{IsAscending, largest_gap}
 use Rattle.wp_graph.proofs.Members.{Among}
 use Rattle.wp_graph.proofs.Ascending.{head_below, last_most_from}
-use Rattle.wp_graph.proofs.Stretching.{last_from, last_is}
+use Rattle.wp_graph.proofs.Stretching.{last_from}
 
 -- each piece walked at least so often
 pub all_least : (n k : ℕ) (d w : ℕ → ℕ) → ((s : ℕ) → s < n → k ≤ d s) → k * sum_below n w ≤ sum_below n (λ s. d s * w s)
@@ -106,10 +104,10 @@ cut_ways has_depot d b z y [] grows order within up parts depot = skips refl ref
 cut_ways has_depot d b z y (x ∷ places) grows order within up parts depot = ⊎_elim
     (λ low. fronts (2 * d (last_from x places)) (last_from x places) (ap (option_map (λ farthest. 2 * farthest)) (map_last d x places)) (omega (arith, grows (last_from x places) z low)) (last_among x places) low (λ r h. let most = last_most_from x places r up h in omega (arith, most, low)))
     (λ high. ⊎_elim
-        (λ near. gaps (2 * (d b - largest_gap (map d (x ∷ places)))) x (last_from x places) (two_or_more d x places y z near order high (d b))
-            (let gap = gap_least d z y x places grows near (λ r h. parts r (inr h)) high order in omega (arith, gap, grows z (suc y) (omega arith), grows (suc y) b (omega arith))) (inl refl) near (last_among x places) high)
-        (λ far. backs (2 * (d b - d x)) x (back_applies has_depot refl far) (omega (arith, grows (suc y) x (omega arith))) (inl refl) far (λ r h. below r far h))
-        (parts x (inl refl)))
+    (λ near. gaps (2 * (d b - largest_gap (map d (x ∷ places)))) x (last_from x places) (two_or_more d x places y z near order high (d b))
+    (let gap = gap_least d z y x places grows near (λ r h. parts r (inr h)) high order in omega (arith, gap, grows z (suc y) (omega arith), grows (suc y) b (omega arith))) (inl refl) near (last_among x places) high)
+    (λ far. backs (2 * (d b - d x)) x (back_applies has_depot refl far) (omega (arith, grows (suc y) x (omega arith))) (inl refl) far (λ r h. below r far h))
+    (parts x (inl refl)))
     (parts (last_from x places) (last_among x places))
   where
     below : (r : ℕ) → y < x → Among (x ∷ places) r → y < r
