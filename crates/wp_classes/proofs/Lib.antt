@@ -9,3 +9,7 @@ pub mod Parting
 pub mod Turning
 pub mod Serving
 pub mod Touring
+pub mod Fitting
+pub mod FitCrossing
+pub mod FitThrough
+pub mod Shortest

@@ -1,6 +1,5 @@
-ghost use Rattle.std.specs.Prelude.{◌≡◌, ◌+◌, ◌-◌, ◌≤◌, List, ℕ, length, slice_index_or};
-ghost use Rattle.wp_model.specs.declared.point.Point.{Point as PointData};
-ghost use Rattle.wp_model.specs.Tours.{IsTour};
+ghost use Rattle.std.specs.Prelude.{◌≡◌, ◌+◌, ◌-◌, ◌≤◌, ℕ, length, slice_index_or};
+ghost use Rattle.wp_model.specs.Tours.{IsShortest};
 ghost use Rattle.wp_model.specs.Warehouse.{IsLayout, IsUpTo};
 ghost use Rattle.wp_classes.specs.Choices.{IsChoiceOf, IsLeastPlan, block_of};
 ghost use Rattle.wp_classes.specs.Onward.{AreOnward, Onward};
@@ -57,12 +56,12 @@ fn best_step(layout: &Layout, picks: &Picks, aisle: u32, after: &Lengths, class:
     }
 }
 
-/// The length of the shortest tour of the picks: the least sum over all ways and crossings that the tables allow. Some
-/// closed walk past all picks has this length.
+/// The length of the shortest tour of the picks: some closed walk from the depot past all picks has this length, and
+/// none is shorter. It is the least sum over all ways and crossings that the tables allow.
 pub fn tour_length(layout: &Layout, picks: &Picks) -> u64
     requires { picks.now.layout ≡ layout.now }
     ensures least { IsLeastPlan layout.now picks.now.points result }
-    ensures walk { (points : List PointData) × IsTour layout.now picks.now.points points result }
+    ensures shortest { IsShortest layout.now picks.now.points result }
 {
     let mut onward = Lengths::at_the_end();
     for done in 1..layout.aisles() {
@@ -102,10 +101,11 @@ fn blank_crosses() -> [Cross; 64]
     [Cross::C00; 64]
 }
 
-/// Ways and crossings of a shortest tour of the picks.
+/// Ways and crossings of a shortest tour of the picks: the tables allow them, and their sum is the length of a shortest
+/// tour.
 pub fn tour_choice(layout: &Layout, picks: &Picks) -> Choice
     requires { picks.now.layout ≡ layout.now }
-    ensures { (total : ℕ) × IsChoiceOf layout.now picks.now.points result total × IsLeastPlan layout.now picks.now.points total }
+    ensures { (total : ℕ) × IsChoiceOf layout.now picks.now.points result total × IsShortest layout.now picks.now.points total }
 {
     let table = onward_table(layout, picks);
     let mut ways = blank_ways();

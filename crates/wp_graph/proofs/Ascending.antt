@@ -21,7 +21,7 @@ first_least [] a x up first h = absurd h
 first_least (b ∷ xs) a x up first (inl e) = let same = same_Some _ _ first in omega (arith, same, e)
 first_least (b ∷ xs) a x up first (inr h) = let same = same_Some _ _ first in let below = head_below b xs x up h in omega (arith, same, below)
 
-last_most_from : (b : ℕ) (xs : List ℕ) (x : ℕ) → IsAscending (b ∷ xs) → Among (b ∷ xs) x → x ≤ last_from b xs
+pub last_most_from : (b : ℕ) (xs : List ℕ) (x : ℕ) → IsAscending (b ∷ xs) → Among (b ∷ xs) x → x ≤ last_from b xs
 last_most_from b [] x up (inl e) = omega (arith, e)
 last_most_from b [] x up (inr h) = absurd h
 last_most_from b (c ∷ xs) x up (inl e) = let rest = last_most_from c xs c up.1 (inl refl) in omega (arith, e, rest, up.0)

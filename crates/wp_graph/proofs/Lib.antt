@@ -9,3 +9,8 @@ pub mod Stretching
 pub mod Requiring
 pub mod Bounding
 pub mod Ascending
+pub mod Circuits
+pub mod Joining
+pub mod Measuring
+pub mod OneAisle
+pub mod EachAisle

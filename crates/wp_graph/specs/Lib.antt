@@ -2,3 +2,4 @@ pub mod PickSets
 pub mod Required
 pub mod AisleLengths
 pub mod Stretches
+pub mod Copies

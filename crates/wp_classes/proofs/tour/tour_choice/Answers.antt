@@ -5,6 +5,7 @@ use Rattle.wp_classes.specs.Onward.{AreOnward, Onward}
 use Rattle.wp_classes.specs.Steps.{IsBestStep}
 use Rattle.wp_classes.proofs.Progress.{Progress, arrays_alike, progress_done, progress_first, progress_on}
 use Rattle.wp_classes.proofs.Small.{lengths_within, ways_within}
+use Rattle.wp_classes.proofs.Shortest.{shortest}
 use Rattle.wp_classes.proofs.tour.tour_choice.Goals as goal
 
 abbrev nothing : Lengths
@@ -67,5 +68,6 @@ loop-left-preserved c =
 pub returns : goal.returns
 returns c =
     let valid = c.onward_table-table.ensures.valid in
-    progress_done _ _ c.loop-left.left c.loop-left.ways c.loop-left.crosses c.loop-left.class _ (omega arith) (omega (arith, valid.aisles)) (omega (arith, c.loop-left.invariant.ways_whole, valid.aisles)) (omega (arith, c.loop-left.invariant.crosses_whole, valid.aisles))
-    (rw c.aisles.ensures.value at c.of.ensures.ways) (rw c.aisles.ensures.value at c.of.ensures.crosses) c.loop-left.invariant.progress
+    let done = progress_done _ _ c.loop-left.left c.loop-left.ways c.loop-left.crosses c.loop-left.class _ (omega arith) (omega (arith, valid.aisles)) (omega (arith, c.loop-left.invariant.ways_whole, valid.aisles)) (omega (arith, c.loop-left.invariant.crosses_whole, valid.aisles))
+    (rw c.aisles.ensures.value at c.of.ensures.ways) (rw c.aisles.ensures.value at c.of.ensures.crosses) c.loop-left.invariant.progress in
+    (done.0, done.1, shortest _ _ _ c.aisle_ways.ensures.slots done.2)

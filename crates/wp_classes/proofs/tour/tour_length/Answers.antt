@@ -2,7 +2,7 @@ use Rattle.std.proofs.Common.{◌-◌, arith}
 use Rattle.wp_classes.specs.Choices.{block_of}
 use Rattle.wp_classes.specs.Onward.{AreOnward}
 use Rattle.wp_classes.proofs.Planning.{IsLeastFirst, at_first, least_first, least_plan, some_way_on}
-use Rattle.wp_classes.proofs.Touring.{tour_of_plan}
+use Rattle.wp_classes.proofs.Shortest.{shortest}
 use Rattle.wp_classes.proofs.Small.{lengths_within, ways_within}
 use Rattle.wp_classes.proofs.tour.tour_length.Goals as goal
 use Rattle.wp_classes.proofs.tour.tour_length.Goals.{After-aisle_ways, After-least_length_by_way}
@@ -31,7 +31,7 @@ unwrap-requires c = some_way_on _ _ _ (least (goal.at.unwrap-requires c).After-l
 pub returns-clause-least : goal.returns-clause-least
 returns-clause-least c = least_plan _ _ _ (rw c.unwrap.ensures at (least (goal.at.returns-clause-least c).After-least_length_by_way))
 
-pub returns-clause-walk : goal.returns-clause-walk
-returns-clause-walk c =
-    let plan = least_plan _ _ _ (rw c.unwrap.ensures at (least (goal.at.returns-clause-walk c).After-least_length_by_way)) in
-    tour_of_plan _ _ plan.some.0 _ c.aisle_ways.ensures.slots plan.some.1
+pub returns-clause-shortest : goal.returns-clause-shortest
+returns-clause-shortest c =
+    let plan = least_plan _ _ _ (rw c.unwrap.ensures at (least (goal.at.returns-clause-shortest c).After-least_length_by_way)) in
+    shortest _ _ _ c.aisle_ways.ensures.slots plan

@@ -1,0 +1,180 @@
+-- From a class that fits what a tour walks, some crossing that the tables allow and that is no longer leads to a class
+-- that fits.
+use Rattle.std.proofs.Common.{◌≡◌, ℕ, zero, suc, ◌+◌, ◌<◌, ◌≤◌, Bool, true, false, IsTrue, Some, not, arith, refl, sym, ap, ◌∙◌, ◌⊎◌, inl, inr, ⊎_elim}
+use Rattle.wp_model.specs.Warehouse.{back_end, depot_point}
+use Rattle.wp_graph.proofs.Joining.{IsKept}
+use Rattle.wp_classes.specs.declared.class.Class.{Class}
+use Rattle.wp_classes.specs.declared.class.Class.TheVariants.{UU1, E01, ZE1, EE1, EE2, Z00, Z01}
+use Rattle.wp_classes.specs.declared.class.Cross.{Cross}
+use Rattle.wp_classes.specs.declared.class.Cross.TheVariants.{C00, C11, C20, C02, C22}
+use Rattle.wp_classes.specs.Tables.{class_after_cross, copies, is_whole}
+use Rattle.wp_classes.proofs.Fitting.{AllLeft, Agrees, Crossed, Fits, IsLeft, Linked, Sides, Tells, Toured, beside, beside_left, beside_right, everywhere, home, kept_beside, split_cases, true_false}
+
+-- a crossing that is no longer than what the tour walks there
+pub record CrossesOn (t : Toured) (j : ℕ) (class : Class) : Type 0 where
+  pub cross : Cross
+  pub next : Class
+  pub takes : class_after_cross class cross ≡ Some next
+  pub fits : Crossed t j next
+  pub least : copies cross ≤ t.copies.behind j + t.copies.front j
+
+positive : (n : ℕ) → (n ≡ 0) ⊎ (0 < n)
+positive zero = inl refl
+positive (suc n) = inr (omega arith)
+
+sides_linked : (t : Toured) (j : ℕ) (c : ℕ → ℕ → Bool) → Sides t j c → Linked t j c
+sides_linked t j c sides = record { left = sides.left; back = λ some. sides.back; front = λ some. sides.front }
+
+beside_agrees : (t : Toured) (j : ℕ) (c : ℕ → ℕ → Bool) (x : Bool) → Agrees j c (beside j c (λ s. x))
+beside_agrees t j c x = λ a s low. beside_left j c (λ s. x) a s low
+
+-- nothing is needed beyond an aisle from which nothing crosses, where what is left tells the other colour
+all_left : (t : Toured) (j : ℕ) (c : ℕ → ℕ → Bool) (x y : Bool) → (x ≡ y → ⊥) → Tells t j c x → IsKept t.layout t.copies (beside j c (λ s. y)) → AllLeft t j
+all_left t j c x y apart tells kept p on = ⊎_elim (λ low. low)
+    (λ high.
+    let there = t.are.joined.needed (beside j c (λ s. y)) kept p on in
+    absurd (apart (sym (tells (beside j c (λ s. y)) kept (beside_agrees t j c y)) ∙ sym there ∙ beside_right j c (λ s. y) p.aisle p.slot high)))
+    (split_cases p.aisle j)
+
+-- a walked crossing tells the colour of the end where it begins
+front_tells : (t : Toured) (j : ℕ) (c : ℕ → ℕ → Bool) (x : Bool) → 0 < t.copies.front j → c j 0 ≡ x → Tells t j c x
+front_tells t j c x some is = λ other kept agrees. sym (t.are.joined.front other kept j some) ∙ agrees j 0 (omega arith) ∙ is
+
+behind_tells : (t : Toured) (j : ℕ) (c : ℕ → ℕ → Bool) (x : Bool) → 0 < t.copies.behind j → c j (back_end t.layout) ≡ x → Tells t j c x
+behind_tells t j c x some is = λ other kept agrees. sym (t.are.joined.behind other kept j some) ∙ agrees j (back_end t.layout) (omega arith) ∙ is
+
+-- two colours cannot both be the depot's
+never_both : (t : Toured) (j : ℕ) (c other : ℕ → ℕ → Bool) → Tells t j c true → Tells t j c false → IsKept t.layout t.copies other → Agrees j c other → ⊥
+never_both t j c other one two kept agrees = true_false (sym (one other kept agrees) ∙ two other kept agrees)
+
+kept_not : (t : Toured) (colour : ℕ → ℕ → Bool) → IsKept t.layout t.copies colour → IsKept t.layout t.copies (λ a s. not (colour a s))
+kept_not t colour kept = record { deep = λ a s some. ap not (kept.deep a s some); behind = λ a some. ap not (kept.behind a some); front = λ a some. ap not (kept.front a some) }
+
+not_true : (b : Bool) → not b ≡ true → b ≡ false
+not_true true e = sym e
+not_true false e = refl
+
+false_everywhere : (t : Toured) (j : ℕ) → Tells t j (everywhere true) true → Tells t j (everywhere false) false
+false_everywhere t j tells = λ other kept agrees. not_true (home t other) (tells (λ a s. not (other a s)) (kept_not t other kept) (λ a s low. ap not (agrees a s low)))
+
+pub everywhere_left : (t : Toured) (j : ℕ) (x : Bool) → IsLeft t j (everywhere x)
+everywhere_left t j x = record { deep = λ a s low some. refl; behind = λ a low some. refl; front = λ a low some. refl }
+
+cross_odd : (t : Toured) (j : ℕ) → Fits t j UU1 → CrossesOn t j UU1
+cross_odd t j fits = record { cross = C11; next = UU1; takes = refl; fits = fits; least = let even = t.are.even.across j in omega (arith, even, fits) }
+
+cross_back : (t : Toured) (j : ℕ) → Fits t j E01 → CrossesOn t j E01
+cross_back t j (even, c, sides, one) =
+    let across = t.are.even.across j in
+    elim (positive (t.copies.behind j)) [
+      | inl b ↦ elim (positive (t.copies.front j)) [
+        | inl f ↦ record {
+          cross = C00;
+          next = Z01;
+          takes = refl;
+          least = omega arith;
+          fits = all_left t j c true false true_false one.tells (kept_beside t j c false sides.left (λ some. absurd (omega (arith, some, b))) (λ some. sides.front));
+        }
+        | inr f ↦ absurd (never_both t j c (beside j c (λ s. false)) one.tells (front_tells t j c false f sides.front)
+            (kept_beside t j c false sides.left (λ some. absurd (omega (arith, some, b))) (λ some. sides.front)) (beside_agrees t j c false))
+      ]
+      | inr b ↦ elim (positive (t.copies.front j)) [
+        | inl f ↦ record { cross = C20; next = E01; takes = refl; least = omega (arith, across, even, b, f); fits = (even, c, sides_linked t j c sides, one) }
+        | inr f ↦ record { cross = C22; next = EE2; takes = refl; least = omega (arith, across, even, b, f); fits = (even, c, sides_linked t j c sides, record { one = one.tells; other = front_tells t j c false f sides.front }) }
+      ]
+    ]
+
+cross_front : (t : Toured) (j : ℕ) → Fits t j ZE1 → CrossesOn t j ZE1
+cross_front t j (even, c, sides, one) =
+    let across = t.are.even.across j in
+    elim (positive (t.copies.behind j)) [
+      | inl b ↦ elim (positive (t.copies.front j)) [
+        | inl f ↦ record {
+          cross = C00;
+          next = Z01;
+          takes = refl;
+          least = omega arith;
+          fits = all_left t j c false true (λ e. true_false (sym e)) one.tells (kept_beside t j c true sides.left (λ some. sides.back) (λ some. absurd (omega (arith, some, f))));
+        }
+        | inr f ↦ record { cross = C02; next = ZE1; takes = refl; least = omega (arith, across, even, b, f); fits = (even, c, sides_linked t j c sides, one) }
+      ]
+      | inr b ↦ elim (positive (t.copies.front j)) [
+        | inl f ↦ absurd (never_both t j c (beside j c (λ s. true)) (behind_tells t j c true b sides.back) one.tells
+            (kept_beside t j c true sides.left (λ some. sides.back) (λ some. absurd (omega (arith, some, f)))) (beside_agrees t j c true))
+        | inr f ↦ record { cross = C22; next = EE2; takes = refl; least = omega (arith, across, even, b, f); fits = (even, c, sides_linked t j c sides, record { one = behind_tells t j c true b sides.back; other = one.tells }) }
+      ]
+    ]
+
+cross_both : (t : Toured) (j : ℕ) → Fits t j EE1 → CrossesOn t j EE1
+cross_both t j (even, tells) =
+    let across = t.are.even.across j in
+    elim (positive (t.copies.behind j)) [
+      | inl b ↦ elim (positive (t.copies.front j)) [
+        | inl f ↦ record {
+          cross = C00;
+          next = Z01;
+          takes = refl;
+          least = omega arith;
+          fits = all_left t j (everywhere true) true false true_false tells
+              (kept_beside t j (everywhere true) false (everywhere_left t j true) (λ some. absurd (omega (arith, some, b))) (λ some. absurd (omega (arith, some, f))));
+        }
+        | inr f ↦ record {
+          cross = C02;
+          next = ZE1;
+          takes = refl;
+          least = omega (arith, across, even, b, f);
+          fits = (even, everywhere false, record { left = everywhere_left t j false; back = λ some. absurd (omega (arith, some, b)); front = λ some. refl }, record { all = λ p on low. refl; tells = false_everywhere t j tells });
+        }
+      ]
+      | inr b ↦ elim (positive (t.copies.front j)) [
+        | inl f ↦ record {
+          cross = C20;
+          next = E01;
+          takes = refl;
+          least = omega (arith, across, even, b, f);
+          fits = (even, everywhere true, record { left = everywhere_left t j true; back = λ some. refl; front = λ some. absurd (omega (arith, some, f)) }, record { all = λ p on low. refl; tells = tells });
+        }
+        | inr f ↦ record { cross = C22; next = EE1; takes = refl; least = omega (arith, across, even, b, f); fits = (even, tells) }
+      ]
+    ]
+
+cross_two : (t : Toured) (j : ℕ) → Fits t j EE2 → CrossesOn t j EE2
+cross_two t j (even, c, sides, two) =
+    let across = t.are.even.across j in
+    elim (positive (t.copies.behind j)) [
+      | inl b ↦ absurd (never_both t j c (beside j c (λ s. false)) two.one two.other
+          (kept_beside t j c false sides.left (λ some. absurd (omega (arith, some, b))) (λ some. sides.front)) (beside_agrees t j c false))
+      | inr b ↦ elim (positive (t.copies.front j)) [
+        | inl f ↦ absurd (never_both t j c (beside j c (λ s. true)) two.one two.other
+            (kept_beside t j c true sides.left (λ some. sides.back) (λ some. absurd (omega (arith, some, f)))) (beside_agrees t j c true))
+        | inr f ↦ record { cross = C22; next = EE2; takes = refl; least = omega (arith, across, even, b, f); fits = (even, c, sides_linked t j c sides, two) }
+      ]
+    ]
+
+cross_none : (t : Toured) (j : ℕ) → Fits t j Z00 → CrossesOn t j Z00
+cross_none t j (even, c, sides, none) = record { cross = C00; next = Z00; takes = refl; least = omega arith; fits = (even, c, sides_linked t j c sides, none) }
+
+cross_done : (t : Toured) (j : ℕ) → Fits t j Z01 → CrossesOn t j Z01
+cross_done t j all = record { cross = C00; next = Z01; takes = refl; least = omega arith; fits = all }
+
+pub crosses_on : (t : Toured) (j : ℕ) (class : Class) → Fits t j class → CrossesOn t j class
+crosses_on t j UU1 fits = cross_odd t j fits
+crosses_on t j E01 fits = cross_back t j fits
+crosses_on t j ZE1 fits = cross_front t j fits
+crosses_on t j EE1 fits = cross_both t j fits
+crosses_on t j EE2 fits = cross_two t j fits
+crosses_on t j Z00 fits = cross_none t j fits
+crosses_on t j Z01 fits = cross_done t j fits
+
+-- where there is no crossing any more, the class is that of a whole tour
+pub done_whole : (t : Toured) (j : ℕ) (class : Class) → t.copies.behind j ≡ 0 → t.copies.front j ≡ 0 → t.layout.depot ≤ j → Fits t j class → IsTrue (is_whole class)
+done_whole t j UU1 b f near fits = absurd (omega (arith, f, fits))
+done_whole t j E01 b f near fits = refl
+done_whole t j ZE1 b f near fits = refl
+done_whole t j EE1 b f near fits = refl
+done_whole t j EE2 b f near (even, c, sides, two) =
+    absurd
+    (never_both t j c (beside j c (λ s. false)) two.one two.other (kept_beside t j c false sides.left (λ some. absurd (omega (arith, some, b))) (λ some. sides.front))
+    (beside_agrees t j c false))
+done_whole t j Z00 b f near (even, c, sides, none) = absurd (none (depot_point t.layout) (inl refl) near)
+done_whole t j Z01 b f near fits = refl

@@ -1,0 +1,119 @@
+-- What a closed walk walks of one aisle is at least as long as one of the six ways through it.
+use Rattle.std.proofs.Common.{◌≡◌, ◌≢◌, ℕ, zero, suc, ◌+◌, ◌-◌, ◌*◌, ◌%◌, ◌<◌, ◌≤◌, nat_le, Bool, true, false, List, [], ◌∷◌, Some, None, option_map, length, map, slice_get, if◌then◌else◌, arith, refl, sym, ap, ◌∙◌, subst, ◌⊎◌, inl, inr, ⊎_elim}
+use Rattle.std.proofs.lemmas.Bool.{cases_eq, le-leb}
+use Rattle.std.proofs.lemmas.Nat.{mul-le}
+use Rattle.wp_model.proofs.Sums.{sum-grows}
+use Rattle.wp_model.specs.Sums.{sum_below}
+use Rattle.wp_graph.specs.declared.ways.AisleWays.{AisleWays}
+use Rattle.wp_graph.specs.AisleLengths.{ways_from}
+use Rattle.wp_graph.specs.Required.{IsAscending, largest_gap}
+use Rattle.wp_graph.proofs.Members.{Among}
+use Rattle.wp_graph.proofs.Ascending.{head_below, last_most_from}
+use Rattle.wp_graph.proofs.Stretching.{last_from}
+
+-- each piece walked at least so often
+pub all_least : (n k : ℕ) (d w : ℕ → ℕ) → ((s : ℕ) → s < n → k ≤ d s) → k * sum_below n w ≤ sum_below n (λ s. d s * w s)
+all_least zero k d w most = let none : k * 0 ≡ 0 = grind arith in omega (arith, none)
+all_least (suc n) k d w most =
+    let before = all_least n k d w (λ s low. most s (omega arith)) in
+    let last = mul-le k (w n) (d n) (w n) (most n (omega arith)) (omega arith) in
+    let apart : k * (sum_below n w + w n) ≡ k * sum_below n w + k * w n = grind arith in
+    omega (arith, before, last, apart)
+
+-- each piece behind a place walked twice or more
+behind_least : (n m : ℕ) (d w : ℕ → ℕ) → m ≤ n → ((s : ℕ) → m ≤ s → s < n → 2 ≤ d s) → sum_below m (λ s. d s * w s) + 2 * (sum_below n w - sum_below m w) ≤ sum_below n (λ s. d s * w s)
+behind_least zero m d w low most = let e : m ≡ 0 = omega arith in rw e (omega arith)
+behind_least (suc n) m d w low most = elim (cases_eq m (suc n)) [
+  | inl e ↦ rw e (omega arith)
+  | inr other ↦ let before = behind_least n m d w (omega arith) (λ s high within. most s high (omega arith)) in
+      let last = mul-le 2 (w n) (d n) (w n) (most n (omega arith) (omega arith)) (omega arith) in
+      let grows = sum-grows m n w (omega arith) in
+      omega (arith, before, last, grows)
+]
+
+-- the first piece that isn't walked, if there is one
+pub first_gap : (n : ℕ) (d : ℕ → ℕ) → ((s : ℕ) → s < n → 0 < d s) ⊎ ((z : ℕ) × (z < n) × (d z ≡ 0) × ((s : ℕ) → s < z → 0 < d s))
+first_gap zero d = inl (λ s low. absurd (omega arith))
+first_gap (suc n) d = ⊎_elim
+    (λ all. ⊎_elim (λ none. inr (n, omega arith, none, all)) (λ some. inl (λ s low. ⊎_elim (λ e. subst (λ x. 0 < d x) (sym e) some) (λ other. all s (omega arith)) (cases_eq s n))) (positive (d n)))
+    (λ gap. inr (gap.0, omega (arith, gap.1), gap.2, gap.3))
+    (first_gap n d)
+  where
+    positive : (k : ℕ) → (k ≡ 0) ⊎ (0 < k)
+    positive zero = inl refl
+    positive (suc k) = inr (omega arith)
+
+-- the last one, if there is one
+pub last_gap : (n : ℕ) (d : ℕ → ℕ) (z : ℕ) → z < n → d z ≡ 0 → (y : ℕ) × (z ≤ y) × (y < n) × (d y ≡ 0) × ((s : ℕ) → y < s → s < n → 0 < d s)
+last_gap zero d z within none = absurd (omega arith)
+last_gap (suc n) d z within none = go (λ low. last_gap n d z low none) (positive (d n))
+  where
+    positive : (k : ℕ) → (k ≡ 0) ⊎ (0 < k)
+    positive zero = inl refl
+    positive (suc k) = inr (omega arith)
+
+    go : (z < n → (y : ℕ) × (z ≤ y) × (y < n) × (d y ≡ 0) × ((s : ℕ) → y < s → s < n → 0 < d s)) → (d n ≡ 0) ⊎ (0 < d n) → (y : ℕ) × (z ≤ y) × (y < suc n) × (d y ≡ 0) × ((s : ℕ) → y < s → s < suc n → 0 < d s)
+    go before (inl e) = (n, omega arith, omega arith, e, λ s high low. absurd (omega arith))
+    go before (inr some) =
+        let other : z ≢ n = λ e. omega (arith, ap d e, none, some) in
+        let rest = before (omega (arith, other)) in
+        (rest.0, rest.1, omega (arith, rest.2), rest.3, λ s high low. ⊎_elim (λ e. subst (λ x. 0 < d x) (sym e) some) (λ apart. rest.4 s high (omega arith)) (cases_eq s n))
+
+-- between two gaps of an aisle whose pieces are walked an even number of times
+pub cut_least : (n z y : ℕ) (d w : ℕ → ℕ) → z ≤ y → y < n → ((s : ℕ) → s < n → d s % 2 ≡ 0) → ((s : ℕ) → s < z → 0 < d s) → ((s : ℕ) → y < s → s < n → 0 < d s) →
+    2 * sum_below z w + 2 * (sum_below n w - sum_below (suc y) w) ≤ sum_below n (λ s. d s * w s)
+cut_least n z y d w low within even before behind =
+    let first = all_least z 2 d w (λ s high. omega (arith, even s (omega arith), before s high)) in
+    let middle = sum-grows z (suc y) (λ s. d s * w s) (omega arith) in
+    let last = behind_least n (suc y) d w (omega arith) (λ s high upto. omega (arith, even s upto, behind s (omega arith) upto)) in
+    omega (arith, first, middle, last)
+
+-- the largest gap is no smaller than that around places where nothing is required
+gap_least : (d : ℕ → ℕ) (z y x : ℕ) (places : List ℕ) → ((i j : ℕ) → i ≤ j → d i ≤ d j) → x ≤ z → ((r : ℕ) → Among places r → (r ≤ z) ⊎ (y < r)) → y < last_from x places → z ≤ y → d (suc y) - d z ≤ largest_gap (map d (x ∷ places))
+gap_least d z y x [] grows low parts high order = absurd (omega arith)
+gap_least d z y x (r ∷ places) grows low parts high order = ⊎_elim
+    (λ near. let rest = gap_least d z y r places grows near (λ q h. parts q (inr h)) high order in omega (arith, rest))
+    (λ far. omega (arith, grows x z low, grows (suc y) r (omega arith)))
+    (parts r (inl refl))
+
+-- which ways apply where nothing is required between two gaps, by where anything is
+pub data IsCut (ways : AisleWays) (places : List ℕ) (z y most : ℕ) : Type 0 where
+  skips : (places ≡ []) → ways.skip ≡ Some 0 → IsCut ways places z y most
+  fronts : (t x : ℕ) → ways.front ≡ Some t → t ≤ most → Among places x → x ≤ z → ((r : ℕ) → Among places r → r ≤ z) → IsCut ways places z y most
+  backs : (t x : ℕ) → ways.back ≡ Some t → t ≤ most → Among places x → y < x → ((r : ℕ) → Among places r → y < r) → IsCut ways places z y most
+  gaps : (t x r : ℕ) → ways.gap ≡ Some t → t ≤ most → Among places x → x ≤ z → Among places r → y < r → IsCut ways places z y most
+
+last_among : (x : ℕ) (xs : List ℕ) → Among (x ∷ xs) (last_from x xs)
+last_among x [] = inl refl
+last_among x (y ∷ xs) = inr (last_among y xs)
+
+map_last : (d : ℕ → ℕ) (x : ℕ) (xs : List ℕ) → slice_get (map d (x ∷ xs)) (length (map d (x ∷ xs)) - 1) ≡ Some (d (last_from x xs))
+map_last d x [] = refl
+map_last d x (y ∷ xs) =
+    let back : length (map d (x ∷ y ∷ xs)) - 1 ≡ suc (length (map d (y ∷ xs)) - 1) = omega arith in
+    ap (λ i. slice_get (map d (x ∷ y ∷ xs)) i) back ∙ map_last d y xs
+
+two_or_more : (d : ℕ → ℕ) (x : ℕ) (xs : List ℕ) (y z : ℕ) → x ≤ z → z ≤ y → y < last_from x xs → (whole : ℕ) → (if nat_le 2 (length (map d (x ∷ xs))) then Some (2 * (whole - largest_gap (map d (x ∷ xs)))) else None) ≡ Some (2 * (whole - largest_gap (map d (x ∷ xs))))
+two_or_more d x [] y z low order high whole = absurd (omega arith)
+two_or_more d x (r ∷ xs) y z low order high whole = let yes = le-leb 2 (length (map d (x ∷ r ∷ xs))) (omega arith) in rw yes refl
+
+pub cut_ways : (has_depot : Bool) (d : ℕ → ℕ) (b z y : ℕ) (places : List ℕ) → ((i j : ℕ) → i ≤ j → d i ≤ d j) → z ≤ y → y < b → IsAscending places → ((r : ℕ) → Among places r → (r ≤ z) ⊎ (y < r)) → (has_depot ≡ true → (x : ℕ) × Among places x × (x ≤ z)) →
+    IsCut (ways_from has_depot (d b) (map d places)) places z y (2 * d z + 2 * (d b - d (suc y)))
+unfolding ways_from
+cut_ways has_depot d b z y [] grows order within up parts depot = skips refl refl
+cut_ways has_depot d b z y (x ∷ places) grows order within up parts depot = ⊎_elim
+    (λ low. fronts (2 * d (last_from x places)) (last_from x places) (ap (option_map (λ farthest. 2 * farthest)) (map_last d x places)) (omega (arith, grows (last_from x places) z low)) (last_among x places) low (λ r h. let most = last_most_from x places r up h in omega (arith, most, low)))
+    (λ high. ⊎_elim
+    (λ near. gaps (2 * (d b - largest_gap (map d (x ∷ places)))) x (last_from x places) (two_or_more d x places y z near order high (d b))
+    (let gap = gap_least d z y x places grows near (λ r h. parts r (inr h)) high order in omega (arith, gap, grows z (suc y) (omega arith), grows (suc y) b (omega arith))) (inl refl) near (last_among x places) high)
+    (λ far. backs (2 * (d b - d x)) x (back_applies has_depot refl far) (omega (arith, grows (suc y) x (omega arith))) (inl refl) far (λ r h. below r far h))
+    (parts x (inl refl)))
+    (parts (last_from x places) (last_among x places))
+  where
+    below : (r : ℕ) → y < x → Among (x ∷ places) r → y < r
+    below r far (inl e) = omega (arith, e)
+    below r far (inr h) = let more = head_below x places r up h in omega (arith, more)
+
+    back_applies : (has : Bool) → has_depot ≡ has → y < x → (if has_depot then None else Some (2 * (d b - d x))) ≡ Some (2 * (d b - d x))
+    back_applies true has far = let near = depot has in absurd (let more = below near.0 far near.1 in omega (arith, more, near.2))
+    back_applies false has far = rw has refl
