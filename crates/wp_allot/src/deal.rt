@@ -61,13 +61,12 @@ pub fn holds_by_overlap(book: &StockBook, wants: &[Want], except: Option<u32>, r
 
 /// Holds stock for a wave by overlap: the units that its orders take from the rows go from free to held. Nothing may be
 /// short, and the room needs space for one hold a row of the wanted articles and one a want. It takes no memory.
-pub fn allot(book: &mut StockBook, wave: u32, wants: &[Want], except: Option<u32>, room: Room)
+pub fn allot(book: &mut StockBook, wave: u32, wants: &[Want], except: Option<u32>, mut room: Room)
     requires regular { AreRegular wants.now }
     requires covered { IsShort book.old.rows wants.now except None }
     requires room { IsRoomFor book.old.rows wants.now room }
     ensures { IsAllotted wave wants.now except book.old book.new }
 {
-    let mut room = room;
     holds_by_overlap(book, wants, except, &mut room);
     book.hold(wave, room);
 }

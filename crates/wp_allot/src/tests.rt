@@ -1,17 +1,16 @@
-ghost use Rattle.std.specs.Prelude.{All, ◌≡◌, ◌+◌, ◌≤◌, ◌<◌, ℕ, Some, length, IsTrue, IfOk, slice_get};
+ghost use Rattle.std.specs.Prelude.{◌≡◌, ◌+◌, ◌≤◌, ◌<◌, ℕ, All, Some, length, IsTrue, IfOk, slice_get};
 ghost use Rattle.wp_allot.specs.Wants.{AreRegular, IsRoomFor};
 ghost use Rattle.wp_allot.specs.declared.want.Want.{Want as WantData};
-ghost use Rattle.wp_model.specs.declared.row.StockRow.{StockRow as StockRowData};
 
 use super::*;
 use std::alloc::{AllocError, Global};
 use std::process::Abort;
 use std::test::Fail;
 use wp_book::{Hold, Room, StockBook};
-use wp_model::{Location, Side, StockRow};
+use wp_tables::read_stock;
 
 /// Two rows of the article 0 and one of the article 1.
-const STOCK: [(u32, u32); 3] = [(0, 3), (0, 4), (1, 5)];
+const STOCK: &str = "location,article,on_hand\n1-1-L,A,3\n1-2-L,A,4\n1-3-L,B,5\n";
 
 fn want(order: u32, article: u32, quantity: u64) -> Want
     ensures { result ≡ record { order = order; article = article; quantity = quantity } }
@@ -23,31 +22,9 @@ fn want(order: u32, article: u32, quantity: u64) -> Want
     }
 }
 
-/// Whether no row has more units than a row may have, and there aren't too many rows.
-fn are_small(rows: &[StockRow]) -> bool
-    ensures units { IsTrue result → All (λ (row : StockRowData). row.on_hand ≤ 1000000) rows.now }
-    ensures few { IsTrue result → length rows.now ≤ 1000 }
-{
-    rows.len() <= 1000 && rows.iter().all(|row| row.on_hand <= 1_000_000)
-}
-
-/// A book with rows of these articles and units, slot by slot.
-fn book_of(rt: &impl Abort, alloc: Global, stock: &[(u32, u32)]) -> Result<StockBook, Fail> {
-    let mut rows = Vec::new(alloc);
-    for (article, on_hand) in stock {
-        let location = Location {
-            aisle: 1,
-            slot: 1,
-            side: Side::L,
-        };
-        rows.push(StockRow {
-            location,
-            article: *article,
-            on_hand: *on_hand,
-        })?;
-    }
-    assert!(rt; are_small(rows.as_slice()));
-    Ok(StockBook::of_rows(alloc, rows.as_slice())?)
+fn book_of(alloc: Global, text: &str) -> Result<StockBook, Fail> {
+    let stock = read_stock(alloc, &text.as_bytes().to_vec(alloc)?)?;
+    Ok(StockBook::open(alloc, &stock)?)
 }
 
 /// Whether the want at a place may stand after all before it.
@@ -201,7 +178,7 @@ fn orders_take_what_overlaps(rt: HostRuntime) -> Result<(), Fail> {
             "0 3;3 1;5 0;",
         ),
     ] {
-        let mut book = book_of(&rt, alloc, STOCK.as_slice())?;
+        let mut book = book_of(alloc, STOCK)?;
         let room = overlaps(&rt, alloc, &book, wants.as_slice(), except)?;
         assert_eq!(rt; holds_text(alloc, room.as_slice())?.as_str(), holds);
         allot_all(&rt, alloc, &mut book, 3, wants.as_slice(), except)?;
@@ -213,7 +190,7 @@ fn orders_take_what_overlaps(rt: HostRuntime) -> Result<(), Fail> {
 #[test]
 fn short_articles_are_told(rt: HostRuntime) -> Result<(), Fail> {
     let alloc = rt.alloc();
-    let mut book = book_of(&rt, alloc, STOCK.as_slice())?;
+    let mut book = book_of(alloc, STOCK)?;
     for (wants, except, short) in [
         ([want(0, 0, 4), want(1, 0, 4)], None, Some((0, 8, 7))),
         ([want(0, 0, 4), want(1, 0, 3)], None, None),
@@ -249,10 +226,21 @@ fn short_articles_are_told(rt: HostRuntime) -> Result<(), Fail> {
     Ok(())
 }
 
+/// 1,000 rows of one article, each with three units.
+fn long_stock(alloc: Global) -> Result<String, AllocError> {
+    let mut text = String::from_str(alloc, "location,article,on_hand\n")?;
+    for aisle in 1..=5 {
+        for slot in 1..=200 {
+            text.push_str(format!(in alloc; "{aisle}-{slot}-R,A,3\n")?.as_str())?;
+        }
+    }
+    Ok(text)
+}
+
 #[test]
 fn long_line_is_dealt(rt: HostRuntime) -> Result<(), Fail> {
     let alloc = rt.alloc();
-    let mut book = book_of(&rt, alloc, [(0, 3); 1000].as_slice())?;
+    let mut book = book_of(alloc, long_stock(alloc)?.as_str())?;
     assert_eq!(rt; book.rows(), 1000);
     let mut wants = Vec::new(alloc);
     for order in 0..64 {

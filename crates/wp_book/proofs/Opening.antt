@@ -1,14 +1,11 @@
 -- A book of which nothing is held.
-use Rattle.std.proofs.Common.{◌≡◌, ◌≤◌, ◌∙◌, refl, sym, ap, subst, ℕ, zero, suc, List, [], ◌∷◌, map, slice_get, Some, All, replicate, arith}
+use Rattle.std.proofs.Common.{◌≡◌, ◌∙◌, refl, sym, ap, subst, ℕ, zero, suc, List, [], map, slice_get, Some, All, replicate, arith}
 use Rattle.std.proofs.lemmas.List.{get_or-replicate, length-replicate}
-use Rattle.std.proofs.lemmas.List.Elements.{All-nil, All-cons}
 use Rattle.std.proofs.lemmas.List.Sums.{sum_by-cons}
-use Rattle.std.specs.List.{AllByRecursion}
 use Rattle.std.proofs.lemmas.Option.{slice_get-map}
-use Rattle.wp_model.proofs.Elements.{All-at, All-from_at, if_some}
-use Rattle.wp_model.proofs.FirstStock.{option_map_some}
+use Rattle.wp_model.proofs.Elements.{All-at, All-from_at, if_some, option_map_some}
 use Rattle.wp_model.specs.Book.{Where, held_in_row, is_at, is_of}
-use Rattle.wp_model.specs.Opening.{IsStockRow, most_on_hand}
+use Rattle.wp_model.specs.Opening.{IsStockRow, Stock}
 use Rattle.wp_model.specs.Sound.{IsBalanced}
 use Rattle.wp_model.specs.State.{opening_row}
 use Rattle.wp_model.specs.declared.row.Row.{Row}
@@ -31,23 +28,20 @@ no_units passes (suc n) = omega (arith, sum_by-cons (chain_units passes) [] (rep
 row_from : (rows : List StockRow) (k : ℕ) (r : Row) → slice_get (map opening_row rows) k ≡ Some r → (s : StockRow) × (slice_get rows k ≡ Some s) × (opening_row s ≡ r)
 row_from rows k r there = option_map_some (slice_get rows k) opening_row r (sym (slice_get-map opening_row rows k) ∙ there) (λ s found is. (s, found, is))
 
--- a row with no more units than it may have
-abbrev pub IsSmall : StockRow → Type 0
-IsSmall row = row.on_hand ≤ most_on_hand
-
-balanced : (rows : List StockRow) → All IsSmall rows → All IsBalanced (map opening_row rows)
-balanced rows small =
-    All-from_at IsBalanced (map opening_row rows) (λ k r there.
-    let from = row_from rows k r there in
-    subst IsBalanced from.2 (record { sum = omega arith; most = All-at IsSmall rows k from.0 small from.1 }))
+balanced : (stock : Stock) → All (IsStockRow stock.articles) stock.rows → All IsBalanced (map opening_row stock.rows)
+balanced stock rows =
+    All-from_at IsBalanced (map opening_row stock.rows) (λ k r there.
+    let from = row_from stock.rows k r there in
+    let is = All-at (IsStockRow stock.articles) stock.rows k from.0 rows from.1 in
+    subst IsBalanced from.2 (record { sum = omega arith; most = is.on_hand }))
 
 -- the rows of a file, with empty chains, are a book
-pub opens : (rows : List StockRow) → All IsSmall rows → IsKept (map opening_row rows) (replicate chain_count [])
-opens rows small = record {
+pub opens : (stock : Stock) → All (IsStockRow stock.articles) stock.rows → IsKept (map opening_row stock.rows) (replicate chain_count [])
+opens stock rows = record {
   book = record {
-    rows = balanced rows small;
-    held = λ k. if_some (slice_get (map opening_row rows) k) _ (λ r there.
-        let from = row_from rows k r there in
+    rows = balanced stock rows;
+    held = λ k. if_some (slice_get (map opening_row stock.rows) k) _ (λ r there.
+        let from = row_from stock.rows k r there in
         sym (ap (λ (r : Row). r.held) from.2) ∙ sym (nothing k));
     nowhere_else = λ k past. nothing k;
   };
@@ -55,17 +49,8 @@ opens rows small = record {
   placed = λ i wave within elsewhere. ap (chain_units (is_of wave)) (get_or-replicate {A = List WaveHolds} chain_count i [] [] within);
 }
   where
-    nothing : (k : ℕ) → held_in_row (book_of (map opening_row rows) (replicate chain_count [])) k ≡ 0
-    nothing k = total_is (is_at k) (map opening_row rows) (replicate chain_count []) ∙ no_units (is_at k) chain_count
+    nothing : (k : ℕ) → held_in_row (book_of (map opening_row stock.rows) (replicate chain_count [])) k ≡ 0
+    nothing k = total_is (is_at k) (map opening_row stock.rows) (replicate chain_count []) ∙ no_units (is_at k) chain_count
 
 pub holds_nothing : holdings_in (replicate chain_count []) ≡ []
 holds_nothing = no_holdings chain_count
-
--- what holds of each, said place by place
-pub all_by_place : {A : Type 0} (P : A → Type 0) (xs : List A) → AllByRecursion P xs → All P xs
-all_by_place P [] all = All-nil P
-all_by_place P (x ∷ xs) all = All-cons P x xs all.0 (all_by_place P xs all.1)
-
--- the rows of a stock that was read are such rows
-pub small_rows : (articles : List (List ℕ)) (rows : List StockRow) → All (IsStockRow articles) rows → All IsSmall rows
-small_rows articles rows all = All-from_at IsSmall rows (λ k r there. (All-at (IsStockRow articles) rows k r all there).on_hand)

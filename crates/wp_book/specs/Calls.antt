@@ -3,13 +3,13 @@ use Rattle.std.specs.Prelude.{◌≡◌, ◌≢◌, ℕ, ◌+◌, ◌-◌, ◌<�
 use Rattle.std.specs.List.{All}
 use Rattle.wp_model.specs.Book.{Book, held_for, held_for_wave, units_at, units_for}
 use Rattle.wp_model.specs.Change.{at_place, change_rows, free_held_units, hold_units, receive_units, take_units}
+use Rattle.wp_model.specs.Opening.{Stock}
 use Rattle.wp_model.specs.State.{opening_row}
 use Rattle.wp_model.specs.declared.row.Hold.{Hold}
-use Rattle.wp_model.specs.declared.row.StockRow.{StockRow}
 
--- a book of rows in which all stock is free
-abbrev pub free_book : List StockRow → Book
-free_book rows = record { rows = map opening_row rows; holdings = [] }
+-- a book in which all stock is free
+abbrev pub free_book : Stock → Book
+free_book stock = record { rows = map opening_row stock.rows; holdings = [] }
 
 -- holds are at rows of the book, and of each row they want no more than is free
 pub record CanHold (book : Book) (holds : List Hold) : Type 0 where

@@ -1,8 +1,7 @@
-ghost use Rattle.std.specs.Prelude.{◌≡◌, ◌≤◌, ◌<◌, ◌+◌, ◌^◌, ◌%◌, ◌↔◌, ℕ, All, IsTrue, IfOk, IfSome, Some, [], length, replicate, slice_get};
+ghost use Rattle.std.specs.Prelude.{◌≡◌, ◌≤◌, ◌<◌, ◌+◌, ◌^◌, ◌%◌, ◌↔◌, ℕ, IsTrue, IfOk, IfSome, Some, [], length, replicate, slice_get};
 ghost use Rattle.wp_model.specs.Book.{IsBook, held_for};
 ghost use Rattle.wp_model.specs.Demand.{free_units, offer_of};
 ghost use Rattle.wp_model.specs.Opening.{most_on_hand};
-ghost use Rattle.wp_model.specs.declared.row.StockRow.{StockRow as StockRowData};
 ghost use Rattle.wp_book.specs.Calls.{CanHold, HasGivenBack, HasHeld, HasReceived, HasTaken, HoldsNone, free_book};
 ghost use Rattle.wp_book.specs.Kept.{chain_count};
 
@@ -13,7 +12,7 @@ use crate::room::{Room, WaveHolds};
 use crate::rows::{free_in_rows, free_rows, receive_in_row, take_in_row};
 use std::alloc::Global;
 use std::marker::Model;
-use wp_model::{Chain, Memory, Row, StockRow};
+use wp_model::{Chain, Memory, Row};
 use wp_tables::Stock;
 
 const CHAINS: usize = 512;
@@ -61,19 +60,9 @@ fn chain_of(wave: u32) -> usize
 impl StockBook {
     /// The book of a stock, all of it free.
     pub fn open(alloc: Global, stock: &Stock) -> Result<StockBook, Memory>
-        ensures { IfOk result (λ book. book ≡ free_book stock.now.rows) }
+        ensures { IfOk result (λ book. book ≡ free_book stock.now) }
     {
-        let book = StockBook::of_rows(alloc, stock.as_rows())?;
-        Ok(book)
-    }
-
-    /// The book of rows, at most 4,294,967,295 of them with at most 1,000,000 units each, all of them free.
-    pub fn of_rows(alloc: Global, rows: &[StockRow]) -> Result<StockBook, Memory>
-        requires few { length rows.now < 2 ^ 32 }
-        requires units { All (λ (row : StockRowData). row.on_hand ≤ most_on_hand) rows.now }
-        ensures { IfOk result (λ book. book ≡ free_book rows.now) }
-    {
-        let rows = free_rows(alloc, rows)?;
+        let rows = free_rows(alloc, stock.as_rows())?;
         let chains = empty_chains(alloc)?;
         Ok(StockBook { rows, chains })
     }

@@ -3,7 +3,7 @@ ghost use Rattle.wp_book.specs.Room.{IsInOrder};
 
 use std::alloc::Global;
 use std::marker::Model;
-use wp_model::{Cell, Hold, Memory};
+use wp_model::{Cell, Hold, Holds, Memory};
 
 /// What one call held for a wave.
 #[derive(Debug, Drop)]
@@ -85,8 +85,20 @@ impl Room {
         self.holds.as_slice()
     }
 
+    /// The holds that are in it, as a list.
+    pub fn into_holds(self) -> Holds
+        ensures { result ≡ self.holds }
+    {
+        let Room {
+            size: _,
+            holds,
+            cell: _,
+        } = self;
+        Holds::of(holds)
+    }
+
     /// The holds, and the room for them in a chain.
-    pub fn into_parts(self) -> (Vec<Hold>, Cell<WaveHolds>)
+    pub(crate) fn into_parts(self) -> (Vec<Hold>, Cell<WaveHolds>)
         ensures { result.0.items ≡ self.holds }
     {
         let Room {

@@ -1,16 +1,15 @@
-ghost use Rattle.std.specs.Prelude.{All, ◌≡◌, ◌≤◌, ◌<◌, ◌^◌, ℕ, length, IsTrue, IfSome, slice_get};
+ghost use Rattle.std.specs.Prelude.{◌≡◌, ◌≤◌, ◌<◌, ◌^◌, ℕ, length, IsTrue, IfSome, slice_get};
 ghost use Rattle.wp_model.specs.Book.{units_at};
 ghost use Rattle.wp_book.specs.Calls.{CanHold};
-ghost use Rattle.wp_model.specs.declared.row.StockRow.{StockRow as StockRowData};
 
 use super::*;
 use std::alloc::{AllocError, Global};
 use std::process::Abort;
 use std::test::Fail;
-use wp_model::{Location, Side, StockRow};
+use wp_tables::read_stock;
 
 /// Two rows of the article 0, one of the article 1, and none of any other.
-const STOCK: [(u32, u32); 3] = [(0, 3), (0, 4), (1, 5)];
+const STOCK: &str = "location,article,on_hand\n1-1-L,A,3\n1-2-L,A,4\n1-3-L,B,5\n";
 
 /// What changes a book.
 #[derive(Clone, Copy)]
@@ -31,31 +30,9 @@ fn hold(order: u32, row: u32, quantity: u32) -> Hold
     }
 }
 
-/// Whether no row has more units than a row may have, and there aren't too many rows.
-fn are_small(rows: &[StockRow]) -> bool
-    ensures units { IsTrue result → All (λ (row : StockRowData). row.on_hand ≤ 1000000) rows.now }
-    ensures few { IsTrue result → length rows.now ≤ 1000 }
-{
-    rows.len() <= 1000 && rows.iter().all(|row| row.on_hand <= 1_000_000)
-}
-
-/// A book with rows of these articles and units, slot by slot.
-fn book_of(rt: &impl Abort, alloc: Global, stock: &[(u32, u32)]) -> Result<StockBook, Fail> {
-    let mut rows = Vec::new(alloc);
-    for (article, on_hand) in stock {
-        let location = Location {
-            aisle: 1,
-            slot: 1,
-            side: Side::L,
-        };
-        rows.push(StockRow {
-            location,
-            article: *article,
-            on_hand: *on_hand,
-        })?;
-    }
-    assert!(rt; are_small(rows.as_slice()));
-    Ok(StockBook::of_rows(alloc, rows.as_slice())?)
+fn book_of(alloc: Global, text: &str) -> Result<StockBook, Fail> {
+    let stock = read_stock(alloc, &text.as_bytes().to_vec(alloc)?)?;
+    Ok(StockBook::open(alloc, &stock)?)
 }
 
 /// On hand, free and held in each row.
@@ -148,7 +125,7 @@ fn apply(rt: &impl Abort, alloc: Global, book: &mut StockBook, call: &Call) -> R
 #[test]
 fn rows_follow_the_calls(rt: HostRuntime) -> Result<(), Fail> {
     let alloc = rt.alloc();
-    let mut book = book_of(&rt, alloc, STOCK.as_slice())?;
+    let mut book = book_of(alloc, STOCK)?;
     assert_eq!(rt; rows_text(alloc, &book)?.as_str(), "3 3 0;4 4 0;5 5 0;");
     for (call, said) in [
         (
@@ -180,7 +157,7 @@ fn rows_follow_the_calls(rt: HostRuntime) -> Result<(), Fail> {
 #[test]
 fn what_is_held_and_free_is_told(rt: HostRuntime) -> Result<(), Fail> {
     let alloc = rt.alloc();
-    let mut book = book_of(&rt, alloc, STOCK.as_slice())?;
+    let mut book = book_of(alloc, STOCK)?;
     assert!(rt; book.holds_none(0) && book.holds_none(512));
     hold_all(
         &rt,
@@ -235,5 +212,6 @@ fn room_keeps_and_sorts_holds(rt: HostRuntime) -> Result<(), Fail> {
     room.sort();
     let wanted = [hold(0, 1, 7), hold(0, 3, 7), hold(1, 0, 7), hold(1, 2, 7)];
     assert_eq!(rt; room.as_slice(), wanted.as_slice());
+    assert_eq!(rt; room.into_holds().as_slice(), wanted.as_slice());
     Ok(())
 }

@@ -3,8 +3,6 @@ use Rattle.std.proofs.Common.{◌≡◌, ◌∙◌, refl, ap, ap₂, ℕ, ◌+�
 use Rattle.std.proofs.lemmas.Bool.{cond_both}
 use Rattle.std.specs.Str.{bytes_eq}
 use Rattle.wp_model.proofs.Found.{option_map_or-both}
-use Rattle.wp_model.proofs.Sound.{opening_is_sound, step_keeps_sound}
-use Rattle.wp_model.specs.FirstOpening.{IsFirstOpening}
 use Rattle.wp_model.specs.Change.{at_place, change_rows, receive_units, take, take_units}
 use Rattle.wp_model.specs.Demand.{free_units, short_article}
 use Rattle.wp_model.specs.Opening.{Opening, article_name, most_on_hand}
@@ -19,9 +17,7 @@ use Rattle.wp_model.specs.declared.reply.WaveState.{WaveState}
 use Rattle.wp_model.specs.declared.reply.WaveState.TheVariants as wave
 use Rattle.wp_model.specs.declared.row.Row.{Row}
 use Rattle.wp_model.specs.declared.row.StockRow.{StockRow}
-use Rattle.wp_machine.specs.Floor.{Follows, Keeps, KeepsSound, SameRows, row_place, stock_row_place}
-use Rattle.wp_machine.specs.declared.floor.Floor.{Floor}
-use Rattle.wp_machine.proofs.OrderLines.{first_is_opening}
+use Rattle.wp_machine.specs.Floor.{AreSameRows, row_place, stock_row_place}
 
 -- the step leaves the rows where they are
 abbrev Stays : State → Stepped → Type 0
@@ -105,7 +101,7 @@ step_stays opening state (command.Receive location article quantity) =
     (λ found is. receive_stays opening state article quantity found.0 found.1) (λ none. refl)
 
 -- the rows that a machine opens with are the opening's
-pub opening_same_rows : (opening : Opening) → SameRows opening (opening_state opening)
+pub opening_same_rows : (opening : Opening) → AreSameRows opening (opening_state opening).rows
 opening_same_rows opening = all opening.stock.rows
   where
     all : (rows : List StockRow) → map row_place (map opening_row rows) ≡ map stock_row_place rows
@@ -113,19 +109,5 @@ opening_same_rows opening = all opening.stock.rows
     all (row ∷ rows) = ap (λ places. stock_row_place row ∷ places) (all rows)
 
 -- and after each command they still are
-pub step_keeps_rows : (opening : Opening) (state : State) (command : Command) → SameRows opening state → SameRows opening (step opening state command).state
+pub step_keeps_rows : (opening : Opening) (state : State) (command : Command) → AreSameRows opening state.rows → AreSameRows opening (step opening state command).state.rows
 step_keeps_rows opening state command same = step_stays opening state command ∙ same
-
--- a floor that opens keeps a sound state
-pub opens_sound : (opening : Opening) (floor : Floor) → IsFirstOpening opening → Keeps opening (opening_state opening) floor → KeepsSound opening (opening_state opening) floor
-opens_sound opening floor first kept = record { first = first; kept = kept; sound = opening_is_sound opening (first_is_opening opening first); rows = opening_same_rows opening }
-
--- and one that follows a command goes on to
-pub follows_sound : (opening : Opening) (state : State) (command : Command) (answer : Reply) (floor after : Floor) → KeepsSound opening state floor → Follows opening state command answer after
-    → KeepsSound opening (step opening state command).state after
-follows_sound opening state command answer floor after holds follows = record {
-  first = holds.first;
-  kept = follows.kept;
-  sound = step_keeps_sound opening state command (first_is_opening opening holds.first) holds.sound;
-  rows = step_keeps_rows opening state command holds.rows;
-}

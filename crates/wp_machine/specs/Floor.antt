@@ -1,64 +1,70 @@
--- How a machine of the first form keeps the state: its rows, and the one wave that it may have with what it wants.
-use Rattle.std.specs.Prelude.{◌≡◌, ℕ, ◌+◌, ◌<◌, ◌≤◌, ◌^◌, ⊤, List, [], ◌∷◌, length, map, option_map, slice_index, Option, Some, None, if◌then◌else◌}
-use Rattle.wp_model.specs.Change.{hold_units}
-use Rattle.wp_model.specs.Demand.{first_short, free_units, wave_demand}
-use Rattle.wp_model.specs.FirstOpening.{IsFirstOpening}
-use Rattle.wp_model.specs.Opening.{Opening, Order, article_name, is_known_order}
+-- How a machine keeps the state.
+use Rattle.std.specs.Prelude.{◌≡◌, ℕ, ◌+◌, ◌*◌, ◌<◌, ◌≤◌, ⊤, List, [], length, map, Option, Some, slice_get, slice_set, IfSome}
+use Rattle.std.specs.List.{All}
+use Rattle.wp_allot.specs.Wants.{AreRegular, wanted_for}
+use Rattle.wp_allot.specs.declared.want.Want.{Want}
+use Rattle.wp_book.specs.Calls.{KeepsOthers}
+use Rattle.wp_book.specs.Room.{Content}
+use Rattle.wp_model.specs.Book.{Book, held_for, held_list}
+use Rattle.wp_model.specs.Demand.{demand_at}
+use Rattle.wp_model.specs.Opening.{Opening, Order, most_lines, most_orders}
 use Rattle.wp_model.specs.Sound.{IsSound}
 use Rattle.wp_model.specs.State.{State, Wave}
-use Rattle.wp_model.specs.Step.{step}
+use Rattle.wp_model.specs.Step.{Stepped, step, taker_of}
 use Rattle.wp_model.specs.declared.command.Command.{Command}
-use Rattle.wp_model.specs.declared.location.Location.{Location}
+use Rattle.wp_model.specs.Tables.{IsReadOpening}
 use Rattle.wp_model.specs.declared.reply.Reply.{Reply}
-use Rattle.wp_model.specs.declared.reply.Reply.TheVariants as reply
+use Rattle.wp_model.specs.declared.location.Location.{Location}
 use Rattle.wp_model.specs.declared.reply.WaveState.{WaveState}
-use Rattle.wp_model.specs.declared.row.Line.{Line}
+use Rattle.wp_model.specs.declared.reply.WaveState.TheVariants as wave
 use Rattle.wp_model.specs.declared.row.Row.{Row}
 use Rattle.wp_model.specs.declared.row.StockRow.{StockRow}
-use Rattle.wp_machine.specs.declared.demand.Wanted.{Wanted}
-use Rattle.wp_machine.specs.declared.demand.Wanted.TheVariants as wanted
-use Rattle.wp_machine.specs.declared.floor.FloorWave.{FloorWave}
 use Rattle.wp_machine.specs.declared.floor.Floor.{Floor}
+use Rattle.wp_machine.specs.declared.waves.KeptWave.{KeptWave}
 
--- the first of these names that no order has
-abbrev pub first_unknown : List Order → List (List ℕ) → Option (List ℕ)
-first_unknown orders [] = None
-first_unknown orders (name ∷ names) = if is_known_order orders name then first_unknown orders names else Some name
+-- a kept wave is this wave
+abbrev pub wave_of : KeptWave → Wave
+wave_of kept = record { name = kept.name; orders = kept.orders; state = kept.state; picked = kept.picked }
 
--- a number for each article: how many units of it the orders want
-pub record IsDemand (opening : Opening) (orders : List (List ℕ)) (wanted : List ℕ) : Type 0 where
-  pub places : length wanted ≡ length opening.stock.articles
-  pub each : (article : ℕ) → article < length opening.stock.articles → slice_index wanted article ≡ wave_demand opening orders article
+-- the state of a book and waves
+abbrev pub state_at : Book → List Wave → State
+state_at book waves = record { rows = book.rows; waves = waves; held = held_for book }
 
--- what orders want is known where the opening has each of them; else the first that it doesn't have is
-abbrev pub IsWanted : Opening → List (List ℕ) → Wanted → Type 0
-IsWanted opening orders (wanted.Known units) = (first_unknown opening.orders orders ≡ None) × IsDemand opening orders units.items
-IsWanted opening orders (wanted.Unknown name) = first_unknown opening.orders orders ≡ Some name
+-- the most wants that a wave may have
+abbrev pub most_wants : ℕ
+most_wants = most_orders * most_lines
 
--- the line's article is one of so many
-abbrev pub IsLineWithin : ℕ → Line → Type 0
-IsLineWithin articles line = line.article < articles
+-- wants are those of orders
+pub record AreWantsOf (opening : Opening) (orders : List (List ℕ)) (wants : List Want) : Type 0 where
+  pub demand : (article place : ℕ) → wanted_for wants article place ≡ demand_at opening orders article place
+  pub regular : AreRegular wants
+  pub within : All (λ (want : Want). want.article < length opening.stock.articles) wants
+  pub few : length wants ≤ most_wants
 
--- the row's article is one of so many
-abbrev pub IsRowWithin : ℕ → Row → Type 0
-IsRowWithin articles row = row.article < articles
+-- room in which no hold is yet, with so much space
+abbrev pub IsFreshRoom : ℕ → Content → Type 0
+IsFreshRoom size room = (room.holds ≡ []) × (size ≤ room.size)
 
--- the wave that is kept is the one that there is
-abbrev pub WaveIs : Opening → List Wave → Option FloorWave → Type 0
-WaveIs opening [] None = ⊤
-WaveIs opening [] (Some kept) = ⊥
-WaveIs opening (w ∷ []) None = ⊥
-WaveIs opening (w ∷ []) (Some kept) = (kept.name ≡ w.name) × (kept.state ≡ w.state) × IsDemand opening w.orders kept.wanted.items
-WaveIs opening (v ∷ w ∷ more) kept = ⊥
+-- the papers of a wave: until it is released it has a copy of its orders, and while it is allotted the list of what it holds
+abbrev pub HasPapers : WaveState → Book → ℕ → KeptWave → Type 0
+HasPapers wave.Submitted book number kept = kept.copy ≡ Some kept.orders
+HasPapers wave.Allotted book number kept =
+    (kept.copy ≡ Some kept.orders) × ((sheet : Content) × (kept.sheet ≡ Some sheet) × (sheet.holds ≡ held_list (length kept.orders) (length book.rows) (held_for book number)))
+HasPapers wave.Released book number kept = ⊤
+HasPapers wave.Cancelled book number kept = ⊤
+HasPapers wave.Done book number kept = ⊤
 
--- the wave in another state
-abbrev pub in_state : WaveState → FloorWave → FloorWave
-in_state state kept = record kept { state = state }
+-- a wave is kept as it should be
+pub record IsKeptWave (opening : Opening) (book : Book) (number : ℕ) (kept : KeptWave) : Type 0 where
+  pub wants : AreWantsOf opening kept.orders kept.wants.items
+  pub papers : HasPapers kept.state book number kept
 
--- what is kept is the state
-pub record Keeps (opening : Opening) (state : State) (floor : Floor) : Type 0 where
-  pub rows : floor.rows.items ≡ state.rows
-  pub wave : WaveIs opening state.waves floor.wave
+-- a wave has its place among waves that make a sound state with a book
+pub record IsAt (opening : Opening) (book : Book) (waves : List Wave) (number : ℕ) (kept : KeptWave) : Type 0 where
+  pub read : IsReadOpening opening
+  pub sound : IsSound opening (state_at book waves)
+  pub there : slice_get waves number ≡ Some (wave_of kept)
+  pub keeps : IsKeptWave opening book number kept
 
 -- where a row lies and what it has
 abbrev pub row_place : Row → Location × ℕ
@@ -69,40 +75,38 @@ abbrev pub stock_row_place : StockRow → Location × ℕ
 stock_row_place row = (row.location, row.article)
 
 -- the rows lie where the opening's rows lie, and are of their articles
-abbrev pub SameRows : Opening → State → Type 0
-SameRows opening state = map row_place state.rows ≡ map stock_row_place opening.stock.rows
+abbrev pub AreSameRows : Opening → List Row → Type 0
+AreSameRows opening rows = map row_place rows ≡ map stock_row_place opening.stock.rows
 
--- what is kept is a sound state of an opening of the first form, whose rows are the opening's
-pub record KeepsSound (opening : Opening) (state : State) (floor : Floor) : Type 0 where
-  pub first : IsFirstOpening opening
-  pub kept : Keeps opening state floor
-  pub sound : IsSound opening state
-  pub rows : SameRows opening state
+-- a wave's command was answered: the step of the wave gives this reply, and the state of the book and of the wave as they
+-- are now; and all else is as it was
+pub record HasAnswered (opening : Opening) (stepped : Stepped) (old new : Book) (waves : List Wave) (number : ℕ) (was kept : KeptWave) (answer : Reply) : Type 0 where
+  pub is : stepped ≡ record { reply = answer; state = state_at new (slice_set waves number (wave_of kept)) }
+  pub keeps : IsKeptWave opening new number kept
+  pub others : KeepsOthers number old new
+  pub rows : length new.rows ≡ length old.rows
+  pub name : kept.name ≡ was.name
+  pub orders : kept.orders ≡ was.orders
 
--- what is kept is such a state
-abbrev pub IsFloorOf : Opening → Floor → Type 0
-IsFloorOf opening floor = (state : State) × KeepsSound opening state floor
+-- who has the orders: for each order of the opening, the name of the first wave that isn't cancelled and has it
+pub record AreTakers (opening : Opening) (waves : List Wave) (takers : List (Option (List ℕ))) : Type 0 where
+  pub count : length takers ≡ length opening.orders
+  pub each : (i : ℕ) (order : Order) → slice_get opening.orders i ≡ Some order → slice_get takers i ≡ Some (taker_of waves order.name)
 
--- the command was answered as it is in the state, and what is kept is the state after it
-pub record Follows (opening : Opening) (state : State) (command : Command) (answer : Reply) (floor : Floor) : Type 0 where
-  pub answered : answer ≡ (step opening state command).reply
-  pub kept : Keeps opening (step opening state command).state floor
+-- the state that is kept
+abbrev pub state_of : Floor → State
+state_of floor = state_at floor.book (map wave_of floor.waves)
 
--- more is wanted of an article than is free
-abbrev pub short_reply : Opening → List Row → List ℕ → ℕ → Reply
-short_reply opening rows wanted article = reply.Short (article_name opening article) (slice_index wanted article) (free_units rows article None)
+-- what is kept is a sound state of an opening that was read, whose rows are the opening's
+pub record IsFloor (opening : Opening) (floor : Floor) : Type 0 where
+  pub read : IsReadOpening opening
+  pub sound : IsSound opening (state_of floor)
+  pub rows : AreSameRows opening floor.book.rows
+  pub waves : (number : ℕ) → IfSome (slice_get floor.waves number) (IsKeptWave opening floor.book number)
+  pub takers : AreTakers opening (map wave_of floor.waves) floor.takers.items
 
--- the refusal of the first article of which more is wanted than is free, if there is one
-abbrev pub short_refusal : Opening → List Row → List ℕ → Option Reply
-short_refusal opening rows wanted =
-    option_map (short_reply opening rows wanted) (first_short (slice_index wanted) (λ article. free_units rows article None) (length wanted) 0)
-
--- the units that are wanted of a row's article go from free to held
-abbrev pub hold_wanted : List ℕ → Row → Row
-hold_wanted wanted row = hold_units (slice_index wanted row.article) row
-
--- no more is wanted of a row's article than the row has free, and its units fit
-pub record CoversWanted (wanted : List ℕ) (row : Row) : Type 0 where
-  pub article : row.article < length wanted
-  pub covered : slice_index wanted row.article ≤ row.free
-  pub fits : row.free + row.held < 2 ^ 32
+-- a command was answered as it is in the state, and what is kept is the state after it
+pub record HasStepped (opening : Opening) (command : Command) (old new : Floor) (answer : Reply) : Type 0 where
+  pub is : step opening (state_of old) command ≡ record { reply = answer; state = state_of new }
+  pub floor : IsFloor opening new
+  pub most : length new.waves ≤ length old.waves + 1

@@ -1,176 +1,166 @@
-ghost use Rattle.std.specs.Prelude.{◌≡◌, ◌+◌, ◌<◌, ◌^◌, ℕ, All, IsTrue, List, None, [], length, map, option_map, replicate, slice_index, IfOk};
-ghost use Rattle.wp_model.specs.Demand.{first_short, free_units};
-ghost use Rattle.wp_model.specs.FirstForm.{are_orders};
-ghost use Rattle.wp_model.specs.FirstOpening.{IsFirstOpening};
-ghost use Rattle.wp_model.specs.Opening.{Opening as OpeningData};
-ghost use Rattle.wp_model.specs.State.{State, opening_row, opening_state};
+//! How a machine keeps the state.
+ghost use Rattle.std.specs.Prelude.{◌≡◌, ◌≤◌, ◌<◌, ◌+◌, ◌^◌, true, false, [], length, replicate, slice_get, Some, None, IfOk};
+ghost use Rattle.wp_model.specs.Opening.{Order, most_quantity};
+ghost use Rattle.wp_model.specs.State.{opening_state};
+ghost use Rattle.wp_model.specs.Step.{is_among, row_from};
 ghost use Rattle.wp_model.specs.declared.command.Command.TheVariants as command;
-ghost use Rattle.wp_machine.specs.Floor.{CoversWanted, Follows, IsFloorOf, IsRowWithin, IsWanted, Keeps, KeepsSound, hold_wanted, in_state, short_refusal};
+ghost use Rattle.wp_model.specs.Tables.{IsReadOpening};
+ghost use Rattle.wp_machine.specs.Floor.{HasStepped, IsFloor, state_of, wave_of};
+ghost use Rattle.wp_machine.specs.Held.{IsRowAt};
+ghost use Rattle.wp_machine.specs.Receiving.{AllHaveArticles, HasReceivedAt};
+ghost use Rattle.wp_model.specs.declared.row.Row.{Row as RowData};
+ghost use Rattle.wp_machine.specs.Takers.{HasPut, IsPutAt, frees};
 
-use crate::demand::Wanted;
+use crate::held::Claim;
 use crate::opening::Opening;
+use crate::wave_steps::{cancel_wave, pick_wave};
+use crate::waves::{KeptWave, Waves};
 use std::alloc::Global;
-use wp_model::{Memory, Name, Reply, Row, StockRow, WaveState};
+use wp_book::StockBook;
+use wp_model::{Location, Memory, Name, Reply};
 
-/// The one wave of the first form, with how many units of each article it wants.
-#[derive(Debug, Drop)]
-pub struct FloorWave {
-    pub name: Name,
-    pub state: WaveState,
-    pub wanted: Vec<u64>,
+const MOST_ON_HAND: u64 = 1_000_000;
+
+/// The stock book, the waves in the order of their submission, and for each order of the opening the wave that has it.
+#[derive(Drop)]
+pub struct Floor {
+    pub book: StockBook,
+    pub waves: Waves,
+    pub takers: Vec<Option<Name>>,
 }
 
-/// The rows as they stand, and the wave that was submitted.
-#[derive(Debug, Drop)]
-pub struct Floor {
-    pub rows: Vec<Row>,
-    pub wave: Option<FloorWave>,
+// The order of a name now has this taker, or none.
+fn put_taker(takers: &mut [Option<Name>], opening: &Opening, order: &Name, taker: &Option<Name>)
+    requires { length takers.old ≡ length opening.now.orders }
+    ensures { IsPutAt opening.now order.now taker.now takers.old takers.new }
+{
+    if let Some(number) = opening.orders().find(order) {
+        takers[number as usize] = *taker;
+    }
+}
+
+/// The orders now have this taker, or none.
+pub fn put_takers(
+    takers: &mut [Option<Name>],
+    opening: &Opening,
+    orders: &[Name],
+    taker: &Option<Name>,
+)
+    requires read { IsReadOpening opening.now }
+    requires count { length takers.old ≡ length opening.now.orders }
+    ensures { HasPut opening.now orders.now taker.now takers.old takers.new }
+{
+    for order in orders {
+        put_taker(takers, opening, order, taker);
+    }
+}
+
+// The orders of a wave that was given up are free.
+fn free_orders(takers: &mut [Option<Name>], opening: &Opening, wave: &KeptWave, reply: &Reply)
+    requires read { IsReadOpening opening.now }
+    requires count { length takers.old ≡ length opening.now.orders }
+    ensures freed { frees reply.now ≡ true → HasPut opening.now wave.now.orders None takers.old takers.new }
+    ensures same { frees reply.now ≡ false → takers.new ≡ takers.old }
+{
+    if let Reply::Cancelled = reply {
+        put_takers(takers, opening, wave.orders.as_slice(), &None);
+    }
+}
+
+// So many orders, each with no wave that has it.
+fn no_takers(alloc: Global, orders: u32) -> Result<Vec<Option<Name>>, Memory>
+    ensures { IfOk result (λ takers. takers.items ≡ replicate orders None) }
+{
+    let takers = vec![in alloc; None; orders as usize]?;
+    Ok(takers)
 }
 
 impl Floor {
     /// All stock is free, and there is no wave.
     pub fn open(alloc: Global, opening: &Opening) -> Result<Floor, Memory>
-        ensures first { IsFirstOpening opening.now }
-        ensures kept { IfOk result (Keeps opening.now (opening_state opening.now)) }
+        ensures floor { IfOk result (IsFloor opening.now) }
+        ensures state { IfOk result (λ floor. state_of floor ≡ opening_state opening.now) }
+        ensures none { IfOk result (λ floor. floor.waves ≡ []) }
     {
-        let rows = free_rows(alloc, opening.stock().as_rows())?;
-        Ok(Floor { rows, wave: None })
+        let book = StockBook::open(alloc, opening.stock())?;
+        let takers = no_takers(alloc, opening.orders().count())?;
+        Ok(Floor {
+            book,
+            waves: Waves::new(),
+            takers,
+        })
     }
 
-    /// Submits a wave, the first, of 1 to 64 different orders that want so much.
-    pub fn submit(&mut self, name: Name, wanted: Wanted) -> Reply
-        ensures { (opening : OpeningData) (state : State) (orders : List (List ℕ)) → Keeps opening state self.old → state.waves ≡ [] → IsTrue (are_orders orders) → IsWanted opening orders wanted
-            → Follows opening state (command.Submit name orders) result self.new }
+    /// Cancel: a wave of which nothing was picked is given up, and its orders are free.
+    pub fn cancel(&mut self, opening: &Opening, name: &Name) -> Reply
+        requires { IsFloor opening.now self.old }
+        ensures { HasStepped opening.now (command.Cancel name.now) self.old self.new result }
     {
-        match wanted {
-            Wanted::Known(wanted) => {
-                self.wave = Some(FloorWave {
-                    name,
-                    state: WaveState::Submitted,
-                    wanted,
-                });
-                Reply::Submitted
-            }
-            Wanted::Unknown(order) => Reply::UnknownOrder(order),
-        }
-    }
-
-    /// Releases the wave of a name, and holds stock for it where that isn't done yet. `free` has a place for each
-    /// article, all 0: it is used to count free units.
-    pub fn release(&mut self, opening: &Opening, name: &Name, free: Vec<u64>) -> Reply
-        requires floor { IsFloorOf opening.now self.old }
-        requires free { free.items ≡ replicate (length opening.now.stock.articles) 0 }
-        ensures { (state : State) → KeepsSound opening.now state self.old → Follows opening.now state (command.Release name.now) result self.new }
-    {
-        let Some(wave) = &self.wave else {
+        let Some(mut found) = self.waves.take_out(name) else {
             return Reply::UnknownWave;
         };
-        if wave.name != *name {
-            return Reply::UnknownWave;
-        }
-        match wave.state {
-            WaveState::Submitted => {
-                if let Some(refusal) = refuse_short(opening, &self.rows, &wave.wanted, free) {
-                    return refusal;
-                }
-                hold_rows(&mut self.rows, &wave.wanted);
-                self.put_state(WaveState::Released);
-                Reply::Released
-            }
-            WaveState::Allotted => {
-                self.put_state(WaveState::Released);
-                Reply::Released
-            }
-            other => Reply::WrongState(other),
-        }
+        let reply = cancel_wave(&mut self.book, found.number, &mut found.wave);
+        free_orders(&mut self.takers, opening, &found.wave, &reply);
+        self.waves.put_back(found);
+        reply
     }
 
-    // The wave, where there is one, is now in this state.
-    fn put_state(&mut self, state: WaveState)
-        ensures { self.new ≡ record self.old { wave = option_map (in_state state) self.old.wave } }
+    /// Pick: units that are held for an order at a location are gone.
+    pub fn pick(&mut self, opening: &Opening, name: &Name, claim: &Claim) -> Reply
+        requires floor { IsFloor opening.now self.old }
+        requires row { IsRowAt self.old.book.rows claim.now.location claim.now.row }
+        ensures { HasStepped opening.now (command.Pick name.now claim.now.order claim.now.location claim.now.quantity) self.old self.new result }
     {
-        if let Some(wave) = &mut self.wave {
-            wave.state = state;
-        }
+        let Some(mut found) = self.waves.take_out(name) else {
+            return Reply::UnknownWave;
+        };
+        let reply = pick_wave(&mut self.book, found.number, &mut found.wave, claim);
+        self.waves.put_back(found);
+        reply
     }
 }
 
-// The row of the file, all of it free.
-fn free_row(row: &StockRow) -> Row
-    ensures { result ≡ opening_row row.now }
-{
-    Row {
-        location: row.location,
-        article: row.article,
-        on_hand: row.on_hand,
-        free: row.on_hand,
-        held: 0,
-    }
-}
-
-// The rows of the file, all of them free.
-fn free_rows(alloc: Global, rows: &[StockRow]) -> Result<Vec<Row>, Memory>
-    ensures { IfOk result (λ v. v.items ≡ map opening_row rows.now) }
-{
-    Ok(rows.iter().map(|row| free_row(row)).collect(alloc)?)
-}
-
-// Adds each row's free units to its article's.
-fn add_free(free: &mut [u64], rows: &[Row])
-    requires articles { All (IsRowWithin (length free.old)) rows.now }
-    requires room { (article : ℕ) → article < length free.old → slice_index free.old article + free_units rows.now article None < 2 ^ 64 }
-    ensures { (article : ℕ) → article < length free.old → slice_index free.new article ≡ slice_index free.old article + free_units rows.now article None }
-{
-    for row in rows {
-        free[row.article as usize] += u64::from(row.free);
-    }
-}
-
-// The first article of which more is wanted than is free.
-fn first_short_of(wanted: &[u64], free: &[u64]) -> Option<u32>
-    requires same { length wanted.now ≡ length free.now }
-    requires few { length wanted.now < 2 ^ 32 }
-    ensures { result ≡ first_short (slice_index wanted.now) (slice_index free.now) (length wanted.now) 0 }
-{
-    for (article, units) in wanted.iter().enumerate() {
-        if free[article] < *units {
-            return Some(article as u32);
-        }
-    }
-    None
-}
-
-// The refusal of a wave that wants more of an article than is free, if it does.
-fn refuse_short(
+// Units of an article come to a row.
+fn receive_at(
+    book: &mut StockBook,
     opening: &Opening,
-    rows: &[Row],
-    wanted: &[u64],
-    mut free: Vec<u64>,
-) -> Option<Reply>
-    requires wanted { length wanted.now ≡ length opening.now.stock.articles }
-    requires free { free.items ≡ replicate (length opening.now.stock.articles) 0 }
-    requires articles { All (IsRowWithin (length opening.now.stock.articles)) rows.now }
-    requires room { (article : ℕ) → free_units rows.now article None < 2 ^ 64 }
-    ensures { result ≡ short_refusal opening.now rows.now wanted.now }
+    row: u32,
+    article: &Name,
+    quantity: u32,
+) -> Reply
+    requires rows { row < length book.old.rows }
+    requires articles { AllHaveArticles opening.now book.old.rows }
+    ensures { (r : RowData) → slice_get book.old.rows row ≡ Some r → HasReceivedAt opening.now article.now quantity row r book.old book.new result }
 {
-    let stock = opening.stock();
-    add_free(&mut free, rows);
-    let article = first_short_of(wanted, &free)?;
-    Some(Reply::Short {
-        article: stock.article(article),
-        wanted: wanted[article as usize],
-        free: free[article as usize],
-    })
+    let now = book.row(row);
+    let owner = opening.stock().article(now.article);
+    if owner != *article {
+        return Reply::OtherArticle(owner);
+    }
+    if u64::from(now.on_hand) + u64::from(quantity) > MOST_ON_HAND {
+        return Reply::TooMany(now.on_hand);
+    }
+    book.receive(row, quantity);
+    Reply::Received
 }
 
-// The units that are wanted of each row's article go from free to held.
-fn hold_rows(rows: &mut [Row], wanted: &[u64])
-    requires { All (CoversWanted wanted.now) rows.old }
-    ensures { rows.new ≡ map (hold_wanted wanted.now) rows.old }
-{
-    for row in rows.iter_mut() {
-        let units = wanted[row.article as usize] as u32;
-        row.free -= units;
-        row.held += units;
+impl Floor {
+    /// Receive: units of an article come to the row at a location, whose number in the opening this is.
+    pub fn receive(
+        &mut self,
+        opening: &Opening,
+        location: &Location,
+        row: Option<u32>,
+        article: &Name,
+        quantity: u32,
+    ) -> Reply
+        requires floor { IsFloor opening.now self.old }
+        requires row { IsRowAt self.old.book.rows location.now row }
+        ensures { HasStepped opening.now (command.Receive location.now article.now quantity) self.old self.new result }
+    {
+        match row {
+            Some(row) => receive_at(&mut self.book, opening, row, article, quantity),
+            None => Reply::NoRow,
+        }
     }
 }

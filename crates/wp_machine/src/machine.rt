@@ -1,27 +1,19 @@
-ghost use Rattle.std.specs.Prelude.{◌≡◌, ◌<◌, ◌++◌, ◌∷◌, ℕ, List, [], Some, length, slice_get, IsTrue, IfOk};
-ghost use Rattle.wp_model.specs.FirstForm.{BeginsFirstScript};
-ghost use Rattle.wp_model.specs.History.{IsLegal, answered, commands_of, opened, state_after};
+ghost use Rattle.std.specs.Prelude.{◌≡◌, ◌<◌, ◌≤◌, ◌^◌, length, slice_get, Some, IsTrue, IfOk};
+ghost use Rattle.std.specs.Option.{option_map};
+ghost use Rattle.wp_model.specs.History.{IsLegal, answered, opened, state_after};
 ghost use Rattle.wp_model.specs.Plain.{is_plain};
-ghost use Rattle.wp_model.specs.Step.{step};
-ghost use Rattle.wp_model.specs.State.{State};
-ghost use Rattle.wp_machine.specs.Floor.{Follows, KeepsSound};
-ghost use Rattle.wp_machine.specs.Machine.{Fits, MayBeAsked, MayCome};
+ghost use Rattle.wp_model.specs.Step.{step, wave_from};
+ghost use Rattle.wp_model.specs.Tables.{IsReadOpening};
+ghost use Rattle.wp_machine.specs.Outcome.{outcome_of};
+ghost use Rattle.wp_machine.specs.Planning.{IsPlanOf};
 
-use crate::chain::{Cell, Chain};
-use crate::demand::{Wanted, wanted_by};
 use crate::floor::Floor;
 use crate::opening::Opening;
+use crate::outcome::Answer;
+use crate::planning::{Plan, plan_command};
 use std::alloc::Global;
 use std::marker::Model;
-use wp_model::{Command, Entries, Entry, Memory, Reply, Row};
-
-/// What a step is prepared with.
-#[derive(Drop)]
-enum Plan {
-    Submit(Wanted),
-    Release(Vec<u64>),
-    Other,
-}
+use wp_model::{Cell, Chain, Command, Entries, Entry, Memory, Name, Reply, Row, WaveState};
 
 /// A command with all that its step needs, so that the step takes no memory. Contracts see the opening that it was
 /// prepared for, and the command.
@@ -30,23 +22,24 @@ pub struct Ready<'a> {
     opening: &'a Opening,
     command: Command,
     plan: Plan,
-    cell: Cell,
+    cell: Cell<Entry>,
 }
 
 impl<'a> Model for Ready<'a> {
-    ghost use Rattle.wp_machine.specs.Machine.{Asked, Fits};
+    ghost use Rattle.wp_machine.specs.Machine.{Asked};
+    ghost use Rattle.wp_machine.specs.Planning.{IsPlanOf};
 
     ghost Value = { Asked };
 
     ghost view = { λ r. record { opening = r.opening.now; command = r.command } };
 
-    ghost invariant = { λ r. Fits r.opening.now r.command r.plan };
+    ghost invariant = { λ r. IsPlanOf r.opening.now r.command r.plan };
 }
 
 impl Ready<'_> {
-    fn into_parts(self) -> (Command, Plan, Cell)
+    fn into_parts(self) -> (Command, Plan, Cell<Entry>)
         ensures command { result.0 ≡ self.entry.command }
-        ensures fits { Fits self.entry.opening result.0 result.1 }
+        ensures plan { IsPlanOf self.entry.opening result.0 result.1 }
     {
         let Ready {
             opening: _,
@@ -55,34 +48,6 @@ impl Ready<'_> {
             cell,
         } = self;
         (command, plan, cell)
-    }
-}
-
-fn entry_of(number: u64, desk: u32, command: Command, reply: &Reply) -> Entry
-    ensures { result ≡ record { number = number; desk = desk; command = command; reply = reply.now } }
-{
-    Entry {
-        number,
-        desk,
-        command,
-        reply: *reply,
-    }
-}
-
-fn plan_for(alloc: Global, opening: &Opening, command: &Command) -> Result<Plan, Memory>
-    requires { IsTrue (is_plain command.now) }
-    ensures { IfOk result (Fits opening.now command.now) }
-{
-    match command {
-        Command::Submit { orders, .. } => {
-            let wanted = wanted_by(alloc, opening, orders.as_slice())?;
-            Ok(Plan::Submit(wanted))
-        }
-        Command::Release { .. } => {
-            let free = vec![in alloc; 0u64; opening.stock().articles() as usize]?;
-            Ok(Plan::Release(free))
-        }
-        _ => Ok(Plan::Other),
     }
 }
 
@@ -95,7 +60,7 @@ pub fn prepare<'a>(
     requires { IsTrue (is_plain command) }
     ensures { IfOk result (λ ready. ready ≡ record { opening = opening.now; command = command }) }
 {
-    let plan = plan_for(alloc, opening, &command)?;
+    let plan = plan_command(alloc, opening, &command)?;
     let cell = Cell::new(alloc)?;
     Ok(Ready {
         opening,
@@ -105,27 +70,20 @@ pub fn prepare<'a>(
     })
 }
 
-/// What a step answers: the number of its entry, counted from 0, and the reply.
-#[derive(Clone, Copy, Debug, PartialEq, Eq)]
-pub struct Answer {
-    pub number: u64,
-    pub reply: Reply,
-}
-
 /// The machine: what it has answered, from an opening. Contracts see this history, which is legal; what the
 /// machine keeps is the state after it.
 #[derive(Drop)]
 pub struct Machine<'a> {
     opening: &'a Opening,
     floor: Floor,
-    entries: Chain,
+    entries: Chain<Entry>,
     count: u64,
 }
 
 impl<'a> Model for Machine<'a> {
     ghost use Rattle.std.specs.Prelude.{◌≡◌, length};
     ghost use Rattle.wp_model.specs.History.{History};
-    ghost use Rattle.wp_machine.specs.Machine.{IsMachine};
+    ghost use Rattle.wp_machine.specs.Answering.{IsMachine};
 
     ghost Value = { History };
 
@@ -134,17 +92,29 @@ impl<'a> Model for Machine<'a> {
     ghost invariant = { λ m. (m.count ≡ length m.entries) × IsMachine (record { opening = m.opening.now; entries = m.entries }) m.floor };
 }
 
-// Answers a command of the first form: a submit where there is no wave yet, or a release.
-fn reply_to(floor: &mut Floor, opening: &Opening, command: &Command, plan: Plan) -> Reply
-    requires floor { MayBeAsked opening.now floor.old command.now }
-    requires fits { Fits opening.now command.now plan }
-    ensures { (state : State) → KeepsSound opening.now state floor.old → MayCome state command.now → Follows opening.now state command.now result floor.new }
+fn entry_of(number: u64, desk: u32, command: Command, reply: Reply) -> Entry
+    ensures { result ≡ record { number = number; desk = desk; command = command; reply = reply } }
 {
-    match (command, plan) {
-        (Command::Submit { wave, .. }, Plan::Submit(wanted)) => floor.submit(*wave, wanted),
-        (Command::Release { wave }, Plan::Release(free)) => floor.release(opening, wave, free),
-        _ => unreachable!(),
+    Entry {
+        number,
+        desk,
+        command,
+        reply,
     }
+}
+
+// The entries of a chain, in order.
+fn copy_entries(alloc: Global, chain: &Chain<Entry>) -> Result<Vec<Entry>, Memory>
+    ensures { IfOk result (λ entries. entries.items ≡ chain.now) }
+{
+    let mut all = Vec::new(alloc);
+    let mut at = chain;
+    while let Some((entry, below)) = at.split_last() {
+        all.push(entry.copy(alloc)?)?;
+        at = below;
+    }
+    all.reverse();
+    Ok(all)
 }
 
 impl<'a> Machine<'a> {
@@ -165,6 +135,7 @@ impl<'a> Machine<'a> {
     pub fn count(&self) -> u64
         ensures count { result ≡ length self.now.entries }
         ensures legal { IsLegal self.now }
+        ensures read { IsReadOpening self.now.opening }
     {
         self.count
     }
@@ -172,32 +143,32 @@ impl<'a> Machine<'a> {
     /// Answers a desk's command, and adds an entry with the command and its reply. It takes no memory.
     pub fn step(&mut self, desk: u32, ready: Ready<'_>) -> Answer
         requires same { ready.opening ≡ self.old.opening }
-        requires first { BeginsFirstScript (commands_of self.old.entries ++ ready.command ∷ []) }
+        requires few { length self.old.entries < 4294967295 }
         ensures history { self.new ≡ answered self.old desk ready.entry.command }
         ensures number { result.number ≡ length self.old.entries }
         ensures reply { result.reply ≡ (step self.old.opening (state_after self.old) ready.entry.command).reply }
+        ensures outcome { result.outcome ≡ outcome_of (length self.old.entries) (state_after self.old) ready.entry.command (step self.old.opening (state_after self.old) ready.entry.command) }
     {
         let (command, plan, cell) = ready.into_parts();
-        let number = self.count;
-        let reply = reply_to(&mut self.floor, self.opening, &command, plan);
-        self.entries
-            .push(entry_of(number, desk, command, &reply), cell);
+        let answer = self.floor.answer(self.opening, self.count, plan);
+        let entry = entry_of(self.count, desk, command, answer.reply);
+        self.entries.push(entry, cell);
         self.count += 1;
-        Answer { number, reply }
+        answer
     }
 
     /// The entries, in order.
     pub fn entries(&self, alloc: Global) -> Result<Entries, Memory>
         ensures { IfOk result (λ entries. entries ≡ self.now.entries) }
     {
-        Ok(Entries::of(self.entries.to_vec(alloc)?))
+        Ok(Entries::of(copy_entries(alloc, &self.entries)?))
     }
 
     /// How many rows there are.
     pub fn rows(&self) -> u32
         ensures { result ≡ length (state_after self.now).rows }
     {
-        self.floor.rows.len() as u32
+        self.floor.book.rows()
     }
 
     /// A row as it stands.
@@ -205,6 +176,16 @@ impl<'a> Machine<'a> {
         requires { row < length (state_after self.now).rows }
         ensures { slice_get (state_after self.now).rows row ≡ Some result }
     {
-        self.floor.rows[row as usize]
+        self.floor.book.row(row)
+    }
+
+    /// How far the wave of a name is. None comes exactly where no submit of that name was done.
+    pub fn state(&self, wave: &Name) -> Option<WaveState>
+        ensures { result ≡ option_map (λ found. found.1.state) (wave_from 0 (state_after self.now).waves wave.now) }
+    {
+        match self.floor.waves.find(wave) {
+            Some(kept) => Some(kept.state),
+            None => None,
+        }
     }
 }

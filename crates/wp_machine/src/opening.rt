@@ -1,5 +1,5 @@
 ghost use Rattle.std.specs.Prelude.{◌≡◌};
-ghost use Rattle.wp_model.specs.FirstOpening.{AreFirstOrders, IsFirstOpening};
+ghost use Rattle.wp_model.specs.Tables.{AreReadOrders, IsReadOpening};
 ghost use Rattle.wp_machine.specs.Opening.{opening_of};
 
 use std::marker::Model;
@@ -17,17 +17,17 @@ impl Model for Opening {
 
     ghost Value = { opening.Opening };
 
-    ghost use Rattle.wp_model.specs.FirstOpening.{IsFirstOpening};
+    ghost use Rattle.wp_model.specs.Tables.{IsReadOpening};
 
     ghost view = { λ o. record { stock = o.stock; orders = o.orders } };
 
-    ghost invariant = { λ o. IsFirstOpening (record { stock = o.stock; orders = o.orders }) };
+    ghost invariant = { λ o. IsReadOpening (record { stock = o.stock; orders = o.orders }) };
 }
 
 impl Opening {
     /// The opening of a stock and of orders that were read for it.
     pub fn of(stock: Stock, orders: Orders) -> Opening
-        requires { AreFirstOrders stock.articles orders }
+        requires { AreReadOrders stock.articles orders }
         ensures { result ≡ opening_of stock orders }
     {
         let _rows = stock.as_rows();
@@ -37,7 +37,7 @@ impl Opening {
     /// The stock.
     pub fn stock(&self) -> &Stock
         ensures stock { result.now ≡ self.now.stock }
-        ensures first { IsFirstOpening self.now }
+        ensures read { IsReadOpening self.now }
     {
         &self.stock
     }

@@ -1,10 +1,10 @@
 pub mod Digits
 pub mod Ascii
-pub mod FirstStock
-pub mod FirstOpenings
-pub mod FirstOrders
+pub mod RowLists
+pub mod OrderLists
+pub mod ReadStock
+pub mod ReadOrders
 pub mod Histories
-pub mod Joins
 pub mod NameEq
 pub mod Places
 pub mod Sums

@@ -9,7 +9,7 @@ use Rattle.std.proofs.lemmas.Option.{cond_some}
 use Rattle.std.proofs.lemmas.Bool.Decides.{nat_tests, same_from_decides}
 use Rattle.std.proofs.lemmas.Slice.Eq.{bytes_eq-Decides}
 use Rattle.wp_model.specs.Name.{padded_out}
-use Rattle.wp_model.specs.FirstForm.{article_in, join, number_among}
+use Rattle.wp_model.specs.TableLines.{article_in, join, number_among}
 use Rattle.wp_model.specs.Step.{is_among}
 use Rattle.wp_model.specs.contracts.name.NamePartialEq.TheImpl as eq
 

@@ -12,9 +12,9 @@ pub mod Step
 pub mod History
 pub mod Sound
 pub mod Book
-pub mod FirstForm
-pub mod FirstOpening
 pub mod Plain
 pub mod Chain
+pub mod TableLines
+pub mod Tables
 pub mod Warehouse
 pub mod Tours

@@ -1,5 +1,5 @@
 -- Locations as tables and commands write them.
-use Rattle.std.specs.Prelude.{ℕ, ◌==◌, Bool, List, [], ◌∷◌, Option, Some, None, option_map, option_and_then, if◌then◌else◌}
+use Rattle.std.specs.Prelude.{ℕ, ◌==◌, ◌&&◌, ◌||◌, nat_lt, Bool, true, false, List, [], ◌∷◌, Option, Some, None, option_map, option_and_then, if◌then◌else◌}
 use Rattle.std.specs.List.{before_first, after_first}
 use Rattle.wp_model.specs.Number.{number_of}
 use Rattle.wp_model.specs.declared.location.Side.{Side}
@@ -26,3 +26,14 @@ abbrev pub location_of : List ℕ → Option Location
 location_of text =
     let rest = after_first is_dash text in
     location_from (before_first is_dash text) (before_first is_dash rest) (after_first is_dash rest)
+
+-- one side before the other: L is first
+abbrev pub side_before : Side → Side → Bool
+side_before L L = false
+side_before L R = true
+side_before R L = false
+side_before R R = false
+
+-- one location before another: by aisle, slot and side
+abbrev pub is_before : Location → Location → Bool
+is_before a b = nat_lt a.aisle b.aisle || ((a.aisle == b.aisle) && (nat_lt a.slot b.slot || ((a.slot == b.slot) && side_before a.side b.side)))

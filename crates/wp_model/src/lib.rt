@@ -20,7 +20,7 @@ pub use chain::{Cell, Chain};
 pub use command::Command;
 pub use entry::{Entries, Entry};
 pub use laws::{overlaps_give_each_its_demand, short_articles_are_the_first, states_are_sound};
-pub use line::{OrderLine, StockLine, Submission};
+pub use line::{OrderLine, StockLine};
 pub use listing::Listing;
 pub use location::{Location, Side};
 pub use memory::Memory;

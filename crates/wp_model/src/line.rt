@@ -1,5 +1,5 @@
 use crate::location::Location;
-use crate::name::{Name, Names};
+use crate::name::Name;
 use crate::row::Line;
 
 /// A line of a stock file: so many units, 0 to 1,000,000, of an article at a location.
@@ -15,11 +15,4 @@ pub struct StockLine {
 pub struct OrderLine {
     pub order: Name,
     pub line: Line,
-}
-
-/// What a desk of the first form submits and then releases: a wave of 1 to 64 different orders.
-#[derive(Debug, Drop)]
-pub struct Submission {
-    pub wave: Name,
-    pub orders: Names,
 }

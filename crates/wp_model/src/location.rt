@@ -1,6 +1,7 @@
-ghost use Rattle.std.specs.Prelude.{◌≡◌, Some};
+ghost use Rattle.std.specs.Prelude.{◌≡◌, IfSome, IsTrue, Some};
 ghost use Rattle.std.specs.List.{before_first, after_first, position_or_len};
 ghost use Rattle.wp_model.specs.Location.{location_of, side_of, is_dash};
+ghost use Rattle.wp_model.specs.Plain.{is_plain_location};
 ghost use Rattle.wp_model.specs.Journal.{location_text, side_text};
 
 use crate::number::read_number;
@@ -59,7 +60,8 @@ impl Location {
     /// The location that a text as `3-17-L` writes: two numbers of 1 to 5 digits, which may have leading zeros,
     /// and a side. None comes exactly where the text isn't of that form.
     pub fn read(text: &[u8]) -> Option<Location>
-        ensures { result ≡ location_of text.now }
+        ensures location { result ≡ location_of text.now }
+        ensures plain { IfSome result (λ location. IsTrue (is_plain_location location)) }
     {
         let (aisle, rest) = split_at_dash(text);
         let (slot, side) = split_at_dash(rest);

@@ -9,7 +9,8 @@ use Rattle.std.specs.BTreeMap.{insert_entry, is_at}
 use Rattle.std.specs.declared.cmp.Ordering.{Ordering}
 use Rattle.std.specs.declared.cmp.Ordering.TheVariants.{Less, Equal, Greater}
 use Rattle.std.proofs.lemmas.Bool.Decides.{nat_tests}
-use Rattle.wp_model.specs.FirstForm.{is_before, lies_at, put_row, side_before}
+use Rattle.wp_model.specs.Location.{is_before, side_before}
+use Rattle.wp_model.specs.TableLines.{lies_at, put_row}
 use Rattle.wp_model.specs.Step.{same_location, same_side}
 use Rattle.wp_model.specs.declared.location.Location.{Location}
 use Rattle.wp_model.specs.declared.location.Side.{Side}

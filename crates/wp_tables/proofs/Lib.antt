@@ -1,6 +1,10 @@
-pub mod AllRecords
+pub mod TakenBytes
 pub mod ByPlace
+pub mod Trimming
+pub mod RecordsLeft
 pub mod ByLocation
-pub mod Headings
+pub mod Places
+pub mod RowSearch
 pub mod Parts
-pub mod OrderNames
+pub mod Arguments
+pub mod FirstFaults

@@ -1,10 +1,12 @@
 -- Orders kept by their names and their lines.
-use Rattle.std.proofs.Common.{◌≡◌, refl, sym, ap, ℕ, zero, suc, ◌+◌, ◌<◌, Bool, true, false, List, [], ◌∷◌, ◌++◌, Vec, get_or, length, map, set, Some, arith}
-use Rattle.std.specs.Prelude.{if◌then◌else◌, nat_lt, not, slice_get, ◌&&◌, ◌||◌}
+use Rattle.std.proofs.Common.{◌≡◌, refl, sym, ap, ℕ, zero, suc, ◌+◌, ◌<◌, Bool, true, false, List, [], ◌∷◌, ◌++◌, ◌∙◌, subst, Vec, get_or, length, map, set, Some, arith}
+use Rattle.std.specs.Prelude.{if◌then◌else◌, not, slice_get, ◌||◌}
+use Rattle.std.specs.List.{All}
+use Rattle.std.proofs.lemmas.List.{get_or-map, length-map}
 use Rattle.std.specs.Str.{bytes_eq}
 use Rattle.std.specs.declared.alloc.Global.{Global}
-use Rattle.wp_model.specs.FirstForm.{add_order_line, article_in, has_room, most_order_names, number_among}
-use Rattle.wp_model.specs.Opening.{is_known_order, lines_of, most_lines}
+use Rattle.wp_model.specs.TableLines.{add_order_line, article_in, number_among}
+use Rattle.wp_model.specs.Opening.{is_known_order, lines_of}
 use Rattle.wp_model.specs.Step.{is_among}
 use Rattle.wp_model.specs.declared.line.OrderLine.{OrderLine}
 use Rattle.wp_model.specs.declared.row.Line.{Line}
@@ -92,21 +94,6 @@ names_back [] lines same = refl
 names_back (name ∷ names) [] same = absurd (omega arith)
 names_back (name ∷ names) (v ∷ lines) same = ap (λ rest. name ∷ rest) (names_back names lines (omega arith))
 
--- whether there is room for a line of an order that is there
-pub room_known : (names : List (List ℕ)) (lines : List (Vec Line Global)) (line : OrderLine) (old : Vec Line Global) → slice_get lines (number_among names line.order) ≡ Some old
-    → is_among names line.order ≡ true → length lines ≡ length names → has_room (orders_of_parts names lines) line ≡ nat_lt (length old.items) most_lines
-room_known names lines line old at there same = rw (parts_known names lines line.order same, there, parts_lines names lines line.order old at same) refl
-
--- and of one that isn't
-pub room_new : (names : List (List ℕ)) (lines : List (Vec Line Global)) (line : OrderLine)
-    → is_among names line.order ≡ false → length lines ≡ length names → has_room (orders_of_parts names lines) line ≡ nat_lt (length names) most_order_names
-room_new names lines line new same =
-    rw (parts_known names lines line.order same, new, parts_no_lines names lines line.order new, parts_length names lines same) (and_true (nat_lt (length names) most_order_names))
-  where
-    and_true : (b : Bool) → (b && true) ≡ b
-    and_true true = refl
-    and_true false = refl
-
 -- where an order that is found has its lines
 pub order_there : (names : List (List ℕ)) (lines : List (Vec Line Global)) (order : List ℕ) (i : ℕ) → length lines ≡ length names → article_in (map name_of (orders_of_parts names lines)) order ≡ Some i
     → (number_among names order ≡ i) × (i < length lines) × (is_among names order ≡ true)
@@ -130,3 +117,9 @@ lines_at names [] i v same at = absurd (cc at)
 lines_at [] (w ∷ lines) i v same at = absurd (omega arith)
 lines_at (name ∷ names) (w ∷ lines) zero v same at = let e : w ≡ v = cc in ap (λ (x : Vec Line Global). Some x.items) e
 lines_at (name ∷ names) (w ∷ lines) (suc i) v same at = lines_at names lines i v (omega arith) at
+
+-- what holds of what each item is holds of what the item at a place is
+pub all_at : {A B : Type 0} (f : A → B) (P : B → Type 0) (xs : List A) (i : ℕ) (x : A) → All P (map f xs) → i < length xs → x ≡ get_or xs i x → P (f x)
+all_at f P xs i x all below is =
+    let place : i < length (map f xs) = omega (arith, length-map xs f) in
+    subst P (get_or-map f xs i x (f x) below ∙ ap f (sym is)) (all i (f x) place)

@@ -1,5 +1,11 @@
-pub mod Records
-pub mod Stock
-pub mod Reading
-pub mod Orders
 pub mod Faults
+pub mod Records
+pub mod RecordsLeft
+pub mod Reading
+pub mod Fields
+pub mod StockFile
+pub mod OrderFile
+pub mod DeskFile
+pub mod Stock
+pub mod Orders
+pub mod Scripts

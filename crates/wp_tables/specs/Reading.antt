@@ -1,42 +1,70 @@
--- What the readers of the first form answer.
-use Rattle.std.specs.Prelude.{◌≡◌, ℕ, Bool, false, List, [], ◌∷◌, Option, Some, None, if◌then◌else◌, Result, Ok, Err, ⊤, option_and_then}
-use Rattle.csv.specs.Reading.{is_bom}
-use Rattle.wp_model.specs.FirstForm.{Record, orders_of, scripts_of, stock_of}
-use Rattle.wp_model.specs.Opening.{Order, Stock}
-use Rattle.wp_model.specs.declared.command.Command.{Command}
-use Rattle.wp_tables.specs.Records.{records_in}
-use Rattle.wp_tables.specs.declared.first.FirstFault.{FirstFault}
-use Rattle.wp_tables.specs.declared.first.FirstFault.TheVariants as fault
+-- What the readers of tables answer.
+use Rattle.std.specs.Prelude.{◌≡◌, ℕ, false, List, [], ◌∷◌, ◌++◌, if◌then◌else◌, Result, Ok, Err}
+use Rattle.wp_model.specs.TableLines.{Record, same_record}
+use Rattle.wp_tables.specs.Faults.{wants_memory}
+use Rattle.wp_tables.specs.Records.{Kept}
+use Rattle.wp_tables.specs.declared.fault.RowFault.{RowFault}
+use Rattle.wp_tables.specs.declared.fault.Why.{Why}
+use Rattle.wp_tables.specs.declared.fault.Why.TheVariants as why
 
--- the text begins with the bytes EF BB BF
-abbrev pub has_mark : List ℕ → Bool
-has_mark [] = false
-has_mark (a ∷ []) = false
-has_mark (a ∷ b ∷ []) = false
-has_mark (a ∷ b ∷ c ∷ rest) = is_bom a b c
+-- a value goes on to what comes next, and a fault is the answer
+abbrev pub and_then : {A B E : Type 0} → Result A E → (A → Result B E) → Result B E
+and_then (Ok x) next = next x
+and_then (Err fault) next = Err fault
 
--- the records of a text of the first form, which has no mark
-abbrev pub first_records : List ℕ → Option (List Record)
-first_records text = if has_mark text then None else Some (records_in text)
+-- a fault at the record with a number
+abbrev pub fault_at : ℕ → Why → RowFault
+fault_at number why = record { row = number; why = why }
 
--- the stock that a text in first form says
-abbrev pub first_stock : List ℕ → Option Stock
-first_stock text = option_and_then stock_of (first_records text)
+-- what a record gives: a fault is told with the record's number
+abbrev pub at_row : {A : Type 0} → ℕ → Result A Why → Result A RowFault
+at_row number (Ok x) = Ok x
+at_row number (Err why) = Err (fault_at number why)
 
--- the orders that a text in first form says, for a stock
-abbrev pub first_orders : Stock → List ℕ → Option (List Order)
-first_orders stock text = option_and_then (orders_of stock) (first_records text)
+-- what records make, one after the other, of what was made before them; or the fault of the first that fails
+abbrev pub made_by : {A : Type 0} → (A → Record → Result A Why) → A → List Kept → Result A RowFault
+made_by next made [] = Ok made
+made_by next made (kept ∷ more) = and_then (at_row kept.number (next made kept.fields)) (λ made. made_by next made more)
 
--- the scripts that a text in first form says
-abbrev pub first_scripts : List ℕ → Option (List (List Command))
-first_scripts text = option_and_then scripts_of (first_records text)
+-- the records under a heading, which is the first that is kept
+abbrev pub under_heading : Record → List Kept → Result (List Kept) RowFault
+under_heading heading [] = Err (fault_at 1 why.Columns)
+under_heading heading (kept ∷ more) = if same_record kept.fields heading then Ok more else Err (fault_at kept.number why.Columns)
 
--- a reader gives what the text says, as contracts see the value, and refuses it exactly where it says nothing; but it may want memory
-abbrev pub ReadsBy : {A B : Type 0} → (A → B) → Result A FirstFault → Option B → Type 0
-ReadsBy view (Ok x) said = said ≡ Some (view x)
-ReadsBy view (Err fault.NotFirst) said = said ≡ None
-ReadsBy view (Err fault.Memory) said = ⊤
+-- what the records under a heading make, out of nothing
+abbrev pub table_of : {A : Type 0} → Record → (A → Record → Result A Why) → A → List Kept → Result A RowFault
+table_of heading next nothing records = and_then (under_heading heading records) (made_by next nothing)
+
+-- the first record that fails, with its number: those before it make something, and after them it fails its first failing test
+pub record IsFirstFault {A : Type 0} (next : A → Record → Result A Why) (nothing : A) (records : List Kept) (fault : RowFault) : Type 0 where
+  pub before : List Kept
+  pub failing : Kept
+  pub others : List Kept
+  pub made : A
+  pub parts : records ≡ before ++ failing ∷ others
+  pub passed : made_by next nothing before ≡ Ok made
+  pub fails : next made failing.fields ≡ Err fault.why
+  pub number : fault.row ≡ failing.number
+
+-- a part of a reader gives the value that a record says, as contracts see it, or the first test that fails; but it may want memory
+abbrev pub GivesBy : {A B : Type 0} → (A → B) → Result A Why → Result B Why → Type 0
+GivesBy view (Ok x) said = said ≡ Ok (view x)
+GivesBy view (Err why) said = wants_memory why ≡ false → said ≡ Err why
 
 -- the same, where the value is what contracts see
-abbrev pub Reads : {A : Type 0} → Result A FirstFault → Option A → Type 0
+abbrev pub Gives : {A : Type 0} → Result A Why → Result A Why → Type 0
+Gives = GivesBy (λ x. x)
+
+-- a reader gives the value that the text says, as contracts see it, or the first record that fails and its first failing test; but it may want memory
+abbrev pub ReadsBy : {A B : Type 0} → (A → B) → Result A RowFault → Result B RowFault → Type 0
+ReadsBy view (Ok x) said = said ≡ Ok (view x)
+ReadsBy view (Err fault) said = wants_memory fault.why ≡ false → said ≡ Err fault
+
+-- the same, where the value is what contracts see
+abbrev pub Reads : {A : Type 0} → Result A RowFault → Result A RowFault → Type 0
 Reads = ReadsBy (λ x. x)
+
+-- a record is taken in to what was made before, or told as a fault; but it may want memory
+abbrev pub TakesIn : {A U : Type 0} → Result U RowFault → A → Result A RowFault → Type 0
+TakesIn (Ok x) new said = said ≡ Ok new
+TakesIn (Err fault) new said = wants_memory fault.why ≡ false → said ≡ Err fault

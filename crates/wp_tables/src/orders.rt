@@ -1,24 +1,24 @@
-ghost use Rattle.std.specs.Prelude.{◌≡◌, ◌<◌, ◌≤◌, ◌^◌, ◌==◌, Some, true, false, [], length, slice_get, map, IfOk, OnOk, IsErrOf};
+ghost use Rattle.std.specs.Prelude.{◌≡◌, ◌<◌, ◌≤◌, ◌^◌, ◌==◌, Some, true, false, [], length, slice_get, map, IfNone, IfOk, IfSome, OnOk, Ok};
 ghost use Rattle.csv.specs.Records.{fields_of};
-ghost use Rattle.wp_model.specs.FirstForm.{add_order_line, article_in, has_room, order_line, orders_of, orders_with};
-ghost use Rattle.wp_model.specs.FirstOpening.{AreFirstOrders};
-ghost use Rattle.wp_tables.specs.Reading.{Reads, first_orders};
-ghost use Rattle.wp_model.specs.Opening.{is_known_order};
-ghost use Rattle.wp_tables.specs.Orders.{lines_in, name_of};
+ghost use Rattle.wp_model.specs.Opening.{is_known_order, lines_of};
+ghost use Rattle.wp_model.specs.TableLines.{MayJoinOrders, add_order_line, article_in};
+ghost use Rattle.wp_model.specs.Tables.{AreReadOrders};
+ghost use Rattle.wp_tables.specs.OrderFile.{article_read, order_line_of, order_line_of_three, order_read, order_with_room, orders_after, orders_said};
+ghost use Rattle.wp_tables.specs.Orders.{HasRoom, lines_in, name_of};
+ghost use Rattle.wp_tables.specs.Reading.{Reads, TakesIn, at_row, made_by};
+ghost use Rattle.wp_tables.specs.RecordsLeft.{IsReading, kept_left};
 
-use crate::fields::{number_in, three_fields};
-use crate::first::FirstFault;
-use crate::records::{read_first_records, records_under};
+use crate::fault::{RowFault, Why};
+use crate::fields::{read_name, read_quantity, three_texts};
+use crate::records::Records;
 use crate::stock::Stock;
 use csv::ByteRecord;
 use indexmap::IndexSet;
 use std::alloc::Global;
 use std::marker::Model;
-use wp_model::{Line, Name, OrderLine};
+use wp_model::{Line, Memory, Name, OrderLine};
 
-const MOST_QUANTITY: u32 = 100_000;
-
-const MOST_ORDERS: usize = 10_000;
+const MOST_ORDERS: u32 = 10_000;
 
 const MOST_LINES: usize = 50;
 
@@ -43,17 +43,12 @@ impl Model for Orders {
     ghost invariant = { λ o. (length o.lines.items ≡ length o.names.keys) × (length o.names.keys ≤ 10000) };
 }
 
-fn read_order_line(stock: &Stock, fields: &ByteRecord) -> Option<OrderLine>
-    ensures { result ≡ order_line stock.now.articles (fields_of fields.now) }
+fn read_article(stock: &Stock, field: &[u8]) -> Result<u32, Why>
+    ensures article { result ≡ article_read stock.now.articles field.now }
+    ensures known { IfOk result (λ article. article < length stock.now.articles) }
 {
-    let (order, article, quantity) = three_fields(fields)?;
-    Some(OrderLine {
-        order: Name::new(order)?,
-        line: Line {
-            article: stock.find(&Name::new(article)?)?,
-            quantity: number_in(quantity, 1, MOST_QUANTITY)?,
-        },
-    })
+    let article = read_name(field)?;
+    stock.find(&article).ok_or(Why::UnknownArticle)
 }
 
 impl Orders {
@@ -66,28 +61,74 @@ impl Orders {
         }
     }
 
-    fn add_to(&mut self, order: usize, line: OrderLine) -> Result<(), FirstFault>
-        requires { article_in (map name_of self.old) line.order ≡ Some order }
-        ensures ok { OnOk result (self.new ≡ add_order_line self.old line) }
-        ensures refused { IsErrOf result FirstFault.NotFirst → has_room self.old line ≡ false }
-        ensures room { OnOk result (has_room self.old line ≡ true) }
+    fn lines_of(&self, name: &Name) -> Option<usize>
+        ensures known { IfSome result (λ lines. (is_known_order self.now name.now ≡ true) × (lines ≡ length (lines_of self.now name.now))) }
+        ensures new { IfNone result (is_known_order self.now name.now ≡ false) }
+        ensures none { IfNone result (lines_of self.now name.now ≡ []) }
     {
-        if self.lines[order].len() >= MOST_LINES {
-            return Err(FirstFault::NotFirst);
+        match self.names.get_index_of(name) {
+            Some(order) => Some(self.lines[order].len()),
+            None => None,
         }
+    }
+
+    fn with_room(&self, name: Name) -> Result<Name, Why>
+        ensures order { result ≡ order_with_room self.now name }
+        ensures room { IfOk result (HasRoom self.now) }
+    {
+        match self.lines_of(&name) {
+            Some(lines) if lines >= MOST_LINES => Err(Why::TooManyLines),
+            None if self.count() >= MOST_ORDERS => Err(Why::TooManyOrders),
+            _ => Ok(name),
+        }
+    }
+
+    fn read_order(&self, field: &[u8]) -> Result<Name, Why>
+        ensures order { result ≡ order_read self.now field.now }
+        ensures room { IfOk result (HasRoom self.now) }
+    {
+        let name = read_name(field)?;
+        self.with_room(name)
+    }
+
+    fn read_three(
+        &self,
+        stock: &Stock,
+        order: &[u8],
+        article: &[u8],
+        quantity: &[u8],
+    ) -> Result<OrderLine, Why>
+        ensures line { result ≡ order_line_of_three stock.now.articles self.now (order.now, article.now, quantity.now) }
+        ensures joins { IfOk result (MayJoinOrders stock.now.articles self.now) }
+    {
+        let order = self.read_order(order)?;
+        let article = read_article(stock, article)?;
+        let quantity = read_quantity(quantity)?;
+        let line = Line { article, quantity };
+        Ok(OrderLine { order, line })
+    }
+
+    fn read_line(&self, stock: &Stock, fields: &ByteRecord) -> Result<OrderLine, Why>
+        ensures line { result ≡ order_line_of stock.now.articles self.now (fields_of fields.now) }
+        ensures joins { IfOk result (MayJoinOrders stock.now.articles self.now) }
+    {
+        let (order, article, quantity) = three_texts(fields)?;
+        self.read_three(stock, order, article, quantity)
+    }
+
+    fn add_to(&mut self, order: usize, line: OrderLine) -> Result<(), Memory>
+        requires { article_in (map name_of self.old) line.order ≡ Some order }
+        ensures { IfOk result (λ _. self.new ≡ add_order_line self.old line) }
+    {
         self.lines[order].push(line.line)?;
         Ok(())
     }
 
-    fn add_order(&mut self, alloc: Global, line: OrderLine) -> Result<(), FirstFault>
-        requires { is_known_order self.old line.order ≡ false }
-        ensures ok { OnOk result (self.new ≡ add_order_line self.old line) }
-        ensures refused { IsErrOf result FirstFault.NotFirst → has_room self.old line ≡ false }
-        ensures room { OnOk result (has_room self.old line ≡ true) }
+    fn add_order(&mut self, alloc: Global, line: OrderLine) -> Result<(), Memory>
+        requires new { is_known_order self.old line.order ≡ false }
+        requires room { length self.old < 10000 }
+        ensures { IfOk result (λ _. self.new ≡ add_order_line self.old line) }
     {
-        if self.names.len() >= MOST_ORDERS {
-            return Err(FirstFault::NotFirst);
-        }
         let mut first = Vec::new(alloc);
         first.push(line.line)?;
         self.names.reserve(1)?;
@@ -96,14 +137,29 @@ impl Orders {
         Ok(())
     }
 
-    fn add(&mut self, alloc: Global, line: OrderLine) -> Result<(), FirstFault>
-        ensures ok { OnOk result (self.new ≡ add_order_line self.old line) }
-        ensures refused { IsErrOf result FirstFault.NotFirst → has_room self.old line ≡ false }
-        ensures room { OnOk result (has_room self.old line ≡ true) }
+    fn add(&mut self, alloc: Global, line: OrderLine) -> Result<(), Memory>
+        requires { is_known_order self.old line.order ≡ false → length self.old < 10000 }
+        ensures { IfOk result (λ _. self.new ≡ add_order_line self.old line) }
     {
         match self.names.get_index_of(&line.order) {
             Some(order) => self.add_to(order, line),
             None => self.add_order(alloc, line),
+        }
+    }
+
+    fn take(
+        &mut self,
+        alloc: Global,
+        stock: &Stock,
+        row: u64,
+        fields: &ByteRecord,
+    ) -> Result<(), RowFault>
+        ensures taken { TakesIn result self.new (at_row row (orders_after stock.now.articles self.old (fields_of fields.now))) }
+        ensures read { AreReadOrders stock.now.articles self.old → OnOk result (AreReadOrders stock.now.articles self.new) }
+    {
+        match self.read_line(stock, fields) {
+            Ok(line) => Ok(self.add(alloc, line)?),
+            Err(why) => Err(RowFault { row, why }),
         }
     }
 }
@@ -143,35 +199,30 @@ impl Orders {
     }
 }
 
-fn read_lines(alloc: Global, stock: &Stock, records: &[ByteRecord]) -> Result<Orders, FirstFault>
-    ensures { Reads result (orders_with stock.now.articles [] (map fields_of records.now)) }
+fn read_lines(alloc: Global, stock: &Stock, records: &mut Records) -> Result<Orders, RowFault>
+    requires { IsReading records.old }
+    ensures exact { Reads result (made_by (orders_after stock.now.articles) [] (kept_left records.old)) }
+    ensures read { IfOk result (AreReadOrders stock.now.articles) }
 {
+    let mut fields = ByteRecord::new(alloc);
     let mut orders = Orders::new(alloc);
-    for fields in records {
-        let line = read_order_line(stock, fields).ok_or(FirstFault::NotFirst)?;
-        orders.add(alloc, line)?;
+    while let Some(row) = records.next(&mut fields)? {
+        orders.take(alloc, stock, row, &fields)?;
     }
     Ok(orders)
 }
 
-fn read_table(alloc: Global, stock: &Stock, records: &[ByteRecord]) -> Result<Orders, FirstFault>
-    ensures { Reads result (orders_of stock.now (map fields_of records.now)) }
+/// The orders that an order file says, for a stock: the heading `order,article,quantity`, and then a record for each
+/// line of an order. A record is refused, in this order, as `Columns` where it hasn't three fields, `NotUtf8` where one
+/// isn't text, `BadName` where the first is no name, `TooManyOrders` where it is a new one and there are 10,000 already,
+/// `TooManyLines` where that order has 50 lines already, `BadName` where the second is no name, `UnknownArticle` where
+/// the stock has no such article, and `BadNumber` or `OutOfRange` where the third is no number 1 to 100,000. The first
+/// record that is refused is the answer, and so is the first record at all, or row 1 where there is none, as
+/// `Columns` where it isn't the heading.
+pub fn read_orders(alloc: Global, text: &Vec<u8>, stock: &Stock) -> Result<Orders, RowFault>
+    ensures exact { Reads result (orders_said stock.now text.now.items) }
+    ensures read { IfOk result (AreReadOrders stock.now.articles) }
 {
-    let lines = records_under(records, b"order", b"article", b"quantity").ok_or(
-        FirstFault::NotFirst,
-    )?;
-    let orders = read_lines(alloc, stock, lines)?;
-    Ok(orders)
-}
-
-/// The orders that an order file in first form says, for a stock. `NotFirst` comes exactly where the text hasn't
-/// that form: the heading `order,article,quantity`, then records of an order, an article of the stock and a number
-/// 1 to 100,000, where there are at most 10,000 orders and 50 lines of an order.
-pub fn read_orders(alloc: Global, text: &Vec<u8>, stock: &Stock) -> Result<Orders, FirstFault>
-    ensures exact { Reads result (first_orders stock.now text.now.items) }
-    ensures first { IfOk result (AreFirstOrders stock.now.articles) }
-{
-    let records = read_first_records(alloc, text)?;
-    let orders = read_table(alloc, stock, &records)?;
-    Ok(orders)
+    let mut records = Records::under(alloc, text, b"order", b"article", b"quantity")?;
+    read_lines(alloc, stock, &mut records)
 }

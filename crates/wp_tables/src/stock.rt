@@ -1,14 +1,15 @@
-ghost use Rattle.std.specs.Prelude.{◌≡◌, ◌<◌, ◌≤◌, ◌^◌, ◌==◌, Some, true, false, length, slice_get, map, IfOk, OnOk, IsErrOf};
-ghost use Rattle.csv.specs.Records.{fields_of};
-ghost use Rattle.wp_model.specs.FirstForm.{add_line, article_in, empty_stock, stock_with, lies_at, may_join, stock_line};
+ghost use Rattle.std.specs.Prelude.{◌≡◌, ℕ, ◌+◌, ◌-◌, ◌<◌, ◌≤◌, ◌^◌, ◌==◌, if◌then◌else◌, max, Some, true, false, length, slice_get, slice_index, map, IfOk, IfSome, Ok};
 ghost use Rattle.std.specs.List.{list_any};
-ghost use Rattle.wp_model.specs.FirstOpening.{IsFirstStock};
-ghost use Rattle.wp_model.specs.Step.{is_among};
-ghost use Rattle.wp_tables.specs.Reading.{Reads, first_stock};
+ghost use Rattle.csv.specs.Records.{fields_of};
+ghost use Rattle.wp_model.specs.TableLines.{MayJoin, add_line, article_in, empty_stock, lies_at, places_named};
+ghost use Rattle.wp_model.specs.Tables.{IsReadStock, places_of, row_number_from};
+ghost use Rattle.wp_tables.specs.Reading.{Reads, at_row, made_by, table_of};
+ghost use Rattle.wp_tables.specs.RecordsLeft.{IsReading, kept_left};
+ghost use Rattle.wp_tables.specs.StockFile.{article_with_room, free_location, is_inside, line_of_three, stock_after, stock_heading, stock_line_of, stock_said};
 
-use crate::fields::{location_in, number_in, three_fields};
-use crate::first::FirstFault;
-use crate::records::{read_first_records, records_under};
+use crate::fault::{RowFault, Why};
+use crate::fields::{read_location, read_name, read_number_in, three_texts};
+use crate::records::Records;
 use csv::ByteRecord;
 use indexmap::IndexSet;
 use std::alloc::Global;
@@ -20,35 +21,51 @@ const MOST_ON_HAND: u32 = 1_000_000;
 
 const MOST_ROWS: usize = 25_600;
 
-/// The line of a stock file that a record is. None comes exactly where it is none.
-fn read_stock_line(fields: &ByteRecord) -> Option<StockLine>
-    ensures { result ≡ stock_line (fields_of fields.now) }
+const MOST_PLACES: u32 = 1_000;
+
+const LAST_AISLE: u32 = 64;
+
+const LAST_SLOT: u32 = 200;
+
+fn is_inside(location: &Location) -> bool
+    ensures { result ≡ is_inside location.now }
 {
-    let (location, article, on_hand) = three_fields(fields)?;
-    Some(StockLine {
-        location: location_in(location)?,
-        article: Name::new(article)?,
-        on_hand: number_in(on_hand, 0, MOST_ON_HAND)?,
-    })
+    (1..=LAST_AISLE).contains(&location.aisle) && (1..=LAST_SLOT).contains(&location.slot)
 }
 
-/// The stock that the lines read so far make.
+/// The stock that the lines read so far make, and for each article the number of its rows.
 #[derive(Drop)]
 struct StockSoFar {
     rows: BTreeMap<Location, StockRow>,
     articles: IndexSet<Name>,
+    places: Vec<u32>,
 }
 
 impl Model for StockSoFar {
     ghost use Rattle.std.specs.Prelude.{◌≡◌, map};
     ghost use Rattle.wp_model.specs.Opening as opening;
-    ghost use Rattle.wp_tables.specs.Stock.{by_location};
+    ghost use Rattle.wp_tables.specs.Stock.{IsKeptStock, by_location};
 
     ghost Value = { opening.Stock };
 
     ghost view = { λ s. record { rows = map (λ e. e.1) s.rows.entries; articles = s.articles.keys } };
 
-    ghost invariant = { λ s. s.rows.entries ≡ by_location (map (λ e. e.1) s.rows.entries) };
+    ghost invariant = { λ s. (s.rows.entries ≡ by_location (map (λ e. e.1) s.rows.entries)) × IsKeptStock (record { rows = map (λ e. e.1) s.rows.entries; articles = s.articles.keys }) s.places.items };
+}
+
+/// One more at a place of numbers, or a first at the place after them.
+fn count_at(counts: &mut Vec<u32>, place: usize) -> Result<(), Memory>
+    requires within { place ≤ length counts.old.items }
+    requires room { slice_index counts.old.items place < 2 ^ 32 - 1 }
+    ensures counts { IfOk result (λ _. (i : ℕ) → slice_index counts.new.items i ≡ slice_index counts.old.items i + (if place == i then 1 else 0)) }
+    ensures length { IfOk result (λ _. length counts.new.items ≡ max (length counts.old.items) (place + 1)) }
+{
+    if place < counts.len() {
+        counts[place] += 1;
+    } else {
+        counts.push(1)?;
+    }
+    Ok(())
 }
 
 impl StockSoFar {
@@ -58,6 +75,7 @@ impl StockSoFar {
         StockSoFar {
             rows: BTreeMap::new(alloc),
             articles: IndexSet::new(alloc),
+            places: Vec::new(alloc),
         }
     }
 
@@ -67,43 +85,115 @@ impl StockSoFar {
         self.rows.contains_key(location)
     }
 
-    fn has_article(&self, article: &Name) -> bool
-        ensures { result ≡ is_among self.now.articles article.now }
-    {
-        self.articles.contains(article)
-    }
-
     fn len(&self) -> usize
         ensures { result ≡ length self.now.rows }
     {
         self.rows.len()
     }
 
-    fn has_room(&self, line: &StockLine) -> bool
-        ensures { result ≡ may_join self.now line.now }
+    fn places_of(&self, article: &Name) -> u32
+        ensures { result ≡ places_named self.now article.now }
     {
-        self.len() < MOST_ROWS
-            && !self.has_row_at(&line.location)
-            && !self.has_article(&line.article)
+        match self.articles.get_index_of(article) {
+            Some(article) => self.places[article],
+            None => 0,
+        }
     }
 
-    fn add(&mut self, line: StockLine) -> Result<(), FirstFault>
-        requires { length self.old.articles ≤ length self.old.rows }
-        ensures ok { OnOk result (self.new ≡ add_line self.old line) }
-        ensures refused { IsErrOf result FirstFault.NotFirst → may_join self.old line ≡ false }
-        ensures room { OnOk result (may_join self.old line ≡ true) }
+    fn read_location(&self, field: &[u8]) -> Result<Location, Why>
+        ensures { result ≡ free_location self.now field.now }
     {
-        if !self.has_room(&line) {
-            return Err(FirstFault::NotFirst);
+        let location = read_location(field)?;
+        if !is_inside(&location) {
+            return Err(Why::UnknownLocation);
         }
-        let (article, _) = self.articles.insert_full(line.article)?;
+        if self.has_row_at(&location) {
+            return Err(Why::LocationTwice);
+        }
+        Ok(location)
+    }
+
+    fn read_article(&self, field: &[u8]) -> Result<Name, Why>
+        ensures { result ≡ article_with_room self.now field.now }
+    {
+        let article = read_name(field)?;
+        if self.places_of(&article) >= MOST_PLACES {
+            return Err(Why::TooManyPlaces);
+        }
+        Ok(article)
+    }
+
+    fn read_three(&self, location: &[u8], article: &[u8], on_hand: &[u8]) -> Result<StockLine, Why>
+        ensures { result ≡ line_of_three self.now (location.now, article.now, on_hand.now) }
+    {
+        let location = self.read_location(location)?;
+        let article = self.read_article(article)?;
+        let on_hand = read_number_in(on_hand, 0, MOST_ON_HAND)?;
+        Ok(StockLine {
+            location,
+            article,
+            on_hand,
+        })
+    }
+
+    fn read_line(&self, fields: &ByteRecord) -> Result<StockLine, Why>
+        ensures line { result ≡ stock_line_of self.now (fields_of fields.now) }
+        ensures joins { IfOk result (MayJoin self.now) }
+    {
+        if self.len() >= MOST_ROWS {
+            return Err(Why::TooManyRows);
+        }
+        let (location, article, on_hand) = three_texts(fields)?;
+        self.read_three(location, article, on_hand)
+    }
+
+    fn add(self, line: StockLine) -> Result<StockSoFar, Memory>
+        requires { MayJoin self line }
+        ensures { IfOk result (λ stock. stock ≡ add_line self line) }
+    {
+        let StockSoFar {
+            mut rows,
+            mut articles,
+            mut places,
+        } = self;
+        let (article, _) = articles.insert_full(line.article)?;
+        count_at(&mut places, article)?;
         let row = StockRow {
             location: line.location,
             article: article as u32,
             on_hand: line.on_hand,
         };
-        self.rows.insert(line.location, row)?;
-        Ok(())
+        rows.insert(line.location, row)?;
+        Ok(StockSoFar {
+            rows,
+            articles,
+            places,
+        })
+    }
+
+    fn with(self, row: u64, fields: &ByteRecord) -> Result<StockSoFar, RowFault>
+        ensures { Reads result (at_row row (stock_after self (fields_of fields.now))) }
+    {
+        match self.read_line(fields) {
+            Ok(line) => Ok(self.add(line)?),
+            Err(why) => Err(RowFault { row, why }),
+        }
+    }
+
+    fn finish(self, alloc: Global) -> Result<Stock, Memory>
+        ensures stock { IfOk result (λ stock. stock ≡ self) }
+        ensures read { IsReadStock self }
+    {
+        let StockSoFar {
+            rows,
+            articles,
+            places,
+        } = self;
+        Ok(Stock {
+            rows: rows.into_values().collect(alloc)?,
+            articles,
+            places,
+        })
     }
 }
 
@@ -113,19 +203,19 @@ impl StockSoFar {
 pub struct Stock {
     rows: Vec<StockRow>,
     articles: IndexSet<Name>,
+    places: Vec<u32>,
 }
 
 impl Model for Stock {
-    ghost use Rattle.std.specs.Prelude.{◌≡◌, ◌≤◌, vec_len, map};
+    ghost use Rattle.std.specs.Prelude.{map};
     ghost use Rattle.wp_model.specs.Opening as opening;
+    ghost use Rattle.wp_tables.specs.Stock.{IsKeptStock};
 
     ghost Value = { opening.Stock };
 
-    ghost use Rattle.wp_model.specs.FirstOpening.{IsFirstStock};
-
     ghost view = { λ s. record { rows = s.rows.items; articles = s.articles.keys } };
 
-    ghost invariant = { λ s. IsFirstStock (record { rows = s.rows.items; articles = s.articles.keys }) };
+    ghost invariant = { λ s. IsKeptStock (record { rows = s.rows.items; articles = s.articles.keys }) s.places.items };
 }
 
 impl Stock {
@@ -147,7 +237,7 @@ impl Stock {
     /// All rows.
     pub fn as_rows(&self) -> &[StockRow]
         ensures rows { result.now ≡ self.now.rows }
-        ensures first { IsFirstStock self.now }
+        ensures read { IsReadStock self.now }
     {
         self.rows.as_slice()
     }
@@ -167,9 +257,31 @@ impl Stock {
         self.articles.as_slice()[a as usize]
     }
 
+    /// How many rows are of the article with a number, at most 1,000.
+    pub fn places(&self, a: u32) -> u32
+        requires { a < length self.now.articles }
+        ensures { result ≡ places_of self.now.rows a }
+    {
+        self.places[a as usize]
+    }
+
+    /// The number of the row at a location. None comes exactly where there is none.
+    pub fn row_at(&self, location: Location) -> Option<u32>
+        ensures { result ≡ row_number_from 0 self.now.rows location }
+    {
+        match self
+            .rows
+            .binary_search_by_key(&location, |row| row.location)
+        {
+            Ok(row) => Some(row as u32),
+            Err(_) => None,
+        }
+    }
+
     /// The number of the article with a name. None comes exactly where there is none.
     pub fn find(&self, name: &Name) -> Option<u32>
-        ensures { result ≡ article_in self.now.articles name.now }
+        ensures found { result ≡ article_in self.now.articles name.now }
+        ensures within { IfSome result (λ article. article < length self.now.articles) }
     {
         match self.articles.get_index_of(name) {
             Some(article) => Some(article as u32),
@@ -178,40 +290,30 @@ impl Stock {
     }
 }
 
-fn read_lines(alloc: Global, records: &[ByteRecord]) -> Result<StockSoFar, FirstFault>
-    ensures { Reads result (stock_with empty_stock (map fields_of records.now)) }
+fn read_rows(alloc: Global, records: &mut Records) -> Result<StockSoFar, RowFault>
+    requires { IsReading records.old }
+    ensures { Reads result (made_by stock_after empty_stock (kept_left records.old)) }
 {
+    let mut fields = ByteRecord::new(alloc);
     let mut stock = StockSoFar::new(alloc);
-    for fields in records {
-        let line = read_stock_line(fields).ok_or(FirstFault::NotFirst)?;
-        stock.add(line)?;
+    while let Some(row) = records.next(&mut fields)? {
+        stock = stock.with(row, &fields)?;
     }
     Ok(stock)
 }
 
-impl StockSoFar {
-    fn finish(self, alloc: Global) -> Result<Stock, Memory>
-        requires { IsFirstStock self }
-        ensures { IfOk result (λ stock. stock ≡ self) }
-    {
-        let StockSoFar { rows, articles } = self;
-        Ok(Stock {
-            rows: rows.into_values().collect(alloc)?,
-            articles,
-        })
-    }
-}
-
-/// The stock that a stock file in first form says. `NotFirst` comes exactly where the text hasn't that form: the
-/// heading `location,article,on_hand`, then at most 25,600 records of a location with an aisle 1 to 64 and a slot
-/// 1 to 200, an article and a number 0 to 1,000,000, where no location and no article stands twice.
-pub fn read_stock(alloc: Global, text: &Vec<u8>) -> Result<Stock, FirstFault>
-    ensures { Reads result (first_stock text.now.items) }
+/// The stock that a stock file says: the heading `location,article,on_hand`, and then a record for each row. A
+/// record is refused, in this order, as `TooManyRows` where it is the 25,601st, `Columns` where it hasn't three fields,
+/// `NotUtf8` where one isn't text, `BadName` where the first is no location, `UnknownLocation` where its aisle isn't 1
+/// to 64 or its slot isn't 1 to 200, `LocationTwice`, `BadName` where the second is no name, `TooManyPlaces` where the
+/// article has 1,000 rows already, and `BadNumber` or `OutOfRange` where the third is no number 0 to 1,000,000. The
+/// first record that is refused is the answer, and so is the first record at all, or row 1 where there is none, as
+/// `Columns` where it isn't the heading.
+pub fn read_stock(alloc: Global, text: &Vec<u8>) -> Result<Stock, RowFault>
+    ensures exact { Reads result (stock_said text.now.items) }
+    ensures read { IfOk result IsReadStock }
 {
-    let records = read_first_records(alloc, text)?;
-    let lines = records_under(&records, b"location", b"article", b"on_hand").ok_or(
-        FirstFault::NotFirst,
-    )?;
-    let stock = read_lines(alloc, lines)?;
+    let mut records = Records::under(alloc, text, b"location", b"article", b"on_hand")?;
+    let stock = read_rows(alloc, &mut records)?;
     Ok(stock.finish(alloc)?)
 }

@@ -1,6 +1,8 @@
 pub mod Held
 pub mod Refusals
 pub mod Script
-pub mod Released
+pub mod RowsKept
+pub mod Taken
+pub mod Writing
 pub mod Output
 pub mod Endings

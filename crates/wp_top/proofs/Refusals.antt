@@ -4,7 +4,9 @@ use Rattle.std.specs.Prelude.{unwrap_or}
 use Rattle.wp_model.specs.Opening.{Order, Stock}
 use Rattle.wp_model.specs.declared.command.Command.{Command}
 use Rattle.wp_outside.specs.Outside.{NoneFalls, SameBytes}
-use Rattle.wp_tables.specs.Reading.{first_orders, first_scripts, first_stock}
+use Rattle.wp_tables.specs.DeskFile.{scripts_said}
+use Rattle.wp_tables.specs.OrderFile.{orders_said}
+use Rattle.wp_tables.specs.StockFile.{stock_said}
 use Rattle.wp_top.specs.Stops.{AreRead, IsSaid, NothingSaid, Stops}
 use Rattle.wp_top.specs.Texts.{Texts, name_for}
 use Rattle.wp_top.specs.Words.{FileNames}
@@ -18,7 +20,7 @@ use Rattle.wp_top.proofs.Held.{held_before, some_text}
 -- all three files were accepted
 pub all_read : (holds mid last : List ℕ → Option (List ℕ)) (names : FileNames) (stock : Stock) (orders : List Order) (scripts : List (List Command))
     → SameBytes holds mid → SameBytes mid last
-    → IsSaid first_stock holds names.stock stock → IsSaid (first_orders stock) mid names.orders orders → IsSaid first_scripts last names.desks scripts
+    → IsSaid stock_said holds names.stock stock → IsSaid (orders_said stock) mid names.orders orders → IsSaid scripts_said last names.desks scripts
     → AreRead holds names (record { stock = stock; orders = orders }) scripts
 all_read holds mid last names stock orders scripts same same' (a, read_a, said_a) (b, read_b, said_b) (c, read_c, said_c) =
     let texts : Texts = record { stock = a; orders = b; desks = c } in
@@ -40,11 +42,11 @@ rose names before after t here e less = subst (λ t. before (name_for names t) <
 
 -- nothing came of the stock file
 pub stop_at_stock : (holds : List ℕ → Option (List ℕ)) (names : FileNames) (before mid after : List ℕ → ℕ) (s : Stop)
-    → NothingSaid first_stock holds names.stock (before names.stock) (mid names.stock) table.Stock s → NoneFalls mid after → Stops holds names before after s
+    → NothingSaid stock_said holds names.stock (before names.stock) (mid names.stock) table.Stock s → NoneFalls mid after → Stops holds names before after s
 stop_at_stock holds names before mid after (stop.Refused t refusal.TooLong) (e, text, long) rest =
     let texts : Texts = record { stock = text; orders = unwrap_or (holds names.orders) []; desks = unwrap_or (holds names.desks) [] } in
     (texts, record { stock = long.held; orders = some_text holds names.orders; desks = some_text holds names.desks }, rw (e, long.long) refl)
-stop_at_stock holds names before mid after (stop.Refused t refusal.FirstForm) (e, text, read, none) rest =
+stop_at_stock holds names before mid after (stop.Refused t (refusal.Row fault)) (e, text, read, none) rest =
     let texts : Texts = record { stock = text; orders = unwrap_or (holds names.orders) []; desks = unwrap_or (holds names.desks) [] } in
     (texts, record { stock = read.held; orders = some_text holds names.orders; desks = some_text holds names.desks }, rw (e, read.short, none) refl)
 stop_at_stock holds names before mid after (stop.Fault t) (e, less) rest = rose names before after t table.Stock e (omega (arith, rest names.stock))
@@ -52,15 +54,15 @@ stop_at_stock holds names before mid after stop.Memory nothing rest = tt
 
 -- nothing came of the order file
 pub stop_at_orders : (holds held : List ℕ → Option (List ℕ)) (names : FileNames) (before first second after : List ℕ → ℕ) (stock : Stock) (s : Stop)
-    → SameBytes holds held → IsSaid first_stock holds names.stock stock → NoneFalls before first
-    → NothingSaid (first_orders stock) held names.orders (first names.orders) (second names.orders) table.Orders s → NoneFalls second after → Stops holds names before after s
+    → SameBytes holds held → IsSaid stock_said holds names.stock stock → NoneFalls before first
+    → NothingSaid (orders_said stock) held names.orders (first names.orders) (second names.orders) table.Orders s → NoneFalls second after → Stops holds names before after s
 stop_at_orders holds held names before first second after stock (stop.Refused t refusal.TooLong) same (a, read_a, said_a) so_far (e, text, long) rest =
     let texts : Texts = record { stock = a; orders = text; desks = unwrap_or (holds names.desks) [] } in (
       texts,
       record { stock = read_a.held; orders = held_before holds held names.orders text (same names.orders) long.held; desks = some_text holds names.desks },
       rw (e, read_a.short, said_a, long.long) refl,
     )
-stop_at_orders holds held names before first second after stock (stop.Refused t refusal.FirstForm) same (a, read_a, said_a) so_far (e, text, read, none) rest =
+stop_at_orders holds held names before first second after stock (stop.Refused t (refusal.Row fault)) same (a, read_a, said_a) so_far (e, text, read, none) rest =
     let texts : Texts = record { stock = a; orders = text; desks = unwrap_or (holds names.desks) [] } in (
       texts,
       record { stock = read_a.held; orders = held_before holds held names.orders text (same names.orders) read.held; desks = some_text holds names.desks },
@@ -72,8 +74,8 @@ stop_at_orders holds held names before first second after stock stop.Memory same
 
 -- nothing came of the desk file
 pub stop_at_desks : (holds held held' : List ℕ → Option (List ℕ)) (names : FileNames) (before first after : List ℕ → ℕ) (stock : Stock) (orders : List Order) (s : Stop)
-    → SameBytes holds held → SameBytes held held' → IsSaid first_stock holds names.stock stock → IsSaid (first_orders stock) held names.orders orders → NoneFalls before first
-    → NothingSaid first_scripts held' names.desks (first names.desks) (after names.desks) table.Desks s → Stops holds names before after s
+    → SameBytes holds held → SameBytes held held' → IsSaid stock_said holds names.stock stock → IsSaid (orders_said stock) held names.orders orders → NoneFalls before first
+    → NothingSaid scripts_said held' names.desks (first names.desks) (after names.desks) table.Desks s → Stops holds names before after s
 stop_at_desks holds held held' names before first after stock orders (stop.Refused t refusal.TooLong) same same' (a, read_a, said_a) (b, read_b, said_b) so_far (e, text, long) =
     let texts : Texts = record { stock = a; orders = b; desks = text } in (
       texts,
@@ -84,7 +86,7 @@ stop_at_desks holds held held' names before first after stock orders (stop.Refus
       },
       rw (e, read_a.short, said_a, read_b.short, said_b, long.long) refl,
     )
-stop_at_desks holds held held' names before first after stock orders (stop.Refused t refusal.FirstForm) same same' (a, read_a, said_a) (b, read_b, said_b) so_far (e, text, read, none) =
+stop_at_desks holds held held' names before first after stock orders (stop.Refused t (refusal.Row fault)) same same' (a, read_a, said_a) (b, read_b, said_b) so_far (e, text, read, none) =
     let texts : Texts = record { stock = a; orders = b; desks = text } in (
       texts,
       record {

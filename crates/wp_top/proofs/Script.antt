@@ -1,19 +1,16 @@
 -- A script is answered command by command.
-use Rattle.std.proofs.Common.{◌≡◌, ◌∙◌, refl, sym, ap, subst, ℕ, zero, suc, ◌+◌, ◌<◌, List, [], ◌∷◌, ◌++◌, length, take, Bool, true, false, ◌&&◌, nat_lt, nat_le, Some, slice_get, get_or, append_assoc, arith}
+use Rattle.std.proofs.Common.{◌≡◌, ◌∙◌, refl, sym, ap, ℕ, zero, suc, ◌+◌, ◌<◌, List, [], ◌∷◌, ◌++◌, length, take, Some, slice_get, get_or, append_assoc, arith}
+use Rattle.std.specs.List.{flat_map}
+use Rattle.std.proofs.lemmas.Grind.{flat_map-append}
 use Rattle.std.proofs.lemmas.List.{append-nil, map-append}
-use Rattle.std.proofs.lemmas.Bool.Decides.{nat_tests}
-use Rattle.std.specs.List.{list_all}
-use Rattle.std.specs.Prelude.{IsTrue}
-use Rattle.wp_model.specs.FirstForm.{BeginsFirstScript, are_different, are_orders, script_from}
-use Rattle.wp_model.specs.History.{History, answered, answered_all, commands_of, next_entry, opened}
-use Rattle.wp_model.specs.Name.{is_name}
-use Rattle.wp_model.specs.Opening.{Opening, most_orders}
-use Rattle.wp_model.specs.Plain.{is_plain}
+use Rattle.wp_model.specs.History.{History, answered, answered_all, commands_of, next_entry, state_after, state_from}
+use Rattle.wp_model.specs.Opening.{Opening}
+use Rattle.wp_model.specs.State.{State, opening_state}
+use Rattle.wp_model.specs.Step.{step}
 use Rattle.wp_model.specs.declared.command.Command.{Command}
-use Rattle.wp_model.specs.declared.command.Command.TheVariants as command
 use Rattle.wp_model.specs.declared.entry.Entry.{Entry}
-use Rattle.wp_model.specs.declared.line.Submission.{Submission}
-use Rattle.wp_top.specs.Runs.{IsFirstScript}
+use Rattle.wp_machine.specs.Outcome.{outcome_of}
+use Rattle.wp_top.specs.Refills.{outcomes_from, refill_in, refills_of}
 
 -- an item that is read at a place
 pub read_at : (commands : List Command) (i : ℕ) (command : Command) → i < length commands → command ≡ get_or commands i command → slice_get commands i ≡ Some command
@@ -35,45 +32,50 @@ pub answered_all-next : (history : History) (desk : ℕ) (commands : List Comman
     → answered_all history desk (take (i + 1) commands) ≡ answered (answered_all history desk (take i commands)) desk command
 answered_all-next history desk commands i command is = ap (λ n. answered_all history desk (take n commands)) (sym (one_more i)) ∙ next_of history desk commands i command is
 
-take-next : (commands : List Command) (i : ℕ) (command : Command) → slice_get commands i ≡ Some command → take (suc i) commands ≡ take i commands ++ command ∷ []
-take-next [] i command is = absurd (cc is)
-take-next (first ∷ commands) zero command is = ap (λ (c : Command). c ∷ []) (cc is)
-take-next (first ∷ commands) (suc i) command is = ap (λ cs. first ∷ cs) (take-next commands i command is)
-
 -- what was answered are the commands
-commands_answered : (history : History) (desk : ℕ) (commands : List Command) → commands_of (answered_all history desk commands).entries ≡ commands_of history.entries ++ commands
+pub commands_answered : (history : History) (desk : ℕ) (commands : List Command) → commands_of (answered_all history desk commands).entries ≡ commands_of history.entries ++ commands
 commands_answered history desk [] = sym (append-nil (commands_of history.entries))
 commands_answered history desk (command ∷ commands) =
     commands_answered (answered history desk command) desk commands
     ∙ (ap (λ cs. cs ++ commands) (map-append (λ (entry : Entry). entry.command) history.entries (next_entry history desk command ∷ []))
     ∙ append_assoc (commands_of history.entries) (command ∷ []) commands)
 
--- with the next command they still begin the script
-pub begins_script : (opening : Opening) (commands : List Command) (i : ℕ) (command : Command) → IsFirstScript commands → slice_get commands i ≡ Some command
-    → BeginsFirstScript (commands_of (answered_all (opened opening) 1 (take i commands)).entries ++ command ∷ [])
-begins_script opening commands i command (s, orders, is) at =
-    (s, suc i, orders, ap (λ cs. cs ++ command ∷ []) (commands_answered (opened opening) 1 (take i commands)) ∙ (sym (take-next commands i command at) ∙ ap (take (suc i)) is))
+-- there is an entry for each command
+pub entries_answered : (history : History) (desk : ℕ) (commands : List Command) → length (answered_all history desk commands).entries ≡ length history.entries + length commands
+entries_answered history desk [] = omega arith
+entries_answered history desk (command ∷ commands) =
+    omega (arith, entries_answered (answered history desk command) desk commands, pushed history.entries (next_entry history desk command))
+  where
+    pushed : (entries : List Entry) (entry : Entry) → length (entries ++ entry ∷ []) ≡ length entries + 1
+    pushed [] entry = refl
+    pushed (first ∷ entries) entry = omega (arith, pushed entries entry)
 
-both_true : (p q : Bool) → (p && q) ≡ true → (p ≡ true) × (q ≡ true)
-both_true true q e = (refl, e)
-both_true false q e = absurd (cc e)
+outcomes-append : (opening : Opening) (number : ℕ) (state : State) (entries more : List Entry)
+    → outcomes_from opening number state (entries ++ more) ≡ outcomes_from opening number state entries ++ outcomes_from opening (number + length entries) (state_from opening state entries) more
+outcomes-append opening number state [] more = ap (λ n. outcomes_from opening n state more) (none number)
+  where
+    none : (n : ℕ) → n ≡ n + 0
+    none n = omega arith
+outcomes-append opening number state (entry ∷ entries) more =
+    ap (λ os. outcome_of number state entry.command (step opening state entry.command) ∷ os)
+    (outcomes-append opening (number + 1) (step opening state entry.command).state entries more
+    ∙ ap (λ n. outcomes_from opening (number + 1) (step opening state entry.command).state entries ++ outcomes_from opening n (state_from opening (step opening state entry.command).state entries) more)
+    (shift number (length entries)))
+  where
+    shift : (n m : ℕ) → (n + 1) + m ≡ n + suc m
+    shift n m = omega arith
 
-few_orders : (orders : List (List ℕ)) → are_orders orders ≡ true → nat_le (length orders) 100 ≡ true
-few_orders orders are =
-    let all = both_true _ (are_different [] orders) are in
-    let named = both_true _ (list_all is_name orders) all.0 in
-    let few = both_true (nat_lt 0 (length orders)) (nat_le (length orders) most_orders) named.0 in
-    let most = few.1 in
-    grind (arith, nat_tests)
+zero_more : (n : ℕ) → 0 + n ≡ n
+zero_more n = omega arith
 
-named : (a b : Command) → Some a ≡ Some b → a ≡ b
-named a b is = cc is
-
-plain_script : (s : Submission) (i : ℕ) (command : Command) → are_orders s.orders ≡ true → slice_get (script_from s) i ≡ Some command → is_plain command ≡ true
-plain_script s zero asked are at = subst (λ c. is_plain c ≡ true) (named (command.Submit s.wave s.orders) asked at) (few_orders s.orders are)
-plain_script s (suc zero) asked are at = subst (λ c. is_plain c ≡ true) (named (command.Release s.wave) asked at) refl
-plain_script s (suc (suc i)) command are at = absurd (cc at)
-
--- each of its commands is plain
-pub plain_in_script : (commands : List Command) (i : ℕ) (command : Command) → IsFirstScript commands → slice_get commands i ≡ Some command → IsTrue (is_plain command)
-plain_in_script commands i command (s, orders, is) at = plain_script s i command orders (subst (λ cs. slice_get cs i ≡ Some command) is at)
+-- one more answer, and the refill that its step tells
+pub refills_of-answered : (history : History) (desk : ℕ) (command : Command)
+    → refills_of (answered history desk command) ≡ refills_of history ++ refill_in (outcome_of (length history.entries) (state_after history) command (step history.opening (state_after history) command))
+refills_of-answered history desk command =
+    let start = opening_state history.opening in
+    let entry = next_entry history desk command in
+    let told = outcomes_from history.opening 0 start history.entries in
+    ap (flat_map refill_in) (outcomes-append history.opening 0 start history.entries (entry ∷ []))
+    ∙ (flat_map-append refill_in told _
+    ∙ ap (λ refills. flat_map refill_in told ++ refills)
+    (append-nil _ ∙ ap (λ n. refill_in (outcome_of n (state_after history) command (step history.opening (state_after history) command))) (zero_more (length history.entries))))

@@ -2,7 +2,7 @@
 use Rattle.std.specs.Prelude.{◌≡◌, ◌⊎◌, ◌++◌, ℕ, ◌<◌, List, [], Option, Some, None, codes, string_bytes}
 use Rattle.wp_model.specs.Journal.{after_space, line}
 use Rattle.wp_outside.specs.Outside.{Grows, TookPrefix}
-use Rattle.wp_top.specs.Runs.{IsFirstRun}
+use Rattle.wp_top.specs.Runs.{IsRun}
 use Rattle.wp_top.specs.Texts.{AreHeld, Refused, Texts, first_refusal, name_for, refusal_text, table_text}
 use Rattle.wp_top.specs.Words.{FileNames, files_named}
 use Rattle.wp_top.specs.declared.ending.Complaint.{Complaint}
@@ -29,14 +29,14 @@ status_of (ending.Complaint complaint.BadWords) = 1
 status_of (ending.Complaint (complaint.Refused table why)) = 2
 status_of (ending.Complaint (complaint.Fault table)) = 3
 
--- the words name three files, these hold texts of the first form, and the output is that of the run that they say
+-- the words name three files, none of them is refused, and the output is that of the run that their texts say
 pub record IsOutput (holds : List ℕ → Option (List ℕ)) (words : List (List ℕ)) (output : List ℕ) : Type 0 where
   pub names : FileNames
   pub named : files_named words ≡ Some names
   pub texts : Texts
   pub held : AreHeld holds names texts
   pub accepted : first_refusal texts ≡ None
-  pub runs : IsFirstRun texts output
+  pub runs : IsRun texts output
 
 -- the words name three files, and this is the first that is refused, and why
 pub record IsFirstFault (holds : List ℕ → Option (List ℕ)) (words : List (List ℕ)) (fault : Refused) : Type 0 where

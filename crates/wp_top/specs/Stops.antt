@@ -1,9 +1,12 @@
 -- Why a run stops before its output.
-use Rattle.std.specs.Prelude.{◌≡◌, ℕ, ◌<◌, ⊤, nat_lt, true, false, List, length, Option, Some, None}
+use Rattle.std.specs.Prelude.{◌≡◌, ℕ, ◌<◌, ⊤, nat_lt, true, false, List, length, Option, Some, None, Result, Ok, Err}
 use Rattle.wp_model.specs.Opening.{Opening}
 use Rattle.wp_model.specs.declared.command.Command.{Command}
 use Rattle.wp_outside.specs.declared.files.TheConstants.{MAX_FILE_BYTES}
-use Rattle.wp_tables.specs.Reading.{first_orders, first_scripts, first_stock}
+use Rattle.wp_tables.specs.DeskFile.{scripts_said}
+use Rattle.wp_tables.specs.OrderFile.{orders_said}
+use Rattle.wp_tables.specs.StockFile.{stock_said}
+use Rattle.wp_tables.specs.declared.fault.RowFault.{RowFault}
 use Rattle.wp_top.specs.Texts.{AreHeld, IsHeld, Texts, first_refusal, name_for}
 use Rattle.wp_top.specs.Words.{FileNames}
 use Rattle.wp_top.specs.declared.reading.Stop.{Stop}
@@ -24,29 +27,29 @@ pub record IsLong (holds : List ℕ → Option (List ℕ)) (name text : List ℕ
 -- why one file was not read: it is too long, or its count of faults rose
 abbrev pub StopsAt : (List ℕ → Option (List ℕ)) → List ℕ → ℕ → ℕ → Table → Stop → Type 0
 StopsAt holds name before after table (stop.Refused t refusal.TooLong) = (t ≡ table) × (text : List ℕ) × IsLong holds name text
-StopsAt holds name before after table (stop.Refused t refusal.FirstForm) = ⊥
+StopsAt holds name before after table (stop.Refused t (refusal.Row fault)) = ⊥
 StopsAt holds name before after table (stop.Fault t) = (t ≡ table) × (before < after)
 StopsAt holds name before after table stop.Memory = ⊤
 
--- why nothing came of one file: it is too long, its text says nothing, or its count of faults rose
-abbrev pub NothingSaid : {A : Type 0} → (List ℕ → Option A) → (List ℕ → Option (List ℕ)) → List ℕ → ℕ → ℕ → Table → Stop → Type 0
+-- why nothing came of one file: it is too long, a record of it isn't read, or its count of faults rose
+abbrev pub NothingSaid : {A : Type 0} → (List ℕ → Result A RowFault) → (List ℕ → Option (List ℕ)) → List ℕ → ℕ → ℕ → Table → Stop → Type 0
 NothingSaid says holds name before after table (stop.Refused t refusal.TooLong) = (t ≡ table) × (text : List ℕ) × IsLong holds name text
-NothingSaid says holds name before after table (stop.Refused t refusal.FirstForm) = (t ≡ table) × (text : List ℕ) × IsRead holds name text × (says text ≡ None)
+NothingSaid says holds name before after table (stop.Refused t (refusal.Row fault)) = (t ≡ table) × (text : List ℕ) × IsRead holds name text × (says text ≡ Err fault)
 NothingSaid says holds name before after table (stop.Fault t) = (t ≡ table) × (before < after)
 NothingSaid says holds name before after table stop.Memory = ⊤
 
 -- what came of one file: what its text says
-abbrev pub IsSaid : {A : Type 0} → (List ℕ → Option A) → (List ℕ → Option (List ℕ)) → List ℕ → A → Type 0
-IsSaid says holds name said = (text : List ℕ) × IsRead holds name text × (says text ≡ Some said)
+abbrev pub IsSaid : {A : Type 0} → (List ℕ → Result A RowFault) → (List ℕ → Option (List ℕ)) → List ℕ → A → Type 0
+IsSaid says holds name said = (text : List ℕ) × IsRead holds name text × (says text ≡ Ok said)
 
--- what was read: the opening and the scripts that the texts of the first form say
+-- what was read: the opening and the scripts that the texts say
 pub record AreRead (holds : List ℕ → Option (List ℕ)) (names : FileNames) (opening : Opening) (scripts : List (List Command)) : Type 0 where
   pub texts : Texts
   pub held : AreHeld holds names texts
   pub accepted : first_refusal texts ≡ None
-  pub stock : first_stock texts.stock ≡ Some opening.stock
-  pub orders : first_orders opening.stock texts.orders ≡ Some opening.orders
-  pub desks : first_scripts texts.desks ≡ Some scripts
+  pub stock : stock_said texts.stock ≡ Ok opening.stock
+  pub orders : orders_said opening.stock texts.orders ≡ Ok opening.orders
+  pub desks : scripts_said texts.desks ≡ Ok scripts
 
 -- why the files were not read: the first refusal, or a file whose count of faults rose
 abbrev pub Stops : (List ℕ → Option (List ℕ)) → FileNames → (List ℕ → ℕ) → (List ℕ → ℕ) → Stop → Type 0

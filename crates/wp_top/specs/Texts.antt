@@ -1,9 +1,12 @@
 -- The texts of a run's files, and why one is refused.
-use Rattle.std.specs.Prelude.{◌≡◌, ℕ, nat_lt, List, codes, Option, Some, None, IfSome, length, if◌then◌else◌}
-use Rattle.std.specs.Option.{option_map_or}
+use Rattle.std.specs.Prelude.{◌≡◌, ℕ, nat_lt, List, codes, Option, Some, None, IfSome, length, if◌then◌else◌, Result, Ok, Err}
 use Rattle.wp_model.specs.Opening.{Stock}
 use Rattle.wp_outside.specs.declared.files.TheConstants.{MAX_FILE_BYTES}
-use Rattle.wp_tables.specs.Reading.{first_orders, first_scripts, first_stock}
+use Rattle.wp_tables.specs.DeskFile.{scripts_said}
+use Rattle.wp_tables.specs.Faults.{row_fault_text}
+use Rattle.wp_tables.specs.OrderFile.{orders_said}
+use Rattle.wp_tables.specs.StockFile.{stock_said}
+use Rattle.wp_tables.specs.declared.fault.RowFault.{RowFault}
 use Rattle.wp_top.specs.Words.{FileNames}
 use Rattle.wp_top.specs.declared.table.Table.{Table}
 use Rattle.wp_top.specs.declared.table.Table.TheVariants as table
@@ -47,22 +50,23 @@ pub record Refused : Type 0 where
 abbrev pub unless_too_long : Table → List ℕ → Option Refused → Option Refused
 unless_too_long table text next = if nat_lt MAX_FILE_BYTES (length text) then Some (record { table = table; why = refusal.TooLong }) else next
 
--- a refusal for its form
-abbrev pub not_first : Table → Option Refused
-not_first table = Some (record { table = table; why = refusal.FirstForm })
+-- a refusal for the first record that isn't read, or else what comes of what the text says
+abbrev pub unless_faulty : {A : Type 0} → Table → Result A RowFault → (A → Option Refused) → Option Refused
+unless_faulty table (Ok said) next = next said
+unless_faulty table (Err fault) next = Some (record { table = table; why = refusal.Row fault })
 
 -- the refusal of the desk file
 abbrev pub desks_refusal : Texts → Option Refused
-desks_refusal texts = unless_too_long table.Desks texts.desks (option_map_or (λ scripts. None) (first_scripts texts.desks) (not_first table.Desks))
+desks_refusal texts = unless_too_long table.Desks texts.desks (unless_faulty table.Desks (scripts_said texts.desks) (λ scripts. None))
 
 -- the refusal of the order file, or of the desk file after it
 abbrev pub orders_refusal : Texts → Stock → Option Refused
 orders_refusal texts stock =
-    unless_too_long table.Orders texts.orders (option_map_or (λ orders. desks_refusal texts) (first_orders stock texts.orders) (not_first table.Orders))
+    unless_too_long table.Orders texts.orders (unless_faulty table.Orders (orders_said stock texts.orders) (λ orders. desks_refusal texts))
 
 -- the first refusal, in the order stock, orders, desks
 abbrev pub first_refusal : Texts → Option Refused
-first_refusal texts = unless_too_long table.Stock texts.stock (option_map_or (orders_refusal texts) (first_stock texts.stock) (not_first table.Stock))
+first_refusal texts = unless_too_long table.Stock texts.stock (unless_faulty table.Stock (stock_said texts.stock) (orders_refusal texts))
 
 -- what a file is called
 abbrev pub table_text : Table → List ℕ
@@ -73,4 +77,4 @@ table_text table.Desks = codes "desks"
 -- what a refusal is called
 abbrev pub refusal_text : Refusal → List ℕ
 refusal_text refusal.TooLong = codes "too-long"
-refusal_text refusal.FirstForm = codes "first-form"
+refusal_text (refusal.Row fault) = row_fault_text fault

@@ -3,11 +3,11 @@ ghost use Rattle.wp_model.specs.Journal.{line};
 ghost use Rattle.wp_outside.specs.Outside.{Grows, NoneFalls, SameBytes, TookPrefix};
 ghost use Rattle.wp_outside.specs.declared.sink.SinkFault.TheVariants as sink_fault;
 ghost use Rattle.wp_top.specs.Ends.{Finishes, IsEnding, complaint_text, status_of, text_of};
-ghost use Rattle.wp_top.specs.Runs.{IsJournalOf, IsOneFirstScript};
+ghost use Rattle.wp_top.specs.Runs.{IsOutputOf};
 ghost use Rattle.wp_machine.specs.Opening.{opening_of};
-ghost use Rattle.wp_model.specs.FirstOpening.{AreFirstOrders};
+ghost use Rattle.wp_model.specs.Tables.{AreReadScripts, IsReadOpening};
 
-use crate::answering::journal_of;
+use crate::answering::output_of_script;
 use crate::reading::{Stop, Tables, read_tables};
 use crate::table::{Refusal, Table};
 use crate::words::read_words;
@@ -63,11 +63,11 @@ impl Ending {
     }
 }
 
-// The journal of what was read.
-fn journal_from(alloc: Global, tables: Tables) -> Result<String, Memory>
-    requires orders { AreFirstOrders tables.stock.articles tables.orders }
-    requires script { IsOneFirstScript tables.scripts }
-    ensures { IfOk result (λ text. IsJournalOf (opening_of tables.stock tables.orders) tables.scripts (string_bytes text)) }
+// The output of what was read.
+fn output_from(alloc: Global, tables: Tables) -> Result<String, Memory>
+    requires opening { IsReadOpening (opening_of tables.stock tables.orders) }
+    requires scripts { AreReadScripts tables.scripts }
+    ensures { IfOk result (λ text. IsOutputOf (opening_of tables.stock tables.orders) tables.scripts (string_bytes text)) }
 {
     let Tables {
         stock,
@@ -75,7 +75,7 @@ fn journal_from(alloc: Global, tables: Tables) -> Result<String, Memory>
         scripts,
     } = tables;
     let opening = Opening::of(stock, orders);
-    let text = journal_of(alloc, &opening, scripts.script(1))?;
+    let text = output_of_script(alloc, &opening, scripts.script(1))?;
     Ok(text)
 }
 
@@ -90,7 +90,7 @@ pub fn ending_of<F: Files>(alloc: Global, words: &[String], files: &mut F) -> Re
     };
     match read_tables(alloc, files, &words) {
         Ok(tables) => {
-            let text = journal_from(alloc, tables)?;
+            let text = output_from(alloc, tables)?;
             Ok(Ending::Done(text))
         }
         Err(Stop::Refused(table, why)) => Ok(Ending::Complaint(Complaint::Refused(table, why))),

@@ -1,7 +1,13 @@
-ghost use Rattle.std.specs.Prelude.{Some};
+ghost use Rattle.std.specs.Prelude.{◌≡◌, Some, IfOk, vec_len};
 
+mod cases;
+
+use self::cases::{
+    BAD_DESKS, BAD_ORDERS, BAD_STOCKS, EVERY_REPLY, HOLDING, PICKING, Run, SPELLINGS, Three,
+};
 use super::run;
 use std::alloc::{AllocError, Global};
+use std::fmt::Write;
 use std::test::Fail;
 use wp_outside::{MAX_FILE_BYTES, MemFiles, MemSink, Sink, SinkFault};
 
@@ -11,8 +17,17 @@ const ORDERS: &[u8] = b"order,article,quantity\nO1,A,2\n";
 
 const DESKS: &[u8] = b"desk,command,arguments\n1,submit,W1,O1\n1,release,W1\n";
 
-const JOURNAL: &[u8] =
-    b"journal\n0 1 submit W1 O1 -> submitted\n1 1 release W1 -> released\nend journal\n";
+const OUTPUT: &[u8] = b"journal
+0 1 submit W1 O1 -> submitted
+1 1 release W1 -> released
+end journal
+refills
+end refills
+stock
+1-1-L A 5 3 2
+end stock
+end
+";
 
 const OTHER_WORDS: [&[&str]; 6] = [
     &[],
@@ -35,32 +50,30 @@ fn good_words(alloc: Global) -> Result<Vec<String>, AllocError> {
     words_of(alloc, &["first", "stock", "orders", "desks"])
 }
 
-/// The texts of three files.
-#[derive(Clone, Copy)]
-struct Three<'a> {
-    stock: &'a [u8],
-    orders: &'a [u8],
-    desks: &'a [u8],
-}
-
 const SMALLEST: Three<'static> = Three {
     stock: STOCK,
     orders: ORDERS,
     desks: DESKS,
 };
 
-fn files_of(alloc: Global, texts: &Three<'_>, fails: Vec<u64>) -> Result<MemFiles, AllocError> {
+fn names_of_files(alloc: Global) -> Result<Vec<String>, AllocError>
+    ensures { IfOk result (λ names. vec_len names ≡ 3) }
+{
     let names = vec![in alloc;
         String::from_str(alloc, "stock")?,
         String::from_str(alloc, "orders")?,
         String::from_str(alloc, "desks")?,
     ]?;
+    Ok(names)
+}
+
+fn files_of(alloc: Global, texts: &Three<'_>, fails: Vec<u64>) -> Result<MemFiles, AllocError> {
     let contents = vec![in alloc;
         texts.stock.to_vec(alloc)?,
         texts.orders.to_vec(alloc)?,
         texts.desks.to_vec(alloc)?,
     ]?;
-    Ok(MemFiles::of(names, contents, fails))
+    Ok(MemFiles::of(names_of_files(alloc)?, contents, fails))
 }
 
 /// Whether a run of these texts, in which nothing fails, ends so.
@@ -97,53 +110,124 @@ impl Sink for OneByte {
     }
 }
 
+/// Whether a run of these texts, in which nothing fails, has this output.
+fn gives<R: Sync>(rt: &R, alloc: Global, run: &Run<'_>) -> Result<bool, AllocError> {
+    ends_with(rt, alloc, &run.texts, 0, run.output)
+}
+
 #[test]
-fn the_smallest_waves_end_as_they_should(rt: HostRuntime) -> Result<(), Fail> {
+fn stock_is_held_by_overlap_and_given_back(rt: HostRuntime) -> Result<(), Fail> {
     let alloc = rt.alloc();
-    let short = Three {
-        stock: b"location,article,on_hand\n1-1-L,A,1\n",
-        ..SMALLEST
-    };
-    let unknown = Three {
-        desks: b"desk,command,arguments\n1,submit,W1,O9\n1,release,W1\n",
-        ..SMALLEST
-    };
-    let second_desk = Three {
-        desks: b"desk,command,arguments\n2,submit,W1,O1\n2,release,W1\n",
-        ..SMALLEST
-    };
-    for (texts, status, output) in [
-        (SMALLEST, 0, JOURNAL),
-        (
-            short,
-            0,
-            b"journal\n0 1 submit W1 O1 -> submitted\n1 1 release W1 -> refused short A 2 1\nend journal\n".as_slice(),
-        ),
-        (
-            unknown,
-            0,
-            b"journal\n0 1 submit W1 O9 -> refused unknown-order O9\n1 1 release W1 -> refused unknown-wave\nend journal\n".as_slice(),
-        ),
-        (second_desk, 2, b"refused desks first-form\n".as_slice()),
-    ] {
-        assert!(rt; ends_with(&rt, alloc, &texts, status, output)?);
+    for run in HOLDING {
+        assert!(rt; gives(&rt, alloc, &run)?);
     }
     Ok(())
 }
 
 #[test]
-fn the_article_that_is_short_is_named_though_the_total_would_do(
-    rt: HostRuntime,
-) -> Result<(), Fail> {
+fn units_are_picked_or_written_off_and_held_elsewhere(rt: HostRuntime) -> Result<(), Fail> {
     let alloc = rt.alloc();
+    for run in PICKING {
+        assert!(rt; gives(&rt, alloc, &run)?);
+    }
+    Ok(())
+}
+
+#[test]
+fn every_kind_of_reply_is_printed_to_the_byte(rt: HostRuntime) -> Result<(), Fail> {
+    let alloc = rt.alloc();
+    assert!(rt; gives(&rt, alloc, &EVERY_REPLY)?);
+    Ok(())
+}
+
+#[test]
+fn files_of_other_spellings_are_read_as_the_same(rt: HostRuntime) -> Result<(), Fail> {
+    let alloc = rt.alloc();
+    for run in SPELLINGS {
+        assert!(rt; gives(&rt, alloc, &run)?);
+    }
+    Ok(())
+}
+
+#[test]
+fn the_first_record_that_is_not_read_is_told(rt: HostRuntime) -> Result<(), Fail> {
+    let alloc = rt.alloc();
+    for (stock, line) in BAD_STOCKS {
+        assert!(rt; ends_with(&rt, alloc, &Three { stock, ..SMALLEST }, 2, line)?);
+    }
+    for (orders, line) in BAD_ORDERS {
+        assert!(rt; ends_with(&rt, alloc, &Three { orders, ..SMALLEST }, 2, line)?);
+    }
+    for (desks, line) in BAD_DESKS {
+        assert!(rt; ends_with(&rt, alloc, &Three { desks, ..SMALLEST }, 2, line)?);
+    }
+    Ok(())
+}
+
+/// A text, and then so many orders, each after a mark.
+fn with_orders(alloc: Global, text: &str, mark: &str, orders: u32) -> Result<String, AllocError> {
+    let mut all = String::from_str(alloc, text)?;
+    for earlier in 0..orders {
+        let number = earlier + 1;
+        write!(all, "{mark}O{number}")?;
+    }
+    Ok(all)
+}
+
+/// Whether a wave of so many orders is answered so.
+fn wave_is_answered<R: Sync>(
+    rt: &R,
+    alloc: Global,
+    count: u32,
+    reply: &str,
+) -> Result<bool, AllocError> {
+    let mut orders = String::from_str(alloc, "order,article,quantity\n")?;
+    for number in 1..66 {
+        writeln!(orders, "O{number},A,1")?;
+    }
+    let desks = with_orders(alloc, "desk,command,arguments\n1,submit,W1", ",", count)?;
+    let mut output = with_orders(alloc, "journal\n0 1 submit W1", " ", count)?;
+    writeln!(output, " -> {reply}")?;
+    output.push_str("end journal\nrefills\nend refills\nstock\n1-1-L A 5 5 0\nend stock\nend\n")?;
+    let contents = vec![in alloc;
+        STOCK.to_vec(alloc)?,
+        orders.as_bytes().to_vec(alloc)?,
+        desks.as_bytes().to_vec(alloc)?,
+    ]?;
+    let mut files = MemFiles::of(names_of_files(alloc)?, contents, Vec::new(alloc));
+    let mut out = MemSink::of(alloc, Vec::new(alloc));
+    let ended = run(rt, alloc, &good_words(alloc)?, &mut files, &mut out);
+    Ok(ended == 0 && out.taken() == output.as_bytes())
+}
+
+#[test]
+fn a_wave_takes_64_orders_and_not_one_more(rt: HostRuntime) -> Result<(), Fail> {
+    let alloc = rt.alloc();
+    assert!(rt; wave_is_answered(&rt, alloc, 64, "submitted")?);
+    assert!(rt; wave_is_answered(&rt, alloc, 65, "refused wave-full 65")?);
+    Ok(())
+}
+
+#[test]
+fn a_desk_file_submits_500_waves_and_not_one_more(rt: HostRuntime) -> Result<(), Fail> {
+    let alloc = rt.alloc();
+    let mut desks = String::from_str(alloc, "desk,command,arguments\n")?;
+    for number in 0..501 {
+        writeln!(desks, "1,submit,W{number}")?;
+    }
     let texts = Three {
-        stock: b"location,article,on_hand\n1-1-L,A,9\n1-2-L,B,1\n1-3-L,C,0\n",
-        orders: b"order,article,quantity\nO1,A,2\nO2,C,1\nO1,B,1\nO2,B,1\n",
-        desks: b"desk,command,arguments\n1,submit,W1,O1,O2\n1,release,W1\n",
+        desks: desks.as_bytes(),
+        ..SMALLEST
     };
-    let output =
-        b"journal\n0 1 submit W1 O1 O2 -> submitted\n1 1 release W1 -> refused short B 2 1\nend journal\n";
-    assert!(rt; ends_with(&rt, alloc, &texts, 0, output.as_slice())?);
+    assert!(rt;
+        ends_with(
+            &rt,
+            alloc,
+            &texts,
+            2,
+            b"refused desks row 502 too-many-waves\n"
+        )?
+    );
     Ok(())
 }
 
@@ -156,45 +240,6 @@ fn words_that_name_no_run_are_refused(rt: HostRuntime) -> Result<(), Fail> {
         let status = run(&rt, alloc, &words_of(alloc, words)?, &mut files, &mut out);
         assert_eq!(rt; status, 1);
         assert!(rt; out.taken() == b"refused words bad-words\n".as_slice());
-    }
-    Ok(())
-}
-
-#[test]
-fn marks_line_ends_quotes_and_other_bytes_are_read_as_the_first_form_says(
-    rt: HostRuntime,
-) -> Result<(), Fail> {
-    let alloc = rt.alloc();
-    for (stock, accepted) in [
-        (
-            b"location,article,on_hand\r\n1-1-L,A,5\r\n".as_slice(),
-            true,
-        ),
-        (
-            b"\"location\",\"article\",\"on_hand\"\n\"1-1-L\",\"A\",\"5\"\n".as_slice(),
-            true,
-        ),
-        (b"location,article,on_hand\n1-1-L,A,5".as_slice(), true),
-        (
-            b"\xEF\xBB\xBFlocation,article,on_hand\n1-1-L,A,5\n".as_slice(),
-            false,
-        ),
-        (
-            b"location,article,on_hand\n1-1-L,A\xFF,5\n".as_slice(),
-            false,
-        ),
-        (
-            b"location,article,on_hand\n1-1-L,A,\xC3\xA9\n".as_slice(),
-            false,
-        ),
-        (b"location,article,on_hand\n1-1-L,A,5,\n".as_slice(), false),
-        (b"location,article\n1-1-L,A\n".as_slice(), false),
-        (b"".as_slice(), false),
-    ] {
-        let texts = Three { stock, ..SMALLEST };
-        let good = ends_with(&rt, alloc, &texts, 0, JOURNAL)?;
-        let bad = ends_with(&rt, alloc, &texts, 2, b"refused stock first-form\n")?;
-        assert_eq!(rt; (good, bad), (accepted, !accepted));
     }
     Ok(())
 }
@@ -215,9 +260,9 @@ fn an_order_may_have_50_lines_and_not_one_more(rt: HostRuntime) -> Result<(), Fa
         (
             50,
             0,
-            b"journal\n0 1 submit W1 O1 -> submitted\n1 1 release W1 -> refused short A 50 5\nend journal\n".as_slice(),
+            b"journal\n0 1 submit W1 O1 -> submitted\n1 1 release W1 -> refused short A 50 5\nend journal\nrefills\nend refills\nstock\n1-1-L A 5 5 0\nend stock\nend\n".as_slice(),
         ),
-        (51, 2, b"refused orders first-form\n".as_slice()),
+        (51, 2, b"refused orders row 52 too-many-lines\n".as_slice()),
     ] {
         let orders = lines_of_one_order(alloc, lines)?;
         let texts = Three {
@@ -232,6 +277,12 @@ fn an_order_may_have_50_lines_and_not_one_more(rt: HostRuntime) -> Result<(), Fa
 #[test]
 fn the_first_file_that_is_too_long_is_named(rt: HostRuntime) -> Result<(), Fail> {
     let alloc = rt.alloc();
+    let longest = vec![in alloc; b'1'; MAX_FILE_BYTES]?;
+    let texts = Three {
+        stock: longest.as_slice(),
+        ..SMALLEST
+    };
+    assert!(rt; ends_with(&rt, alloc, &texts, 2, b"refused stock row 1 columns\n")?);
     let long = vec![in alloc; b'\n'; MAX_FILE_BYTES + 1]?;
     let long = long.as_slice();
     for (texts, output) in [
@@ -285,15 +336,15 @@ fn a_sink_that_takes_one_byte_a_call_takes_all_up_to_each_fault(
     rt: HostRuntime,
 ) -> Result<(), Fail> {
     let alloc = rt.alloc();
-    for taken in 0..JOURNAL.len() + 1 {
+    for taken in 0..OUTPUT.len() + 1 {
         let mut files = files_of(alloc, &SMALLEST, Vec::new(alloc))?;
         let mut out = OneByte {
             sink: MemSink::of(alloc, vec![in alloc; taken as u64 + 1]?),
         };
         let status = run(&rt, alloc, &good_words(alloc)?, &mut files, &mut out);
-        assert_eq!(rt; status == 4, taken < JOURNAL.len());
-        assert_eq!(rt; status == 0, taken == JOURNAL.len());
-        assert_eq!(rt; out.sink.taken(), &JOURNAL[..taken]);
+        assert_eq!(rt; status == 4, taken < OUTPUT.len());
+        assert_eq!(rt; status == 0, taken == OUTPUT.len());
+        assert_eq!(rt; out.sink.taken(), &OUTPUT[..taken]);
     }
     Ok(())
 }

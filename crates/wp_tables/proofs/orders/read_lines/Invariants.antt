@@ -1,9 +1,16 @@
-use Rattle.std.proofs.Common.{◌≡◌, [], drop, map}
-use Rattle.csv.specs.Records.{fields_of}
-use Rattle.wp_model.specs.FirstForm.{orders_with}
+use Rattle.std.proofs.Common.{◌≡◌, [], length}
+use Rattle.wp_model.specs.Tables.{AreReadOrders}
+use Rattle.wp_tables.specs.OrderFile.{orders_after}
+use Rattle.wp_tables.specs.Reading.{made_by}
+use Rattle.wp_tables.specs.RecordsLeft.{IsReading, kept_left}
 use Rattle.wp_tables.proofs.orders.read_lines.Given as goal
 
--- what is left, after the orders so far, says what all records say
-abbrev pub invariant-loop-fields : goal.invariant-loop-fields
-invariant-loop-fields l =
-    orders_with l.stock.articles [] (map fields_of l.records) ≡ orders_with l.stock.articles l.orders (map fields_of (drop l.fields-index l.records))
+-- the records that are left make of the orders so far what all records make
+abbrev pub invariant-loop-orders : goal.invariant-loop-orders
+invariant-loop-orders l =
+    (made_by (orders_after l.stock.articles) [] (kept_left l.fn.records) ≡ made_by (orders_after l.stock.articles) l.orders (kept_left l.records))
+    × IsReading l.records
+    × AreReadOrders l.stock.articles l.orders
+
+abbrev pub decreases-loop-orders : goal.decreases-loop-orders
+decreases-loop-orders l = length (kept_left l.records)

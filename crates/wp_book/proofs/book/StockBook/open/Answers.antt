@@ -1,12 +1,17 @@
-use Rattle.std.proofs.Common.{subst, sym, ap, List, length, All, arith}
-use Rattle.wp_model.specs.declared.row.StockRow.{StockRow}
-use Rattle.wp_book.proofs.Opening.{IsSmall, all_by_place, small_rows}
+use Rattle.std.proofs.Common.{◌∙◌, sym, ap, subst, List, length, map, arith}
+use Rattle.std.proofs.lemmas.List.{length-map}
+use Rattle.wp_model.specs.State.{opening_row}
+use Rattle.wp_model.specs.declared.row.Row.{Row}
+use Rattle.wp_book.specs.Kept.{IsKept}
+use Rattle.wp_book.specs.declared.room.WaveHolds.{WaveHolds}
+use Rattle.wp_book.proofs.Opening.{opens}
 use Rattle.wp_book.proofs.book.StockBook.open.Goals as goal
 
-pub of_rows-requires-clause-few : goal.of_rows-requires-clause-few
-of_rows-requires-clause-few c = omega (arith, ap length c.as_rows.ensures.rows, c.as_rows.ensures.first.most)
-
-pub of_rows-requires-clause-units : goal.of_rows-requires-clause-units
-of_rows-requires-clause-units c =
+pub invariant_of-result : goal.invariant_of-result
+invariant_of-result c =
     let stock = c.args.stock.now in
-    subst (λ (rows : List StockRow). All IsSmall rows) (sym c.as_rows.ensures.rows) (small_rows stock.articles stock.rows (all_by_place _ stock.rows c.as_rows.ensures.first.rows))
+    let rows_are = c.in_ok-rows.ensures ∙ ap (map opening_row) c.as_rows.ensures.rows in (
+      subst (λ (rows : List Row). IsKept rows c.in_ok-chains.chains.items) (sym rows_are)
+          (subst (λ (chains : List (List WaveHolds)). IsKept (map opening_row stock.rows) chains) (sym c.in_ok-chains.ensures) (opens stock c.as_rows.ensures.read.rows)),
+      omega (arith, ap length rows_are, length-map stock.rows opening_row, c.as_rows.ensures.read.most, c.in_ok-rows.rows.ok.0),
+    )

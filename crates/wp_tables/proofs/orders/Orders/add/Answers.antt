@@ -13,4 +13,6 @@ pub add_order-requires : goal.add_order-requires
 add_order-requires c =
     let names = c.self.inside.names.keys in
     let none = sym (number_found c.args.line.order names) ∙ sym c.get_index_of.ensures.index ∙ c.in-None.is in
-    rw (← c.self.view_is) (parts_known names c.self.inside.lines.items c.args.line.order c.self.invariant.0 ∙ not_there c.args.line.order names none)
+    let unknown = parts_known names c.self.inside.lines.items c.args.line.order c.self.invariant.0 ∙ not_there c.args.line.order names none in
+    let new = rw c.self.view_is at unknown in
+    record { new = new; room = c.requires new }

@@ -1,23 +1,35 @@
-use Rattle.std.proofs.Common.{◌≡◌, ◌∙◌, ap, ap₂, sym, map, true}
-use Rattle.wp_model.specs.FirstForm.{may_join}
+use Rattle.std.proofs.Common.{◌∙◌, ap, ap₂, subst, sym, map}
+use Rattle.wp_model.specs.Opening.{Stock}
 use Rattle.wp_model.proofs.NameEq.{joins, number_joined, number_of_name}
+use Rattle.wp_model.proofs.ReadStock.{kept_by_line}
+use Rattle.wp_tables.specs.Stock.{IsKeptStock}
 use Rattle.wp_tables.proofs.ByLocation.{cmp_is, kept_by_location, put_by_location, rows_back}
-use Rattle.wp_model.proofs.Joins.{new_line}
+use Rattle.wp_tables.proofs.Places.{places_joined}
 use Rattle.wp_tables.proofs.stock.StockSoFar.add.Goals as goal
 
-pub invariant_of-self-2 : goal.invariant_of-self-2
-invariant_of-self-2 c =
-    let may : may_join c.args.self.now c.args.line ≡ true = sym c.has_room.ensures ∙ c.if-not-has_room.false in
-    let new = rw (← c.self.view_is) at (new_line c.args.self.now c.args.line may).1 in
-    let entries = rw c.self.invariant at c.in_ok-insert.ensures.entries in
-    kept_by_location _ _ (entries ∙ put_by_location _ cmp_is _ (map (λ e. e.1) c.self.inside.rows.entries) new)
+pub invariant_of-result : goal.invariant_of-result
+invariant_of-result c =
+    let may = rw (← c.self.view_is) at c.requires in
+    let entries = rw c.self.invariant.0 at c.in_ok-insert.ensures.entries in
+    let put = entries ∙ put_by_location _ cmp_is _ (map (λ e. e.1) c.self.inside.rows.entries) may.free in
+    let rows = ap (map (λ e. e.1)) put ∙ rows_back _ in
+    let names = c.in_ok-article.ensures.keys ∙ joins c.args.line.article c.self.inside.articles.keys in
+    let place = c.in_ok-article.ensures.index ∙ number_of_name c.args.line.article c.self.inside.articles.keys in
+    let number = place ∙ sym (number_joined c.args.line.article c.self.inside.articles.keys) in
+    let made = ap₂ (λ r a. record { rows = r; articles = a }) (rw number at rows) names in
+    let kept = c.self.invariant.1 in (
+      kept_by_location _ _ put,
+      subst (λ (s : Stock). IsKeptStock s c.count_at.new.counts.items) (sym made) (record {
+        read = kept_by_line _ c.args.line kept.read may;
+        counted = places_joined _ c.args.line c.self.inside.places.items c.count_at.new.counts.items c.in_ok-article.article kept.counted place c.in_ok-count_at.ensures.counts c.in_ok-count_at.ensures.length;
+      }),
+    )
 
-pub returns-clause-ok : goal.returns-clause-ok
-returns-clause-ok c =
-    let may : may_join c.args.self.now c.args.line ≡ true = sym c.has_room.ensures ∙ c.if-not-has_room.false in
-    let new = rw (← c.self.view_is) at (new_line c.args.self.now c.args.line may).1 in
-    let entries = rw c.self.invariant at c.in_ok-insert.ensures.entries in
-    let put = entries ∙ put_by_location _ cmp_is _ (map (λ e. e.1) c.self.inside.rows.entries) new in
+pub returns : goal.returns
+returns c =
+    let may = rw (← c.self.view_is) at c.requires in
+    let entries = rw c.self.invariant.0 at c.in_ok-insert.ensures.entries in
+    let put = entries ∙ put_by_location _ cmp_is _ (map (λ e. e.1) c.self.inside.rows.entries) may.free in
     let rows = ap (map (λ e. e.1)) put ∙ rows_back _ in
     let names = c.in_ok-article.ensures.keys ∙ joins c.args.line.article c.self.inside.articles.keys in
     let number = c.in_ok-article.ensures.index ∙ number_of_name c.args.line.article c.self.inside.articles.keys ∙ sym (number_joined c.args.line.article c.self.inside.articles.keys) in

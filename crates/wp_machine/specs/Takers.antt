@@ -1,0 +1,23 @@
+-- Who has the orders.
+use Rattle.std.specs.Prelude.{◌≡◌, ℕ, Bool, true, false, List, length, map, Option, Some, if◌then◌else◌, slice_get, slice_set}
+use Rattle.std.specs.Option.{MatchOption}
+use Rattle.wp_model.specs.TableLines.{article_in}
+use Rattle.wp_tables.specs.Orders.{name_of}
+use Rattle.wp_model.specs.Opening.{Opening, Order}
+use Rattle.wp_model.specs.Step.{is_among}
+use Rattle.wp_model.specs.declared.reply.Reply.{Reply}
+use Rattle.wp_model.specs.declared.reply.Reply.TheVariants as reply
+
+-- some orders now have this taker, or none, and all others the one that they had
+pub record HasPut (opening : Opening) (orders : List (List ℕ)) (taker : Option (List ℕ)) (old new : List (Option (List ℕ))) : Type 0 where
+  pub count : length new ≡ length old
+  pub each : (i : ℕ) (order : Order) → slice_get opening.orders i ≡ Some order → slice_get new i ≡ (if is_among orders order.name then Some taker else slice_get old i)
+
+-- the order that is found by a name now has this taker, or none
+abbrev pub IsPutAt : Opening → List ℕ → Option (List ℕ) → List (Option (List ℕ)) → List (Option (List ℕ)) → Type 0
+IsPutAt opening name taker old new = MatchOption (article_in (map name_of opening.orders) name) (new ≡ old) (λ number. new ≡ slice_set old number taker)
+
+-- the reply by which a wave's orders are free
+abbrev pub frees : Reply → Bool
+frees reply.Cancelled = true
+frees other = false

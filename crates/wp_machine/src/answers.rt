@@ -1,0 +1,129 @@
+//! What a command is answered, and what is told beside the reply.
+ghost use Rattle.std.specs.Prelude.{◌≡◌, ◌+◌, ◌<◌, ◌^◌, length};
+ghost use Rattle.wp_model.specs.declared.command.Command.{Command as CommandData};
+ghost use Rattle.wp_model.specs.declared.command.Command.TheVariants as command;
+ghost use Rattle.wp_machine.specs.Answering.{IsAnswer};
+ghost use Rattle.wp_machine.specs.Floor.{IsFloor};
+ghost use Rattle.wp_machine.specs.Held.{IsRowAt};
+ghost use Rattle.wp_machine.specs.Holding.{HaveSpace};
+ghost use Rattle.wp_machine.specs.Planning.{IsPlanOf};
+ghost use Rattle.wp_machine.specs.Refilling.{HaveRefillSpace};
+
+use crate::floor::Floor;
+use crate::held::Claim;
+use crate::holding::Rooms;
+use crate::opening::Opening;
+use crate::outcome::{Answer, Outcome, Refill, WaveHolds};
+use crate::planning::Plan;
+use crate::releasing::Sheet;
+use wp_book::Room;
+use wp_model::{Name, Reply};
+
+// An answer that tells nothing beside its reply.
+fn plain(number: u64, reply: Reply) -> Answer
+    ensures { result ≡ record { number = number; reply = reply; outcome = Outcome.Plain } }
+{
+    Answer {
+        number,
+        reply,
+        outcome: Outcome::Plain,
+    }
+}
+
+// The answer of a wave that went out: it tells all that the wave holds.
+fn released(number: u64, wave: Name, sheet: Sheet) -> Answer
+    ensures { result ≡ record { number = number; reply = Reply.Released; outcome = Outcome.Released (record { number = number; wave = wave; orders = sheet.orders; holds = sheet.room.holds }) } }
+{
+    let Sheet { orders, room } = sheet;
+    Answer {
+        number,
+        reply: Reply::Released,
+        outcome: Outcome::Released(WaveHolds {
+            number,
+            wave,
+            orders,
+            holds: room.into_holds(),
+        }),
+    }
+}
+
+// The answer of units that are held elsewhere: it tells what is held in their place.
+fn refilled(number: u64, wave: Name, claim: &Claim, room: Room) -> Answer
+    ensures { result ≡ record { number = number; reply = Reply.Refilled claim.now.quantity; outcome = Outcome.Refilled (record { number = number; wave = wave; order = claim.now.order; holds = room.holds }) } }
+{
+    Answer {
+        number,
+        reply: Reply::Refilled(claim.quantity),
+        outcome: Outcome::Refilled(Refill {
+            number,
+            wave,
+            order: claim.order,
+            holds: room.into_holds(),
+        }),
+    }
+}
+
+impl Floor {
+    // Answers a release.
+    fn answer_release(&mut self, opening: &Opening, number: u64, name: Name, rooms: Rooms) -> Answer
+        requires floor { IsFloor opening.now self.old }
+        requires rooms { HaveSpace self.old.book rooms }
+        ensures { IsAnswer opening.now number (command.Release name) self.old self.new result }
+    {
+        match self.release(opening, &name, rooms) {
+            Ok(Some(sheet)) => released(number, name, sheet),
+            Ok(None) => plain(number, Reply::Released),
+            Err(why) => plain(number, why),
+        }
+    }
+
+    // Answers a loss.
+    fn answer_missing(
+        &mut self,
+        opening: &Opening,
+        number: u64,
+        name: Name,
+        claim: &Claim,
+        rooms: Rooms,
+    ) -> Answer
+        requires floor { IsFloor opening.now self.old }
+        requires row { IsRowAt self.old.book.rows claim.now.location claim.now.row }
+        requires quantity { 0 < claim.now.quantity }
+        requires rooms { HaveRefillSpace self.old.book rooms }
+        ensures { IsAnswer opening.now number (command.Missing name claim.now.order claim.now.location claim.now.quantity) self.old self.new result }
+    {
+        match self.missing(opening, &name, claim, rooms) {
+            Ok(room) => refilled(number, name, claim, room),
+            Err(why) => plain(number, why),
+        }
+    }
+
+    /// Answers a command by what was prepared for it, as the entry with a number. It takes no memory.
+    pub fn answer(&mut self, opening: &Opening, number: u64, plan: Plan) -> Answer
+        requires floor { IsFloor opening.now self.old }
+        requires plan { (asked : CommandData) × IsPlanOf opening.now asked plan }
+        requires few { length self.old.waves + 1 < 2 ^ 32 }
+        ensures { (asked : CommandData) → IsPlanOf opening.now asked plan → IsAnswer opening.now number asked self.old self.new result }
+    {
+        match plan {
+            Plan::Refuse(reply) => plain(number, reply),
+            Plan::Submit(new) => plain(number, self.submit(opening, new)),
+            Plan::Allot(name, rooms) => plain(number, self.allot(opening, &name, rooms)),
+            Plan::Release(name, rooms) => self.answer_release(opening, number, name, rooms),
+            Plan::Cancel(name) => plain(number, self.cancel(opening, &name)),
+            Plan::Pick(name, claim) => plain(number, self.pick(opening, &name, &claim)),
+            Plan::Missing(name, claim, rooms) => {
+                self.answer_missing(opening, number, name, &claim, rooms)
+            }
+            Plan::Receive {
+                location,
+                row,
+                article,
+                quantity,
+            } => plain(
+                number,
+                self.receive(opening, &location, row, &article, quantity),
+            ),
+        }
+    }
+}

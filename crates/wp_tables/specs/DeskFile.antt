@@ -1,0 +1,148 @@
+-- What a desk file says.
+use Rattle.std.specs.Prelude.{ℕ, ◌==◌, ◌||◌, not, nat_le, nat_lt, Bool, true, false, List, [], ◌∷◌, ◌++◌, length, codes, Option, Some, None, if◌then◌else◌, Result, Ok, Err}
+use Rattle.std.specs.List.{count_by}
+use Rattle.std.specs.Option.{ok_or}
+use Rattle.std.specs.Str.{bytes_eq}
+use Rattle.wp_model.specs.TableLines.{Record}
+use Rattle.wp_model.specs.Tables.{most_commands}
+use Rattle.wp_model.specs.declared.command.Command.{Command}
+use Rattle.wp_model.specs.declared.command.Command.TheVariants as command
+use Rattle.wp_model.specs.declared.location.Location.{Location}
+use Rattle.wp_model.specs.Number.{number_of}
+use Rattle.wp_tables.specs.Fields.{four_of, location_read, name_read, one_of, quantity_read, texts_of, three_of}
+use Rattle.wp_tables.specs.Reading.{and_then, table_of}
+use Rattle.wp_tables.specs.Records.{kept_in}
+use Rattle.wp_tables.specs.declared.fault.RowFault.{RowFault}
+use Rattle.wp_tables.specs.declared.fault.Why.{Why}
+use Rattle.wp_tables.specs.declared.fault.Why.TheVariants as why
+use Rattle.wp_tables.specs.declared.scripts.HeldUnits.{HeldUnits}
+use Rattle.wp_tables.specs.declared.word.Word.{Word}
+use Rattle.wp_tables.specs.declared.word.Word.TheVariants as word
+
+-- the most records of a desk file that submit a wave
+abbrev pub most_submissions : ℕ
+most_submissions = 500
+
+-- the most orders that such a record may name
+abbrev pub most_named : ℕ
+most_named = 100
+
+-- the command that a word names
+abbrev pub word_of : List ℕ → Option Word
+word_of text =
+    if bytes_eq text (codes "submit") then Some word.Submit
+    else if bytes_eq text (codes "allot") then Some word.Allot
+    else if bytes_eq text (codes "release") then Some word.Release
+    else if bytes_eq text (codes "cancel") then Some word.Cancel
+    else if bytes_eq text (codes "pick") then Some word.Pick
+    else if bytes_eq text (codes "missing") then Some word.Missing
+    else if bytes_eq text (codes "receive") then Some word.Receive
+    else None
+
+-- a field that is a command's word
+abbrev pub word_read : List ℕ → Result Word Why
+word_read field = ok_or (word_of field) why.UnknownCommand
+
+-- the fields, where each is a name
+abbrev pub names_read : List (List ℕ) → Result (List (List ℕ)) Why
+names_read [] = Ok []
+names_read (field ∷ fields) = and_then (name_read field) (λ name. and_then (names_read fields) (λ names. Ok (name ∷ names)))
+
+-- Submit: a wave, and then its orders, not too many
+abbrev pub submission_of : Record → Result Command Why
+submission_of [] = Err why.Columns
+submission_of (wave ∷ orders) =
+    if nat_le (length orders) most_named then and_then (name_read wave) (λ w. and_then (names_read orders) (λ names. Ok (command.Submit w names)))
+    else Err why.Columns
+
+-- the wave that the one argument names
+abbrev pub wave_of : Record → Result (List ℕ) Why
+wave_of arguments = and_then (one_of arguments) name_read
+
+-- a command on a wave
+abbrev pub of_wave : (List ℕ → Command) → Record → Result Command Why
+of_wave make arguments = and_then (wave_of arguments) (λ wave. Ok (make wave))
+
+-- the units that four arguments name: a wave, an order, a location and a quantity
+abbrev pub hold_of : Record → Result HeldUnits Why
+hold_of arguments = and_then (four_of arguments)
+    (λ four. and_then (name_read four.0)
+    (λ wave. and_then (name_read four.1)
+    (λ order. and_then (location_read four.2)
+    (λ location. and_then (quantity_read four.3)
+    (λ quantity. Ok (record { wave = wave; order = order; location = location; quantity = quantity }))))))
+
+-- a command on units that are held
+abbrev pub of_hold : (List ℕ → List ℕ → Location → ℕ → Command) → Record → Result Command Why
+of_hold make arguments = and_then (hold_of arguments) (λ held. Ok (make held.wave held.order held.location held.quantity))
+
+-- Receive: a location, an article and a quantity
+abbrev pub receipt_of : Record → Result Command Why
+receipt_of arguments = and_then (three_of arguments)
+    (λ three. and_then (location_read three.0)
+    (λ location. and_then (name_read three.1)
+    (λ article. and_then (quantity_read three.2)
+    (λ quantity. Ok (command.Receive location article quantity)))))
+
+-- the command that a word and its arguments write
+abbrev pub command_of : Word → Record → Result Command Why
+command_of word.Submit = submission_of
+command_of word.Allot = of_wave command.Allot
+command_of word.Release = of_wave command.Release
+command_of word.Cancel = of_wave command.Cancel
+command_of word.Pick = of_hold command.Pick
+command_of word.Missing = of_hold command.Missing
+command_of word.Receive = receipt_of
+
+-- the field is the number of the one desk
+abbrev pub desk_read : List ℕ → Result ℕ Why
+desk_read field = and_then (ok_or (number_of 18 field) why.BadNumber) (λ n. if n == 1 then Ok n else Err why.DeskNumber)
+
+-- the command submits a wave
+abbrev pub is_submission : Command → Bool
+is_submission (command.Submit wave orders) = true
+is_submission (command.Allot wave) = false
+is_submission (command.Release wave) = false
+is_submission (command.Cancel wave) = false
+is_submission (command.Pick wave order location quantity) = false
+is_submission (command.Missing wave order location quantity) = false
+is_submission (command.Receive location article quantity) = false
+
+-- how many commands submit a wave
+abbrev pub submissions : List Command → ℕ
+submissions commands = count_by is_submission commands
+
+-- there is room for a further command: it doesn't submit one wave too many
+abbrev pub has_room : List Command → Command → Bool
+has_room commands c = not (is_submission c) || nat_lt (submissions commands) most_submissions
+
+-- a further command, where there is room for it
+abbrev pub with_room : List Command → Command → Result Command Why
+with_room commands c = if has_room commands c then Ok c else Err why.TooManyWaves
+
+-- the command that a desk, a word and arguments write
+abbrev pub command_in : List ℕ → List ℕ → Record → Result Command Why
+command_in desk text arguments = and_then (desk_read desk) (λ d. and_then (word_read text) (λ w. command_of w arguments))
+
+-- the command that fields write
+abbrev pub command_in_fields : Record → Result Command Why
+command_in_fields [] = Err why.Columns
+command_in_fields (a ∷ []) = Err why.Columns
+command_in_fields (desk ∷ text ∷ arguments) = and_then (texts_of (desk ∷ text ∷ arguments)) (λ texts. command_in desk text arguments)
+
+-- the command that a record writes, after these commands; or the first test that the record fails
+abbrev pub command_after : List Command → Record → Result Command Why
+command_after commands fields =
+    if nat_lt (length commands) most_commands then and_then (command_in_fields fields) (with_room commands) else Err why.TooManyRows
+
+-- the commands with a record's
+abbrev pub script_after : List Command → Record → Result (List Command) Why
+script_after commands fields = and_then (command_after commands fields) (λ c. Ok (commands ++ c ∷ []))
+
+-- the heading of a desk file
+abbrev pub desks_heading : Record
+desks_heading = codes "desk" ∷ codes "command" ∷ codes "arguments" ∷ []
+
+-- the scripts that a desk file says, that of the one desk; or the first record that fails and its first failing test
+abbrev pub scripts_said : List ℕ → Result (List (List Command)) RowFault
+scripts_said text = and_then (table_of desks_heading script_after [] (kept_in text)) (λ commands. Ok (commands ∷ []))

@@ -1,0 +1,29 @@
+-- A text grows item by item.
+use Rattle.std.proofs.Common.{◌≡◌, ◌∙◌, sym, ap, ap₂, ℕ, zero, suc, ◌+◌, List, [], ◌∷◌, ◌++◌, take, Some, slice_get, append_assoc, arith}
+use Rattle.std.specs.List.{flat_map}
+use Rattle.std.proofs.lemmas.Grind.{flat_map-append}
+use Rattle.std.proofs.lemmas.List.{append-nil}
+
+take_next : {X : Type 0} (xs : List X) (i : ℕ) (x : X) → slice_get xs i ≡ Some x → take (suc i) xs ≡ take i xs ++ x ∷ []
+take_next [] i x is = absurd (cc is)
+take_next (first ∷ xs) zero x is = ap (λ y. y ∷ []) (cc is)
+take_next (first ∷ xs) (suc i) x is = ap (λ ys. first ∷ ys) (take_next xs i x is)
+
+one_more : (i : ℕ) → i + 1 ≡ suc i
+one_more i = omega arith
+
+-- the texts of one more item of a list
+pub flat_map-next : {X : Type 0} (f : X → List ℕ) (xs : List X) (i : ℕ) (x : X) → slice_get xs i ≡ Some x → flat_map f (take (i + 1) xs) ≡ flat_map f (take i xs) ++ f x
+flat_map-next f xs i x is =
+    ap (λ n. flat_map f (take n xs)) (one_more i) ∙ (ap (flat_map f) (take_next xs i x is)
+    ∙ (flat_map-append f (take i xs) (x ∷ []) ∙ ap (λ text. flat_map f (take i xs) ++ text) (append-nil (f x))))
+
+-- a text that has grown by a heading and items grows by one more
+pub grown : (old text new heading items item more : List ℕ) → text ≡ old ++ (heading ++ items) → new ≡ text ++ item → more ≡ items ++ item → new ≡ old ++ (heading ++ more)
+grown old text new heading items item more so_far next is =
+    next ∙ (ap (λ text. text ++ item) so_far ∙ (append_assoc old (heading ++ items) item ∙ ap (λ text. old ++ text) (append_assoc heading items item ∙ ap (λ text. heading ++ text) (sym is))))
+
+-- a text that was written section by section
+pub sections : {t0 t1 t2 t3 t4 a b c a' b' c' : List ℕ} (d : List ℕ) → t0 ≡ [] → t1 ≡ t0 ++ a → t2 ≡ t1 ++ b → t3 ≡ t2 ++ c → t4 ≡ t3 ++ d → a ≡ a' → b ≡ b' → c ≡ c' → t4 ≡ a' ++ b' ++ c' ++ d
+sections d e0 e1 e2 e3 e4 same_a same_b same_c =
+    e4 ∙ ap (λ t. t ++ d) (e3 ∙ ap₂ (λ t x. t ++ x) (e2 ∙ ap₂ (λ t x. t ++ x) (e1 ∙ ap₂ (λ t x. t ++ x) e0 same_a) same_b) same_c)
