@@ -1,7 +1,7 @@
 -- From a class that fits what a tour walks, some crossing that the tables allow and that is no longer leads to a class
 -- that fits.
 use Rattle.std.proofs.Common.{◌≡◌, ℕ, zero, suc, ◌+◌, ◌<◌, ◌≤◌, Bool, true, false, IsTrue, Some, not, arith, refl, sym, ap, ◌∙◌, ◌⊎◌, inl, inr, ⊎_elim}
-use Rattle.wp_model.specs.Warehouse.{back_end, depot_point}
+use Rattle.wp_graph.specs.Sites.{last_place}
 use Rattle.wp_graph.proofs.Joining.{IsKept}
 use Rattle.wp_classes.specs.declared.class.Class.{Class}
 use Rattle.wp_classes.specs.declared.class.Class.TheVariants.{UU1, E01, ZE1, EE1, EE2, Z00, Z01}
@@ -25,11 +25,11 @@ positive (suc n) = inr (omega arith)
 sides_linked : (t : Toured) (j : ℕ) (c : ℕ → ℕ → Bool) → Sides t j c → Linked t j c
 sides_linked t j c sides = record { left = sides.left; back = λ some. sides.back; front = λ some. sides.front }
 
-beside_agrees : (t : Toured) (j : ℕ) (c : ℕ → ℕ → Bool) (x : Bool) → Agrees j c (beside j c (λ s. x))
+pub beside_agrees : (t : Toured) (j : ℕ) (c : ℕ → ℕ → Bool) (x : Bool) → Agrees j c (beside j c (λ s. x))
 beside_agrees t j c x = λ a s low. beside_left j c (λ s. x) a s low
 
 -- nothing is needed beyond an aisle from which nothing crosses, where what is left tells the other colour
-all_left : (t : Toured) (j : ℕ) (c : ℕ → ℕ → Bool) (x y : Bool) → (x ≡ y → ⊥) → Tells t j c x → IsKept t.layout t.copies (beside j c (λ s. y)) → AllLeft t j
+all_left : (t : Toured) (j : ℕ) (c : ℕ → ℕ → Bool) (x y : Bool) → (x ≡ y → ⊥) → Tells t j c x → IsKept t.site t.copies (beside j c (λ s. y)) → AllLeft t j
 all_left t j c x y apart tells kept p on = ⊎_elim (λ low. low)
     (λ high.
     let there = t.are.joined.needed (beside j c (λ s. y)) kept p on in
@@ -40,14 +40,14 @@ all_left t j c x y apart tells kept p on = ⊎_elim (λ low. low)
 front_tells : (t : Toured) (j : ℕ) (c : ℕ → ℕ → Bool) (x : Bool) → 0 < t.copies.front j → c j 0 ≡ x → Tells t j c x
 front_tells t j c x some is = λ other kept agrees. sym (t.are.joined.front other kept j some) ∙ agrees j 0 (omega arith) ∙ is
 
-behind_tells : (t : Toured) (j : ℕ) (c : ℕ → ℕ → Bool) (x : Bool) → 0 < t.copies.behind j → c j (back_end t.layout) ≡ x → Tells t j c x
-behind_tells t j c x some is = λ other kept agrees. sym (t.are.joined.behind other kept j some) ∙ agrees j (back_end t.layout) (omega arith) ∙ is
+behind_tells : (t : Toured) (j : ℕ) (c : ℕ → ℕ → Bool) (x : Bool) → 0 < t.copies.behind j → c j (last_place t.site) ≡ x → Tells t j c x
+behind_tells t j c x some is = λ other kept agrees. sym (t.are.joined.behind other kept j some) ∙ agrees j (last_place t.site) (omega arith) ∙ is
 
 -- two colours cannot both be the depot's
-never_both : (t : Toured) (j : ℕ) (c other : ℕ → ℕ → Bool) → Tells t j c true → Tells t j c false → IsKept t.layout t.copies other → Agrees j c other → ⊥
+pub never_both : (t : Toured) (j : ℕ) (c other : ℕ → ℕ → Bool) → Tells t j c true → Tells t j c false → IsKept t.site t.copies other → Agrees j c other → ⊥
 never_both t j c other one two kept agrees = true_false (sym (one other kept agrees) ∙ two other kept agrees)
 
-kept_not : (t : Toured) (colour : ℕ → ℕ → Bool) → IsKept t.layout t.copies colour → IsKept t.layout t.copies (λ a s. not (colour a s))
+kept_not : (t : Toured) (colour : ℕ → ℕ → Bool) → IsKept t.site t.copies colour → IsKept t.site t.copies (λ a s. not (colour a s))
 kept_not t colour kept = record { deep = λ a s some. ap not (kept.deep a s some); behind = λ a some. ap not (kept.behind a some); front = λ a some. ap not (kept.front a some) }
 
 not_true : (b : Bool) → not b ≡ true → b ≡ false
@@ -165,16 +165,3 @@ crosses_on t j EE1 fits = cross_both t j fits
 crosses_on t j EE2 fits = cross_two t j fits
 crosses_on t j Z00 fits = cross_none t j fits
 crosses_on t j Z01 fits = cross_done t j fits
-
--- where there is no crossing any more, the class is that of a whole tour
-pub done_whole : (t : Toured) (j : ℕ) (class : Class) → t.copies.behind j ≡ 0 → t.copies.front j ≡ 0 → t.layout.depot ≤ j → Fits t j class → IsTrue (is_whole class)
-done_whole t j UU1 b f near fits = absurd (omega (arith, f, fits))
-done_whole t j E01 b f near fits = refl
-done_whole t j ZE1 b f near fits = refl
-done_whole t j EE1 b f near fits = refl
-done_whole t j EE2 b f near (even, c, sides, two) =
-    absurd
-    (never_both t j c (beside j c (λ s. false)) two.one two.other (kept_beside t j c false sides.left (λ some. absurd (omega (arith, some, b))) (λ some. sides.front))
-    (beside_agrees t j c false))
-done_whole t j Z00 b f near (even, c, sides, none) = absurd (none (depot_point t.layout) (inl refl) near)
-done_whole t j Z01 b f near fits = refl

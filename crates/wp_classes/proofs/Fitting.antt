@@ -3,9 +3,8 @@ use Rattle.std.proofs.Common.{◌≡◌, ◌≢◌, ℕ, suc, ◌%◌, ◌<◌, 
 use Rattle.std.proofs.lemmas.Bool.{le-leb}
 use Rattle.std.proofs.lemmas.Bool.Decides.{nat_tests}
 use Rattle.wp_model.specs.declared.point.Point.{Point}
-use Rattle.wp_model.specs.Warehouse.{Layout, back_end}
 use Rattle.wp_graph.specs.Copies.{Copies}
-use Rattle.wp_graph.specs.PickSets.{AreSlots}
+use Rattle.wp_graph.specs.Sites.{IsOnSite, Site, end_place, last_place}
 use Rattle.wp_graph.proofs.EachAisle.{AreTour, IsOnTour}
 use Rattle.wp_graph.proofs.Joining.{IsKept}
 use Rattle.wp_classes.specs.declared.class.Class.{Class}
@@ -13,15 +12,15 @@ use Rattle.wp_classes.specs.declared.class.Class.TheVariants.{UU1, E01, ZE1, EE1
 
 -- a tour of some picks, as the copies of its pieces
 pub record Toured : Type 1 where
-  pub layout : Layout
+  pub site : Site
   pub picks : List Point
   pub copies : Copies
-  pub are : AreTour layout picks copies
-  pub slots : AreSlots layout picks
+  pub are : AreTour site picks copies
+  pub within : (p : Point) → IsOnTour site picks p → IsOnSite site p
 
--- the colour of the depot
+-- the colour of the depot, which lies at one of the two ends of its aisle
 abbrev pub home : Toured → (ℕ → ℕ → Bool) → Bool
-home t colour = colour t.layout.depot 0
+home t colour = colour t.site.depot (end_place t.site t.site.end)
 
 -- a colouring that is this one left of an aisle and in it
 abbrev pub Agrees : ℕ → (ℕ → ℕ → Bool) → (ℕ → ℕ → Bool) → Type 0
@@ -29,29 +28,29 @@ Agrees j colour other = (a s : ℕ) → a ≤ j → other a s ≡ colour a s
 
 -- what is left of an aisle and in it tells the colour of the depot
 abbrev pub Tells : Toured → ℕ → (ℕ → ℕ → Bool) → Bool → Type 0
-Tells t j colour x = (other : ℕ → ℕ → Bool) → IsKept t.layout t.copies other → Agrees j colour other → home t other ≡ x
+Tells t j colour x = (other : ℕ → ℕ → Bool) → IsKept t.site t.copies other → Agrees j colour other → home t other ≡ x
 
 -- a colouring that no walked piece changes left of an aisle and in it
 pub record IsLeft (t : Toured) (j : ℕ) (colour : ℕ → ℕ → Bool) : Type 0 where
   pub deep : (a s : ℕ) → a ≤ j → 0 < t.copies.deep a s → colour a s ≡ colour a (suc s)
-  pub behind : (a : ℕ) → a < j → 0 < t.copies.behind a → colour a (back_end t.layout) ≡ colour (suc a) (back_end t.layout)
+  pub behind : (a : ℕ) → a < j → 0 < t.copies.behind a → colour a (last_place t.site) ≡ colour (suc a) (last_place t.site)
   pub front : (a : ℕ) → a < j → 0 < t.copies.front a → colour a 0 ≡ colour (suc a) 0
 
 -- the ends of the aisle are on different sides
 pub record Sides (t : Toured) (j : ℕ) (colour : ℕ → ℕ → Bool) : Type 0 where
   pub left : IsLeft t j colour
-  pub back : colour j (back_end t.layout) ≡ true
+  pub back : colour j (last_place t.site) ≡ true
   pub front : colour j 0 ≡ false
 
 -- the ends from which one crosses to the next aisle are on different sides
 pub record Linked (t : Toured) (j : ℕ) (colour : ℕ → ℕ → Bool) : Type 0 where
   pub left : IsLeft t j colour
-  pub back : 0 < t.copies.behind j → colour j (back_end t.layout) ≡ true
+  pub back : 0 < t.copies.behind j → colour j (last_place t.site) ≡ true
   pub front : 0 < t.copies.front j → colour j 0 ≡ false
 
 -- all that a tour passes up to an aisle is on one side, and something is
 pub record OneSided (t : Toured) (j : ℕ) (colour : ℕ → ℕ → Bool) (x : Bool) : Type 0 where
-  pub all : (p : Point) → IsOnTour t.layout t.picks p → p.aisle ≤ j → colour p.aisle p.slot ≡ x
+  pub all : (p : Point) → IsOnTour t.site t.picks p → p.aisle ≤ j → colour p.aisle p.slot ≡ x
   pub tells : Tells t j colour x
 
 -- something is on both sides
@@ -60,10 +59,10 @@ pub record TwoSided (t : Toured) (j : ℕ) (colour : ℕ → ℕ → Bool) : Typ
   pub other : Tells t j colour false
 
 abbrev pub AllLeft : Toured → ℕ → Type 0
-AllLeft t j = (p : Point) → IsOnTour t.layout t.picks p → p.aisle ≤ j
+AllLeft t j = (p : Point) → IsOnTour t.site t.picks p → p.aisle ≤ j
 
 abbrev pub NoneLeft : Toured → ℕ → Type 0
-NoneLeft t j = (p : Point) → IsOnTour t.layout t.picks p → p.aisle ≤ j → ⊥
+NoneLeft t j = (p : Point) → IsOnTour t.site t.picks p → p.aisle ≤ j → ⊥
 
 abbrev pub IsEvenAt : Toured → ℕ → Type 0
 IsEvenAt t j = t.copies.front j % 2 ≡ 0
@@ -108,17 +107,17 @@ pub split_three : (a j : ℕ) → (a < j) ⊎ (a ≡ j) ⊎ (j < a)
 split_three a j = grind arith
 
 -- one colour beyond an aisle, where nothing crosses from the other side
-pub kept_beside : (t : Toured) (j : ℕ) (c : ℕ → ℕ → Bool) (x : Bool) → IsLeft t j c → (0 < t.copies.behind j → c j (back_end t.layout) ≡ x) → (0 < t.copies.front j → c j 0 ≡ x) → IsKept t.layout t.copies (beside j c (λ s. x))
+pub kept_beside : (t : Toured) (j : ℕ) (c : ℕ → ℕ → Bool) (x : Bool) → IsLeft t j c → (0 < t.copies.behind j → c j (last_place t.site) ≡ x) → (0 < t.copies.front j → c j 0 ≡ x) → IsKept t.site t.copies (beside j c (λ s. x))
 kept_beside t j c x left back front = record {
   deep = λ a s some. ⊎_elim
       (λ low. beside_left j c (λ s. x) a s low ∙ left.deep a s low some ∙ sym (beside_left j c (λ s. x) a (suc s) low))
       (λ high. beside_right j c (λ s. x) a s high ∙ sym (beside_right j c (λ s. x) a (suc s) high))
       (split_cases a j);
   behind = λ a some. ⊎_elim
-      (λ low. beside_left j c (λ s. x) a (back_end t.layout) (omega (arith, low)) ∙ left.behind a low some ∙ sym (beside_left j c (λ s. x) (suc a) (back_end t.layout) (omega (arith, low))))
+      (λ low. beside_left j c (λ s. x) a (last_place t.site) (omega (arith, low)) ∙ left.behind a low some ∙ sym (beside_left j c (λ s. x) (suc a) (last_place t.site) (omega (arith, low))))
       (λ rest. ⊎_elim
-      (λ e. beside_left j c (λ s. x) a (back_end t.layout) (omega (arith, e)) ∙ ap (λ b. c b (back_end t.layout)) e ∙ back (subst (λ b. 0 < t.copies.behind b) e some) ∙ sym (beside_right j c (λ s. x) (suc a) (back_end t.layout) (omega (arith, e))))
-      (λ high. beside_right j c (λ s. x) a (back_end t.layout) high ∙ sym (beside_right j c (λ s. x) (suc a) (back_end t.layout) (omega (arith, high))))
+      (λ e. beside_left j c (λ s. x) a (last_place t.site) (omega (arith, e)) ∙ ap (λ b. c b (last_place t.site)) e ∙ back (subst (λ b. 0 < t.copies.behind b) e some) ∙ sym (beside_right j c (λ s. x) (suc a) (last_place t.site) (omega (arith, e))))
+      (λ high. beside_right j c (λ s. x) a (last_place t.site) high ∙ sym (beside_right j c (λ s. x) (suc a) (last_place t.site) (omega (arith, high))))
       rest)
       (split_three a j);
   front = λ a some. ⊎_elim
@@ -143,7 +142,7 @@ split_high z s high = grind (arith, nat_tests)
 pub split_low : (z s : ℕ) → s ≤ z → split_at z s ≡ false
 split_low z s low = grind (arith, nat_tests)
 
-pub next_left : (t : Toured) (j z : ℕ) (c : ℕ → ℕ → Bool) → Linked t j c → z < back_end t.layout → t.copies.deep (suc j) z ≡ 0 → IsLeft t (suc j) (beside j c (split_at z))
+pub next_left : (t : Toured) (j z : ℕ) (c : ℕ → ℕ → Bool) → Linked t j c → z < last_place t.site → t.copies.deep (suc j) z ≡ 0 → IsLeft t (suc j) (beside j c (split_at z))
 next_left t j z c linked within none = record {
   deep = λ a s upto some. ⊎_elim
       (λ low. beside_left j c (split_at z) a s low ∙ linked.left.deep a s low some ∙ sym (beside_left j c (split_at z) a (suc s) low))
@@ -153,9 +152,9 @@ next_left t j z c linked within none = record {
       beside_right j c (split_at z) a s high ∙ split_same z s other ∙ sym (beside_right j c (split_at z) a (suc s) high))
       (split_cases a j);
   behind = λ a upto some. ⊎_elim
-      (λ low. beside_left j c (split_at z) a (back_end t.layout) (omega (arith, low)) ∙ linked.left.behind a low some ∙ sym (beside_left j c (split_at z) (suc a) (back_end t.layout) (omega (arith, low))))
+      (λ low. beside_left j c (split_at z) a (last_place t.site) (omega (arith, low)) ∙ linked.left.behind a low some ∙ sym (beside_left j c (split_at z) (suc a) (last_place t.site) (omega (arith, low))))
       (λ rest. ⊎_elim
-      (λ e. beside_left j c (split_at z) a (back_end t.layout) (omega (arith, e)) ∙ ap (λ b. c b (back_end t.layout)) e ∙ linked.back (subst (λ b. 0 < t.copies.behind b) e some) ∙ sym (beside_right j c (split_at z) (suc a) (back_end t.layout) (omega (arith, e)) ∙ split_high z (back_end t.layout) within))
+      (λ e. beside_left j c (split_at z) a (last_place t.site) (omega (arith, e)) ∙ ap (λ b. c b (last_place t.site)) e ∙ linked.back (subst (λ b. 0 < t.copies.behind b) e some) ∙ sym (beside_right j c (split_at z) (suc a) (last_place t.site) (omega (arith, e)) ∙ split_high z (last_place t.site) within))
       (λ high. absurd (omega (arith, high, upto)))
       rest)
       (split_three a j);
@@ -168,10 +167,10 @@ next_left t j z c linked within none = record {
       (split_three a j);
 }
 
-pub next_sides : (t : Toured) (j z : ℕ) (c : ℕ → ℕ → Bool) → Linked t j c → z < back_end t.layout → t.copies.deep (suc j) z ≡ 0 → Sides t (suc j) (beside j c (split_at z))
+pub next_sides : (t : Toured) (j z : ℕ) (c : ℕ → ℕ → Bool) → Linked t j c → z < last_place t.site → t.copies.deep (suc j) z ≡ 0 → Sides t (suc j) (beside j c (split_at z))
 next_sides t j z c linked within none = record {
   left = next_left t j z c linked within none;
-  back = beside_right j c (split_at z) (suc j) (back_end t.layout) (omega arith) ∙ split_high z (back_end t.layout) within;
+  back = beside_right j c (split_at z) (suc j) (last_place t.site) (omega arith) ∙ split_high z (last_place t.site) within;
   front = beside_right j c (split_at z) (suc j) 0 (omega arith) ∙ split_low z 0 (omega arith);
 }
 

@@ -12,4 +12,6 @@ pub mod Touring
 pub mod Fitting
 pub mod FitCrossing
 pub mod FitThrough
+pub mod Ends
+pub mod AisleByAisle
 pub mod Shortest

@@ -1,5 +1,5 @@
 -- The first, the last and neighbours of ascending numbers.
-use Rattle.std.proofs.Common.{◌≡◌, ℕ, suc, ◌+◌, ◌-◌, ◌≤◌, ◌<◌, true, false, cond, List, [], ◌∷◌, ◌++◌, Some, length, filter, slice_get, arith, refl, sym, ◌∙◌, subst, inl, inr, ◌⊎◌}
+use Rattle.std.proofs.Common.{◌≡◌, Bool, ℕ, suc, ◌+◌, ◌-◌, ◌≤◌, ◌<◌, true, false, cond, List, [], ◌∷◌, ◌++◌, Some, length, filter, slice_get, arith, refl, sym, ◌∙◌, subst, inl, inr, ◌⊎◌}
 use Rattle.std.specs.List.{range_with_len}
 use Rattle.std.proofs.lemmas.List.{map-id}
 use Rattle.std.proofs.lemmas.Option.{same_Some}
@@ -48,12 +48,15 @@ neighbours_part (b ∷ before) after near far x up (inl e) =
     among_middle (z ∷ xs) y ys = inr (among_middle xs y ys)
 neighbours_part (b ∷ before) after near far x up (inr h) = neighbours_part before after near far x (tail_ascending b (before ++ near ∷ far ∷ after) up) h
 
+-- places that pass ascend
+pub passed_ascend : (test : ℕ → Bool) (slots : ℕ) → IsAscending (filter test (range_with_len 0 (slots + 2)))
+passed_ascend test slots =
+    let two : slots + 2 ≡ suc (slots + 1) = omega arith in
+    let rest = ascending_after test (λ k. k) 1 (slots + 1) 0 (λ k low high. low) (λ k low high. omega arith) in
+    let rest' = subst (λ xs. IsAscending (0 ∷ xs)) (map-id (filter test (range_with_len 1 (slots + 1)))) rest in
+    rw two (elim (test 0) as (λ b. IsAscending (cond b (0 ∷ filter test (range_with_len 1 (slots + 1))) (filter test (range_with_len 1 (slots + 1))))) [ true ↦ rest' | false ↦ tail_ascending 0 _ rest' ])
+
 -- required places ascend
 pub places_ascend : (layout : Layout) (picks : List Point) (aisle : ℕ) → IsAscending (required_places layout picks aisle)
 unfolding required_places
-places_ascend layout picks aisle =
-    let test = is_required layout picks aisle in
-    let two : layout.slots + 2 ≡ suc (layout.slots + 1) = omega arith in
-    let rest = ascending_after test (λ k. k) 1 (layout.slots + 1) 0 (λ k low high. low) (λ k low high. omega arith) in
-    let rest' = subst (λ xs. IsAscending (0 ∷ xs)) (map-id (filter test (range_with_len 1 (layout.slots + 1)))) rest in
-    rw two (elim (test 0) as (λ b. IsAscending (cond b (0 ∷ filter test (range_with_len 1 (layout.slots + 1))) (filter test (range_with_len 1 (layout.slots + 1))))) [ true ↦ rest' | false ↦ tail_ascending 0 _ rest' ])
+places_ascend layout picks aisle = passed_ascend (is_required layout picks aisle) layout.slots

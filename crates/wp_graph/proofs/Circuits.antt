@@ -5,6 +5,7 @@ use Rattle.wp_model.specs.declared.point.Point.{Point}
 use Rattle.wp_model.specs.Warehouse.{Layout, IsMove, Step, back_end}
 use Rattle.wp_model.specs.Warehouse.Step.{deeper, nearer, further, back}
 use Rattle.wp_model.specs.Tours.{IsWalk}
+use Rattle.wp_graph.specs.Sites.{Site, last_place, site_of}
 use Rattle.wp_graph.specs.Copies.{Copies, along_aisle, along_cross, copies_of, sum_moves}
 
 -- the last point of a walk
@@ -111,15 +112,15 @@ behind_step layout b p q t move (further is) = behind_last b layout.aisles p q m
 behind_step layout b p q t move (back is) = behind_last_back b layout.aisles p q move.from_point.aisle.1 is.aisle
 
 -- the copies of a closed walk: each piece of an aisle is walked as often as its cross aisles ask, up to an even number
-pub record AreEven (layout : Layout) (copies : Copies) : Type 0 where
+pub record AreEven (site : Site) (copies : Copies) : Type 0 where
   pub across : (a : ℕ) → (copies.behind a + copies.front a) % 2 ≡ 0
-  pub through : (a s : ℕ) → s < back_end layout → (copies.deep (suc a) s + copies.front a + copies.front (suc a)) % 2 ≡ 0
+  pub through : (a s : ℕ) → s < last_place site → (copies.deep (suc a) s + copies.front a + copies.front (suc a)) % 2 ≡ 0
   pub first_behind : copies.behind 0 ≡ 0
   pub first_front : copies.front 0 ≡ 0
-  pub last_behind : copies.behind layout.aisles ≡ 0
-  pub last_front : copies.front layout.aisles ≡ 0
+  pub last_behind : copies.behind site.aisles ≡ 0
+  pub last_front : copies.front site.aisles ≡ 0
 
-pub closed_even : (layout : Layout) (from : Point) (points : List Point) (total : ℕ) → last_point from points ≡ from → IsWalk layout (from ∷ points) total → AreEven layout (copies_of layout (from ∷ points))
+pub closed_even : (layout : Layout) (from : Point) (points : List Point) (total : ℕ) → last_point from points ≡ from → IsWalk layout (from ∷ points) total → AreEven (site_of layout) (copies_of layout (from ∷ points))
 closed_even layout from points total closes walk = record {
   across = λ a.
       let even = changes_even layout (λ p q. along_cross (back_end layout) a p q + along_cross 0 a p q) (within_first a) from points total (λ p q t move. across_step layout a p q t move.step) walk in

@@ -5,16 +5,17 @@ use Rattle.wp_model.specs.declared.point.Point.{Point}
 use Rattle.wp_model.specs.Warehouse.{Layout, Step, back_end}
 use Rattle.wp_model.specs.Warehouse.Step.{deeper, nearer, further, back}
 use Rattle.wp_model.specs.Tours.{IsWalk}
+use Rattle.wp_graph.specs.Sites.{Site, last_place, site_of}
 use Rattle.wp_graph.specs.Copies.{Copies, along_aisle, along_cross, copies_of, sum_moves}
 use Rattle.wp_graph.proofs.Members.{Among}
 
 -- a colouring of the places of the aisles that no walked piece changes
-pub record IsKept (layout : Layout) (copies : Copies) (colour : ℕ → ℕ → Bool) : Type 0 where
+pub record IsKept (site : Site) (copies : Copies) (colour : ℕ → ℕ → Bool) : Type 0 where
   pub deep : (a s : ℕ) → 0 < copies.deep a s → colour a s ≡ colour a (suc s)
-  pub behind : (a : ℕ) → 0 < copies.behind a → colour a (back_end layout) ≡ colour (suc a) (back_end layout)
+  pub behind : (a : ℕ) → 0 < copies.behind a → colour a (last_place site) ≡ colour (suc a) (last_place site)
   pub front : (a : ℕ) → 0 < copies.front a → colour a 0 ≡ colour (suc a) 0
 
-pub kept_tail : (layout : Layout) (colour : ℕ → ℕ → Bool) (p q : Point) (points : List Point) → IsKept layout (copies_of layout (p ∷ q ∷ points)) colour → IsKept layout (copies_of layout (q ∷ points)) colour
+pub kept_tail : (layout : Layout) (colour : ℕ → ℕ → Bool) (p q : Point) (points : List Point) → IsKept (site_of layout) (copies_of layout (p ∷ q ∷ points)) colour → IsKept (site_of layout) (copies_of layout (q ∷ points)) colour
 kept_tail layout colour p q points kept = record {
   deep = λ a s some. kept.deep a s (omega (arith, some));
   behind = λ a some. kept.behind a (omega (arith, some));
@@ -34,7 +35,7 @@ cross_one e p q at aisle slot = grind (arith, nat_tests)
 back_one : (e : ℕ) (p q : Point) → q.slot ≡ e → p.aisle ≡ q.aisle + 1 → p.slot ≡ q.slot → along_cross e q.aisle p q ≡ 1
 back_one e p q at aisle slot = grind (arith, nat_tests)
 
-kept_step : (layout : Layout) (colour : ℕ → ℕ → Bool) (p q : Point) (points : List Point) (t : ℕ) → IsKept layout (copies_of layout (p ∷ q ∷ points)) colour → Step layout p q t → colour p.aisle p.slot ≡ colour q.aisle q.slot
+kept_step : (layout : Layout) (colour : ℕ → ℕ → Bool) (p q : Point) (points : List Point) (t : ℕ) → IsKept (site_of layout) (copies_of layout (p ∷ q ∷ points)) colour → Step layout p q t → colour p.aisle p.slot ≡ colour q.aisle q.slot
 kept_step layout colour p q points t kept (deeper is) =
     let next : q.slot ≡ suc p.slot = omega (arith, is.slot) in
     kept.deep p.aisle p.slot (omega (arith, deep_one p q is.aisle is.slot)) ∙ sym (ap (λ x. colour x q.slot) is.aisle ∙ ap (colour p.aisle) next)
@@ -55,7 +56,7 @@ kept_step layout colour p q points t kept (back is) =
     is.end
 
 -- each point of the walk has the colour of the first
-pub walk_coloured : (layout : Layout) (colour : ℕ → ℕ → Bool) (from : Point) (points : List Point) (total : ℕ) (x : Point) → IsKept layout (copies_of layout (from ∷ points)) colour → IsWalk layout (from ∷ points) total → Among (from ∷ points) x →
+pub walk_coloured : (layout : Layout) (colour : ℕ → ℕ → Bool) (from : Point) (points : List Point) (total : ℕ) (x : Point) → IsKept (site_of layout) (copies_of layout (from ∷ points)) colour → IsWalk layout (from ∷ points) total → Among (from ∷ points) x →
     colour x.aisle x.slot ≡ colour from.aisle from.slot
 walk_coloured layout colour from points total x kept walk (inl e) = ap (λ (p : Point). colour p.aisle p.slot) (sym e)
 walk_coloured layout colour from [] total x kept walk (inr h) = absurd h
@@ -105,7 +106,7 @@ positive (suc n) = inr (omega arith)
 
 -- where a walked piece begins, there is the colour of the first point
 pub piece_coloured : (layout : Layout) (colour : ℕ → ℕ → Bool) (each : Point → Point → ℕ) (a s : ℕ) (from : Point) (points : List Point) (total : ℕ) →
-    ((p q : Point) (t : ℕ) → 0 < each p q → colour p.aisle p.slot ≡ colour q.aisle q.slot → Step layout p q t → colour a s ≡ colour p.aisle p.slot) → IsKept layout (copies_of layout (from ∷ points)) colour → IsWalk layout (from ∷ points) total →
+    ((p q : Point) (t : ℕ) → 0 < each p q → colour p.aisle p.slot ≡ colour q.aisle q.slot → Step layout p q t → colour a s ≡ colour p.aisle p.slot) → IsKept (site_of layout) (copies_of layout (from ∷ points)) colour → IsWalk layout (from ∷ points) total →
     0 < sum_moves each (from ∷ points) → colour a s ≡ colour from.aisle from.slot
 piece_coloured layout colour each a s from [] total at kept walk some = absurd (omega (arith, some))
 piece_coloured layout colour each a s from (to ∷ points) total at kept (step, rest, move, walk, sum) some =
@@ -117,14 +118,14 @@ piece_coloured layout colour each a s from (to ∷ points) total at kept (step, 
 
 -- a colouring that no walked piece changes is one colour, that of this point, on all points that are needed and at all
 -- walked pieces
-pub record AreJoined (layout : Layout) (copies : Copies) (Needed : Point → Type 0) (home : Point) : Type 1 where
-  pub needed : (colour : ℕ → ℕ → Bool) → IsKept layout copies colour → (x : Point) → Needed x → colour x.aisle x.slot ≡ colour home.aisle home.slot
-  pub deep : (colour : ℕ → ℕ → Bool) → IsKept layout copies colour → (a s : ℕ) → 0 < copies.deep a s → colour a s ≡ colour home.aisle home.slot
-  pub behind : (colour : ℕ → ℕ → Bool) → IsKept layout copies colour → (a : ℕ) → 0 < copies.behind a → colour a (back_end layout) ≡ colour home.aisle home.slot
-  pub front : (colour : ℕ → ℕ → Bool) → IsKept layout copies colour → (a : ℕ) → 0 < copies.front a → colour a 0 ≡ colour home.aisle home.slot
+pub record AreJoined (site : Site) (copies : Copies) (Needed : Point → Type 0) (home : Point) : Type 1 where
+  pub needed : (colour : ℕ → ℕ → Bool) → IsKept site copies colour → (x : Point) → Needed x → colour x.aisle x.slot ≡ colour home.aisle home.slot
+  pub deep : (colour : ℕ → ℕ → Bool) → IsKept site copies colour → (a s : ℕ) → 0 < copies.deep a s → colour a s ≡ colour home.aisle home.slot
+  pub behind : (colour : ℕ → ℕ → Bool) → IsKept site copies colour → (a : ℕ) → 0 < copies.behind a → colour a (last_place site) ≡ colour home.aisle home.slot
+  pub front : (colour : ℕ → ℕ → Bool) → IsKept site copies colour → (a : ℕ) → 0 < copies.front a → colour a 0 ≡ colour home.aisle home.slot
 
 pub walk_joined : (layout : Layout) (Needed : Point → Type 0) (from : Point) (points : List Point) (total : ℕ) → ((x : Point) → Needed x → Among (from ∷ points) x) → IsWalk layout (from ∷ points) total →
-    AreJoined layout (copies_of layout (from ∷ points)) Needed from
+    AreJoined (site_of layout) (copies_of layout (from ∷ points)) Needed from
 walk_joined layout Needed from points total passed walk = record {
   needed = λ colour kept x h. walk_coloured layout colour from points total x kept walk (passed x h);
   deep = λ colour kept a s some. piece_coloured layout colour (along_aisle a s) a s from points total (λ p q t here same step. deep_step layout colour a s p q t here same step) kept walk some;

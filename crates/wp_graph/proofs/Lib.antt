@@ -14,3 +14,5 @@ pub mod Joining
 pub mod Measuring
 pub mod OneAisle
 pub mod EachAisle
+pub mod DownByTwo
+pub mod WalkCopies

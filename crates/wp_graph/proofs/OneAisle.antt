@@ -5,7 +5,9 @@ use Rattle.std.proofs.lemmas.Nat.{mul-le}
 use Rattle.wp_model.proofs.Sums.{sum-grows}
 use Rattle.wp_model.specs.Sums.{sum_below}
 use Rattle.wp_graph.specs.declared.ways.AisleWays.{AisleWays}
-use Rattle.wp_graph.specs.AisleLengths.{ways_from}
+use Rattle.wp_graph.specs.AisleLengths.{ways_with}
+use Rattle.wp_graph.specs.Sites.{End}
+use Rattle.wp_graph.specs.Sites.End.{at_front, at_back}
 use Rattle.wp_graph.specs.Required.{IsAscending, largest_gap}
 use Rattle.wp_graph.proofs.Members.{Among}
 use Rattle.wp_graph.proofs.Ascending.{head_below, last_most_from}
@@ -97,16 +99,15 @@ two_or_more : (d : ℕ → ℕ) (x : ℕ) (xs : List ℕ) (y z : ℕ) → x ≤ 
 two_or_more d x [] y z low order high whole = absurd (omega arith)
 two_or_more d x (r ∷ xs) y z low order high whole = let yes = le-leb 2 (length (map d (x ∷ r ∷ xs))) (omega arith) in rw yes refl
 
-pub cut_ways : (has_depot : Bool) (d : ℕ → ℕ) (b z y : ℕ) (places : List ℕ) → ((i j : ℕ) → i ≤ j → d i ≤ d j) → z ≤ y → y < b → IsAscending places → ((r : ℕ) → Among places r → (r ≤ z) ⊎ (y < r)) → (has_depot ≡ true → (x : ℕ) × Among places x × (x ≤ z)) →
-    IsCut (ways_from has_depot (d b) (map d places)) places z y (2 * d z + 2 * (d b - d (suc y)))
-unfolding ways_from
-cut_ways has_depot d b z y [] grows order within up parts depot = skips refl refl
-cut_ways has_depot d b z y (x ∷ places) grows order within up parts depot = ⊎_elim
-    (λ low. fronts (2 * d (last_from x places)) (last_from x places) (ap (option_map (λ farthest. 2 * farthest)) (map_last d x places)) (omega (arith, grows (last_from x places) z low)) (last_among x places) low (λ r h. let most = last_most_from x places r up h in omega (arith, most, low)))
+pub cut_ways : (depot : End → Bool) (d : ℕ → ℕ) (b z y : ℕ) (places : List ℕ) → ((i j : ℕ) → i ≤ j → d i ≤ d j) → z ≤ y → y < b → IsAscending places → ((r : ℕ) → Among places r → (r ≤ z) ⊎ (y < r)) →
+    (depot at_front ≡ true → (x : ℕ) × Among places x × (x ≤ z)) → (depot at_back ≡ true → (x : ℕ) × Among places x × (y < x)) → IsCut (ways_with depot (d b) (map d places)) places z y (2 * d z + 2 * (d b - d (suc y)))
+cut_ways depot d b z y [] grows order within up parts near_depot far_depot = skips refl refl
+cut_ways depot d b z y (x ∷ places) grows order within up parts near_depot far_depot = ⊎_elim
+    (λ low. fronts (2 * d (last_from x places)) (last_from x places) (front_applies (depot at_back) refl low) (omega (arith, grows (last_from x places) z low)) (last_among x places) low (λ r h. let most = last_most_from x places r up h in omega (arith, most, low)))
     (λ high. ⊎_elim
     (λ near. gaps (2 * (d b - largest_gap (map d (x ∷ places)))) x (last_from x places) (two_or_more d x places y z near order high (d b))
     (let gap = gap_least d z y x places grows near (λ r h. parts r (inr h)) high order in omega (arith, gap, grows z (suc y) (omega arith), grows (suc y) b (omega arith))) (inl refl) near (last_among x places) high)
-    (λ far. backs (2 * (d b - d x)) x (back_applies has_depot refl far) (omega (arith, grows (suc y) x (omega arith))) (inl refl) far (λ r h. below r far h))
+    (λ far. backs (2 * (d b - d x)) x (back_applies (depot at_front) refl far) (omega (arith, grows (suc y) x (omega arith))) (inl refl) far (λ r h. below r far h))
     (parts x (inl refl)))
     (parts (last_from x places) (last_among x places))
   where
@@ -114,6 +115,10 @@ cut_ways has_depot d b z y (x ∷ places) grows order within up parts depot = �
     below r far (inl e) = omega (arith, e)
     below r far (inr h) = let more = head_below x places r up h in omega (arith, more)
 
-    back_applies : (has : Bool) → has_depot ≡ has → y < x → (if has_depot then None else Some (2 * (d b - d x))) ≡ Some (2 * (d b - d x))
-    back_applies true has far = let near = depot has in absurd (let more = below near.0 far near.1 in omega (arith, more, near.2))
+    back_applies : (has : Bool) → depot at_front ≡ has → y < x → (if depot at_front then None else Some (2 * (d b - d x))) ≡ Some (2 * (d b - d x))
+    back_applies true has far = let near = near_depot has in absurd (let more = below near.0 far near.1 in omega (arith, more, near.2))
     back_applies false has far = rw has refl
+
+    front_applies : (has : Bool) → depot at_back ≡ has → last_from x places ≤ z → (if depot at_back then None else option_map (λ farthest. 2 * farthest) (slice_get (map d (x ∷ places)) (length (map d (x ∷ places)) - 1))) ≡ Some (2 * d (last_from x places))
+    front_applies true has low = let far = far_depot has in absurd (let most = last_most_from x places far.0 up far.1 in omega (arith, most, far.2))
+    front_applies false has low = rw has (ap (option_map (λ farthest. 2 * farthest)) (map_last d x places))

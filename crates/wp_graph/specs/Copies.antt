@@ -2,7 +2,8 @@
 use Rattle.std.specs.Prelude.{ℕ, suc, ◌+◌, ◌*◌, ◌==◌, ◌&&◌, List, [], ◌∷◌, min, if◌then◌else◌}
 use Rattle.wp_model.specs.declared.point.Point.{Point}
 use Rattle.wp_model.specs.Sums.{sum_below}
-use Rattle.wp_model.specs.Warehouse.{Layout, back_end, spacing_after, step_length}
+use Rattle.wp_model.specs.Warehouse.{Layout, back_end}
+use Rattle.wp_graph.specs.Sites.{Site, last_place}
 
 -- how often each piece is walked: from a place of an aisle to the next place behind it, and from an aisle to the next
 -- one along the cross aisle at the back and at the front
@@ -34,13 +35,13 @@ copies_of layout points = record {
 }
 
 -- the length of what is walked of an aisle
-abbrev pub aisle_walked : Layout → Copies → ℕ → ℕ
-aisle_walked layout copies aisle = sum_below (back_end layout) (λ place. copies.deep aisle place * step_length layout place)
+abbrev pub aisle_walked : Site → Copies → ℕ → ℕ
+aisle_walked site copies aisle = sum_below (last_place site) (λ place. copies.deep aisle place * site.step place)
 
 -- the length of what is walked from an aisle to the next
-abbrev pub cross_walked : Layout → Copies → ℕ → ℕ
-cross_walked layout copies aisle = (copies.behind aisle + copies.front aisle) * spacing_after layout aisle
+abbrev pub cross_walked : Site → Copies → ℕ → ℕ
+cross_walked site copies aisle = (copies.behind aisle + copies.front aisle) * site.spacing aisle
 
 -- the length of all that is walked
-abbrev pub all_walked : Layout → Copies → ℕ
-all_walked layout copies = sum_below layout.aisles (λ a. aisle_walked layout copies (suc a) + cross_walked layout copies (suc a))
+abbrev pub all_walked : Site → Copies → ℕ
+all_walked site copies = sum_below site.aisles (λ a. aisle_walked site copies (suc a) + cross_walked site copies (suc a))

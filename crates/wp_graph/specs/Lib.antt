@@ -1,3 +1,4 @@
+pub mod Sites
 pub mod PickSets
 pub mod Required
 pub mod AisleLengths

@@ -4,6 +4,7 @@ use Rattle.std.specs.List.{list_any, range_with_len}
 use Rattle.wp_model.specs.declared.point.Point.{Point}
 use Rattle.wp_model.specs.Sums.{sum_below}
 use Rattle.wp_model.specs.Warehouse.{Layout, back_end, depot_point, step_length}
+use Rattle.wp_graph.specs.Sites.{Site, depot_of}
 
 -- how far a place of an aisle is from the front
 abbrev pub distance : Layout → ℕ → ℕ
@@ -28,6 +29,10 @@ is_required layout picks aisle place = has_point (depot_point layout ∷ picks) 
 -- the places of an aisle that a tour must pass, from the front on
 unfoldable pub required_places : Layout → List Point → ℕ → List ℕ
 required_places layout picks aisle = filter (is_required layout picks aisle) (range_with_len 0 (layout.slots + 2))
+
+-- the same in an aisle of a site, of which the depot may lie at either end
+unfoldable pub site_places : Site → List Point → ℕ → List ℕ
+site_places site picks aisle = filter (has_point (depot_of site ∷ picks) aisle) (range_with_len 0 (site.slots + 2))
 
 -- how far they are from the front
 unfoldable pub required_distances : Layout → List Point → ℕ → List ℕ
