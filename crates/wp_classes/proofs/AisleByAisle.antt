@@ -1,6 +1,6 @@
 -- From aisle to aisle: with a way for each aisle and a crossing to the next, which the tables allow, a class fits what a
 -- tour walks, and the sum so far is no longer than what it walks.
-use Rattle.std.proofs.Common.{◌≡◌, ℕ, zero, suc, ◌+◌, ◌-◌, ◌*◌, ◌≤◌, true, IsTrue, List, arith, refl, inl, subst}
+use Rattle.std.proofs.Common.{◌≡◌, ℕ, zero, suc, ◌+◌, ◌-◌, ◌*◌, ◌≤◌, IsTrue, List, arith, refl, inl, subst}
 use Rattle.std.proofs.lemmas.Nat.{mul-le}
 use Rattle.wp_model.specs.Sums.{sum_below}
 use Rattle.wp_model.specs.declared.point.Point.{Point}

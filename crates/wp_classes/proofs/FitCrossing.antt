@@ -1,13 +1,14 @@
 -- From a class that fits what a tour walks, some crossing that the tables allow and that is no longer leads to a class
 -- that fits.
-use Rattle.std.proofs.Common.{◌≡◌, ℕ, zero, suc, ◌+◌, ◌<◌, ◌≤◌, Bool, true, false, IsTrue, Some, not, arith, refl, sym, ap, ◌∙◌, ◌⊎◌, inl, inr, ⊎_elim}
+use Rattle.std.proofs.Common.{◌≡◌, ℕ, ◌+◌, ◌<◌, ◌≤◌, Bool, true, false, Some, not, arith, refl, sym, ap, ◌∙◌, ⊎_elim}
 use Rattle.wp_graph.specs.Sites.{last_place}
 use Rattle.wp_graph.proofs.Joining.{IsKept}
 use Rattle.wp_classes.specs.declared.class.Class.{Class}
 use Rattle.wp_classes.specs.declared.class.Class.TheVariants.{UU1, E01, ZE1, EE1, EE2, Z00, Z01}
 use Rattle.wp_classes.specs.declared.class.Cross.{Cross}
 use Rattle.wp_classes.specs.declared.class.Cross.TheVariants.{C00, C11, C20, C02, C22}
-use Rattle.wp_classes.specs.Tables.{class_after_cross, copies, is_whole}
+use Rattle.wp_classes.specs.Tables.{class_after_cross, copies}
+use Rattle.wp_classes.proofs.FiveCrossings.{copies_behind, copies_in_front, one_of_five_crossings}
 use Rattle.wp_classes.proofs.Fitting.{AllLeft, Agrees, Crossed, Fits, IsLeft, Linked, Sides, Tells, Toured, beside, beside_left, beside_right, everywhere, home, kept_beside, split_cases, true_false}
 
 -- a crossing that is no longer than what the tour walks there
@@ -17,10 +18,6 @@ pub record CrossesOn (t : Toured) (j : ℕ) (class : Class) : Type 0 where
   pub takes : class_after_cross class cross ≡ Some next
   pub fits : Crossed t j next
   pub least : copies cross ≤ t.copies.behind j + t.copies.front j
-
-positive : (n : ℕ) → (n ≡ 0) ⊎ (0 < n)
-positive zero = inl refl
-positive (suc n) = inr (omega arith)
 
 sides_linked : (t : Toured) (j : ℕ) (c : ℕ → ℕ → Bool) → Sides t j c → Linked t j c
 sides_linked t j c sides = record { left = sides.left; back = λ some. sides.back; front = λ some. sides.front }
@@ -47,6 +44,13 @@ behind_tells t j c x some is = λ other kept agrees. sym (t.are.joined.behind ot
 pub never_both : (t : Toured) (j : ℕ) (c other : ℕ → ℕ → Bool) → Tells t j c true → Tells t j c false → IsKept t.site t.copies other → Agrees j c other → ⊥
 never_both t j c other one two kept agrees = true_false (sym (one other kept agrees) ∙ two other kept agrees)
 
+-- all beyond has the colour of the one end from which something may cross
+pub front_alone : (t : Toured) (j : ℕ) (c : ℕ → ℕ → Bool) → t.copies.behind j ≡ 0 → Sides t j c → IsKept t.site t.copies (beside j c (λ s. false))
+front_alone t j c none sides = kept_beside t j c false sides.left (λ some. absurd (omega (arith, some, none))) (λ some. sides.front)
+
+pub back_alone : (t : Toured) (j : ℕ) (c : ℕ → ℕ → Bool) → t.copies.front j ≡ 0 → Sides t j c → IsKept t.site t.copies (beside j c (λ s. true))
+back_alone t j c none sides = kept_beside t j c true sides.left (λ some. sides.back) (λ some. absurd (omega (arith, some, none)))
+
 kept_not : (t : Toured) (colour : ℕ → ℕ → Bool) → IsKept t.site t.copies colour → IsKept t.site t.copies (λ a s. not (colour a s))
 kept_not t colour kept = record { deep = λ a s some. ap not (kept.deep a s some); behind = λ a some. ap not (kept.behind a some); front = λ a some. ap not (kept.front a some) }
 
@@ -60,108 +64,119 @@ false_everywhere t j tells = λ other kept agrees. not_true (home t other) (tell
 pub everywhere_left : (t : Toured) (j : ℕ) (x : Bool) → IsLeft t j (everywhere x)
 everywhere_left t j x = record { deep = λ a s low some. refl; behind = λ a low some. refl; front = λ a low some. refl }
 
-cross_odd : (t : Toured) (j : ℕ) → Fits t j UU1 → CrossesOn t j UU1
-cross_odd t j fits = record { cross = C11; next = UU1; takes = refl; fits = fits; least = let even = t.are.even.across j in omega (arith, even, fits) }
+-- what the tour walks between two aisles is this crossing
+pub record Walks (t : Toured) (j : ℕ) (cross : Cross) : Type 0 where
+  pub behind : t.copies.behind j ≡ copies_behind cross
+  pub front : t.copies.front j ≡ copies_in_front cross
 
-cross_back : (t : Toured) (j : ℕ) → Fits t j E01 → CrossesOn t j E01
-cross_back t j (even, c, sides, one) =
-    let across = t.are.even.across j in
-    elim (positive (t.copies.behind j)) [
-      | inl b ↦ elim (positive (t.copies.front j)) [
-        | inl f ↦ record {
-          cross = C00;
-          next = Z01;
-          takes = refl;
-          least = omega arith;
-          fits = all_left t j c true false true_false one.tells (kept_beside t j c false sides.left (λ some. absurd (omega (arith, some, b))) (λ some. sides.front));
-        }
-        | inr f ↦ absurd (never_both t j c (beside j c (λ s. false)) one.tells (front_tells t j c false f sides.front)
-            (kept_beside t j c false sides.left (λ some. absurd (omega (arith, some, b))) (λ some. sides.front)) (beside_agrees t j c false))
-      ]
-      | inr b ↦ elim (positive (t.copies.front j)) [
-        | inl f ↦ record { cross = C20; next = E01; takes = refl; least = omega (arith, across, even, b, f); fits = (even, c, sides_linked t j c sides, one) }
-        | inr f ↦ record { cross = C22; next = EE2; takes = refl; least = omega (arith, across, even, b, f); fits = (even, c, sides_linked t j c sides, record { one = one.tells; other = front_tells t j c false f sides.front }) }
-      ]
-    ]
+-- odd and even
+cross_odd : (t : Toured) (j : ℕ) (cross : Cross) → Walks t j cross → Fits t j UU1 → CrossesOn t j UU1
+cross_odd t j C00 walks odd = absurd (omega (arith, walks.front, odd))
+cross_odd t j C11 walks odd = record { cross = C11; next = UU1; takes = refl; fits = odd; least = omega (arith, walks.behind, walks.front) }
+cross_odd t j C20 walks odd = absurd (omega (arith, walks.front, odd))
+cross_odd t j C02 walks odd = absurd (omega (arith, walks.front, odd))
+cross_odd t j C22 walks odd = absurd (omega (arith, walks.front, odd))
 
-cross_front : (t : Toured) (j : ℕ) → Fits t j ZE1 → CrossesOn t j ZE1
-cross_front t j (even, c, sides, one) =
-    let across = t.are.even.across j in
-    elim (positive (t.copies.behind j)) [
-      | inl b ↦ elim (positive (t.copies.front j)) [
-        | inl f ↦ record {
-          cross = C00;
-          next = Z01;
-          takes = refl;
-          least = omega arith;
-          fits = all_left t j c false true (λ e. true_false (sym e)) one.tells (kept_beside t j c true sides.left (λ some. sides.back) (λ some. absurd (omega (arith, some, f))));
-        }
-        | inr f ↦ record { cross = C02; next = ZE1; takes = refl; least = omega (arith, across, even, b, f); fits = (even, c, sides_linked t j c sides, one) }
-      ]
-      | inr b ↦ elim (positive (t.copies.front j)) [
-        | inl f ↦ absurd (never_both t j c (beside j c (λ s. true)) (behind_tells t j c true b sides.back) one.tells
-            (kept_beside t j c true sides.left (λ some. sides.back) (λ some. absurd (omega (arith, some, f)))) (beside_agrees t j c true))
-        | inr f ↦ record { cross = C22; next = EE2; takes = refl; least = omega (arith, across, even, b, f); fits = (even, c, sides_linked t j c sides, record { one = behind_tells t j c true b sides.back; other = one.tells }) }
-      ]
-    ]
+-- the part at the back end
+cross_back : (t : Toured) (j : ℕ) (cross : Cross) → Walks t j cross → Fits t j E01 → CrossesOn t j E01
+cross_back t j C00 walks (even, c, sides, one) = record {
+  cross = C00;
+  next = Z01;
+  takes = refl;
+  least = omega arith;
+  fits = all_left t j c true false true_false one.tells (front_alone t j c walks.behind sides);
+}
+cross_back t j C11 walks (even, c, sides, one) = absurd (omega (arith, walks.front, even))
+cross_back t j C20 walks (even, c, sides, one) = record { cross = C20; next = E01; takes = refl; least = omega (arith, walks.behind, walks.front); fits = (even, c, sides_linked t j c sides, one) }
+cross_back t j C02 walks (even, c, sides, one) =
+    absurd (never_both t j c (beside j c (λ s. false)) one.tells (front_tells t j c false (omega (arith, walks.front)) sides.front) (front_alone t j c walks.behind sides) (beside_agrees t j c false))
+cross_back t j C22 walks (even, c, sides, one) = record {
+  cross = C22;
+  next = EE2;
+  takes = refl;
+  least = omega (arith, walks.behind, walks.front);
+  fits = (even, c, sides_linked t j c sides, record { one = one.tells; other = front_tells t j c false (omega (arith, walks.front)) sides.front });
+}
 
-cross_both : (t : Toured) (j : ℕ) → Fits t j EE1 → CrossesOn t j EE1
-cross_both t j (even, tells) =
-    let across = t.are.even.across j in
-    elim (positive (t.copies.behind j)) [
-      | inl b ↦ elim (positive (t.copies.front j)) [
-        | inl f ↦ record {
-          cross = C00;
-          next = Z01;
-          takes = refl;
-          least = omega arith;
-          fits = all_left t j (everywhere true) true false true_false tells
-              (kept_beside t j (everywhere true) false (everywhere_left t j true) (λ some. absurd (omega (arith, some, b))) (λ some. absurd (omega (arith, some, f))));
-        }
-        | inr f ↦ record {
-          cross = C02;
-          next = ZE1;
-          takes = refl;
-          least = omega (arith, across, even, b, f);
-          fits = (even, everywhere false, record { left = everywhere_left t j false; back = λ some. absurd (omega (arith, some, b)); front = λ some. refl }, record { all = λ p on low. refl; tells = false_everywhere t j tells });
-        }
-      ]
-      | inr b ↦ elim (positive (t.copies.front j)) [
-        | inl f ↦ record {
-          cross = C20;
-          next = E01;
-          takes = refl;
-          least = omega (arith, across, even, b, f);
-          fits = (even, everywhere true, record { left = everywhere_left t j true; back = λ some. refl; front = λ some. absurd (omega (arith, some, f)) }, record { all = λ p on low. refl; tells = tells });
-        }
-        | inr f ↦ record { cross = C22; next = EE1; takes = refl; least = omega (arith, across, even, b, f); fits = (even, tells) }
-      ]
-    ]
+-- the part at the front end
+cross_front : (t : Toured) (j : ℕ) (cross : Cross) → Walks t j cross → Fits t j ZE1 → CrossesOn t j ZE1
+cross_front t j C00 walks (even, c, sides, one) = record {
+  cross = C00;
+  next = Z01;
+  takes = refl;
+  least = omega arith;
+  fits = all_left t j c false true (λ e. true_false (sym e)) one.tells (back_alone t j c walks.front sides);
+}
+cross_front t j C11 walks (even, c, sides, one) = absurd (omega (arith, walks.front, even))
+cross_front t j C20 walks (even, c, sides, one) =
+    absurd (never_both t j c (beside j c (λ s. true)) (behind_tells t j c true (omega (arith, walks.behind)) sides.back) one.tells (back_alone t j c walks.front sides) (beside_agrees t j c true))
+cross_front t j C02 walks (even, c, sides, one) = record { cross = C02; next = ZE1; takes = refl; least = omega (arith, walks.behind, walks.front); fits = (even, c, sides_linked t j c sides, one) }
+cross_front t j C22 walks (even, c, sides, one) = record {
+  cross = C22;
+  next = EE2;
+  takes = refl;
+  least = omega (arith, walks.behind, walks.front);
+  fits = (even, c, sides_linked t j c sides, record { one = behind_tells t j c true (omega (arith, walks.behind)) sides.back; other = one.tells });
+}
 
-cross_two : (t : Toured) (j : ℕ) → Fits t j EE2 → CrossesOn t j EE2
-cross_two t j (even, c, sides, two) =
-    let across = t.are.even.across j in
-    elim (positive (t.copies.behind j)) [
-      | inl b ↦ absurd (never_both t j c (beside j c (λ s. false)) two.one two.other
-          (kept_beside t j c false sides.left (λ some. absurd (omega (arith, some, b))) (λ some. sides.front)) (beside_agrees t j c false))
-      | inr b ↦ elim (positive (t.copies.front j)) [
-        | inl f ↦ absurd (never_both t j c (beside j c (λ s. true)) two.one two.other
-            (kept_beside t j c true sides.left (λ some. sides.back) (λ some. absurd (omega (arith, some, f)))) (beside_agrees t j c true))
-        | inr f ↦ record { cross = C22; next = EE2; takes = refl; least = omega (arith, across, even, b, f); fits = (even, c, sides_linked t j c sides, two) }
-      ]
-    ]
+-- one part, which joins the ends
+cross_both : (t : Toured) (j : ℕ) (cross : Cross) → Walks t j cross → Fits t j EE1 → CrossesOn t j EE1
+cross_both t j C00 walks (even, tells) = record {
+  cross = C00;
+  next = Z01;
+  takes = refl;
+  least = omega arith;
+  fits = all_left t j (everywhere true) true false true_false tells
+      (kept_beside t j (everywhere true) false (everywhere_left t j true) (λ some. absurd (omega (arith, some, walks.behind))) (λ some. absurd (omega (arith, some, walks.front))));
+}
+cross_both t j C11 walks (even, tells) = absurd (omega (arith, walks.front, even))
+cross_both t j C20 walks (even, tells) = record {
+  cross = C20;
+  next = E01;
+  takes = refl;
+  least = omega (arith, walks.behind, walks.front);
+  fits = (even, everywhere true, record { left = everywhere_left t j true; back = λ some. refl; front = λ some. absurd (omega (arith, some, walks.front)) }, record { all = λ p on low. refl; tells = tells });
+}
+cross_both t j C02 walks (even, tells) = record {
+  cross = C02;
+  next = ZE1;
+  takes = refl;
+  least = omega (arith, walks.behind, walks.front);
+  fits = (
+    even,
+    everywhere false,
+    record { left = everywhere_left t j false; back = λ some. absurd (omega (arith, some, walks.behind)); front = λ some. refl },
+    record { all = λ p on low. refl; tells = false_everywhere t j tells },
+  );
+}
+cross_both t j C22 walks (even, tells) = record { cross = C22; next = EE1; takes = refl; least = omega (arith, walks.behind, walks.front); fits = (even, tells) }
 
+-- two parts, which never meet unless both ends cross
+cross_two : (t : Toured) (j : ℕ) (cross : Cross) → Walks t j cross → Fits t j EE2 → CrossesOn t j EE2
+cross_two t j C00 walks (even, c, sides, two) = absurd (never_both t j c (beside j c (λ s. false)) two.one two.other (front_alone t j c walks.behind sides) (beside_agrees t j c false))
+cross_two t j C11 walks (even, c, sides, two) = absurd (omega (arith, walks.front, even))
+cross_two t j C20 walks (even, c, sides, two) = absurd (never_both t j c (beside j c (λ s. true)) two.one two.other (back_alone t j c walks.front sides) (beside_agrees t j c true))
+cross_two t j C02 walks (even, c, sides, two) = absurd (never_both t j c (beside j c (λ s. false)) two.one two.other (front_alone t j c walks.behind sides) (beside_agrees t j c false))
+cross_two t j C22 walks (even, c, sides, two) = record { cross = C22; next = EE2; takes = refl; least = omega (arith, walks.behind, walks.front); fits = (even, c, sides_linked t j c sides, two) }
+
+-- nothing passed yet: what the tour walks here is left out
 cross_none : (t : Toured) (j : ℕ) → Fits t j Z00 → CrossesOn t j Z00
 cross_none t j (even, c, sides, none) = record { cross = C00; next = Z00; takes = refl; least = omega arith; fits = (even, c, sides_linked t j c sides, none) }
 
+-- all passed
 cross_done : (t : Toured) (j : ℕ) → Fits t j Z01 → CrossesOn t j Z01
 cross_done t j all = record { cross = C00; next = Z01; takes = refl; least = omega arith; fits = all }
 
+by_crossing : (t : Toured) (j : ℕ) (class : Class) (cross : Cross) → Walks t j cross → Fits t j class → CrossesOn t j class
+by_crossing t j UU1 cross walks fits = cross_odd t j cross walks fits
+by_crossing t j E01 cross walks fits = cross_back t j cross walks fits
+by_crossing t j ZE1 cross walks fits = cross_front t j cross walks fits
+by_crossing t j EE1 cross walks fits = cross_both t j cross walks fits
+by_crossing t j EE2 cross walks fits = cross_two t j cross walks fits
+by_crossing t j Z00 cross walks fits = cross_none t j fits
+by_crossing t j Z01 cross walks fits = cross_done t j fits
+
 pub crosses_on : (t : Toured) (j : ℕ) (class : Class) → Fits t j class → CrossesOn t j class
-crosses_on t j UU1 fits = cross_odd t j fits
-crosses_on t j E01 fits = cross_back t j fits
-crosses_on t j ZE1 fits = cross_front t j fits
-crosses_on t j EE1 fits = cross_both t j fits
-crosses_on t j EE2 fits = cross_two t j fits
-crosses_on t j Z00 fits = cross_none t j fits
-crosses_on t j Z01 fits = cross_done t j fits
+crosses_on t j class fits =
+    let is = one_of_five_crossings (t.copies.behind j) (t.copies.front j) (t.few.behind j) (t.few.front j) (t.are.even.across j) in
+    by_crossing t j class is.cross (record { behind = is.behind_is; front = is.front_is }) fits

@@ -1,6 +1,6 @@
 -- From a class that fits what a tour walks, some way through the next aisle that the tables allow, that applies and that
 -- is no longer leads to a class that fits.
-use Rattle.std.proofs.Common.{◌≡◌, ℕ, suc, ◌+◌, ◌%◌, ◌<◌, ◌≤◌, Bool, true, false, Some, [], arith, refl, sym, ap, ◌∙◌, subst, ◌⊎◌, inl, inr, ⊎_elim}
+use Rattle.std.proofs.Common.{◌≡◌, ℕ, suc, ◌+◌, ◌%◌, ◌<◌, ◌≤◌, Bool, true, false, Some, [], arith, refl, sym, ◌∙◌, subst, ◌⊎◌, inl, inr, ⊎_elim}
 use Rattle.wp_model.specs.declared.point.Point.{Point}
 use Rattle.wp_graph.specs.Copies.{aisle_walked}
 use Rattle.wp_graph.specs.AisleLengths.{site_ways}

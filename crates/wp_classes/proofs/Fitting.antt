@@ -5,17 +5,19 @@ use Rattle.std.proofs.lemmas.Bool.Decides.{nat_tests}
 use Rattle.wp_model.specs.declared.point.Point.{Point}
 use Rattle.wp_graph.specs.Copies.{Copies}
 use Rattle.wp_graph.specs.Sites.{IsOnSite, Site, end_place, last_place}
+use Rattle.wp_graph.proofs.DownByTwo.{AreFew}
 use Rattle.wp_graph.proofs.EachAisle.{AreTour, IsOnTour}
 use Rattle.wp_graph.proofs.Joining.{IsKept}
 use Rattle.wp_classes.specs.declared.class.Class.{Class}
 use Rattle.wp_classes.specs.declared.class.Class.TheVariants.{UU1, E01, ZE1, EE1, EE2, Z00, Z01}
 
--- a tour of some picks, as the copies of its pieces
+-- a tour of some picks, as the copies of its pieces, none of which is walked three times
 pub record Toured : Type 1 where
   pub site : Site
   pub picks : List Point
   pub copies : Copies
   pub are : AreTour site picks copies
+  pub few : AreFew copies
   pub within : (p : Point) → IsOnTour site picks p → IsOnSite site p
 
 -- the colour of the depot, which lies at one of the two ends of its aisle

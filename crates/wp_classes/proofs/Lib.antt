@@ -10,6 +10,7 @@ pub mod Turning
 pub mod Serving
 pub mod Touring
 pub mod Fitting
+pub mod FiveCrossings
 pub mod FitCrossing
 pub mod FitThrough
 pub mod Ends

@@ -40,7 +40,7 @@ pub plan_within_tour : (layout : Layout) (picks points : List Point) (total : â„
 plan_within_tour layout picks points total slots tour =
     let walked = tour_is_its_copies layout picks points total tour in
     let fewer = all_go_down_to_two (site_of layout) picks (copies_of layout points) walked.0 in
-    let t : Toured = record { site = site_of layout; picks = picks; copies = fewer.copies; are = fewer.are; within = picks_within layout picks slots } in
+    let t : Toured = record { site = site_of layout; picks = picks; copies = fewer.copies; are = fewer.are; few = fewer.few; within = picks_within layout picks slots } in
     let within = plan_within t in
     record {
       plan = within.plan;

@@ -36,8 +36,7 @@ tour_is_its_copies layout picks [] total tour = absurd (none tour.closed.begins)
     none : None ≡ Some (depot_point layout) → ⊥
     none e = cc
 tour_is_its_copies layout picks (p ∷ rest) total tour =
-    let first : p ≡ depot_point layout = same_Some _ _ tour.closed.begins in
-    (
+    let first : p ≡ depot_point layout = same_Some _ _ tour.closed.begins in (
       subst (λ (q : Point). AreTour (site_of layout) picks (copies_of layout (q ∷ rest))) (sym first) (from_depot layout picks rest total (subst (λ (q : Point). IsTour layout picks (q ∷ rest) total) first tour)),
       walk_walked layout (p ∷ rest) total tour.closed.goes,
     )
