@@ -5,7 +5,7 @@ use Rattle.wp_model.specs.declared.point.Point.{Point}
 use Rattle.wp_graph.specs.Copies.{aisle_walked}
 use Rattle.wp_graph.specs.AisleLengths.{site_ways}
 use Rattle.wp_graph.specs.Required.{site_places}
-use Rattle.wp_graph.specs.Sites.{last_place}
+use Rattle.wp_graph.specs.Sites.{last_place, site_distance}
 use Rattle.wp_graph.proofs.EachAisle.{HasCut, IsOnTour, even_aisle, odd_aisle, place_on_tour, tour_place}
 use Rattle.wp_graph.proofs.Members.{Among, nil_from_none}
 use Rattle.wp_graph.proofs.OneAisle.{IsCut}
@@ -39,11 +39,11 @@ odd_walked t j odd = let through = t.are.even.through j 0 (omega arith) in omega
 
 -- a way of a cut aisle that leads to the same class, whichever it is
 same_cut : (t : Toured) (j : ℕ) (class next : Class) (z y most : ℕ) → class_after_way class Skip ≡ Some next → class_after_way class Front ≡ Some next → class_after_way class Back ≡ Some next → class_after_way class Gap ≡ Some next → Fits t (suc j) next →
-    most ≤ aisle_walked t.site t.copies (suc j) → IsCut (site_ways t.site t.picks (suc j)) (site_places t.site t.picks (suc j)) z y most → GoesOn t j class
-same_cut t j class next z y most skip front back gap fits least (skips none applies) = record { way = Skip; next = next; through = 0; takes = record { allowed = skip; applies = applies }; fits = fits; least = omega arith }
-same_cut t j class next z y most skip front back gap fits least (fronts l x applies short on low all) = record { way = Front; next = next; through = l; takes = record { allowed = front; applies = applies }; fits = fits; least = omega (arith, short, least) }
-same_cut t j class next z y most skip front back gap fits least (backs l x applies short on high all) = record { way = Back; next = next; through = l; takes = record { allowed = back; applies = applies }; fits = fits; least = omega (arith, short, least) }
-same_cut t j class next z y most skip front back gap fits least (gaps l x r applies short on low on' high) = record { way = Gap; next = next; through = l; takes = record { allowed = gap; applies = applies }; fits = fits; least = omega (arith, short, least) }
+    most ≤ aisle_walked t.site t.copies (suc j) → IsCut (site_ways t.site t.picks (suc j)) (site_distance t.site) (last_place t.site) (site_places t.site t.picks (suc j)) z y most → GoesOn t j class
+same_cut t j class next z y most skip front back gap fits least (skips none applies turn) = record { way = Skip; next = next; through = 0; takes = record { allowed = skip; applies = applies }; fits = fits; least = omega arith }
+same_cut t j class next z y most skip front back gap fits least (fronts l x applies short on low all turn) = record { way = Front; next = next; through = l; takes = record { allowed = front; applies = applies }; fits = fits; least = omega (arith, short, least) }
+same_cut t j class next z y most skip front back gap fits least (backs l x applies short on high all turn) = record { way = Back; next = next; through = l; takes = record { allowed = back; applies = applies }; fits = fits; least = omega (arith, short, least) }
+same_cut t j class next z y most skip front back gap fits least (gaps l x r applies short on low on' high turn) = record { way = Gap; next = next; through = l; takes = record { allowed = gap; applies = applies }; fits = fits; least = omega (arith, short, least) }
 
 goes_odd : (t : Toured) (j : ℕ) → Crossed t j UU1 → GoesOn t j UU1
 goes_odd t j odd = elim (two_cases (t.copies.front (suc j))) [
@@ -60,7 +60,7 @@ goes_even : (t : Toured) (j : ℕ) (class : Class) → IsEvenAt t j → class_af
 goes_even t j class even pass double cut = elim (two_cases (t.copies.front (suc j))) [
   | inr odd ↦ record { way = Pass; next = UU1; through = (site_ways t.site t.picks (suc j)).pass; takes = record { allowed = pass; applies = refl }; fits = odd; least = odd_aisle t.site t.picks t.copies j t.are (omega (arith, even, odd)) }
   | inl even' ↦ elim (even_aisle t.site t.picks t.copies j t.are (omega (arith, even, even'))) [
-    | inl full ↦ record { way = Double; next = EE1; through = (site_ways t.site t.picks (suc j)).double; takes = record { allowed = double; applies = refl }; fits = (even', deep_tells t j true full.0); least = full.1 }
+    | inl full ↦ record { way = Double; next = EE1; through = (site_ways t.site t.picks (suc j)).double; takes = record { allowed = double; applies = refl }; fits = (even', deep_tells t j true (full.0 0 (omega arith))); least = full.1 }
     | inr has ↦ cut even' has
   ]
 ]
@@ -90,8 +90,8 @@ none_required : (t : Toured) (j r : ℕ) → site_places t.site t.picks (suc j) 
 none_required t j r none h = subst (λ xs. Among xs r) none h
 
 cut_back : (t : Toured) (j : ℕ) (c : ℕ → ℕ → Bool) (z y most : ℕ) → IsEvenAt t (suc j) → Linked t j c → OneSided t j c true → z ≤ y → y < last_place t.site → t.copies.deep (suc j) z ≡ 0 → most ≤ aisle_walked t.site t.copies (suc j) →
-    IsCut (site_ways t.site t.picks (suc j)) (site_places t.site t.picks (suc j)) z y most → GoesOn t j E01
-cut_back t j c z y most even linked one order within none least (skips empty applies) = record {
+    IsCut (site_ways t.site t.picks (suc j)) (site_distance t.site) (last_place t.site) (site_places t.site t.picks (suc j)) z y most → GoesOn t j E01
+cut_back t j c z y most even linked one order within none least (skips empty applies turn) = record {
   way = Skip;
   next = E01;
   through = 0;
@@ -99,7 +99,7 @@ cut_back t j c z y most even linked one order within none least (skips empty app
   least = omega arith;
   fits = (even, beside j c (split_at z), next_sides t j z c linked (omega (arith, order, within)) none, record { all = next_all t j z c true one.all (λ r h. absurd (none_required t j r empty h)); tells = next_tells t j c (split_at z) true one.tells });
 }
-cut_back t j c z y most even linked one order within none least (fronts l x applies short on low all) = record {
+cut_back t j c z y most even linked one order within none least (fronts l x applies short on low all turn) = record {
   way = Front;
   next = EE2;
   through = l;
@@ -107,7 +107,7 @@ cut_back t j c z y most even linked one order within none least (fronts l x appl
   least = omega (arith, short, least);
   fits = (even, beside j c (split_at z), next_sides t j z c linked (omega (arith, order, within)) none, record { one = next_tells t j c (split_at z) true one.tells; other = place_tells t j z x c false on (split_low z x low) });
 }
-cut_back t j c z y most even linked one order within none least (backs l x applies short on high all) = record {
+cut_back t j c z y most even linked one order within none least (backs l x applies short on high all turn) = record {
   way = Back;
   next = E01;
   through = l;
@@ -115,7 +115,7 @@ cut_back t j c z y most even linked one order within none least (backs l x appli
   least = omega (arith, short, least);
   fits = (even, beside j c (split_at z), next_sides t j z c linked (omega (arith, order, within)) none, record { all = next_all t j z c true one.all (λ r h. let far = all r h in split_high z r (omega (arith, far, order))); tells = next_tells t j c (split_at z) true one.tells });
 }
-cut_back t j c z y most even linked one order within none least (gaps l x r applies short on low on' high) = record {
+cut_back t j c z y most even linked one order within none least (gaps l x r applies short on low on' high turn) = record {
   way = Gap;
   next = EE2;
   through = l;
@@ -125,8 +125,8 @@ cut_back t j c z y most even linked one order within none least (gaps l x r appl
 }
 
 cut_front : (t : Toured) (j : ℕ) (c : ℕ → ℕ → Bool) (z y most : ℕ) → IsEvenAt t (suc j) → Linked t j c → OneSided t j c false → z ≤ y → y < last_place t.site → t.copies.deep (suc j) z ≡ 0 → most ≤ aisle_walked t.site t.copies (suc j) →
-    IsCut (site_ways t.site t.picks (suc j)) (site_places t.site t.picks (suc j)) z y most → GoesOn t j ZE1
-cut_front t j c z y most even linked one order within none least (skips empty applies) = record {
+    IsCut (site_ways t.site t.picks (suc j)) (site_distance t.site) (last_place t.site) (site_places t.site t.picks (suc j)) z y most → GoesOn t j ZE1
+cut_front t j c z y most even linked one order within none least (skips empty applies turn) = record {
   way = Skip;
   next = ZE1;
   through = 0;
@@ -134,7 +134,7 @@ cut_front t j c z y most even linked one order within none least (skips empty ap
   least = omega arith;
   fits = (even, beside j c (split_at z), next_sides t j z c linked (omega (arith, order, within)) none, record { all = next_all t j z c false one.all (λ r h. absurd (none_required t j r empty h)); tells = next_tells t j c (split_at z) false one.tells });
 }
-cut_front t j c z y most even linked one order within none least (fronts l x applies short on low all) = record {
+cut_front t j c z y most even linked one order within none least (fronts l x applies short on low all turn) = record {
   way = Front;
   next = ZE1;
   through = l;
@@ -142,7 +142,7 @@ cut_front t j c z y most even linked one order within none least (fronts l x app
   least = omega (arith, short, least);
   fits = (even, beside j c (split_at z), next_sides t j z c linked (omega (arith, order, within)) none, record { all = next_all t j z c false one.all (λ r h. split_low z r (all r h)); tells = next_tells t j c (split_at z) false one.tells });
 }
-cut_front t j c z y most even linked one order within none least (backs l x applies short on high all) = record {
+cut_front t j c z y most even linked one order within none least (backs l x applies short on high all turn) = record {
   way = Back;
   next = EE2;
   through = l;
@@ -150,7 +150,7 @@ cut_front t j c z y most even linked one order within none least (backs l x appl
   least = omega (arith, short, least);
   fits = (even, beside j c (split_at z), next_sides t j z c linked (omega (arith, order, within)) none, record { one = place_tells t j z x c true on (split_high z x (omega (arith, high, order))); other = next_tells t j c (split_at z) false one.tells });
 }
-cut_front t j c z y most even linked one order within none least (gaps l x r applies short on low on' high) = record {
+cut_front t j c z y most even linked one order within none least (gaps l x r applies short on low on' high turn) = record {
   way = Gap;
   next = EE2;
   through = l;
@@ -163,8 +163,8 @@ next_none : (t : Toured) (j : ℕ) → ((p : Point) → IsOnTour t.site t.picks 
 next_none t j before empty p on upto = ⊎_elim (λ low. before p on low) (λ here. none_required t j p.slot empty here.1) (on_next t j p on upto)
 
 cut_none : (t : Toured) (j : ℕ) (c : ℕ → ℕ → Bool) (z y most : ℕ) → IsEvenAt t (suc j) → Linked t j c → ((p : Point) → IsOnTour t.site t.picks p → p.aisle ≤ j → ⊥) → z ≤ y → y < last_place t.site → t.copies.deep (suc j) z ≡ 0 → most ≤ aisle_walked t.site t.copies (suc j) →
-    IsCut (site_ways t.site t.picks (suc j)) (site_places t.site t.picks (suc j)) z y most → GoesOn t j Z00
-cut_none t j c z y most even linked before order within none least (skips empty applies) = record {
+    IsCut (site_ways t.site t.picks (suc j)) (site_distance t.site) (last_place t.site) (site_places t.site t.picks (suc j)) z y most → GoesOn t j Z00
+cut_none t j c z y most even linked before order within none least (skips empty applies turn) = record {
   way = Skip;
   next = Z00;
   through = 0;
@@ -172,7 +172,7 @@ cut_none t j c z y most even linked before order within none least (skips empty 
   least = omega arith;
   fits = (even, beside j c (split_at z), next_sides t j z c linked (omega (arith, order, within)) none, next_none t j before empty);
 }
-cut_none t j c z y most even linked before order within none least (fronts l x applies short on low all) = record {
+cut_none t j c z y most even linked before order within none least (fronts l x applies short on low all turn) = record {
   way = Front;
   next = ZE1;
   through = l;
@@ -180,7 +180,7 @@ cut_none t j c z y most even linked before order within none least (fronts l x a
   least = omega (arith, short, least);
   fits = (even, beside j c (split_at z), next_sides t j z c linked (omega (arith, order, within)) none, record { all = next_all t j z c false (λ p h upto. absurd (before p h upto)) (λ r h. split_low z r (all r h)); tells = place_tells t j z x c false on (split_low z x low) });
 }
-cut_none t j c z y most even linked before order within none least (backs l x applies short on high all) = record {
+cut_none t j c z y most even linked before order within none least (backs l x applies short on high all turn) = record {
   way = Back;
   next = E01;
   through = l;
@@ -188,7 +188,7 @@ cut_none t j c z y most even linked before order within none least (backs l x ap
   least = omega (arith, short, least);
   fits = (even, beside j c (split_at z), next_sides t j z c linked (omega (arith, order, within)) none, record { all = next_all t j z c true (λ p h upto. absurd (before p h upto)) (λ r h. let far = all r h in split_high z r (omega (arith, far, order))); tells = place_tells t j z x c true on (split_high z x (omega (arith, high, order))) });
 }
-cut_none t j c z y most even linked before order within none least (gaps l x r applies short on low on' high) = record {
+cut_none t j c z y most even linked before order within none least (gaps l x r applies short on low on' high turn) = record {
   way = Gap;
   next = EE2;
   through = l;

@@ -8,6 +8,7 @@ use Rattle.wp_graph.specs.Copies.{copies_of}
 use Rattle.wp_graph.specs.PickSets.{AreSlots}
 use Rattle.wp_graph.specs.Required.{is_required, required_distances, required_places, site_places}
 use Rattle.wp_graph.specs.Sites.{IsOnSite, site_of}
+use Rattle.wp_graph.proofs.AllWays.{all_aisles_become_ways}
 use Rattle.wp_graph.proofs.DownByTwo.{all_go_down_to_two}
 use Rattle.wp_graph.proofs.EachAisle.{IsOnTour}
 use Rattle.wp_graph.proofs.Members.{Among, Contains-from_among}
@@ -40,13 +41,14 @@ pub plan_within_tour : (layout : Layout) (picks points : List Point) (total : â„
 plan_within_tour layout picks points total slots tour =
     let walked = tour_is_its_copies layout picks points total tour in
     let fewer = all_go_down_to_two (site_of layout) picks (copies_of layout points) walked.0 in
-    let t : Toured = record { site = site_of layout; picks = picks; copies = fewer.copies; are = fewer.are; few = fewer.few; within = picks_within layout picks slots } in
+    let ways = all_aisles_become_ways (site_of layout) picks fewer.copies (picks_within layout picks slots) fewer.are fewer.few in
+    let t : Toured = record { site = site_of layout; picks = picks; copies = ways.copies; are = ways.are; few = ways.few; within = picks_within layout picks slots } in
     let within = plan_within t in
     record {
       plan = within.plan;
       total = within.total;
       allowed = record { class = within.class; comes = subst (Î» block. ComesTo block within.plan (layout.aisles - 1) within.class within.total) (layout_block layout picks) within.comes; whole = within.whole };
-      least = omega (arith, within.least, fewer.least, walked.1);
+      least = omega (arith, within.least, ways.least, fewer.least, walked.1);
     }
 
 -- the least plan is as long as a shortest tour

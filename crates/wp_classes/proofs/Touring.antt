@@ -8,6 +8,7 @@ use Rattle.wp_graph.specs.AisleLengths.{ways_from, ways_of}
 use Rattle.wp_graph.specs.PickSets.{AreSlots}
 use Rattle.wp_graph.specs.Required.{distance, largest_gap, required_distances, required_places}
 use Rattle.wp_graph.proofs.Members.{Among, Contains-from_among, among_at}
+use Rattle.wp_graph.proofs.Widest.{widest}
 use Rattle.wp_classes.specs.declared.class.Class.{Class}
 use Rattle.wp_classes.specs.declared.class.Class.TheVariants.{UU1, E01, ZE1, EE1, EE2, Z00, Z01}
 use Rattle.wp_classes.specs.declared.class.Way.{Way}
@@ -93,19 +94,6 @@ tour_of_round layout picks points total is = record {
   serves = λ k d within. Contains-from_among (depot_point layout ∷ points) (get_or picks k d) (contains_on (depot_point layout) points (get_or picks k d) (is.serves (get_or picks k d) (inr (among_at picks k (get_or picks k d) d within refl))));
 }
 
--- two neighbours of the largest gap
-widest : (d : ℕ → ℕ) (a b : ℕ) (rest : List ℕ) → (near : ℕ) × (far : ℕ) × AreNeighbours (a ∷ b ∷ rest) near far × (d far - d near ≡ largest_gap (map d (a ∷ b ∷ rest)))
-widest d a b [] = (a, b, record { before = []; after = []; places_are = refl }, omega arith)
-widest d a b (c ∷ rest) = go (widest d b c rest) (cases_le (largest_gap (map d (b ∷ c ∷ rest))) (d b - d a))
-  where
-    cases_le : (m n : ℕ) → (m ≤ n) ⊎ (n ≤ m)
-    cases_le m n = grind arith
-
-    go : (near : ℕ) × (far : ℕ) × AreNeighbours (b ∷ c ∷ rest) near far × (d far - d near ≡ largest_gap (map d (b ∷ c ∷ rest))) → (largest_gap (map d (b ∷ c ∷ rest)) ≤ d b - d a) ⊎ (d b - d a ≤ largest_gap (map d (b ∷ c ∷ rest))) →
-        (near : ℕ) × (far : ℕ) × AreNeighbours (a ∷ b ∷ c ∷ rest) near far × (d far - d near ≡ largest_gap (map d (a ∷ b ∷ c ∷ rest)))
-    go found (inl low) = (a, b, record { before = []; after = c ∷ rest; places_are = refl }, omega arith)
-    go (near, far, pair, width) (inr high) = (near, far, record { before = a ∷ pair.before; after = pair.after; places_are = ap (λ xs. a ∷ xs) pair.places_are }, omega (arith, width, high))
-
 back_turn : (f d : ℕ → ℕ) (has_depot : Bool) (places : List ℕ) (w : ℕ) → (if has_depot then None else option_map f (slice_get (map d places) 0)) ≡ Some w → (near : ℕ) × (far : ℕ) × (slice_get places 0 ≡ Some far)
 back_turn f d true places w e = absurd (none-some _ e)
 back_turn f d false [] w e = absurd (none-some _ e)
@@ -119,7 +107,7 @@ gap_turn : (x : ℕ) (d : ℕ → ℕ) (places : List ℕ) (w : ℕ) → (if nat
     (near : ℕ) × (far : ℕ) × (AreNeighbours places near far × (d far - d near ≡ largest_gap (map d places)))
 gap_turn x d [] w e = absurd (none-some _ e)
 gap_turn x d (a ∷ []) w e = absurd (none-some _ e)
-gap_turn x d (a ∷ b ∷ places) w e = let found = widest d a b places in (found.0, found.1, (found.2, found.3))
+gap_turn x d (a ∷ b ∷ places) w e = let found = widest d a b places in (found.near, found.far, (record { before = found.before; after = found.after; places_are = found.places_are }, found.gap_is))
 
 -- a way that applies turns somewhere
 pub some_turns : (layout : Layout) (picks : List Point) (aisle : ℕ) (way : Way) (w : ℕ) → way_length (ways_of layout picks aisle) way ≡ Some w → (near : ℕ) × (far : ℕ) × AreTurns layout picks aisle way near far

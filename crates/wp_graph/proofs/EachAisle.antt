@@ -14,7 +14,7 @@ use Rattle.wp_graph.proofs.Ascending.{passed_ascend}
 use Rattle.wp_graph.proofs.Circuits.{AreEven}
 use Rattle.wp_graph.proofs.Having.{among_has, has_among}
 use Rattle.wp_graph.proofs.Joining.{AreJoined, IsKept}
-use Rattle.wp_graph.proofs.Members.{Among, among-filter, among-range, filter_passed}
+use Rattle.wp_graph.proofs.Members.{Among, among-filter, among-range, filter_passed, range_bounds}
 use Rattle.wp_graph.proofs.OneAisle.{IsCut, all_least, cut_least, cut_ways, first_gap, last_gap}
 
 -- what every tour passes: the depot and the picks
@@ -38,6 +38,10 @@ tour_place site picks p on within = among-filter (has_point (depot_of site ∷ p
 places_ascend : (site : Site) (picks : List Point) (aisle : ℕ) → IsAscending (site_places site picks aisle)
 unfolding site_places
 places_ascend site picks aisle = passed_ascend (has_point (depot_of site ∷ picks) aisle) site.slots
+
+pub places_within : (site : Site) (picks : List Point) (aisle r : ℕ) → Among (site_places site picks aisle) r → r ≤ last_place site
+unfolding site_places
+places_within site picks aisle r h = let bounds = range_bounds 0 (site.slots + 2) r (filter_passed (has_point (depot_of site ∷ picks) aisle) _ r h).0 in omega (arith, bounds.1)
 
 pub odd_aisle : (site : Site) (picks : List Point) (copies : Copies) (a : ℕ) → AreTour site picks copies → (copies.front a + copies.front (suc a)) % 2 ≡ 1 → (site_ways site picks (suc a)).pass ≤ aisle_walked site copies (suc a)
 unfolding site_ways
@@ -105,8 +109,9 @@ pub record HasCut (site : Site) (picks : List Point) (copies : Copies) (aisle : 
   pub ordered : gap ≤ beyond
   pub within : beyond < last_place site
   pub none : copies.deep aisle gap ≡ 0
+  pub none_beyond : copies.deep aisle beyond ≡ 0
   pub most : ℕ
-  pub cut : IsCut (site_ways site picks aisle) (site_places site picks aisle) gap beyond most
+  pub cut : IsCut (site_ways site picks aisle) (site_distance site) (last_place site) (site_places site picks aisle) gap beyond most
   pub least : most ≤ aisle_walked site copies aisle
 
 same_end : (end other : End) → is_end end other ≡ true → end ≡ other
@@ -136,18 +141,19 @@ has_cut site picks copies a z y are even order within low high before behind = r
   ordered = order;
   within = within;
   none = low;
+  none_beyond = high;
   most = 2 * site_distance site z + 2 * (site_distance site (last_place site) - site_distance site (suc y));
-  cut = cut_ways (has_depot site (suc a)) (site_distance site) (last_place site) z y (site_places site picks (suc a)) (λ i j upto. sum-grows i j site.step upto) order within (places_ascend site picks (suc a))
+  cut = cut_ways (has_depot site (suc a)) (site_distance site) (last_place site) z y (site_places site picks (suc a)) refl (λ i j upto. sum-grows i j site.step upto) order within (places_ascend site picks (suc a)) (λ r h. places_within site picks (suc a) r h)
       (λ r h. parts_of site picks copies (suc a) z y r are low high within h) (λ e. (0, depot_required site picks (suc a) at_front e, omega arith)) (λ e. (last_place site, depot_required site picks (suc a) at_back e, within));
   least = cut_least (last_place site) z y (copies.deep (suc a)) site.step order within (λ s upto. omega (arith, even, are.even.through a s upto)) before behind;
 }
 
 -- an aisle that is walked through an even number of times
 pub even_aisle : (site : Site) (picks : List Point) (copies : Copies) (a : ℕ) → AreTour site picks copies → (copies.front a + copies.front (suc a)) % 2 ≡ 0 →
-    ((0 < copies.deep (suc a) 0) × ((site_ways site picks (suc a)).double ≤ aisle_walked site copies (suc a))) ⊎ HasCut site picks copies (suc a)
+    (((s : ℕ) → s < last_place site → 0 < copies.deep (suc a) s) × ((site_ways site picks (suc a)).double ≤ aisle_walked site copies (suc a))) ⊎ HasCut site picks copies (suc a)
 unfolding site_ways
 even_aisle site picks copies a are even = elim (first_gap (last_place site) (copies.deep (suc a))) [
-  | inl all ↦ inl (all 0 (omega arith), all_least (last_place site) 2 (copies.deep (suc a)) site.step (λ s low. omega (arith, even, all s low, are.even.through a s low)))
+  | inl all ↦ inl (all, all_least (last_place site) 2 (copies.deep (suc a)) site.step (λ s low. omega (arith, even, all s low, are.even.through a s low)))
   | inr first ↦ let last = last_gap (last_place site) (copies.deep (suc a)) first.0 first.1 first.2 in
       inr (has_cut site picks copies a first.0 last.0 are even last.1 last.2 first.2 last.3 first.3 last.4)
 ]

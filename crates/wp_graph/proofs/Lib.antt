@@ -12,7 +12,10 @@ pub mod Ascending
 pub mod Circuits
 pub mod Joining
 pub mod Measuring
+pub mod Widest
 pub mod OneAisle
 pub mod EachAisle
+pub mod OneWay
 pub mod DownByTwo
+pub mod AllWays
 pub mod WalkCopies

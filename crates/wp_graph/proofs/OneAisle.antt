@@ -1,5 +1,5 @@
 -- What a closed walk walks of one aisle is at least as long as one of the six ways through it.
-use Rattle.std.proofs.Common.{◌≡◌, ◌≢◌, ℕ, zero, suc, ◌+◌, ◌-◌, ◌*◌, ◌%◌, ◌<◌, ◌≤◌, nat_le, Bool, true, false, List, [], ◌∷◌, Some, None, option_map, length, map, slice_get, if◌then◌else◌, arith, refl, sym, ap, ◌∙◌, subst, ◌⊎◌, inl, inr, ⊎_elim}
+use Rattle.std.proofs.Common.{◌≡◌, ◌≢◌, ℕ, zero, suc, ◌+◌, ◌-◌, ◌*◌, ◌%◌, ◌<◌, ◌≤◌, nat_le, Bool, true, false, List, [], ◌∷◌, ◌++◌, Some, None, option_map, length, map, slice_get, if◌then◌else◌, arith, refl, sym, ap, ◌∙◌, subst, ◌⊎◌, inl, inr, ⊎_elim}
 use Rattle.std.proofs.lemmas.Bool.{cases_eq, le-leb}
 use Rattle.std.proofs.lemmas.Nat.{mul-le}
 use Rattle.wp_model.proofs.Sums.{sum-grows}
@@ -9,9 +9,10 @@ use Rattle.wp_graph.specs.AisleLengths.{ways_with}
 use Rattle.wp_graph.specs.Sites.{End}
 use Rattle.wp_graph.specs.Sites.End.{at_front, at_back}
 use Rattle.wp_graph.specs.Required.{IsAscending, largest_gap}
-use Rattle.wp_graph.proofs.Members.{Among}
-use Rattle.wp_graph.proofs.Ascending.{head_below, last_most_from}
+use Rattle.wp_graph.proofs.Members.{Among, among-append_right}
+use Rattle.wp_graph.proofs.Ascending.{head_below, last_most_from, neighbours_ascend, neighbours_part}
 use Rattle.wp_graph.proofs.Stretching.{last_from}
+use Rattle.wp_graph.proofs.Widest.{widest}
 
 -- each piece walked at least so often
 pub all_least : (n k : ℕ) (d w : ℕ → ℕ) → ((s : ℕ) → s < n → k ≤ d s) → k * sum_below n w ≤ sum_below n (λ s. d s * w s)
@@ -78,12 +79,31 @@ gap_least d z y x (r ∷ places) grows low parts high order = ⊎_elim
     (λ far. omega (arith, grows x z low, grows (suc y) r (omega arith)))
     (parts r (inl refl))
 
+-- some place is at most this, or beyond this
+abbrev pub HasUpTo : List ℕ → ℕ → Type 0
+HasUpTo places z = (x : ℕ) × Among places x × (x ≤ z)
+
+abbrev pub HasBeyond : List ℕ → ℕ → Type 0
+HasBeyond places y = (x : ℕ) × Among places x × (y < x)
+
+-- where a way of this length turns in an aisle with two gaps: it goes from the front end to a place and back, and from the
+-- back end to another and back. It passes each required place, and leaves an end only for one on its side of the gaps.
+pub record Turning (d : ℕ → ℕ) (b : ℕ) (places : List ℕ) (z y t : ℕ) : Type 0 where
+  pub near : ℕ
+  pub far : ℕ
+  pub ordered : near ≤ far
+  pub within : far ≤ b
+  pub passed : (r : ℕ) → Among places r → ((r ≤ near) × HasUpTo places z) ⊎ ((far ≤ r) × HasBeyond places y)
+  pub near_used : 0 < near → HasUpTo places z
+  pub far_used : far < b → HasBeyond places y
+  pub length_is : t ≡ 2 * d near + 2 * (d b - d far)
+
 -- which ways apply where nothing is required between two gaps, by where anything is
-pub data IsCut (ways : AisleWays) (places : List ℕ) (z y most : ℕ) : Type 0 where
-  skips : (places ≡ []) → ways.skip ≡ Some 0 → IsCut ways places z y most
-  fronts : (t x : ℕ) → ways.front ≡ Some t → t ≤ most → Among places x → x ≤ z → ((r : ℕ) → Among places r → r ≤ z) → IsCut ways places z y most
-  backs : (t x : ℕ) → ways.back ≡ Some t → t ≤ most → Among places x → y < x → ((r : ℕ) → Among places r → y < r) → IsCut ways places z y most
-  gaps : (t x r : ℕ) → ways.gap ≡ Some t → t ≤ most → Among places x → x ≤ z → Among places r → y < r → IsCut ways places z y most
+pub data IsCut (ways : AisleWays) (d : ℕ → ℕ) (b : ℕ) (places : List ℕ) (z y most : ℕ) : Type 0 where
+  skips : (places ≡ []) → ways.skip ≡ Some 0 → Turning d b places z y 0 → IsCut ways d b places z y most
+  fronts : (t x : ℕ) → ways.front ≡ Some t → t ≤ most → Among places x → x ≤ z → ((r : ℕ) → Among places r → r ≤ z) → Turning d b places z y t → IsCut ways d b places z y most
+  backs : (t x : ℕ) → ways.back ≡ Some t → t ≤ most → Among places x → y < x → ((r : ℕ) → Among places r → y < r) → Turning d b places z y t → IsCut ways d b places z y most
+  gaps : (t x r : ℕ) → ways.gap ≡ Some t → t ≤ most → Among places x → x ≤ z → Among places r → y < r → Turning d b places z y t → IsCut ways d b places z y most
 
 last_among : (x : ℕ) (xs : List ℕ) → Among (x ∷ xs) (last_from x xs)
 last_among x [] = inl refl
@@ -99,21 +119,50 @@ two_or_more : (d : ℕ → ℕ) (x : ℕ) (xs : List ℕ) (y z : ℕ) → x ≤ 
 two_or_more d x [] y z low order high whole = absurd (omega arith)
 two_or_more d x (r ∷ xs) y z low order high whole = let yes = le-leb 2 (length (map d (x ∷ r ∷ xs))) (omega arith) in rw yes refl
 
-pub cut_ways : (depot : End → Bool) (d : ℕ → ℕ) (b z y : ℕ) (places : List ℕ) → ((i j : ℕ) → i ≤ j → d i ≤ d j) → z ≤ y → y < b → IsAscending places → ((r : ℕ) → Among places r → (r ≤ z) ⊎ (y < r)) →
-    (depot at_front ≡ true → (x : ℕ) × Among places x × (x ≤ z)) → (depot at_back ≡ true → (x : ℕ) × Among places x × (y < x)) → IsCut (ways_with depot (d b) (map d places)) places z y (2 * d z + 2 * (d b - d (suc y)))
-cut_ways depot d b z y [] grows order within up parts near_depot far_depot = skips refl refl
-cut_ways depot d b z y (x ∷ places) grows order within up parts near_depot far_depot = ⊎_elim
-    (λ low. fronts (2 * d (last_from x places)) (last_from x places) (front_applies (depot at_back) refl low) (omega (arith, grows (last_from x places) z low)) (last_among x places) low (λ r h. let most = last_most_from x places r up h in omega (arith, most, low)))
+among_far : (before : List ℕ) (near far : ℕ) (after : List ℕ) → Among (before ++ near ∷ far ∷ after) far
+among_far before near far after = among-append_right before (near ∷ far ∷ after) far (inr (inl refl))
+
+-- the gap way turns at two neighbours of the largest gap
+gap_turning : (d : ℕ → ℕ) (b z y x : ℕ) (places : List ℕ) → ((i j : ℕ) → i ≤ j → d i ≤ d j) → IsAscending (x ∷ places) → ((r : ℕ) → Among (x ∷ places) r → r ≤ b) → x ≤ z → z ≤ y → y < last_from x places → Turning d b (x ∷ places) z y (2 * (d b - largest_gap (map d (x ∷ places))))
+gap_turning d b z y x [] grows up upto near order high = absurd (omega arith)
+gap_turning d b z y x (q ∷ places) grows up upto near order high =
+    let wide = widest d x q places in
+    let up' : IsAscending (wide.before ++ wide.near ∷ wide.far ∷ wide.after) = subst (λ xs. IsAscending xs) wide.places_are up in
+    let ascend = neighbours_ascend wide.before wide.after wide.near wide.far up' in
+    let within : wide.far ≤ b = upto wide.far (subst (λ xs. Among xs wide.far) (sym wide.places_are) (among_far wide.before wide.near wide.far wide.after)) in
+    record {
+      near = wide.near;
+      far = wide.far;
+      ordered = omega (arith, ascend);
+      within = within;
+      passed = λ r h. ⊎_elim (λ low. inl (low, (x, inl refl, near))) (λ far. inr (far, (last_from x (q ∷ places), last_among x (q ∷ places), high)))
+          (neighbours_part wide.before wide.after wide.near wide.far r up' (subst (λ xs. Among xs r) wide.places_are h));
+      near_used = λ some. (x, inl refl, near);
+      far_used = λ some. (last_from x (q ∷ places), last_among x (q ∷ places), high);
+      length_is = omega (arith, wide.gap_is, grows wide.near wide.far (omega (arith, ascend)), grows wide.far b within);
+    }
+
+pub cut_ways : (depot : End → Bool) (d : ℕ → ℕ) (b z y : ℕ) (places : List ℕ) → (d 0 ≡ 0) → ((i j : ℕ) → i ≤ j → d i ≤ d j) → z ≤ y → y < b → IsAscending places → ((r : ℕ) → Among places r → r ≤ b) → ((r : ℕ) → Among places r → (r ≤ z) ⊎ (y < r)) →
+    (depot at_front ≡ true → HasUpTo places z) → (depot at_back ≡ true → HasBeyond places y) → IsCut (ways_with depot (d b) (map d places)) d b places z y (2 * d z + 2 * (d b - d (suc y)))
+cut_ways depot d b z y [] begins grows order within up upto parts near_depot far_depot =
+    skips refl refl (record { near = 0; far = b; ordered = omega arith; within = omega arith; passed = λ r h. absurd h; near_used = λ some. absurd (omega arith); far_used = λ some. absurd (omega arith); length_is = omega (arith, begins) })
+cut_ways depot d b z y (x ∷ places) begins grows order within up upto parts near_depot far_depot = ⊎_elim
+    (λ low. fronts (2 * d (last_from x places)) (last_from x places) (front_applies (depot at_back) refl low) (omega (arith, grows (last_from x places) z low)) (last_among x places) low (λ r h. let most = last_most_from x places r up h in omega (arith, most, low)) (front_turning low))
     (λ high. ⊎_elim
     (λ near. gaps (2 * (d b - largest_gap (map d (x ∷ places)))) x (last_from x places) (two_or_more d x places y z near order high (d b))
-    (let gap = gap_least d z y x places grows near (λ r h. parts r (inr h)) high order in omega (arith, gap, grows z (suc y) (omega arith), grows (suc y) b (omega arith))) (inl refl) near (last_among x places) high)
-    (λ far. backs (2 * (d b - d x)) x (back_applies (depot at_front) refl far) (omega (arith, grows (suc y) x (omega arith))) (inl refl) far (λ r h. below r far h))
+    (let gap = gap_least d z y x places grows near (λ r h. parts r (inr h)) high order in omega (arith, gap, grows z (suc y) (omega arith), grows (suc y) b (omega arith))) (inl refl) near (last_among x places) high
+    (gap_turning d b z y x places grows up upto near order high))
+    (λ far. backs (2 * (d b - d x)) x (back_applies (depot at_front) refl far) (omega (arith, grows (suc y) x (omega arith))) (inl refl) far (λ r h. below r far h) (back_turning far))
     (parts x (inl refl)))
     (parts (last_from x places) (last_among x places))
   where
     below : (r : ℕ) → y < x → Among (x ∷ places) r → y < r
     below r far (inl e) = omega (arith, e)
     below r far (inr h) = let more = head_below x places r up h in omega (arith, more)
+
+    first : (r : ℕ) → Among (x ∷ places) r → x ≤ r
+    first r (inl e) = omega (arith, e)
+    first r (inr h) = let more = head_below x places r up h in omega (arith, more)
 
     back_applies : (has : Bool) → depot at_front ≡ has → y < x → (if depot at_front then None else Some (2 * (d b - d x))) ≡ Some (2 * (d b - d x))
     back_applies true has far = let near = near_depot has in absurd (let more = below near.0 far near.1 in omega (arith, more, near.2))
@@ -122,3 +171,27 @@ cut_ways depot d b z y (x ∷ places) grows order within up parts near_depot far
     front_applies : (has : Bool) → depot at_back ≡ has → last_from x places ≤ z → (if depot at_back then None else option_map (λ farthest. 2 * farthest) (slice_get (map d (x ∷ places)) (length (map d (x ∷ places)) - 1))) ≡ Some (2 * d (last_from x places))
     front_applies true has low = let far = far_depot has in absurd (let most = last_most_from x places far.0 up far.1 in omega (arith, most, far.2))
     front_applies false has low = rw has (ap (option_map (λ farthest. 2 * farthest)) (map_last d x places))
+
+    front_turning : last_from x places ≤ z → Turning d b (x ∷ places) z y (2 * d (last_from x places))
+    front_turning low = record {
+      near = last_from x places;
+      far = b;
+      ordered = upto (last_from x places) (last_among x places);
+      within = omega arith;
+      passed = λ r h. inl (last_most_from x places r up h, (last_from x places, last_among x places, low));
+      near_used = λ some. (last_from x places, last_among x places, low);
+      far_used = λ some. absurd (omega arith);
+      length_is = omega arith;
+    }
+
+    back_turning : y < x → Turning d b (x ∷ places) z y (2 * (d b - d x))
+    back_turning far = record {
+      near = 0;
+      far = x;
+      ordered = omega arith;
+      within = upto x (inl refl);
+      passed = λ r h. inr (first r h, (x, inl refl, far));
+      near_used = λ some. absurd (omega arith);
+      far_used = λ some. (x, inl refl, far);
+      length_is = omega (arith, begins);
+    }
