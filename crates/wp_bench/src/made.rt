@@ -1,5 +1,6 @@
-ghost use Rattle.std.specs.Prelude.{◌≡◌, ◌<◌, IfSome};
-ghost use Rattle.wp_bench.specs.Made.{draw_at, next_state};
+ghost use Rattle.std.specs.Prelude.{◌≡◌, ◌<◌, ◌≤◌, ◌*◌, ◌^◌, ◌↔◌, ◌⊎◌, ℕ, Contains, IfSome, IsSome};
+ghost use Rattle.wp_model.specs.declared.point.Point.{Point as PointData};
+ghost use Rattle.wp_bench.specs.Made.{IsOfOrder, IsOfOrders, IsSumOfTours, after_orders, draw_at, layout_of_batches, line_count, next_state, state_after};
 
 use wp_classes::tour_length;
 use wp_graph::{Layout, Picks, Point};
@@ -36,7 +37,8 @@ impl Generator {
 
 // A layout of 60 aisles with 40 slots each.
 fn made_layout() -> Option<Layout>
-    ensures { IfSome result (λ layout. (layout.aisles ≡ 60) × (layout.slots ≡ 40)) }
+    ensures made { IsSome result }
+    ensures numbers { IfSome result (λ layout. layout ≡ layout_of_batches) }
 {
     Layout::new(AISLES, SLOTS, 2, 1, 5, DEPOT)
 }
@@ -45,7 +47,9 @@ fn made_layout() -> Option<Layout>
 fn add_order(layout: &Layout, generator: &mut Generator, picks: &mut Picks)
     requires layout { (layout.now.aisles ≡ 60) × (layout.now.slots ≡ 40) }
     requires picks { picks.now.layout ≡ layout.now }
-    ensures { picks.new.layout ≡ layout.now }
+    ensures layout { picks.new.layout ≡ layout.now }
+    ensures state { generator.new.state ≡ state_after (3 * line_count generator.old.state) (next_state generator.old.state) }
+    ensures points { (p : PointData) → Contains picks.new.points p ↔ (Contains picks.old.points p ⊎ IsOfOrder generator.old.state p) }
 {
     let lines = 1 + generator.draw(3);
     for _ in 0..lines {
@@ -59,7 +63,9 @@ fn add_order(layout: &Layout, generator: &mut Generator, picks: &mut Picks)
 // The picks of one more batch of three orders.
 fn made_batch(layout: &Layout, generator: &mut Generator) -> Picks
     requires { (layout.now.aisles ≡ 60) × (layout.now.slots ≡ 40) }
-    ensures { result.layout ≡ layout.now }
+    ensures layout { result.layout ≡ layout.now }
+    ensures state { generator.new.state ≡ after_orders 3 generator.old.state }
+    ensures points { (p : PointData) → Contains result.points p ↔ IsOfOrders 3 generator.old.state p }
 {
     let mut picks = Picks::new(layout);
     for _ in 0..ORDERS {
@@ -69,7 +75,10 @@ fn made_batch(layout: &Layout, generator: &mut Generator) -> Picks
 }
 
 /// The sum of the lengths of so many tours, each of a made batch. None where the sum is greater than a word holds.
-pub(crate) fn sum_of_tours(count: u64) -> Option<u64> {
+pub(crate) fn sum_of_tours(count: u64) -> Option<u64>
+    ensures sum { IfSome result (λ sum. IsSumOfTours count sum) }
+    ensures none { IsSome result ⊎ ((batches : ℕ) × (sum : ℕ) × (batches ≤ count) × (2 ^ 64 ≤ sum) × IsSumOfTours batches sum) }
+{
     let layout = made_layout()?;
     let mut generator = Generator { state: 1 };
     let mut sum: u64 = 0;
