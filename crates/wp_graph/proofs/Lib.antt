@@ -18,4 +18,5 @@ pub mod EachAisle
 pub mod OneWay
 pub mod DownByTwo
 pub mod AllWays
+pub mod BackDepot
 pub mod WalkCopies
