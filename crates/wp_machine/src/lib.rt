@@ -21,3 +21,6 @@ pub use asking::{Asking, answer_all};
 pub use machine::{Machine, Ready, prepare};
 pub use opening::Opening;
 pub use outcome::{Answer, Outcome, Refill, WaveHolds};
+
+#[cfg(test)]
+mod tests;
