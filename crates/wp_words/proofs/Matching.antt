@@ -1,0 +1,43 @@
+-- What clap matches of words, and what becomes of it.
+use Rattle.std.proofs.Common.{◌≡◌, ◌&&◌, refl, ap, Bool, true, false, List, [], ◌∷◌, Result, Ok, Err, ⊎_elim}
+use Rattle.clap.specs.Words.{App, HasKind, Kinds, Row, is_simple, is_simple_and_free, kind_of}
+use Rattle.clap.specs.declared.error.Error.{Error}
+use Rattle.clap.specs.declared.error.kind.ErrorKind.TheVariants as kind
+use Rattle.clap.proofs.OnLiterals.{clap_on_literals}
+use Rattle.wp_words.specs.Options.{audit_command, plan_command}
+use Rattle.wp_words.specs.Reading.{IsFaultOf}
+use Rattle.wp_words.specs.Words.{made_into, unless_faulty}
+use Rattle.wp_words.specs.declared.fault.WordsFault.{WordsFault}
+use Rattle.wp_words.specs.declared.fault.WordsFault.TheVariants as fault
+
+-- clap states what the command of `plan` matches, and when it fails
+pub plan_is_simple : is_simple_and_free plan_command ≡ true
+unfolding plan_command clap_on_literals
+plan_is_simple = refl
+
+-- and so it does for the command of `audit`
+pub audit_is_simple : is_simple_and_free audit_command ≡ true
+unfolding audit_command clap_on_literals
+audit_is_simple = refl
+
+left : (x y : Bool) → (x && y) ≡ true → x ≡ true
+left true y is = refl
+left false y is = is
+
+-- a simple command whose options have no rule on one another is a simple one
+pub simple : (command : App) → is_simple_and_free command ≡ true → is_simple command ≡ true
+simple command is = left _ _ is
+
+-- an error that isn't want of memory comes only of words that aren't accepted
+pub faulty : (kinds : Kinds) (rows : List Row) (error : Error) → HasKind kinds error → (kind_of error ≡ kind.OutOfMemory → ⊥) → unless_faulty kinds rows ≡ Err fault.BadWords
+faulty [] rows error has other = absurd (⊎_elim other (λ among. among) has)
+faulty (k ∷ kinds) rows error has other = refl
+
+-- what was matched of words that are accepted
+pub rows_matched : (kinds : Kinds) (rows got : List Row) → unless_faulty kinds rows ≡ Ok got → rows ≡ got
+rows_matched [] rows got is = cc
+rows_matched (k ∷ kinds) rows got is = cc
+
+-- the fault of what was found is that of what is made of it
+pub fault_after : {A B : Type 0} (make : A → B) (said : Result A WordsFault) (why : WordsFault) → IsFaultOf said why → IsFaultOf (made_into make said) why
+fault_after make said why is told = ap (made_into make) (is told)

@@ -1,0 +1,56 @@
+-- What the reader of words answers.
+use Rattle.std.specs.Prelude.{◌≡◌, Bool, true, false, List, map, codes, String, string_bytes, Result, Err}
+use Rattle.std.specs.declared.alloc.Global.{Global}
+use Rattle.clap.specs.Walk.{Text}
+use Rattle.wp_words.specs.Words.{AuditNames, JobNames, PlanNames, audit, plan}
+use Rattle.wp_words.specs.declared.fault.WordsFault.{WordsFault}
+use Rattle.wp_words.specs.declared.fault.WordsFault.TheVariants as fault
+use Rattle.wp_words.specs.declared.job.AuditWords.{AuditWords}
+use Rattle.wp_words.specs.declared.job.Job.{Job}
+use Rattle.wp_words.specs.declared.job.Job.TheVariants as job
+use Rattle.wp_words.specs.declared.job.PlanWords.{PlanWords}
+
+-- the texts of words
+abbrev pub texts_of : List (String Global) → List Text
+texts_of = map string_bytes
+
+-- the names that the words of `plan` hold
+abbrev pub plan_names : PlanWords → PlanNames
+plan_names words = record {
+  layout = string_bytes words.layout;
+  stock = string_bytes words.stock;
+  orders = string_bytes words.orders;
+  desks = string_bytes words.desks;
+}
+
+-- the names that the words of `audit` hold
+abbrev pub audit_names : AuditWords → AuditNames
+audit_names words = record {
+  layout = string_bytes words.layout;
+  stock = string_bytes words.stock;
+  orders = string_bytes words.orders;
+  journal = string_bytes words.journal;
+}
+
+-- the names that a job holds
+abbrev pub job_names : Job → JobNames
+job_names (job.Plan words) = plan (plan_names words)
+job_names (job.Audit words) = audit (audit_names words)
+
+-- there was no memory
+abbrev pub wants_memory : WordsFault → Bool
+wants_memory fault.NoMode = false
+wants_memory fault.UnknownMode = false
+wants_memory fault.BadWords = false
+wants_memory fault.Memory = true
+
+-- a fault is the one that the words say; but it may be want of memory
+abbrev pub IsFaultOf : {A : Type 0} → Result A WordsFault → WordsFault → Type 0
+IsFaultOf said why = wants_memory why ≡ false → said ≡ Err why
+
+-- what a fault is told as
+abbrev pub fault_text : WordsFault → Text
+fault_text fault.NoMode = codes "no-mode"
+fault_text fault.UnknownMode = codes "unknown-mode"
+fault_text fault.BadWords = codes "bad-words"
+fault_text fault.Memory = codes "memory"

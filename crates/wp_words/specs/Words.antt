@@ -1,0 +1,98 @@
+-- What the words of a command line say.
+use Rattle.std.specs.Prelude.{◌≡◌, List, [], ◌∷◌, codes, Some, unwrap_or, if◌then◌else◌, Result, Ok, Err}
+use Rattle.std.specs.Str.{bytes_eq}
+use Rattle.clap.specs.Words.{App, Kinds, Row, Text, fault_of, first_of, matches_of}
+use Rattle.wp_words.specs.Options.{audit_command, plan_command}
+use Rattle.wp_words.specs.declared.fault.WordsFault.{WordsFault}
+use Rattle.wp_words.specs.declared.fault.WordsFault.TheVariants as fault
+
+-- the names that the options of `plan` give
+pub record PlanNames : Type 0 where
+  pub layout : Text
+  pub stock : Text
+  pub orders : Text
+  pub desks : Text
+
+-- the names that the options of `audit` give
+pub record AuditNames : Type 0 where
+  pub layout : Text
+  pub stock : Text
+  pub orders : Text
+  pub journal : Text
+
+-- a job, by the names that its words give
+pub data JobNames : Type 0 where
+  plan : PlanNames → JobNames
+  audit : AuditNames → JobNames
+
+-- what was matched, where no kind of error comes of the words
+abbrev pub unless_faulty : Kinds → List Row → Result (List Row) WordsFault
+unless_faulty [] rows = Ok rows
+unless_faulty (kind ∷ kinds) rows = Err fault.BadWords
+
+-- what clap matches for a command, or that the words aren't accepted for it
+abbrev pub matched : App → List Text → Result (List Row) WordsFault
+matched command words = unless_faulty (fault_of command words) (matches_of command words)
+
+-- the value that an option got. Each option has to be given, so where words are accepted there is one
+abbrev pub value_of : List Row → Text → Text
+value_of rows name = unwrap_or (first_of name rows) []
+
+-- the names that were matched for `plan`
+abbrev pub plan_names_of : List Row → PlanNames
+plan_names_of rows = record {
+  layout = value_of rows (codes "layout");
+  stock = value_of rows (codes "stock");
+  orders = value_of rows (codes "orders");
+  desks = value_of rows (codes "desks");
+}
+
+-- the names that were matched for `audit`
+abbrev pub audit_names_of : List Row → AuditNames
+audit_names_of rows = record {
+  layout = value_of rows (codes "layout");
+  stock = value_of rows (codes "stock");
+  orders = value_of rows (codes "orders");
+  journal = value_of rows (codes "journal");
+}
+
+-- a value that was found is made into something else, and a fault is the answer
+abbrev pub made_into : {A B : Type 0} → (A → B) → Result A WordsFault → Result B WordsFault
+made_into make (Ok value) = Ok (make value)
+made_into make (Err why) = Err why
+
+-- what words say after `plan`
+abbrev pub plan_said : List Text → Result PlanNames WordsFault
+plan_said words = made_into plan_names_of (matched plan_command words)
+
+-- what words say after `audit`
+abbrev pub audit_said : List Text → Result AuditNames WordsFault
+audit_said words = made_into audit_names_of (matched audit_command words)
+
+-- the job that words say: the first is the mode, and the others are the words of its command
+abbrev pub job_said : List Text → Result JobNames WordsFault
+job_said [] = Err fault.NoMode
+job_said (mode ∷ words) =
+    if bytes_eq mode (codes "plan") then made_into plan (plan_said words)
+    else if bytes_eq mode (codes "audit") then made_into audit (audit_said words)
+    else Err fault.UnknownMode
+
+-- clap states these values for the options of `plan`
+pub record ArePlanValues (rows : List Row) (names : PlanNames) : Type 0 where
+  pub layout : first_of (codes "layout") rows ≡ Some names.layout
+  pub stock : first_of (codes "stock") rows ≡ Some names.stock
+  pub orders : first_of (codes "orders") rows ≡ Some names.orders
+  pub desks : first_of (codes "desks") rows ≡ Some names.desks
+
+-- clap states these values for the options of `audit`
+pub record AreAuditValues (rows : List Row) (names : AuditNames) : Type 0 where
+  pub layout : first_of (codes "layout") rows ≡ Some names.layout
+  pub stock : first_of (codes "stock") rows ≡ Some names.stock
+  pub orders : first_of (codes "orders") rows ≡ Some names.orders
+  pub journal : first_of (codes "journal") rows ≡ Some names.journal
+
+-- clap states the values of a job for the words after its mode
+abbrev pub AreStated : List Text → JobNames → Type 0
+AreStated [] names = ⊥
+AreStated (mode ∷ words) (plan names) = ArePlanValues (matches_of plan_command words) names
+AreStated (mode ∷ words) (audit names) = AreAuditValues (matches_of audit_command words) names

@@ -1,0 +1,53 @@
+ghost use Rattle.std.specs.Prelude.{◌≡◌, Some};
+ghost use Rattle.wp_words.specs.Reading.{fault_text};
+ghost use Rattle.wp_words.specs.declared.fault.WordsFault.TheVariants as fault;
+
+use std::alloc::AllocError;
+use std::error::Error;
+use std::fmt;
+use wp_model::Memory;
+
+/// Why words ask for no job.
+#[derive(Clone, Copy, Debug, PartialEq, Eq)]
+pub enum WordsFault {
+    /// There is no word.
+    NoMode,
+    /// The first word is no mode.
+    UnknownMode,
+    /// The words after the mode aren't its options: one is left out, given twice or unknown, has no value, or a word
+    /// belongs to none.
+    BadWords,
+    /// There was no memory to read the words.
+    Memory,
+}
+
+impl fmt::Display for WordsFault {
+    ghost output = { λ w. Some (fault_text w) };
+
+    fn fmt<W: fmt::Write>(&self, f: &mut fmt::Formatter<W>) -> fmt::Result {
+        f.write_str(match self {
+            WordsFault::NoMode => "no-mode",
+            WordsFault::UnknownMode => "unknown-mode",
+            WordsFault::BadWords => "bad-words",
+            WordsFault::Memory => "memory",
+        })
+    }
+}
+
+impl Error for WordsFault {}
+
+impl From<Memory> for WordsFault {
+    ghost from_gives = { λ _ e. e ≡ fault.Memory };
+
+    fn from(_error: Memory) -> WordsFault {
+        WordsFault::Memory
+    }
+}
+
+impl From<AllocError> for WordsFault {
+    ghost from_gives = { λ _ e. e ≡ fault.Memory };
+
+    fn from(_error: AllocError) -> WordsFault {
+        WordsFault::Memory
+    }
+}
