@@ -1,0 +1,11 @@
+-- The names of an object's members, as its map keeps them.
+use Rattle.std.proofs.Common.{◌≡◌, List, [], ◌∷◌, ℕ, String, Global, string_bytes, ◌&&◌, refl, ap}
+use Rattle.std.specs.List.{list_all}
+use Rattle.std.specs.Map.{keys_of}
+use Rattle.serde_json.specs.View.{members_view}
+use Rattle.serde_json.specs.declared.value.Value.{Value}
+use Rattle.wp_layout.specs.LayoutFile.{is_key, names_of}
+
+pub names_known : (entries : List (String Global × Value)) → list_all is_key (names_of (members_view entries)) ≡ list_all (λ name. is_key (string_bytes name)) (keys_of entries)
+names_known [] = refl
+names_known (entry ∷ entries) = ap (λ known. is_key (string_bytes entry.0) && known) (names_known entries)

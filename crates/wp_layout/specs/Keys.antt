@@ -1,0 +1,30 @@
+-- The keys of a layout file, and what its faults are told as.
+use Rattle.std.specs.Prelude.{◌++◌, List, [], ◌∷◌, ℕ, codes}
+use Rattle.wp_layout.specs.declared.fault.LayoutFault.{LayoutFault}
+use Rattle.wp_layout.specs.declared.fault.LayoutFault.TheVariants as fault
+use Rattle.wp_layout.specs.declared.key.Key.{Key}
+use Rattle.wp_layout.specs.declared.key.Key.TheVariants as key
+
+-- a key as it stands in the file
+abbrev pub key_text : Key → List ℕ
+key_text key.Version = codes "version"
+key_text key.Aisles = codes "aisles"
+key_text key.Slots = codes "slots"
+key_text key.Pitch = codes "pitch"
+key_text key.Clearance = codes "clearance"
+key_text key.Spacing = codes "spacing"
+key_text key.Depot = codes "depot"
+
+-- the keys, in the order in which they are tested
+abbrev pub all_keys : List Key
+all_keys = key.Version ∷ key.Aisles ∷ key.Slots ∷ key.Pitch ∷ key.Clearance ∷ key.Spacing ∷ key.Depot ∷ []
+
+-- what a fault is told as
+abbrev pub fault_text : LayoutFault → List ℕ
+fault_text fault.NotJson = codes "not-json"
+fault_text fault.NotObject = codes "not-object"
+fault_text (fault.MissingKey key) = codes "missing-key " ++ key_text key
+fault_text fault.UnknownKey = codes "unknown-key"
+fault_text (fault.NotWhole key) = codes "not-whole " ++ key_text key
+fault_text (fault.OutOfRange key) = codes "out-of-range " ++ key_text key
+fault_text fault.Memory = codes "memory"

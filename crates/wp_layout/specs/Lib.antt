@@ -1,0 +1,3 @@
+pub mod Keys
+pub mod LayoutFile
+pub mod LayoutText
