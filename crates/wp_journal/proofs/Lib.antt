@@ -1,0 +1,6 @@
+pub mod NameLists
+pub mod Phrases
+pub mod WordBytes
+pub mod EntryWords
+pub mod ReadBack
+pub mod Candidates

@@ -1,0 +1,72 @@
+-- The lines of the journal.
+use Rattle.std.specs.Prelude.{◌≡◌, ℕ, ◌^◌, ◌&&◌, nat_le, nat_lt, Bool, true, IsTrue, List}
+use Rattle.std.specs.List.{list_all}
+use Rattle.wp_model.specs.Journal.{entry_line}
+use Rattle.wp_model.specs.Name.{is_name}
+use Rattle.wp_model.specs.Plain.{is_plain, is_plain_location, is_plain_quantity}
+use Rattle.wp_model.specs.declared.command.Command.{Command}
+use Rattle.wp_model.specs.declared.command.Command.TheVariants as command
+use Rattle.wp_model.specs.declared.entry.Entry.{Entry}
+use Rattle.wp_model.specs.declared.reply.Reply.{Reply}
+use Rattle.wp_model.specs.declared.reply.Reply.TheVariants as reply
+
+-- a number of 32 bits, and one of 64
+abbrev pub is_u32 : ℕ → Bool
+is_u32 n = nat_lt n (2 ^ 32)
+
+abbrev pub is_u64 : ℕ → Bool
+is_u64 n = nat_lt n (2 ^ 64)
+
+-- what a command names are names
+abbrev pub has_names : Command → Bool
+has_names (command.Submit wave orders) = is_name wave && list_all is_name orders
+has_names (command.Allot wave) = is_name wave
+has_names (command.Release wave) = is_name wave
+has_names (command.Cancel wave) = is_name wave
+has_names (command.Pick wave order location quantity) = is_name wave && is_name order
+has_names (command.Missing wave order location quantity) = is_name wave && is_name order
+has_names (command.Receive location article quantity) = is_name article
+
+-- a reply names names, places and lost units are within the bounds of a command's, and the other numbers are any
+abbrev pub is_line_reply : Reply → Bool
+is_line_reply reply.Submitted = true
+is_line_reply reply.Allotted = true
+is_line_reply reply.Released = true
+is_line_reply reply.Cancelled = true
+is_line_reply reply.Picked = true
+is_line_reply reply.Received = true
+is_line_reply (reply.Refilled units) = is_plain_quantity units
+is_line_reply (reply.Lost article units) = is_name article && is_plain_quantity units
+is_line_reply reply.NoOrders = true
+is_line_reply (reply.WaveFull orders) = is_u32 orders
+is_line_reply reply.KnownWave = true
+is_line_reply (reply.UnknownOrder order) = is_name order
+is_line_reply (reply.OrderTwice order) = is_name order
+is_line_reply (reply.OrderTaken order wave) = is_name order && is_name wave
+is_line_reply reply.UnknownWave = true
+is_line_reply (reply.WrongState state) = true
+is_line_reply (reply.Short article wanted free) = is_name article && (is_u64 wanted && is_u64 free)
+is_line_reply reply.Picking = true
+is_line_reply (reply.NotHeld location) = is_plain_location location
+is_line_reply (reply.TooMuch held) = is_u32 held
+is_line_reply reply.NoRow = true
+is_line_reply (reply.OtherArticle article) = is_name article
+is_line_reply (reply.TooMany on_hand) = is_u32 on_hand
+
+-- an entry of the journal: its number is below 10,000, the desk is 1 to 8, its command is plain, and its reply is one
+abbrev pub is_line_entry : Entry → Bool
+is_line_entry entry =
+    (nat_lt entry.number 10000 && (nat_le 1 entry.desk && nat_le entry.desk 8)) && ((is_plain entry.command && has_names entry.command) && is_line_reply entry.reply)
+
+-- the line of an entry of the journal
+pub record IsLineOf (line : List ℕ) (entry : Entry) : Type 0 where
+  pub within : IsTrue (is_line_entry entry)
+  pub written : line ≡ entry_line entry
+
+-- a line is that of no entry of the journal
+abbrev pub IsNoLine : List ℕ → Type 0
+IsNoLine line = (entry : Entry) → IsLineOf line entry → ⊥
+
+-- a line is that of this entry alone
+abbrev pub IsOnlyLineOf : List ℕ → Entry → Type 0
+IsOnlyLineOf line entry = (other : Entry) → IsLineOf line other → other ≡ entry

@@ -1,0 +1,6 @@
+pub mod Grammar
+pub mod Splits
+pub mod Numbers
+pub mod Commands
+pub mod Replies
+pub mod Reading
