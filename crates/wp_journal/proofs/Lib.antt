@@ -4,3 +4,4 @@ pub mod WordBytes
 pub mod EntryWords
 pub mod ReadBack
 pub mod Candidates
+pub mod Audits

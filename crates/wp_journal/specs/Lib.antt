@@ -4,3 +4,4 @@ pub mod Numbers
 pub mod Commands
 pub mod Replies
 pub mod Reading
+pub mod Auditing

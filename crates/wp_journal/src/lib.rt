@@ -1,4 +1,5 @@
-//! Entries of the journal as lines.
+//! The journal as text: an entry as its line, a line as its entry, and the audit of a journal, which lets the machine
+//! answer every command again.
 #![tactic(auto)]
 
 mod bounds;
@@ -7,9 +8,13 @@ mod fault;
 mod number;
 mod print;
 mod read;
+mod replay;
 mod reply;
+mod verdict;
 mod words;
 
 pub use fault::EntryFault;
 pub use print::print_entry;
 pub use read::read_entry;
+pub use replay::audit;
+pub use verdict::{Audit, AuditFault};

@@ -2,7 +2,7 @@ ghost use Rattle.std.specs.Prelude.{◌≡◌, ◌&&◌, Err, IfOk};
 ghost use Rattle.std.specs.Str.{bytes_eq};
 ghost use Rattle.wp_model.specs.Journal.{entry_line};
 ghost use Rattle.wp_journal.specs.Grammar.{IsLineOf, IsNoLine, IsOnlyLineOf, is_line_entry};
-ghost use Rattle.wp_journal.specs.Reading.{Gives, candidate_of, entry_in};
+ghost use Rattle.wp_journal.specs.Reading.{Gives, candidate_of, entry_in, entry_of};
 ghost use Rattle.wp_journal.specs.Splits.{words_now};
 ghost use Rattle.wp_journal.specs.declared.fault.EntryFault.TheVariants as fault;
 
@@ -59,6 +59,7 @@ fn is_line_of(line: &[u8], printed: &[u8], entry: &Entry) -> bool
 /// such entry. A line is of one entry alone.
 pub fn read_entry(alloc: Global, line: &[u8]) -> Result<Entry, EntryFault>
     ensures entry { IfOk result (IsLineOf line.now) }
+    ensures exact { Gives result (entry_of line.now) }
     ensures only { IfOk result (IsOnlyLineOf line.now) }
     ensures refusal { result ≡ Err fault.NotEntry → IsNoLine line.now }
 {

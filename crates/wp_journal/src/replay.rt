@@ -1,0 +1,189 @@
+//! Audits of journals: the machine answers each entry's command again, and its own entries are compared with the lines.
+ghost use Rattle.std.specs.Prelude.{◌≡◌, ◌<◌, IfOk, IsTrue, length};
+ghost use Rattle.std.specs.List.{position_or_len};
+ghost use Rattle.wp_model.specs.History.{answered, next_entry, opened};
+ghost use Rattle.wp_model.specs.Plain.{is_plain};
+ghost use Rattle.wp_journal.specs.Auditing.{Answers, Leads, MayGoOn, after_line, audited, audited_from, bad_line, first_line, is_end, is_feed, is_head, judged, line_after, lines_of, numbered};
+
+use crate::fault::EntryFault;
+use crate::print::print_entry;
+use crate::read::read_entry;
+use crate::verdict::{Audit, AuditFault};
+use std::alloc::Global;
+use wp_machine::{Machine, Opening, prepare};
+use wp_model::{Entry, Memory};
+
+fn feed_at(text: &[u8]) -> usize
+    ensures { result ≡ position_or_len is_feed text.now }
+{
+    for (at, byte) in text.iter().enumerate() {
+        if *byte == b'\n' {
+            return at;
+        }
+    }
+    text.len()
+}
+
+// The first line of a text, with its line feed where it has one, and the text after it.
+fn split_line(text: &[u8]) -> (&[u8], &[u8])
+    ensures first { result.0.now ≡ first_line text.now }
+    ensures after { result.1.now ≡ after_line text.now }
+{
+    let at = feed_at(text);
+    if at < text.len() {
+        (&text[..at + 1], &text[at + 1..])
+    } else {
+        (text, &[])
+    }
+}
+
+fn is_head(line: &[u8]) -> bool
+    ensures { result ≡ is_head line.now }
+{
+    line == b"journal\n".as_slice()
+}
+
+fn is_end(line: &[u8]) -> bool
+    ensures { result ≡ is_end line.now }
+{
+    line == b"end journal\n".as_slice() || line == b"end journal".as_slice()
+}
+
+// The fault of a bad line after all that the machine has answered.
+fn bad_line(machine: &Machine<'_>) -> AuditFault
+    requires { length machine.now.entries < 4294967295 }
+    ensures { result ≡ bad_line machine.now }
+{
+    AuditFault::BadLine(machine.count() + 2)
+}
+
+// The entry that the machine writes for an entry's desk and command.
+fn answer(
+    alloc: Global,
+    opening: &Opening,
+    machine: &mut Machine<'_>,
+    entry: &Entry,
+) -> Result<Entry, Memory>
+    requires same { opening.now ≡ machine.old.opening }
+    requires few { length machine.old.entries < 4294967295 }
+    requires plain { IsTrue (is_plain entry.now.command) }
+    ensures entry { IfOk result (λ right. right ≡ next_entry machine.old entry.now.desk entry.now.command) }
+    ensures history { IfOk result (λ right. machine.new ≡ answered machine.old entry.now.desk entry.now.command) }
+{
+    let command = entry.command.copy(alloc)?;
+    let ready = prepare(alloc, opening, entry.command.copy(alloc)?)?;
+    let answer = machine.step(entry.desk, ready);
+    Ok(Entry {
+        number: answer.number,
+        desk: entry.desk,
+        command,
+        reply: answer.reply,
+    })
+}
+
+// Answers an entry's command again, and compares the line with that of the machine's entry.
+fn judge(
+    alloc: Global,
+    opening: &Opening,
+    machine: &mut Machine<'_>,
+    line: &[u8],
+    entry: &Entry,
+) -> Result<(), AuditFault>
+    requires same { opening.now ≡ machine.old.opening }
+    requires few { length machine.old.entries < 4294967295 }
+    requires plain { IsTrue (is_plain entry.now.command) }
+    ensures leads { Leads result machine.new (judged machine.old line.now entry.now) }
+    ensures history { IfOk result (λ _. machine.new ≡ answered machine.old entry.now.desk entry.now.command) }
+{
+    let right = answer(alloc, opening, machine, entry)?;
+    let written = print_entry(alloc, &right)?;
+    if written.as_slice() == line {
+        Ok(())
+    } else {
+        Err(AuditFault::WrongReply {
+            number: entry.number,
+            printed: entry.reply,
+            right: right.reply,
+        })
+    }
+}
+
+// Takes the entry of a line in, where it has the next number.
+fn take_entry(
+    alloc: Global,
+    opening: &Opening,
+    machine: &mut Machine<'_>,
+    line: &[u8],
+    entry: &Entry,
+) -> Result<(), AuditFault>
+    requires same { opening.now ≡ machine.old.opening }
+    requires few { length machine.old.entries < 4294967295 }
+    requires plain { IsTrue (is_plain entry.now.command) }
+    requires number { entry.now.number < 10000 }
+    ensures leads { Leads result machine.new (numbered machine.old line.now entry.now) }
+    ensures next { IfOk result (λ _. MayGoOn machine.old machine.new) }
+{
+    if entry.number == machine.count() {
+        judge(alloc, opening, machine, line, entry)
+    } else {
+        Err(bad_line(machine))
+    }
+}
+
+// Takes a line in as the next entry.
+fn take_line(
+    alloc: Global,
+    opening: &Opening,
+    machine: &mut Machine<'_>,
+    line: &[u8],
+) -> Result<(), AuditFault>
+    requires same { opening.now ≡ machine.old.opening }
+    requires few { length machine.old.entries < 4294967295 }
+    ensures leads { Leads result machine.new (line_after machine.old line.now) }
+    ensures next { IfOk result (λ _. MayGoOn machine.old machine.new) }
+{
+    match read_entry(alloc, line) {
+        Ok(entry) => take_entry(alloc, opening, machine, line, &entry),
+        Err(EntryFault::NotEntry) => Err(bad_line(machine)),
+        Err(EntryFault::Memory) => Err(AuditFault::Memory),
+    }
+}
+
+// Audits the lines after the head.
+fn audit_entries(alloc: Global, opening: &Opening, text: &[u8]) -> Result<Audit, AuditFault>
+    ensures { Answers result (audited_from (opened opening.now) (lines_of text.now)) }
+{
+    let mut machine = Machine::open(alloc, opening)?;
+    let mut rest = text;
+    while !rest.is_empty() {
+        let (line, more) = split_line(rest);
+        if is_end(line) {
+            return Ok(Audit {
+                entries: machine.count(),
+            });
+        }
+        take_line(alloc, opening, &mut machine, line)?;
+        rest = more;
+    }
+    Err(bad_line(&machine))
+}
+
+/// Audits a journal, line by line: the line `journal`, the entries numbered 0, 1, 2 and so on, and the line
+/// `end journal`, whose line feed may be missing; what follows isn't read. The machine answers each entry's command
+/// again, after the entries before it. Ok gives the number of all entries. The first line that isn't right decides:
+/// `BadLine` comes exactly where it is neither the entry with the next number below 10,000 nor a heading in its place,
+/// or the text ends before it; `WrongReply` comes exactly where it is the next entry and its reply isn't the machine's.
+pub fn audit(alloc: Global, opening: &Opening, text: &Vec<u8>) -> Result<Audit, AuditFault>
+    ensures exact { Answers result (audited opening.now text.now.items) }
+{
+    let text = text.as_slice();
+    if text.is_empty() {
+        return Err(AuditFault::BadLine(1));
+    }
+    let (line, rest) = split_line(text);
+    if is_head(line) {
+        audit_entries(alloc, opening, rest)
+    } else {
+        Err(AuditFault::BadLine(1))
+    }
+}

@@ -1,0 +1,51 @@
+ghost use Rattle.std.specs.Prelude.{◌≡◌};
+ghost use Rattle.wp_journal.specs.declared.verdict.AuditFault.TheVariants as fault;
+
+use std::alloc::{AllocError, AllocFailed};
+use wp_model::{Memory, Reply};
+
+/// What an audit finds right: how many entries stand between the line `journal` and the line `end journal`.
+#[derive(Clone, Copy, Debug, PartialEq, Eq)]
+pub struct Audit {
+    pub entries: u64,
+}
+
+/// The first line of a journal that isn't right.
+#[derive(Clone, Copy, Debug, PartialEq, Eq)]
+pub enum AuditFault {
+    /// The line of this number, counted from 1, is neither the next entry nor a heading in its place, or the text ends
+    /// before it.
+    BadLine(u64),
+    /// The entry of this number has another reply than the machine's.
+    WrongReply {
+        number: u64,
+        printed: Reply,
+        right: Reply,
+    },
+    /// There was no memory for the audit.
+    Memory,
+}
+
+impl From<Memory> for AuditFault {
+    ghost from_gives = { λ _ e. e ≡ fault.Memory };
+
+    fn from(_error: Memory) -> AuditFault {
+        AuditFault::Memory
+    }
+}
+
+impl From<AllocError> for AuditFault {
+    ghost from_gives = { λ _ e. e ≡ fault.Memory };
+
+    fn from(_error: AllocError) -> AuditFault {
+        AuditFault::Memory
+    }
+}
+
+impl<T: Drop> From<AllocFailed<T>> for AuditFault {
+    ghost from_gives = { λ _ e. e ≡ fault.Memory };
+
+    fn from(_error: AllocFailed<T>) -> AuditFault {
+        AuditFault::Memory
+    }
+}
