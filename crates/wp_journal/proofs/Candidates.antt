@@ -1,6 +1,6 @@
 -- The line of an entry is read as this entry, so a line is of one entry.
-use Rattle.std.proofs.Common.{◌≡◌, ◌∙◌, refl, sym, ap, ap₂, ℕ, ◌+◌, ◌-◌, ◌<◌, ◌^◌, Bool, true, false, List, [], ◌∷◌, ◌++◌, length, take, arith, leb-true, ltb-true, length-append, lit<}
-use Rattle.std.specs.Prelude.{◌&&◌, codes, nat_le, nat_lt, Option, Some, None, Result, Ok, Err}
+use Rattle.std.proofs.Common.{◌≡◌, ◌∙◌, refl, sym, ap, ℕ, ◌-◌, ◌<◌, ◌^◌, true, false, List, [], ◌∷◌, ◌++◌, length, take, arith, leb-true, ltb-true, length-append, lit<}
+use Rattle.std.specs.Prelude.{◌&&◌, codes, nat_le, nat_lt, Some, None, Result, Err}
 use Rattle.std.specs.Fmt.{decimal}
 use Rattle.std.specs.List.{list_all}
 use Rattle.std.proofs.Math.Seq.{take-append_seam}

@@ -1,14 +1,13 @@
 -- An entry's text as words.
-use Rattle.std.proofs.Common.{◌≡◌, ◌∙◌, refl, sym, ap, ap₂, ℕ, ◌<◌, ◌≤◌, ◌^◌, Bool, true, List, [], ◌∷◌, ◌++◌, append_assoc, arith, leb-true, ltb-true, lit<}
-use Rattle.std.specs.Prelude.{◌&&◌, codes, nat_le, nat_lt}
+use Rattle.std.proofs.Common.{◌≡◌, ◌∙◌, refl, sym, ap, ap₂, ℕ, ◌<◌, ◌^◌, true, List, [], ◌∷◌, ◌++◌, append_assoc, arith, leb-true, ltb-true, lit<}
+use Rattle.std.specs.Prelude.{codes, nat_le, nat_lt}
 use Rattle.std.specs.Fmt.{decimal}
 use Rattle.std.specs.List.{flat_map, list_all}
 use Rattle.std.proofs.lemmas.Grind.{flat_map-append}
 use Rattle.std.proofs.lemmas.List.{append-nil}
 use Rattle.wp_model.specs.Journal.{after_space, command_text, entry_text, location_text, number_after_space, reply_text, wave_state_text}
-use Rattle.wp_model.specs.Name.{is_name}
 use Rattle.wp_model.specs.Opening.{most_quantity}
-use Rattle.wp_model.specs.Plain.{is_plain, is_plain_location, is_plain_quantity}
+use Rattle.wp_model.specs.Plain.{is_plain, is_plain_quantity}
 use Rattle.wp_model.specs.declared.command.Command.{Command}
 use Rattle.wp_model.specs.declared.command.Command.TheVariants as command
 use Rattle.wp_model.specs.declared.entry.Entry.{Entry}

@@ -1,7 +1,6 @@
 -- The names of words, one after the other.
 use Rattle.std.proofs.Common.{◌≡◌, refl, ap, List, [], ◌∷◌, ◌++◌, ℕ, append_assoc, sym}
 use Rattle.std.specs.Prelude.{Option, Some, None, option_map}
-use Rattle.std.specs.Option.{option_and_then}
 use Rattle.wp_model.specs.Name.{name_in}
 use Rattle.wp_journal.specs.Commands.{names_in}
 

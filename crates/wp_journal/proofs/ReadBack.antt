@@ -1,11 +1,11 @@
 -- What a word was written for is read from it again.
-use Rattle.std.proofs.Common.{◌≡◌, ◌∙◌, refl, sym, ap, ap₂, subst, ℕ, ◌+◌, ◌-◌, ◌*◌, ◌<◌, ◌≤◌, ◌^◌, Bool, true, List, [], ◌∷◌, ◌++◌, length, append_assoc, arith, leb-true, ltb-true, le-leb, lt-ltb, lit<}
-use Rattle.std.specs.Prelude.{◌&&◌, codes, nat_le, nat_lt, Option, Some, None, if◌then◌else◌, not}
+use Rattle.std.proofs.Common.{◌≡◌, ◌∙◌, refl, sym, ap, ap₂, subst, ℕ, ◌+◌, ◌-◌, ◌*◌, ◌<◌, ◌≤◌, ◌^◌, true, List, [], ◌∷◌, ◌++◌, length, append_assoc, arith, leb-true, ltb-true, le-leb, lt-ltb, lit<}
+use Rattle.std.specs.Prelude.{nat_le, nat_lt, Some, None, if◌then◌else◌}
 use Rattle.std.specs.Char.{digit_value, is_ascii_digit}
 use Rattle.std.specs.Fmt.{decimal}
 use Rattle.std.specs.List.{after_first, before_first, list_all}
 use Rattle.std.specs.Option.{option_and_then}
-use Rattle.std.specs.Str.Parse.{AllDigits, digits_value, digits_value_after}
+use Rattle.std.specs.Str.Parse.{AllDigits, digits_value_after}
 use Rattle.std.proofs.lemmas.Fmt.{decimal_is_IsNumeral, decimal_nonempty, length-decimal-le}
 use Rattle.std.proofs.lemmas.Str.{digit_value_digit}
 use Rattle.std.proofs.lemmas.Str.Parse.{digit_from_value}
@@ -27,7 +27,6 @@ use Rattle.wp_journal.specs.Commands.{command_in, names_in}
 use Rattle.wp_journal.specs.Grammar.{has_names, is_line_reply}
 use Rattle.wp_journal.specs.Numbers.{if_small, next_whole, small_of, whole_after, whole_of}
 use Rattle.wp_journal.specs.Replies.{reply_in, state_of}
-use Rattle.wp_journal.specs.Splits.{Word}
 use Rattle.wp_journal.proofs.Phrases.{after_at, before_at, both}
 use Rattle.wp_journal.proofs.WordBytes.{and_true, decimal_no_dash, place_small, small_is_whole}
 use Rattle.wp_journal.proofs.EntryWords.{command_arguments, command_word, quantity_small, reply_told, reply_word}

@@ -1,8 +1,7 @@
 -- The bytes of the journal's words.
-use Rattle.std.proofs.Common.{◌≡◌, ◌∙◌, refl, sym, ap, ap₂, subst, ℕ, ◌+◌, ◌<◌, ◌≤◌, ◌^◌, Bool, true, false, List, [], ◌∷◌, ◌++◌, arith, leb-true, lit<}
-use Rattle.std.specs.Prelude.{◌&&◌, ◌||◌, ◌==◌, codes, nat_le, nat_lt, not}
+use Rattle.std.proofs.Common.{◌≡◌, ◌∙◌, refl, ap, ap₂, subst, ℕ, ◌<◌, ◌≤◌, ◌^◌, Bool, true, false, List, [], ◌∷◌, ◌++◌, arith, leb-true, lit<}
+use Rattle.std.specs.Prelude.{◌&&◌, codes, nat_le, not}
 use Rattle.std.specs.Fmt.{decimal}
-use Rattle.std.specs.Int.{IsInRange}
 use Rattle.std.specs.List.{list_all}
 use Rattle.std.specs.Str.Parse.{AllDigits}
 use Rattle.std.proofs.lemmas.Bool.Decides.{Decides-eqb, nat_tests}

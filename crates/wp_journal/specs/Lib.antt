@@ -5,3 +5,4 @@ pub mod Commands
 pub mod Replies
 pub mod Reading
 pub mod Auditing
+pub mod FaultTexts

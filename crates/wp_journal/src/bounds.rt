@@ -58,13 +58,19 @@ fn is_plain(command: &Command) -> bool
         Command::Submit { orders, .. } => orders.len() <= MOST_NAMED,
         Command::Allot { .. } | Command::Release { .. } | Command::Cancel { .. } => true,
         Command::Pick {
-            location, quantity, ..
+            location,
+            quantity,
+            ..
         } => is_plain_location(location) && is_plain_quantity(*quantity),
         Command::Missing {
-            location, quantity, ..
+            location,
+            quantity,
+            ..
         } => is_plain_location(location) && is_plain_quantity(*quantity),
         Command::Receive {
-            location, quantity, ..
+            location,
+            quantity,
+            ..
         } => is_plain_location(location) && is_plain_quantity(*quantity),
     }
 }

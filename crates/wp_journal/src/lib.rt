@@ -18,3 +18,6 @@ pub use print::print_entry;
 pub use read::read_entry;
 pub use replay::audit;
 pub use verdict::{Audit, AuditFault};
+
+#[cfg(test)]
+mod tests;

@@ -1,7 +1,10 @@
-ghost use Rattle.std.specs.Prelude.{◌≡◌};
+ghost use Rattle.std.specs.Prelude.{◌≡◌, Some};
+ghost use Rattle.wp_journal.specs.FaultTexts.{audit_fault_text};
 ghost use Rattle.wp_journal.specs.declared.verdict.AuditFault.TheVariants as fault;
 
 use std::alloc::{AllocError, AllocFailed};
+use std::error::Error;
+use std::fmt;
 use wp_model::{Memory, Reply};
 
 /// What an audit finds right: how many entries stand between the line `journal` and the line `end journal`.
@@ -25,6 +28,24 @@ pub enum AuditFault {
     /// There was no memory for the audit.
     Memory,
 }
+
+impl fmt::Display for AuditFault {
+    ghost output = { λ found. Some (audit_fault_text found) };
+
+    fn fmt<W: fmt::Write>(&self, f: &mut fmt::Formatter<W>) -> fmt::Result {
+        match self {
+            AuditFault::BadLine(line) => write!(f, "line {line}"),
+            AuditFault::WrongReply {
+                number,
+                printed,
+                right,
+            } => write!(f, "entry {number} printed {printed} right {right}"),
+            AuditFault::Memory => f.write_str("memory"),
+        }
+    }
+}
+
+impl Error for AuditFault {}
 
 impl From<Memory> for AuditFault {
     ghost from_gives = { λ _ e. e ≡ fault.Memory };

@@ -28,8 +28,7 @@ loop-rest-preserved c =
     let some = some_bytes (length rest) c.is_empty.result c.is_empty.ensures c.loop-rest-test.true in
     let goes = ap is_end (sym c.split_line.ensures.first) ∙ (sym c.is_end.ensures ∙ c.if-is_end.false) in
     let after = c.take_line.new.machine in
-    let leads = ap (line_after c.loop-rest.machine) (sym c.split_line.ensures.first) ∙ c.in_ok-take_line.ensures.leads in
-    (
+    let leads = ap (line_after c.loop-rest.machine) (sym c.split_line.ensures.first) ∙ c.in_ok-take_line.ensures.leads in (
       c.loop-rest.invariant.0 ∙ (goes_on c.loop-rest.machine after rest some goes leads ∙ ap (λ t. audited_from after (lines_of t)) (sym c.split_line.ensures.after)),
       c.in_ok-take_line.ensures.next.opening ∙ c.loop-rest.invariant.1,
       c.in_ok-take_line.ensures.next.few,

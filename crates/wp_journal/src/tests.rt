@@ -1,0 +1,307 @@
+use super::*;
+use std::alloc::{AllocError, Global};
+use std::test::Fail;
+use wp_machine::Opening;
+use wp_tables::{RowFault, read_orders, read_stock};
+
+/// A line of each command, of each reply, and of the least and the greatest numbers.
+const LINES: [&str; 38] = [
+    "0 1 submit W1 -> submitted\n",
+    "1 8 submit W1 O1 -> submitted\n",
+    "2 1 submit W1 O1 O2 submit -> submitted\n",
+    "9999 1 allot allot -> allotted\n",
+    "4 1 release W1 -> released\n",
+    "5 1 cancel W1 -> cancelled\n",
+    "6 1 pick W1 O1 0-0-L 1 -> picked\n",
+    "7 1 missing W1 O1 99999-99999-R 100000 -> lost A 100000\n",
+    "8 1 receive 10-20-R A 30 -> received\n",
+    "9 1 allot W1 -> refilled 1\n",
+    "10 1 allot W1 -> refilled 100000\n",
+    "11 1 allot W1 -> lost A-b_c.9 1\n",
+    "12 1 allot W1 -> refused no-orders\n",
+    "13 1 allot W1 -> refused wave-full 0\n",
+    "14 1 allot W1 -> refused wave-full 4294967295\n",
+    "15 1 allot W1 -> refused known-wave\n",
+    "16 1 allot W1 -> refused unknown-order O1\n",
+    "17 1 allot W1 -> refused order-twice O1\n",
+    "18 1 allot W1 -> refused order-taken O1 W2\n",
+    "19 1 allot W1 -> refused unknown-wave\n",
+    "20 1 allot W1 -> refused wrong-state submitted\n",
+    "21 1 allot W1 -> refused wrong-state allotted\n",
+    "22 1 allot W1 -> refused wrong-state released\n",
+    "23 1 allot W1 -> refused wrong-state cancelled\n",
+    "24 1 allot W1 -> refused wrong-state done\n",
+    "25 1 allot W1 -> refused short A 0 0\n",
+    "26 1 allot W1 -> refused short A 18446744073709551615 18446744073709551615\n",
+    "27 1 allot W1 -> refused picking\n",
+    "28 1 allot W1 -> refused not-held 1-2-L\n",
+    "29 1 allot W1 -> refused too-much 0\n",
+    "30 1 allot W1 -> refused too-much 4294967295\n",
+    "31 1 allot W1 -> refused no-row\n",
+    "32 1 allot W1 -> refused other-article refused\n",
+    "33 1 allot W1 -> refused too-many 0\n",
+    "34 1 allot W1 -> refused too-many 4294967295\n",
+    "35 1 allot - -> allotted\n",
+    "36 1 submit - -- -> submitted\n",
+    "37 1 cancel abcdefghijklmnopqrstuvwxyz0123456789-_.Z -> picked\n",
+];
+
+/// Lines of no entry.
+const OTHER_LINES: [&[u8]; 52] = [
+    b"",
+    b"\n",
+    b"journal\n",
+    b"0 1 allot W1 -> allotted",
+    b"0 1 allot W1 -> allotted\r\n",
+    b"0 1 allot W1 -> allotted\n\n",
+    b"0 1 allot W1 -> allotted\n1 1 allot W1 -> allotted\n",
+    b"0 1 allot W1 -> allotted \n",
+    b" 0 1 allot W1 -> allotted\n",
+    b"0  1 allot W1 -> allotted\n",
+    b"0 1  allot W1 -> allotted\n",
+    b"0 1 allot  W1 -> allotted\n",
+    b"0 1 allot W1  -> allotted\n",
+    b"0 1 allot W1 ->  allotted\n",
+    b"0 1 allot W1 ->\n",
+    b"0 1 allot W1 allotted\n",
+    b"0 1 allot W1 - > allotted\n",
+    b"0 1 allot W1->allotted\n",
+    b"0 1 allot W1 -> -> allotted\n",
+    b"00 1 allot W1 -> allotted\n",
+    b"01 1 allot W1 -> allotted\n",
+    b"0 01 allot W1 -> allotted\n",
+    b"+0 1 allot W1 -> allotted\n",
+    b"-1 1 allot W1 -> allotted\n",
+    b"10000 1 allot W1 -> allotted\n",
+    b"0 0 allot W1 -> allotted\n",
+    b"0 9 allot W1 -> allotted\n",
+    b"0 4294967297 allot W1 -> allotted\n",
+    b"18446744073709551616 1 allot W1 -> allotted\n",
+    b"0 1 -> allotted\n",
+    b"0 1 submit -> submitted\n",
+    b"0 1 allot -> allotted\n",
+    b"0 1 allot W1 W2 -> allotted\n",
+    b"0 1 Allot W1 -> allotted\n",
+    b"0 1 hold W1 -> allotted\n",
+    b"0 1 allot W,1 -> allotted\n",
+    b"0 1 allot abcdefghijklmnopqrstuvwxyz0123456789-_.ZZ -> allotted\n",
+    b"0 1 pick W1 O1 1-1-L -> picked\n",
+    b"0 1 pick W1 O1 1-1-L 0 -> picked\n",
+    b"0 1 pick W1 O1 1-1-L 100001 -> picked\n",
+    b"0 1 pick W1 O1 1-1-L 01 -> picked\n",
+    b"0 1 pick W1 O1 01-1-L 1 -> picked\n",
+    b"0 1 pick W1 O1 1-100000-L 1 -> picked\n",
+    b"0 1 pick W1 O1 1-1-l 1 -> picked\n",
+    b"0 1 take W1 O1 1-1-L 1 -> picked\n",
+    b"0 1 fetch 1-1-L A 1 -> received\n",
+    b"0 1 allot W1 -> lost A 0\n",
+    b"0 1 allot W1 -> declined too-much 1\n",
+    b"0 1 allot W1 -> refused wave-full 4294967296\n",
+    b"0 1 allot W1 -> refused short A 1 18446744073709551616\n",
+    b"0 1 allot W1 -> refused not-held 100000-1-L\n",
+    b"0 1 allot W\xc3\xa9 -> allotted\n",
+];
+
+const STOCK: &str = "location,article,on_hand\n1-1-L,A,5\n";
+
+const ORDERS: &str = "order,article,quantity\nO1,A,2\n";
+
+/// Journals over five units of one article, an order of two of them, and what their audits find.
+const JOURNALS: [(&str, &str); 22] = [
+    (
+        "journal\n0 1 submit W1 O1 -> submitted\n1 1 release W1 -> released\nend journal\nrefills\n0 1\n",
+        "2 entries",
+    ),
+    (
+        "journal\n0 1 submit W1 O1 -> submitted\n1 1 release W1 -> released\nend journal",
+        "2 entries",
+    ),
+    ("journal\nend journal\n", "0 entries"),
+    (
+        "journal\nend journal\n0 1 allot W1 -> allotted\n",
+        "0 entries",
+    ),
+    (
+        "journal\n0 8 allot W1 -> refused unknown-wave\n1 3 submit W1 -> refused no-orders\nend journal\n",
+        "2 entries",
+    ),
+    ("", "line 1"),
+    ("journal", "line 1"),
+    ("end journal\n", "line 1"),
+    ("\njournal\nend journal\n", "line 1"),
+    ("journal\n", "line 2"),
+    ("journal\nend  journal\n", "line 2"),
+    ("journal\nend journals\n", "line 2"),
+    ("journal\nend journal\r\n", "line 2"),
+    (
+        "journal\n00 1 submit W1 O1 -> submitted\nend journal\n",
+        "line 2",
+    ),
+    (
+        "journal\n0 1 submit\n1 1 release W1 -> released\nend journal\n",
+        "line 2",
+    ),
+    (
+        "journal\n0 1 submit W1 O1 -> submitted\n1 1 release W1 -> released\n",
+        "line 4",
+    ),
+    (
+        "journal\n0 1 submit W1 O1 -> submitted\n1 1 release W1 -> released",
+        "line 3",
+    ),
+    (
+        "journal\n0 1 submit W1 O1 -> submitted\n2 1 release W1 -> released\nend journal\n",
+        "line 3",
+    ),
+    (
+        "journal\n0 1 submit W1 O1 -> submitted\n1 1 release W1 -> refused short A 2 1\nend journal\n",
+        "entry 1 printed refused short A 2 1 right released",
+    ),
+    (
+        "journal\n0 1 submit W1 O1 -> submitted\n1 1 release W1 -> submitted\nend journal\n",
+        "entry 1 printed submitted right released",
+    ),
+    (
+        "journal\n0 1 submit W1 O1 -> released\n1 1\n",
+        "entry 0 printed released right submitted",
+    ),
+    (
+        "journal\n0 1 submit W1 O1 -> submitted\n1  1 release W1 -> released\n2 1 allot W1 -> allotted\n",
+        "line 3",
+    ),
+];
+
+fn opening_of(alloc: Global, stock: &str, orders: &str) -> Result<Opening, RowFault> {
+    let stock = read_stock(alloc, &stock.as_bytes().to_vec(alloc)?)?;
+    let orders = read_orders(alloc, &orders.as_bytes().to_vec(alloc)?, &stock)?;
+    Ok(Opening::of(stock, orders))
+}
+
+/// What an audit finds.
+fn found(alloc: Global, opening: &Opening, text: &str) -> Result<String, AllocError> {
+    match audit(alloc, opening, &text.as_bytes().to_vec(alloc)?) {
+        Ok(audit) => {
+            let entries = audit.entries;
+            format!(in alloc; "{entries} entries")
+        }
+        Err(fault) => format!(in alloc; "{fault}"),
+    }
+}
+
+/// A journal of so many entries.
+fn long_journal(alloc: Global, entries: u32) -> Result<String, AllocError> {
+    let mut text = String::from_str(alloc, "journal\n")?;
+    for number in 0..entries {
+        let line = format!(in alloc; "{number} 1 allot W1 -> refused unknown-wave\n")?;
+        text.push_str(line.as_str())?;
+    }
+    text.push_str("end journal\n")?;
+    Ok(text)
+}
+
+#[test]
+fn lines_are_read_and_printed_again(rt: HostRuntime) -> Result<(), Fail> {
+    let alloc = rt.alloc();
+    for line in LINES {
+        let entry = read_entry(alloc, line.as_bytes())?;
+        let printed = print_entry(alloc, &entry)?;
+        assert!(rt; printed.as_slice() == line.as_bytes(), "{line}");
+    }
+    Ok(())
+}
+
+#[test]
+fn other_lines_are_refused(rt: HostRuntime) -> Result<(), Fail> {
+    let alloc = rt.alloc();
+    for line in OTHER_LINES {
+        match read_entry(alloc, line) {
+            Ok(_) => assert!(rt; false, "{line:?}"),
+            Err(fault) => assert!(rt; fault == EntryFault::NotEntry, "{line:?}"),
+        }
+    }
+    Ok(())
+}
+
+#[test]
+fn a_wave_names_at_most_100_orders(rt: HostRuntime) -> Result<(), Fail> {
+    let alloc = rt.alloc();
+    for (count, reads) in [(100_u32, true), (101, false)] {
+        let mut line = String::from_str(alloc, "0 1 submit W1")?;
+        for order in 0..count {
+            line.push_str(format!(in alloc; " O{order}")?.as_str())?;
+        }
+        line.push_str(" -> refused wave-full 100\n")?;
+        assert!(rt;
+            read_entry(alloc, line.as_bytes()).is_ok() == reads,
+            "{count}"
+        );
+    }
+    Ok(())
+}
+
+#[test]
+fn journals_are_audited(rt: HostRuntime) -> Result<(), Fail> {
+    let alloc = rt.alloc();
+    let opening = opening_of(alloc, STOCK, ORDERS)?;
+    for (text, finding) in JOURNALS {
+        assert_eq!(rt; found(alloc, &opening, text)?.as_str(), finding, "{text}");
+    }
+    Ok(())
+}
+
+#[test]
+fn a_journal_has_at_most_10_000_entries(rt: HostRuntime) -> Result<(), Fail> {
+    let alloc = rt.alloc();
+    let opening = opening_of(alloc, STOCK, ORDERS)?;
+    for (entries, finding) in [(10_000, "10000 entries"), (10_001, "line 10002")] {
+        let text = long_journal(alloc, entries)?;
+        assert_eq!(rt; found(alloc, &opening, text.as_str())?.as_str(), finding);
+    }
+    Ok(())
+}
+
+/// A day in which every reply is given.
+const DAY_STOCK: &str =
+    "location,article,on_hand\n1-1-L,A,3\n2-1-L,A,4\n3-1-R,B,1\n3-2-L,C,1000000\n";
+
+const DAY_ORDERS: &str = "order,article,quantity\nO1,A,2\nO2,A,4\nO3,B,2\n";
+
+const DAY: &str = "journal
+0 1 submit W1 -> refused no-orders
+1 1 submit W1 O1 O9 -> refused unknown-order O9
+2 1 submit W1 O1 O1 -> refused order-twice O1
+3 1 submit W1 O1 O2 -> submitted
+4 1 submit W1 O3 -> refused known-wave
+5 1 submit W2 O2 -> refused order-taken O2 W1
+6 1 allot W9 -> refused unknown-wave
+7 1 allot W1 -> allotted
+8 1 allot W1 -> refused wrong-state allotted
+9 1 pick W1 O1 1-1-L 2 -> refused wrong-state allotted
+10 1 release W1 -> released
+11 1 pick W1 O1 2-1-L 1 -> refused not-held 2-1-L
+12 1 pick W1 O1 1-1-L 3 -> refused too-much 2
+13 1 pick W1 O1 1-1-L 2 -> picked
+14 1 cancel W1 -> refused picking
+15 1 missing W1 O2 1-1-L 1 -> refilled 1
+16 1 missing W1 O2 2-1-L 1 -> lost A 1
+17 1 pick W1 O2 2-1-L 3 -> picked
+18 1 cancel W1 -> refused wrong-state done
+19 1 submit W2 O3 -> submitted
+20 1 release W2 -> refused short B 2 1
+21 1 receive 3-1-R A 1 -> refused other-article B
+22 1 receive 3-2-R B 1 -> refused no-row
+23 1 receive 3-1-R B 1 -> received
+24 1 release W2 -> released
+25 1 cancel W2 -> cancelled
+26 1 submit W3 O3 -> submitted
+27 1 receive 3-2-L C 1 -> refused too-many 1000000
+end journal
+";
+
+#[test]
+fn a_day_is_audited(rt: HostRuntime) -> Result<(), Fail> {
+    let alloc = rt.alloc();
+    let opening = opening_of(alloc, DAY_STOCK, DAY_ORDERS)?;
+    assert_eq!(rt; found(alloc, &opening, DAY)?.as_str(), "28 entries");
+    Ok(())
+}
