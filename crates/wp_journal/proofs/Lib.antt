@@ -5,3 +5,4 @@ pub mod EntryWords
 pub mod ReadBack
 pub mod Candidates
 pub mod Audits
+pub mod Findings

@@ -6,3 +6,4 @@ pub mod Replies
 pub mod Reading
 pub mod Auditing
 pub mod FaultTexts
+pub mod Journals

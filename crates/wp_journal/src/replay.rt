@@ -3,6 +3,7 @@ ghost use Rattle.std.specs.Prelude.{◌≡◌, ◌<◌, IfOk, IsTrue, length};
 ghost use Rattle.std.specs.List.{position_or_len};
 ghost use Rattle.wp_model.specs.History.{answered, next_entry, opened};
 ghost use Rattle.wp_model.specs.Plain.{is_plain};
+ghost use Rattle.wp_journal.specs.Journals.{Finds};
 ghost use Rattle.wp_journal.specs.Auditing.{Answers, Leads, MayGoOn, after_line, audited, audited_from, bad_line, first_line, is_end, is_feed, is_head, judged, line_after, lines_of, numbered};
 
 use crate::fault::EntryFault;
@@ -168,15 +169,10 @@ fn audit_entries(alloc: Global, opening: &Opening, text: &[u8]) -> Result<Audit,
     Err(bad_line(&machine))
 }
 
-/// Audits a journal, line by line: the line `journal`, the entries numbered 0, 1, 2 and so on, and the line
-/// `end journal`, whose line feed may be missing; what follows isn't read. The machine answers each entry's command
-/// again, after the entries before it. Ok gives the number of all entries. The first line that isn't right decides:
-/// `BadLine` comes exactly where it is neither the entry with the next number below 10,000 nor a heading in its place,
-/// or the text ends before it; `WrongReply` comes exactly where it is the next entry and its reply isn't the machine's.
-pub fn audit(alloc: Global, opening: &Opening, text: &Vec<u8>) -> Result<Audit, AuditFault>
-    ensures exact { Answers result (audited opening.now text.now.items) }
+// Audits a text, from the head on.
+fn audit_text(alloc: Global, opening: &Opening, text: &[u8]) -> Result<Audit, AuditFault>
+    ensures { Answers result (audited opening.now text.now) }
 {
-    let text = text.as_slice();
     if text.is_empty() {
         return Err(AuditFault::BadLine(1));
     }
@@ -186,4 +182,16 @@ pub fn audit(alloc: Global, opening: &Opening, text: &Vec<u8>) -> Result<Audit, 
     } else {
         Err(AuditFault::BadLine(1))
     }
+}
+
+/// Audits a journal, line by line: the line `journal`, the entries numbered 0, 1, 2 and so on, and the line
+/// `end journal`, whose line feed may be missing; what follows isn't read. The machine answers each entry's command
+/// again, after the entries before it. Ok gives the number of all entries. The first line that isn't right decides:
+/// `BadLine` comes exactly where it is neither the entry with the next number below 10,000 nor a heading in its place,
+/// or the text ends before it; `WrongReply` comes exactly where it is the next entry and its reply isn't the machine's.
+pub fn audit(alloc: Global, opening: &Opening, text: &Vec<u8>) -> Result<Audit, AuditFault>
+    ensures exact { Answers result (audited opening.now text.now.items) }
+    ensures finds { Finds opening.now text.now.items result }
+{
+    audit_text(alloc, opening, text.as_slice())
 }

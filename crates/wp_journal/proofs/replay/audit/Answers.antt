@@ -1,22 +1,9 @@
-use Rattle.std.proofs.Common.{◌∙◌, ap, sym, subst, length}
-use Rattle.wp_model.specs.History.{opened}
-use Rattle.wp_journal.specs.Auditing.{Answers, audited, audited_from, is_head, lines_of}
-use Rattle.wp_journal.proofs.Audits.{heads, no_head, some_bytes}
+use Rattle.std.proofs.Common.{subst}
+use Rattle.wp_journal.specs.Auditing.{Answers, audited}
+use Rattle.wp_journal.proofs.Findings.{answer_finds}
 use Rattle.wp_journal.proofs.replay.audit.Goals as goal
 
-pub returns-then-is_head : goal.returns-then-is_head
-returns-then-is_head c =
-    let opening = c.args.opening.now in
-    let text = c.as_slice-text.result.now in
-    let some = some_bytes (length text) c.is_empty.result c.is_empty.ensures c.if-is_empty.false in
-    let head = ap is_head (sym c.split_line.ensures.first) ∙ (sym c.is_head.ensures ∙ c.if-is_head.true) in
-    let said = ap (audited opening) (sym c.as_slice-text.ensures.value) ∙ (heads opening text some head ∙ ap (λ t. audited_from (opened opening) (lines_of t)) (sym c.split_line.ensures.after)) in
-    record { exact = subst (Answers c.audit_entries.result) (sym said) c.audit_entries.ensures }
-
-pub returns-else-is_head : goal.returns-else-is_head
-returns-else-is_head c =
-    let opening = c.args.opening.now in
-    let text = c.as_slice-text.result.now in
-    let some = some_bytes (length text) c.is_empty.result c.is_empty.ensures c.if-is_empty.false in
-    let head = ap is_head (sym c.split_line.ensures.first) ∙ (sym c.is_head.ensures ∙ c.if-is_head.false) in
-    record { exact = λ defined. ap (audited opening) (sym c.as_slice-text.ensures.value) ∙ no_head opening text some head }
+pub returns-clause-finds : goal.returns-clause-finds
+returns-clause-finds c =
+    let text = c.args.text.now.items in
+    answer_finds c.args.opening.now text c.audit_text.result (subst (λ t. Answers c.audit_text.result (audited c.args.opening.now t)) c.as_slice.ensures.value c.audit_text.ensures)
