@@ -1,5 +1,5 @@
 -- The names of an object's members, as its map keeps them.
-use Rattle.std.proofs.Common.{◌≡◌, List, [], ◌∷◌, ℕ, String, Global, string_bytes, ◌&&◌, refl, ap}
+use Rattle.std.proofs.Common.{◌≡◌, List, [], ◌∷◌, String, Global, string_bytes, ◌&&◌, refl, ap}
 use Rattle.std.specs.List.{list_all}
 use Rattle.std.specs.Map.{keys_of}
 use Rattle.serde_json.specs.View.{members_view}

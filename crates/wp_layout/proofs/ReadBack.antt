@@ -1,7 +1,6 @@
 -- The value of a layout says the layout, and its text is the one stated.
-use Rattle.std.proofs.Common.{◌≡◌, ℕ, List, [], ◌∷◌, ◌++◌, Ok, Some, refl, arith, IsUtf8, ap, ◌∙◌, codes, append_assoc}
+use Rattle.std.proofs.Common.{◌≡◌, ℕ, List, ◌++◌, Ok, Some, refl, arith, IsUtf8, ap, ◌∙◌, codes, append_assoc}
 use Rattle.std.specs.Fmt.{decimal, digits}
-use Rattle.std.specs.Str.{is_utf8}
 use Rattle.std.proofs.lemmas.Str.{is_utf8-from_IsUtf8}
 use Rattle.serde_json.proofs.OnLiterals.{serde_json_on_literals}
 use Rattle.serde_json.specs.Data.{Data}
