@@ -6,7 +6,8 @@ use Rattle.std.proofs.lemmas.Bool.Decides.{nat_tests}
 use Rattle.std.proofs.lemmas.List.{length-drop}
 use Rattle.wp_model.specs.History.{History, opened}
 use Rattle.wp_model.specs.Opening.{Opening}
-use Rattle.wp_journal.specs.Auditing.{Answers, after_line, and_then, audited, audited_from, audited_lines, first_line, is_end, is_feed, is_head, line_after, lines_of, wants_memory}
+use Rattle.wp_journal.specs.Auditing.{Answers, after_line, audited, audited_from, audited_lines, first_line, is_end, is_feed, is_head, line_after, lines_of, wants_memory}
+use Rattle.wp_model.specs.Outcomes.{and_then}
 use Rattle.wp_journal.specs.declared.verdict.Audit.{Audit}
 use Rattle.wp_journal.specs.declared.verdict.AuditFault.{AuditFault}
 use Rattle.wp_journal.specs.declared.verdict.AuditFault.TheVariants as fault

@@ -11,7 +11,8 @@ use Rattle.wp_model.specs.Journal.{entry_line, line}
 use Rattle.wp_model.specs.Opening.{Opening}
 use Rattle.wp_model.specs.declared.entry.Entry.{Entry}
 use Rattle.wp_model.specs.declared.reply.Reply.{Reply}
-use Rattle.wp_journal.specs.Auditing.{Answers, and_then, audited, audited_from, audited_lines, bad_line, is_end, is_head, judged, lines_of, numbered}
+use Rattle.wp_journal.specs.Auditing.{Answers, audited, audited_from, audited_lines, bad_line, is_end, is_head, judged, lines_of, numbered}
+use Rattle.wp_model.specs.Outcomes.{and_then}
 use Rattle.wp_journal.specs.Grammar.{IsLineOf, is_line_entry}
 use Rattle.wp_journal.specs.Journals.{Begins, Finds}
 use Rattle.wp_journal.specs.Reading.{candidate_of, entry_of, if_line}

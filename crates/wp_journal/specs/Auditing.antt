@@ -11,6 +11,7 @@ use Rattle.wp_journal.specs.Reading.{entry_of}
 use Rattle.wp_journal.specs.declared.verdict.Audit.{Audit}
 use Rattle.wp_journal.specs.declared.verdict.AuditFault.{AuditFault}
 use Rattle.wp_journal.specs.declared.verdict.AuditFault.TheVariants as fault
+use Rattle.wp_model.specs.Outcomes.{and_then}
 
 -- the byte that ends a line
 abbrev pub is_feed : ℕ → Bool
@@ -35,11 +36,6 @@ is_head text = bytes_eq text (line (codes "journal"))
 -- the line after them, whose line feed may be missing
 abbrev pub is_end : List ℕ → Bool
 is_end text = bytes_eq text (line (codes "end journal")) || bytes_eq text (codes "end journal")
-
--- a value goes on to what comes next, and a fault is the answer
-abbrev pub and_then : {A B : Type 0} → Result A AuditFault → (A → Result B AuditFault) → Result B AuditFault
-and_then (Ok x) next = next x
-and_then (Err why) next = Err why
 
 -- after these entries the next line is bad: the head and each entry have a line before it
 abbrev pub bad_line : History → AuditFault

@@ -12,11 +12,7 @@ use Rattle.wp_layout.specs.declared.fault.LayoutFault.{LayoutFault}
 use Rattle.wp_layout.specs.declared.fault.LayoutFault.TheVariants as fault
 use Rattle.wp_layout.specs.declared.key.Key.{Key}
 use Rattle.wp_layout.specs.declared.key.Key.TheVariants as key
-
--- a value goes on to what comes next, and a fault is the answer
-abbrev pub and_then : {A B : Type 0} → Result A LayoutFault → (A → Result B LayoutFault) → Result B LayoutFault
-and_then (Ok x) next = next x
-and_then (Err fault) next = Err fault
+use Rattle.wp_model.specs.Outcomes.{and_then}
 
 -- the value that bytes are read as: they must be text, and the text must be JSON
 abbrev pub value_read : List ℕ → Result Data LayoutFault

@@ -10,15 +10,9 @@ use crate::fault::LayoutFault;
 use crate::key::{KEYS, Key};
 use serde_json::{Map, Value};
 use std::alloc::Global;
-use wp_graph::Layout;
+use wp_graph::{GREATEST_LENGTH, Layout, MOST_AISLES, MOST_SLOTS};
 
 const VERSION: u32 = 1;
-
-const MOST_AISLES: u32 = 64;
-
-const MOST_SLOTS: u32 = 200;
-
-const GREATEST_LENGTH: u32 = 10_000;
 
 fn read_value(alloc: Global, text: &Vec<u8>) -> Result<Value, LayoutFault>
     ensures value { IfOk result (λ value. value_read text.now.items ≡ Ok (view value)) }

@@ -1,5 +1,5 @@
 -- What desks ask is answered one after the other.
-use Rattle.std.proofs.Common.{◌≡◌, ◌∙◌, refl, sym, ap, ℕ, zero, suc, ◌+◌, ◌<◌, List, [], ◌∷◌, ◌++◌, length, map, take, Some, slice_get, get_or, append_assoc, Result, Ok, Err, IfOk, subst, arith}
+use Rattle.std.proofs.Common.{◌≡◌, ◌∙◌, refl, sym, ap, ℕ, zero, suc, ◌+◌, List, [], ◌∷◌, ◌++◌, length, map, take, Some, slice_get, append_assoc, Result, Ok, Err, IfOk, subst, arith}
 use Rattle.std.proofs.lemmas.List.{append-nil, map-append}
 use Rattle.wp_model.proofs.Histories.{answered_is_legal}
 use Rattle.wp_model.proofs.Sound.{entries_keep_sound, opening_is_sound}
@@ -12,12 +12,6 @@ use Rattle.wp_model.specs.declared.memory.Memory.{Memory}
 use Rattle.wp_machine.specs.Machine.{EachStateIsSound, asked_all, asking_of}
 use Rattle.wp_machine.proofs.Floors.{is_opening}
 use Rattle.wp_machine.specs.declared.asking.Asking.{Asking}
-
--- an item that is read at a place
-pub asking_at : (askings : List Asking) (i : ℕ) (asking : Asking) → i < length askings → asking ≡ get_or askings i asking → slice_get askings i ≡ Some asking
-asking_at [] i asking less is = absurd (omega arith)
-asking_at (first ∷ askings) zero asking less is = ap Some (sym is)
-asking_at (first ∷ askings) (suc i) asking less is = asking_at askings i asking (omega arith) is
 
 one_more : (i : ℕ) → suc i ≡ i + 1
 one_more i = omega arith

@@ -81,7 +81,7 @@ impl Waves {
         self.count += 1;
     }
 
-    /// The last wave of a name. None comes exactly where no wave has it.
+    /// A wave of this name, sought from the newest down. None comes exactly where no wave has it.
     pub fn find(&self, name: &Name) -> Option<&KeptWave>
         ensures some { IfSome result (λ kept. (kept.now.name ≡ name.now) × ((number : ℕ) × (slice_get self.now number ≡ Some kept.now))) }
         ensures none { IfNone result (list_any (has_name name.now) self.now ≡ false) }
@@ -151,8 +151,8 @@ fn take_off(
 }
 
 impl Waves {
-    /// Takes the last wave of a name out, with those that came after it. None comes exactly where no wave has the
-    /// name, and changes nothing.
+    /// Takes a wave of this name out, sought from the newest down, with those that came after it. None comes exactly
+    /// where no wave has the name, and changes nothing.
     pub fn take_out(&mut self, name: &Name) -> Option<Found>
         ensures some { IfSome result (IsFound name.now self.old self.new) }
         ensures none { IfNone result (self.new ≡ self.old) }

@@ -18,3 +18,4 @@ pub mod TableLines
 pub mod Tables
 pub mod Warehouse
 pub mod Tours
+pub mod Outcomes

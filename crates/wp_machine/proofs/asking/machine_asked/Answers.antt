@@ -1,8 +1,9 @@
-use Rattle.std.proofs.Common.{◌∙◌, sym, ap, ap₂, length, take, arith}
+use Rattle.std.proofs.Common.{◌∙◌, refl, sym, ap, ap₂, length, take, arith}
 use Rattle.std.proofs.lemmas.List.{length-take}
+use Rattle.std.proofs.lemmas.Option.{slice_get_read}
 use Rattle.wp_model.specs.History.{History, answered, opened}
 use Rattle.wp_machine.specs.Machine.{Asked}
-use Rattle.wp_machine.proofs.Askings.{as_many_entries, asked_all-next, asking_at, opening_stays}
+use Rattle.wp_machine.proofs.Askings.{as_many_entries, asked_all-next, opening_stays}
 use Rattle.wp_machine.proofs.asking.machine_asked.Goals as goal
 
 pub step-requires-clause-same : goal.step-requires-clause-same
@@ -19,6 +20,6 @@ step-requires-clause-few c =
 pub loop-asking-preserved : goal.loop-asking-preserved
 loop-asking-preserved c =
     let command = ap (λ (asked : Asked). asked.command) c.in_ok-ready.ensures ∙ c.in_ok-copy.ensures in
-    let at = asking_at c.args.askings.now c.loop-asking.asking-index c.asking-item.result c.loop-asking-test.true c.asking-item.is in
+    let at = slice_get_read c.args.askings.now (length c.args.askings.now) c.loop-asking.asking-index c.asking-item.result refl c.loop-asking-test.true c.asking-item.is in
     let next = asked_all-next (opened c.args.opening.now) c.args.askings.now c.loop-asking.asking-index c.asking-item.result at in
     c.step.ensures.history ∙ (ap₂ (λ h k. answered h c.asking-item.result.desk k) c.loop-asking.invariant command ∙ sym next)
