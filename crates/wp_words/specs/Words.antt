@@ -70,7 +70,7 @@ abbrev pub audit_said : List Text → Result AuditNames WordsFault
 audit_said words = made_into audit_names_of (matched audit_command words)
 
 -- the job that words say: the first is the mode, and the others are the words of its command
-abbrev pub job_said : List Text → Result JobNames WordsFault
+unfoldable pub job_said : List Text → Result JobNames WordsFault
 job_said [] = Err fault.NoMode
 job_said (mode ∷ words) =
     if bytes_eq mode (codes "plan") then made_into plan (plan_said words)

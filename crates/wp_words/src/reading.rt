@@ -68,6 +68,7 @@ fn read_audit(alloc: Global, words: &[String]) -> Result<AuditWords, WordsFault>
 /// Reads the words of a command line, without the program's name: a mode, `plan` or `audit`, and its options. NoMode
 /// comes exactly where there is no word, UnknownMode exactly where the first word is no mode, and BadWords exactly where
 /// the words after it aren't accepted for the mode's command.
+#[tactic(auto, unfolding(crate::specs::Words::job_said))]
 pub fn read_words(alloc: Global, words: &Vec<String>) -> Result<Job, WordsFault>
     ensures job { IfOk result (λ job. job_said (texts_of words.now.items) ≡ Ok (job_names job)) }
     ensures stated { IfOk result (λ job. AreStated (texts_of words.now.items) (job_names job)) }
