@@ -6,4 +6,5 @@ pub mod Back
 pub mod Taking
 pub mod Opening
 pub mod Free
+pub mod Counting
 pub mod Sorting

@@ -1,5 +1,5 @@
 -- A book of which nothing is held.
-use Rattle.std.proofs.Common.{◌≡◌, ◌∙◌, refl, sym, ap, subst, ℕ, zero, suc, List, [], map, slice_get, Some, All, replicate, arith}
+use Rattle.std.proofs.Common.{◌≡◌, ◌∙◌, refl, sym, ap, subst, ℕ, zero, suc, ◌<◌, List, length, [], map, slice_get, Some, All, replicate, arith}
 use Rattle.std.proofs.lemmas.List.{get_or-replicate, length-replicate}
 use Rattle.std.proofs.lemmas.List.Sums.{sum_by-cons}
 use Rattle.std.proofs.lemmas.Option.{slice_get-map}
@@ -28,12 +28,19 @@ no_units passes (suc n) = omega (arith, sum_by-cons (chain_units passes) [] (rep
 row_from : (rows : List StockRow) (k : ℕ) (r : Row) → slice_get (map opening_row rows) k ≡ Some r → (s : StockRow) × (slice_get rows k ≡ Some s) × (opening_row s ≡ r)
 row_from rows k r there = option_map_some (slice_get rows k) opening_row r (sym (slice_get-map opening_row rows k) ∙ there) (λ s found is. (s, found, is))
 
-balanced : (stock : Stock) → All (IsStockRow stock.articles) stock.rows → All IsBalanced (map opening_row stock.rows)
+pub balanced : (stock : Stock) → All (IsStockRow stock.articles) stock.rows → All IsBalanced (map opening_row stock.rows)
 balanced stock rows =
     All-from_at IsBalanced (map opening_row stock.rows) (λ k r there.
     let from = row_from stock.rows k r there in
     let is = All-at (IsStockRow stock.articles) stock.rows k from.0 rows from.1 in
     subst IsBalanced from.2 (record { sum = omega arith; most = is.on_hand }))
+
+pub known : (stock : Stock) → All (IsStockRow stock.articles) stock.rows → All (λ (row : Row). row.article < length stock.articles) (map opening_row stock.rows)
+known stock rows =
+    All-from_at (λ (row : Row). row.article < length stock.articles) (map opening_row stock.rows) (λ k r there.
+    let from = row_from stock.rows k r there in
+    let is = All-at (IsStockRow stock.articles) stock.rows k from.0 rows from.1 in
+    subst (λ (row : Row). row.article < length stock.articles) from.2 is.article)
 
 -- the rows of a file, with empty chains, are a book
 pub opens : (stock : Stock) → All (IsStockRow stock.articles) stock.rows → IsKept (map opening_row stock.rows) (replicate chain_count [])

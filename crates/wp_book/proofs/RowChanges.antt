@@ -56,3 +56,9 @@ change_none_from change (row ∷ rows) from none = rw (none from row, change_non
 -- a change that changes nothing
 pub change_none : (change : ℕ → Row → Row) (rows : List Row) → ((k : ℕ) (r : Row) → change k r ≡ r) → change_rows change 0 rows ≡ rows
 change_none change rows none = change_none_from change rows 0 none
+
+-- a row of a list that was read and is written over is changed at its place
+pub write_is_change : (change : Row → Row) (rows all : List Row) (i : ℕ) (r : Row) → i < length all → r ≡ slice_index_or rows i r → rows ≡ all → slice_set rows i (change r) ≡ change_rows (at_place i change) 0 all
+write_is_change change rows all i r within is same =
+    ap (λ (t : Row). slice_set rows i (change t)) is
+    ∙ (set_is_change change rows i r (omega (arith, ap length same)) ∙ ap (change_rows (at_place i change) 0) same)

@@ -9,7 +9,7 @@ use crate::holds::{
     chain_holds_none, give_back_chain, hold_in_rows, take_from_chain, units_in_chain,
 };
 use crate::room::{Room, WaveHolds};
-use crate::rows::{free_in_rows, free_rows, receive_in_row, take_in_row};
+use crate::rows::CountedRows;
 use std::alloc::Global;
 use std::marker::Model;
 use wp_model::{Chain, Memory, Row};
@@ -22,7 +22,7 @@ const CHAINS: usize = 512;
 /// the sum of all holds there. Contracts see the rows and the holdings. All calls but `open` take no memory.
 #[derive(Drop)]
 pub struct StockBook {
-    rows: Vec<Row>,
+    rows: CountedRows,
     chains: Vec<Chain<WaveHolds>>,
 }
 
@@ -31,12 +31,11 @@ impl Model for StockBook {
 
     ghost Value = { book.Book };
 
-    ghost use Rattle.std.specs.Prelude.{◌<◌, ◌^◌, vec_len};
     ghost use Rattle.wp_book.specs.Kept.{IsKept, book_of};
 
-    ghost view = { λ b. book_of b.rows.items b.chains.items };
+    ghost view = { λ b. book_of b.rows b.chains.items };
 
-    ghost invariant = { λ b. IsKept b.rows.items b.chains.items × (vec_len b.rows < 2 ^ 32) };
+    ghost invariant = { λ b. IsKept b.rows b.chains.items };
 }
 
 // So many chains of nothing.
@@ -62,7 +61,7 @@ impl StockBook {
     pub fn open(alloc: Global, stock: &Stock) -> Result<StockBook, Memory>
         ensures { IfOk result (λ book. book ≡ free_book stock.now) }
     {
-        let rows = free_rows(alloc, stock.as_rows())?;
+        let rows = CountedRows::open(alloc, stock)?;
         let chains = empty_chains(alloc)?;
         Ok(StockBook { rows, chains })
     }
@@ -72,7 +71,7 @@ impl StockBook {
         ensures rows { result ≡ length self.now.rows }
         ensures book { IsBook self.now }
     {
-        self.rows.len() as u32
+        self.rows.len()
     }
 
     /// The row with a number.
@@ -80,14 +79,14 @@ impl StockBook {
         requires { row < length self.now.rows }
         ensures { slice_get self.now.rows row ≡ Some result }
     {
-        self.rows[row as usize]
+        self.rows.row(row)
     }
 
     /// The free units of an article, without those of the excepted row.
     pub fn free_of(&self, article: u32, except: Option<u32>) -> u64
         ensures { result ≡ free_units self.now.rows article except }
     {
-        free_in_rows(&self.rows, article, except)
+        self.rows.free_of(article, except)
     }
 
     /// The units that are held for the order at a place of a wave, at a row; 0 where there are none.
@@ -132,7 +131,7 @@ impl StockBook {
         ensures { HasTaken wave order row quantity self.old self.new }
     {
         if quantity > 0 {
-            take_in_row(&mut self.rows, row, quantity);
+            self.rows.take(row, quantity);
             let chain = &mut self.chains[chain_of(wave)];
             take_from_chain(chain, wave, order, row, quantity);
         }
@@ -144,6 +143,6 @@ impl StockBook {
         requires room { IfSome (slice_get self.old.rows row) (λ r. r.on_hand + quantity ≤ most_on_hand) }
         ensures { HasReceived row quantity self.old self.new }
     {
-        receive_in_row(&mut self.rows, row, quantity);
+        self.rows.receive(row, quantity);
     }
 }

@@ -7,8 +7,8 @@ ghost use Rattle.wp_model.specs.Change.{change_rows, free_held_units, hold_units
 ghost use Rattle.wp_book.specs.Chains.{chain_units, node_units};
 
 use crate::room::WaveHolds;
-use crate::rows::{free_in_row, hold_in_row};
-use wp_model::{Chain, Hold, Row};
+use crate::rows::CountedRows;
+use wp_model::{Chain, Hold};
 
 // Takes units off a hold where it is for the order at the row, and gives how many are left to take.
 fn take_from_hold(hold: &mut Hold, order: u32, row: u32, units: u32) -> u32
@@ -62,18 +62,18 @@ pub fn take_from_chain(chain: &mut Chain<WaveHolds>, wave: u32, order: u32, row:
 }
 
 // The units of a hold go from free to held in its row.
-fn hold_once(rows: &mut [Row], hold: &Hold)
+fn hold_once(rows: &mut CountedRows, hold: &Hold)
     requires within { 0 < hold.now.quantity → hold.now.row < length rows.old }
     requires free { IfSome (slice_get rows.old hold.now.row) (λ r. (hold.now.quantity ≤ r.free) × (r.held + r.free < 2 ^ 32)) }
     ensures { rows.new ≡ change_rows (λ row. hold_units (if hold.now.row == row then hold.now.quantity else 0)) 0 rows.old }
 {
     if hold.quantity > 0 {
-        hold_in_row(rows, hold.row, hold.quantity);
+        rows.hold(hold.row, hold.quantity);
     }
 }
 
 /// The units of each hold go from free to held in its row.
-pub fn hold_in_rows(rows: &mut [Row], holds: &[Hold])
+pub fn hold_in_rows(rows: &mut CountedRows, holds: &[Hold])
     requires within { (row : ℕ) → length rows.old ≤ row → units_at holds.now row ≡ 0 }
     requires free { (row : ℕ) → IfSome (slice_get rows.old row) (λ r. (units_at holds.now row ≤ r.free) × (r.held + r.free < 2 ^ 32)) }
     ensures { rows.new ≡ change_rows (λ row. hold_units (units_at holds.now row)) 0 rows.old }
@@ -84,20 +84,20 @@ pub fn hold_in_rows(rows: &mut [Row], holds: &[Hold])
 }
 
 // The units of a hold go from held to free in its row, and it is of nothing then.
-fn give_back_hold(rows: &mut [Row], hold: &mut Hold)
+fn give_back_hold(rows: &mut CountedRows, hold: &mut Hold)
     requires within { 0 < hold.old.quantity → hold.old.row < length rows.old }
     requires held { IfSome (slice_get rows.old hold.old.row) (λ r. (hold.old.quantity ≤ r.held) × (r.free + r.held < 2 ^ 32)) }
     ensures rows { rows.new ≡ change_rows (λ row. free_held_units (if hold.old.row == row then hold.old.quantity else 0)) 0 rows.old }
     ensures hold { hold.new ≡ record hold.old { quantity = 0 } }
 {
     if hold.quantity > 0 {
-        free_in_row(rows, hold.row, hold.quantity);
+        rows.unhold(hold.row, hold.quantity);
         hold.quantity = 0;
     }
 }
 
 // The units of each hold go from held to free in its row, and the holds are of nothing then.
-fn give_back_holds(rows: &mut [Row], holds: &mut [Hold])
+fn give_back_holds(rows: &mut CountedRows, holds: &mut [Hold])
     requires within { (row : ℕ) → length rows.old ≤ row → units_at holds.old row ≡ 0 }
     requires held { (row : ℕ) → IfSome (slice_get rows.old row) (λ r. (units_at holds.old row ≤ r.held) × (r.free + r.held < 2 ^ 32)) }
     ensures rows { rows.new ≡ change_rows (λ row. free_held_units (units_at holds.old row)) 0 rows.old }
@@ -109,7 +109,7 @@ fn give_back_holds(rows: &mut [Row], holds: &mut [Hold])
 }
 
 // The same of the holds of one call, where they are the wave's.
-fn give_back_node(rows: &mut [Row], node: &mut WaveHolds, wave: u32)
+fn give_back_node(rows: &mut CountedRows, node: &mut WaveHolds, wave: u32)
     requires within { (row : ℕ) → length rows.old ≤ row → node_units (is_for_wave wave row) node.old ≡ 0 }
     requires held { (row : ℕ) → IfSome (slice_get rows.old row) (λ r. (node_units (is_for_wave wave row) node.old ≤ r.held) × (r.free + r.held < 2 ^ 32)) }
     ensures rows { rows.new ≡ change_rows (λ row. free_held_units (node_units (is_for_wave wave row) node.old)) 0 rows.old }
@@ -121,7 +121,7 @@ fn give_back_node(rows: &mut [Row], node: &mut WaveHolds, wave: u32)
 }
 
 /// All that is held for the wave goes from held to free.
-pub fn give_back_chain(rows: &mut [Row], chain: &mut Chain<WaveHolds>, wave: u32)
+pub fn give_back_chain(rows: &mut CountedRows, chain: &mut Chain<WaveHolds>, wave: u32)
     requires within { (row : ℕ) → length rows.old ≤ row → chain_units (is_for_wave wave row) chain.old ≡ 0 }
     requires held { (row : ℕ) → IfSome (slice_get rows.old row) (λ r. (chain_units (is_for_wave wave row) chain.old ≤ r.held) × (r.free + r.held < 2 ^ 32)) }
     ensures rows { rows.new ≡ change_rows (λ row. free_held_units (chain_units (is_for_wave wave row) chain.old)) 0 rows.old }

@@ -1,7 +1,7 @@
-use Rattle.std.proofs.Common.{◌≡◌, ◌∙◌, sym, ap, subst, ◌<◌, ◌≤◌, ◌^◌, ◌+◌, ◌++◌, ◌∷◌, [], List, IfSome, slice_get, arith}
+use Rattle.std.proofs.Common.{◌≡◌, ◌∙◌, sym, ap, subst, ◌<◌, ◌≤◌, ◌^◌, ◌+◌, ◌++◌, ◌∷◌, [], List, IfSome, length, slice_get, arith}
 use Rattle.std.proofs.lemmas.List.Sums.{sum_by_push}
 use Rattle.wp_model.proofs.Elements.{at_some}
-use Rattle.wp_model.proofs.Rows.{IfSome-change_rows}
+use Rattle.wp_model.proofs.Rows.{IfSome-change_rows, length-change_rows}
 use Rattle.wp_model.specs.Book.{Where, but_of, is_for_wave}
 use Rattle.wp_model.specs.Change.{change_rows, free_held_units}
 use Rattle.wp_model.specs.declared.row.Row.{Row}
@@ -20,7 +20,7 @@ pub give_back_node-requires-clause-within : goal.give_back_node-requires-clause-
 give_back_node-requires-clause-within c = λ row past.
     let was : c.loop-node.chain ≡ c.pop.new.self ++ c.in-Some.node ∷ [] = c.in-Some.ensures.some in
     let P = is_for_wave c.args.wave row in
-    omega (arith, ap (chain_units P) was, sum_by_push (node_units P) c.pop.new.self c.in-Some.node, c.loop-node.invariant.rest row, c.requires.within row (omega arith))
+    omega (arith, ap (chain_units P) was, sum_by_push (node_units P) c.pop.new.self c.in-Some.node, c.loop-node.invariant.rest row, c.requires.within row (omega (arith, ap length c.loop-node.invariant.rows ∙ length-change_rows _ _)))
 
 pub give_back_node-requires-clause-held : goal.give_back_node-requires-clause-held
 give_back_node-requires-clause-held c = λ row.

@@ -1,7 +1,7 @@
 use Rattle.std.proofs.Common.{◌∙◌, sym, refl, ap, subst, ◌<◌, ◌≤◌, ◌^◌, ◌+◌, ℕ, List, length, inl, inr, IfSome, slice_get, slice_index_or, arith}
 use Rattle.std.proofs.lemmas.Bool.{cases_lt}
 use Rattle.wp_model.proofs.Elements.{at_some}
-use Rattle.wp_model.proofs.Rows.{IfSome-change_rows}
+use Rattle.wp_model.proofs.Rows.{IfSome-change_rows, length-change_rows}
 use Rattle.wp_model.specs.Book.{hold_at, hold_units_where}
 use Rattle.wp_model.specs.Change.{change_rows, free_held_units}
 use Rattle.wp_model.specs.declared.row.Hold.{Hold}
@@ -25,7 +25,7 @@ give_back_hold-requires-clause-within c = λ some.
     let own = sums_are (hold_at hold.row) c.loop-hold.holds c.loop-hold.hold-index none none (omega arith) in
     elim (cases_lt hold.row (length c.loop-hold.rows)) [
       | inl within ↦ within
-      | inr past ↦ absurd (omega (arith, own.rest, hold_at-own hold, c.loop-hold.invariant.rest hold.row, c.requires.within hold.row (omega arith)))
+      | inr past ↦ absurd (omega (arith, own.rest, hold_at-own hold, c.loop-hold.invariant.rest hold.row, c.requires.within hold.row (omega (arith, ap length c.loop-hold.invariant.rows ∙ length-change_rows _ _))))
     ]
 
 pub give_back_hold-requires-clause-held : goal.give_back_hold-requires-clause-held

@@ -2,7 +2,7 @@ use Rattle.std.proofs.Common.{◌∙◌, sym, refl, ap, subst, ◌<◌, ◌≤�
 use Rattle.std.proofs.lemmas.Bool.{cases_lt}
 use Rattle.std.proofs.lemmas.List.Sums.{get_or-le-sum_by, sum_by_more, sum_by_more_le}
 use Rattle.wp_model.proofs.Elements.{at_some}
-use Rattle.wp_model.proofs.Rows.{IfSome-change_rows}
+use Rattle.wp_model.proofs.Rows.{IfSome-change_rows, length-change_rows}
 use Rattle.wp_model.specs.Book.{hold_at, units_at}
 use Rattle.wp_model.specs.Change.{change_rows, hold_units}
 use Rattle.wp_model.specs.declared.row.Hold.{Hold}
@@ -21,7 +21,7 @@ hold_once-requires-clause-within c = λ some.
     let hold = slice_index_or c.args.holds.now c.loop-hold.hold-index none in
     elim (cases_lt hold.row (length c.loop-hold.rows)) [
       | inl within ↦ within
-      | inr past ↦ absurd (omega (arith, get_or-le-sum_by (hold_at hold.row) c.args.holds.now c.loop-hold.hold-index none c.loop-hold-test.true, hold_at-own hold, c.requires.within hold.row (omega arith)))
+      | inr past ↦ absurd (omega (arith, get_or-le-sum_by (hold_at hold.row) c.args.holds.now c.loop-hold.hold-index none c.loop-hold-test.true, hold_at-own hold, c.requires.within hold.row (omega (arith, ap length c.loop-hold.invariant ∙ length-change_rows _ _))))
     ]
 
 pub hold_once-requires-clause-free : goal.hold_once-requires-clause-free

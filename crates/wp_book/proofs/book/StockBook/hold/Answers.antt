@@ -1,10 +1,7 @@
-use Rattle.std.proofs.Common.{◌≡◌, ◌∙◌, sym, refl, ap, subst, ◌<◌, ◌≤◌, ◌+◌, ◌^◌, ◌++◌, ◌∷◌, [], List, length, IfSome, slice_get, arith}
+use Rattle.std.proofs.Common.{◌≡◌, ◌∙◌, sym, refl, ap, subst, ◌≤◌, ◌++◌, ◌∷◌, [], List, slice_get, arith}
 use Rattle.std.proofs.Math.ListN.{set}
-use Rattle.std.proofs.lemmas.List.{with_items_is}
-use Rattle.std.specs.Vec.{with_items}
 use Rattle.wp_model.proofs.Elements.{at_some, if_some}
 use Rattle.wp_model.specs.Book.{Book, units_at}
-use Rattle.wp_model.specs.Change.{change_rows, hold_units}
 use Rattle.wp_model.specs.declared.row.Hold.{Hold}
 use Rattle.wp_model.specs.declared.row.Row.{Row}
 use Rattle.wp_book.specs.Calls.{CanHold, HasHeld}
@@ -18,59 +15,54 @@ pub hold_in_rows-requires-clause-within : goal.hold_in_rows-requires-clause-with
 hold_in_rows-requires-clause-within c = λ row past.
     let can = subst (λ (book : Book). CanHold book c.args.room.holds) (sym c.self.view_is) c.requires in
     ap (λ holds. units_at holds row) (c.as_slice.ensures.value ∙ c.into_parts-holds.ensures)
-    ∙ no_units_past c.self.inside.rows.items c.args.room.holds row can.rows (omega (arith, ap length c.deref_mut.ensures.value))
+    ∙ no_units_past c.self.inside.rows c.args.room.holds row can.rows past
 
 pub hold_in_rows-requires-clause-free : goal.hold_in_rows-requires-clause-free
 hold_in_rows-requires-clause-free c = λ row.
     let can = subst (λ (book : Book). CanHold book c.args.room.holds) (sym c.self.view_is) c.requires in
     let same = ap (λ holds. units_at holds row) (c.as_slice.ensures.value ∙ c.into_parts-holds.ensures) in
-    subst (λ (rows : List Row). IfSome (slice_get rows row) (λ r. (units_at c.as_slice.result.now row ≤ r.free) × (r.held + r.free < 2 ^ 32))) (sym c.deref_mut.ensures.value)
-    (if_some (slice_get c.self.inside.rows.items row) _ (λ r there.
-    let is = row_is c.self.inside.rows.items c.self.inside.chains.items row r c.self.invariant.0.book there in
+    if_some (slice_get c.self.inside.rows row) _ (λ r there.
+    let is = row_is c.self.inside.rows c.self.inside.chains.items row r c.self.invariant.book there in
     let free = at_some _ (λ (r : Row). units_at c.args.room.holds row ≤ r.free) r there (can.free row) in
-    (omega (arith, same, free), omega (arith, is.balance.sum, is.balance.most))))
+    (omega (arith, same, free), omega (arith, is.balance.sum, is.balance.most)))
 
 -- the holds that were put in, as the chain keeps them
-abbrev node_of : (c : goal.After-self-2-1) → WaveHolds
+abbrev node_of : (c : goal.After-self-1) → WaveHolds
 node_of c = record { wave = c.args.wave; holds = c.into_parts-holds.result.0 }
 
 -- what is known of them
-may_add : (c : goal.After-self-2-1) → CanAdd c.self.inside.rows.items c.self.inside.chains.items c.args.wave (node_of c)
+may_add : (c : goal.After-self-1) → CanAdd c.self.inside.rows c.self.inside.chains.items c.args.wave (node_of c)
 may_add c = record {
-  kept = c.self.invariant.0;
-  can = subst (λ (holds : List Hold). CanHold (book_of c.self.inside.rows.items c.self.inside.chains.items) holds) (sym c.into_parts-holds.ensures)
+  kept = c.self.invariant;
+  can = subst (λ (holds : List Hold). CanHold (book_of c.self.inside.rows c.self.inside.chains.items) holds) (sym c.into_parts-holds.ensures)
       (subst (λ (book : Book). CanHold book c.args.room.holds) (sym c.self.view_is) c.requires);
   own = refl;
 }
 
 -- the rows and the chains after the call
-rows_after : (c : goal.After-self-2-1) → (with_items c.self.inside.rows c.hold_in_rows.new.rows).items ≡ rows_held c.self.inside.rows.items (node_of c).holds.items
+rows_after : (c : goal.After-self-1) → c.hold_in_rows.new.rows ≡ rows_held c.self.inside.rows (node_of c).holds.items
 rows_after c =
-    with_items_is c.self.inside.rows c.hold_in_rows.new.rows (omega arith)
-    ∙ (c.hold_in_rows.ensures ∙ (ap (λ (rows : List Row). change_rows (λ row. hold_units (units_at c.as_slice.result.now row)) 0 rows) c.deref_mut.ensures.value
-    ∙ ap (λ (holds : List Hold). rows_held c.self.inside.rows.items holds) c.as_slice.ensures.value))
+    c.hold_in_rows.ensures ∙ ap (λ (holds : List Hold). rows_held c.self.inside.rows holds) c.as_slice.ensures.value
 
-chains_after : (c : goal.After-self-2-1) → set c.self.inside.chains.items c.chain_of.result c.push.new.self ≡ with_node c.self.inside.chains.items c.args.wave (node_of c)
+chains_after : (c : goal.After-self-1) → set c.self.inside.chains.items c.chain_of.result c.push.new.self ≡ with_node c.self.inside.chains.items c.args.wave (node_of c)
 chains_after c =
     let chains = c.self.inside.chains.items in
-    let found = chain_found chains c.args.wave c.chain_of.result c.index_mut-chain.result.now c.self.invariant.0.count c.chain_of.ensures c.index_mut-chain.ensures.value in
+    let found = chain_found chains c.args.wave c.chain_of.result c.index_mut-chain.result.now c.self.invariant.count c.chain_of.ensures c.index_mut-chain.ensures.value in
     ap (λ (new : List WaveHolds). set chains c.chain_of.result new) (c.push.ensures ∙ ap (λ (nodes : List WaveHolds). nodes ++ node_of c ∷ []) found)
     ∙ ap (λ i. set chains i (chain_for chains c.args.wave ++ node_of c ∷ [])) c.chain_of.ensures
 
 pub invariant_of-self : goal.invariant_of-self
-invariant_of-self c = (
-  subst (λ (rows : List Row). IsKept rows (set c.self.inside.chains.items c.chain_of.result c.push.new.self)) (sym (rows_after c))
-      (subst (λ (chains : List (List WaveHolds)). IsKept (rows_held c.self.inside.rows.items (node_of c).holds.items) chains) (sym (chains_after c))
-      (hold_keeps c.self.inside.rows.items c.self.inside.chains.items c.args.wave (node_of c) (may_add c))),
-  c.self.invariant.1,
-)
+invariant_of-self c =
+    subst (λ (rows : List Row). IsKept rows (set c.self.inside.chains.items c.chain_of.result c.push.new.self)) (sym (rows_after c))
+    (subst (λ (chains : List (List WaveHolds)). IsKept (rows_held c.self.inside.rows (node_of c).holds.items) chains) (sym (chains_after c))
+    (hold_keeps c.self.inside.rows c.self.inside.chains.items c.args.wave (node_of c) (may_add c)))
 
 pub returns : goal.returns
 returns c =
-    let rows = c.self.inside.rows.items in
+    let rows = c.self.inside.rows in
     let chains = c.self.inside.chains.items in
     let does = hold_does rows chains c.args.wave (node_of c) (may_add c) in
-    subst (λ (old : Book). HasHeld c.args.wave c.args.room.holds old (book_of (with_items c.self.inside.rows c.hold_in_rows.new.rows).items (set chains c.chain_of.result c.push.new.self))) c.self.view_is
+    subst (λ (old : Book). HasHeld c.args.wave c.args.room.holds old (book_of c.hold_in_rows.new.rows (set chains c.chain_of.result c.push.new.self))) c.self.view_is
     (subst (λ (new : List Row). HasHeld c.args.wave c.args.room.holds (book_of rows chains) (book_of new (set chains c.chain_of.result c.push.new.self))) (sym (rows_after c))
     (subst (λ (new : List (List WaveHolds)). HasHeld c.args.wave c.args.room.holds (book_of rows chains) (book_of (rows_held rows (node_of c).holds.items) new)) (sym (chains_after c))
     (subst (λ (holds : List Hold). HasHeld c.args.wave holds (book_of rows chains) (book_of (rows_held rows (node_of c).holds.items) (with_node chains c.args.wave (node_of c)))) c.into_parts-holds.ensures does)))

@@ -1,5 +1,4 @@
-use Rattle.std.proofs.Common.{◌∙◌, sym, ap, subst, List, length, map, arith}
-use Rattle.std.proofs.lemmas.List.{length-map}
+use Rattle.std.proofs.Common.{sym, subst, List, map}
 use Rattle.wp_model.specs.State.{opening_row}
 use Rattle.wp_model.specs.declared.row.Row.{Row}
 use Rattle.wp_book.specs.Kept.{IsKept}
@@ -10,8 +9,5 @@ use Rattle.wp_book.proofs.book.StockBook.open.Goals as goal
 pub invariant_of-result : goal.invariant_of-result
 invariant_of-result c =
     let stock = c.args.stock.now in
-    let rows_are = c.in_ok-rows.ensures ∙ ap (map opening_row) c.as_rows.ensures.rows in (
-      subst (λ (rows : List Row). IsKept rows c.in_ok-chains.chains.items) (sym rows_are)
-          (subst (λ (chains : List (List WaveHolds)). IsKept (map opening_row stock.rows) chains) (sym c.in_ok-chains.ensures) (opens stock c.as_rows.ensures.read.rows)),
-      omega (arith, ap length rows_are, length-map stock.rows opening_row, c.as_rows.ensures.read.most, c.in_ok-rows.rows.ok.0),
-    )
+    subst (λ (rows : List Row). IsKept rows c.in_ok-chains.chains.items) (sym c.in_ok-rows.ensures.rows)
+    (subst (λ (chains : List (List WaveHolds)). IsKept (map opening_row stock.rows) chains) (sym c.in_ok-chains.ensures) (opens stock c.«open».ensures.read.rows))

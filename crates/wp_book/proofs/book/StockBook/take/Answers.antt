@@ -1,11 +1,8 @@
-use Rattle.std.proofs.Common.{◌≡◌, ◌∙◌, ◌≤◌, sym, ap, subst, ℕ, inl, inr, List, IfSome, length, slice_get, arith}
+use Rattle.std.proofs.Common.{◌≡◌, ◌∙◌, ◌≤◌, sym, ap, subst, ℕ, inl, inr, List, length, slice_get, arith}
 use Rattle.std.proofs.Math.ListN.{set}
 use Rattle.std.proofs.lemmas.Bool.{cases_lt}
-use Rattle.std.proofs.lemmas.List.{with_items_is}
-use Rattle.std.specs.Vec.{with_items}
 use Rattle.wp_model.proofs.Elements.{if_some}
 use Rattle.wp_model.specs.Book.{Book, held_for, is_for}
-use Rattle.wp_model.specs.Change.{at_place, change_rows, take_units}
 use Rattle.wp_model.specs.declared.row.Row.{Row}
 use Rattle.wp_book.specs.Calls.{HasTaken}
 use Rattle.wp_book.specs.Chains.{chain_units}
@@ -24,68 +21,60 @@ enough_in rows chains book wave order row units kept is enough =
     let passes = is_for wave order row in
     omega (arith, enough, ap (λ (b : Book). held_for b wave order row) is, wave_held rows chains wave passes kept (is_for-of wave order row))
 
-pub take_in_row-requires-clause-row : goal.take_in_row-requires-clause-row
-take_in_row-requires-clause-row c =
-    let rows = c.self.inside.rows.items in
+pub take-requires-clause-row : goal.take-requires-clause-row
+take-requires-clause-row c =
+    let rows = c.self.inside.rows in
     let chains = c.self.inside.chains.items in
-    let enough = enough_in rows chains c.args.self.now c.args.wave c.args.order c.args.row c.args.quantity c.self.invariant.0 c.self.view_is c.requires in
+    let enough = enough_in rows chains c.args.self.now c.args.wave c.args.order c.args.row c.args.quantity c.self.invariant c.self.view_is c.requires in
     elim (cases_lt c.args.row (length rows)) [
-      | inl within ↦ omega (arith, ap length c.deref_mut.ensures.value)
-      | inr past ↦ absurd (omega (arith, chain_order-le-wave c.args.wave c.args.order c.args.row (chain_for chains c.args.wave), wave_nowhere rows chains c.args.wave c.args.row c.self.invariant.0 past))
+      | inl within ↦ within
+      | inr past ↦ absurd (omega (arith, chain_order-le-wave c.args.wave c.args.order c.args.row (chain_for chains c.args.wave), wave_nowhere rows chains c.args.wave c.args.row c.self.invariant past))
     ]
 
-pub take_in_row-requires-clause-held : goal.take_in_row-requires-clause-held
-take_in_row-requires-clause-held c =
-    let rows = c.self.inside.rows.items in
+pub take-requires-clause-held : goal.take-requires-clause-held
+take-requires-clause-held c =
+    let rows = c.self.inside.rows in
     let chains = c.self.inside.chains.items in
-    let enough = enough_in rows chains c.args.self.now c.args.wave c.args.order c.args.row c.args.quantity c.self.invariant.0 c.self.view_is c.requires in
-    subst (λ (rows : List Row). IfSome (slice_get rows c.args.row) (λ r. (c.args.quantity ≤ r.held) × (c.args.quantity ≤ r.on_hand))) (sym c.deref_mut.ensures.value)
-    (if_some (slice_get rows c.args.row) _ (λ r there.
-    let has = row_has_units rows chains c.args.wave c.args.order c.args.row c.args.quantity r c.self.invariant.0 enough there in
-    (has.held, has.on_hand)))
+    let enough = enough_in rows chains c.args.self.now c.args.wave c.args.order c.args.row c.args.quantity c.self.invariant c.self.view_is c.requires in
+    if_some (slice_get rows c.args.row) _ (λ r there.
+    let has = row_has_units rows chains c.args.wave c.args.order c.args.row c.args.quantity r c.self.invariant enough there in
+    (has.held, has.on_hand))
 
 pub take_from_chain-requires : goal.take_from_chain-requires
 take_from_chain-requires c =
-    let rows = c.self.inside.rows.items in
+    let rows = c.self.inside.rows in
     let chains = c.self.inside.chains.items in
-    let found = chain_found chains c.args.wave c.chain_of.result c.index_mut-chain.result.now c.self.invariant.0.count c.chain_of.ensures c.index_mut-chain.ensures.value in
-    let enough = enough_in rows chains c.args.self.now c.args.wave c.args.order c.args.row c.args.quantity c.self.invariant.0 c.self.view_is c.requires in
+    let found = chain_found chains c.args.wave c.chain_of.result c.index_mut-chain.result.now c.self.invariant.count c.chain_of.ensures c.index_mut-chain.ensures.value in
+    let enough = enough_in rows chains c.args.self.now c.args.wave c.args.order c.args.row c.args.quantity c.self.invariant c.self.view_is c.requires in
     omega (arith, enough, ap (chain_units (is_for c.args.wave c.args.order c.args.row)) found)
 
 -- what is known once the units were taken
-is_taken : (c : goal.After-self-then-quantity-gt0-1) → IsTaken c.self.inside.rows.items c.self.inside.chains.items c.args.wave c.args.order c.args.row c.args.quantity c.take_from_chain.new.chain
+is_taken : (c : goal.After-self-1) → IsTaken c.self.inside.rows c.self.inside.chains.items c.args.wave c.args.order c.args.row c.args.quantity c.take_from_chain.new.chain
 is_taken c =
-    let rows = c.self.inside.rows.items in
+    let rows = c.self.inside.rows in
     let chains = c.self.inside.chains.items in
-    let found = chain_found chains c.args.wave c.chain_of.result c.index_mut-chain.result.now c.self.invariant.0.count c.chain_of.ensures c.index_mut-chain.ensures.value in
+    let found = chain_found chains c.args.wave c.chain_of.result c.index_mut-chain.result.now c.self.invariant.count c.chain_of.ensures c.index_mut-chain.ensures.value in
     record {
-      kept = c.self.invariant.0;
-      enough = enough_in rows chains c.args.self.now c.args.wave c.args.order c.args.row c.args.quantity c.self.invariant.0 c.self.view_is c.requires;
+      kept = c.self.invariant;
+      enough = enough_in rows chains c.args.self.now c.args.wave c.args.order c.args.row c.args.quantity c.self.invariant c.self.view_is c.requires;
       taken = λ passes. c.take_from_chain.ensures passes ∙ ap (chain_units passes) found;
     }
 
-rows_after : (c : goal.After-self-then-quantity-gt0-1) → (with_items c.self.inside.rows c.take_in_row.new.rows).items ≡ rows_taken c.self.inside.rows.items c.args.row c.args.quantity
-rows_after c =
-    with_items_is c.self.inside.rows c.take_in_row.new.rows (omega arith)
-    ∙ (c.take_in_row.ensures ∙ ap (λ (rows : List Row). change_rows (at_place c.args.row (take_units c.args.quantity)) 0 rows) c.deref_mut.ensures.value)
-
-chains_after : (c : goal.After-self-then-quantity-gt0-1) → set c.self.inside.chains.items c.chain_of.result c.take_from_chain.new.chain ≡ with_chain c.self.inside.chains.items c.args.wave c.take_from_chain.new.chain
+chains_after : (c : goal.After-self-1) → set c.self.inside.chains.items c.chain_of.result c.take_from_chain.new.chain ≡ with_chain c.self.inside.chains.items c.args.wave c.take_from_chain.new.chain
 chains_after c = ap (λ i. set c.self.inside.chains.items i c.take_from_chain.new.chain) c.chain_of.ensures
 
 pub invariant_of-self : goal.invariant_of-self
-invariant_of-self c = (
-  subst (λ (rows : List Row). IsKept rows (set c.self.inside.chains.items c.chain_of.result c.take_from_chain.new.chain)) (sym (rows_after c))
-      (subst (λ (chains : List (List WaveHolds)). IsKept (rows_taken c.self.inside.rows.items c.args.row c.args.quantity) chains) (sym (chains_after c))
-      (take_keeps c.self.inside.rows.items c.self.inside.chains.items c.args.wave c.args.order c.args.row c.args.quantity c.take_from_chain.new.chain (is_taken c))),
-  c.self.invariant.1,
-)
+invariant_of-self c =
+    subst (λ (rows : List Row). IsKept rows (set c.self.inside.chains.items c.chain_of.result c.take_from_chain.new.chain)) (sym c.take.ensures)
+    (subst (λ (chains : List (List WaveHolds)). IsKept (rows_taken c.self.inside.rows c.args.row c.args.quantity) chains) (sym (chains_after c))
+    (take_keeps c.self.inside.rows c.self.inside.chains.items c.args.wave c.args.order c.args.row c.args.quantity c.take_from_chain.new.chain (is_taken c)))
 
 pub returns-then-quantity-gt0 : goal.returns-then-quantity-gt0
 returns-then-quantity-gt0 c =
-    let rows = c.self.inside.rows.items in
+    let rows = c.self.inside.rows in
     let chains = c.self.inside.chains.items in
-    subst (λ (old : Book). HasTaken c.args.wave c.args.order c.args.row c.args.quantity old (book_of (with_items c.self.inside.rows c.take_in_row.new.rows).items (set chains c.chain_of.result c.take_from_chain.new.chain))) c.self.view_is
-    (subst (λ (new : List Row). HasTaken c.args.wave c.args.order c.args.row c.args.quantity (book_of rows chains) (book_of new (set chains c.chain_of.result c.take_from_chain.new.chain))) (sym (rows_after c))
+    subst (λ (old : Book). HasTaken c.args.wave c.args.order c.args.row c.args.quantity old (book_of c.take.new.self (set chains c.chain_of.result c.take_from_chain.new.chain))) c.self.view_is
+    (subst (λ (new : List Row). HasTaken c.args.wave c.args.order c.args.row c.args.quantity (book_of rows chains) (book_of new (set chains c.chain_of.result c.take_from_chain.new.chain))) (sym c.take.ensures)
     (subst (λ (new : List (List WaveHolds)). HasTaken c.args.wave c.args.order c.args.row c.args.quantity (book_of rows chains) (book_of (rows_taken rows c.args.row c.args.quantity) new)) (sym (chains_after c))
     (take_does rows chains c.args.wave c.args.order c.args.row c.args.quantity c.take_from_chain.new.chain (is_taken c))))
 
