@@ -7,6 +7,7 @@ use std::alloc::{AllocError, Global};
 use std::process::Abort;
 use std::test::Fail;
 use wp_book::{Hold, Room, StockBook};
+use wp_graph::Layout;
 use wp_tables::read_stock;
 
 /// Two rows of the article 0 and one of the article 1.
@@ -23,7 +24,8 @@ fn want(order: u32, article: u32, quantity: u64) -> Want
 }
 
 fn book_of(alloc: Global, text: &str) -> Result<StockBook, Fail> {
-    let stock = read_stock(alloc, &text.as_bytes().to_vec(alloc)?)?;
+    let layout = Layout::new(5, 200, 1, 1, 1, 1).ok_or("no layout")?;
+    let stock = read_stock(alloc, &text.as_bytes().to_vec(alloc)?, &layout)?;
     Ok(StockBook::open(alloc, &stock)?)
 }
 

@@ -6,6 +6,7 @@ use super::*;
 use std::alloc::{AllocError, Global};
 use std::process::Abort;
 use std::test::Fail;
+use wp_graph::Layout;
 use wp_tables::read_stock;
 
 /// Two rows of the article 0, one of the article 1, and none of any other.
@@ -31,7 +32,8 @@ fn hold(order: u32, row: u32, quantity: u32) -> Hold
 }
 
 fn book_of(alloc: Global, text: &str) -> Result<StockBook, Fail> {
-    let stock = read_stock(alloc, &text.as_bytes().to_vec(alloc)?)?;
+    let layout = Layout::new(1, 200, 1, 1, 1, 1).ok_or("no layout")?;
+    let stock = read_stock(alloc, &text.as_bytes().to_vec(alloc)?, &layout)?;
     Ok(StockBook::open(alloc, &stock)?)
 }
 
@@ -189,7 +191,9 @@ fn what_is_held_and_free_is_told(rt: HostRuntime) -> Result<(), Fail> {
         (1, None, 5),
         (1, Some(2), 0),
         (1, Some(0), 5),
+        (1, Some(9), 5),
         (2, None, 0),
+        (2, Some(0), 0),
     ] {
         assert_eq!(rt; book.free_of(article, except), units, "article {article}");
     }

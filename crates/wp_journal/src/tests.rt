@@ -1,7 +1,9 @@
 use super::*;
 use std::alloc::{AllocError, Global};
 use std::test::Fail;
+use wp_graph::Layout;
 use wp_machine::Opening;
+use wp_model::Memory;
 use wp_tables::{RowFault, read_orders, read_stock};
 
 /// A line of each command, of each reply, and of the least and the greatest numbers.
@@ -172,7 +174,8 @@ const JOURNALS: [(&str, &str); 22] = [
 ];
 
 fn opening_of(alloc: Global, stock: &str, orders: &str) -> Result<Opening, RowFault> {
-    let stock = read_stock(alloc, &stock.as_bytes().to_vec(alloc)?)?;
+    let layout = Layout::new(64, 200, 1, 1, 1, 1).ok_or(Memory)?;
+    let stock = read_stock(alloc, &stock.as_bytes().to_vec(alloc)?, &layout)?;
     let orders = read_orders(alloc, &orders.as_bytes().to_vec(alloc)?, &stock)?;
     Ok(Opening::of(stock, orders))
 }

@@ -5,7 +5,7 @@ use Rattle.std.specs.List.{list_all}
 use Rattle.std.specs.Str.{is_utf8}
 use Rattle.wp_tables.specs.Fields.{name_read}
 use Rattle.wp_tables.specs.declared.word.Word.{Word}
-use Rattle.wp_tables.specs.Reading.{and_then}
+use Rattle.wp_model.specs.Outcomes.{and_then}
 use Rattle.wp_tables.specs.declared.fault.Why.{Why}
 
 -- names before others

@@ -4,7 +4,8 @@ use Rattle.std.specs.Prelude.{slice_get}
 use Rattle.std.specs.List.{All, AllByRecursion}
 use Rattle.std.proofs.lemmas.List.Elements.{All-from_recursion}
 use Rattle.wp_model.specs.TableLines.{Record}
-use Rattle.wp_tables.specs.Reading.{IsFirstFault, and_then, at_row, fault_at, made_by}
+use Rattle.wp_tables.specs.Reading.{IsFirstFault, at_row, fault_at, made_by}
+use Rattle.wp_model.specs.Outcomes.{and_then}
 use Rattle.wp_tables.specs.Records.{IsAmong, Kept, kept_before, kept_from, kept_in, records_in, trimmed}
 use Rattle.wp_tables.specs.declared.fault.RowFault.{RowFault}
 use Rattle.wp_tables.specs.declared.fault.Why.{Why}

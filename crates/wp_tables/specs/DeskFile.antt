@@ -10,7 +10,8 @@ use Rattle.wp_model.specs.declared.command.Command.TheVariants as command
 use Rattle.wp_model.specs.declared.location.Location.{Location}
 use Rattle.wp_model.specs.Number.{number_of}
 use Rattle.wp_tables.specs.Fields.{four_of, location_read, name_read, one_of, quantity_read, texts_of, three_of}
-use Rattle.wp_tables.specs.Reading.{and_then, table_of}
+use Rattle.wp_tables.specs.Reading.{table_of}
+use Rattle.wp_model.specs.Outcomes.{and_then}
 use Rattle.wp_tables.specs.Records.{kept_in}
 use Rattle.wp_tables.specs.declared.fault.RowFault.{RowFault}
 use Rattle.wp_tables.specs.declared.fault.Why.{Why}

@@ -10,7 +10,7 @@ use Rattle.wp_model.specs.Number.{number_of}
 use Rattle.wp_model.specs.Opening.{most_quantity}
 use Rattle.wp_model.specs.TableLines.{Record}
 use Rattle.wp_model.specs.declared.location.Location.{Location}
-use Rattle.wp_tables.specs.Reading.{and_then}
+use Rattle.wp_model.specs.Outcomes.{and_then}
 use Rattle.wp_tables.specs.declared.fault.Why.{Why}
 use Rattle.wp_tables.specs.declared.fault.Why.TheVariants as why
 

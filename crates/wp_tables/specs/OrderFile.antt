@@ -6,7 +6,8 @@ use Rattle.wp_model.specs.TableLines.{Record, add_order_line, article_in}
 use Rattle.wp_model.specs.Tables.{most_order_names}
 use Rattle.wp_model.specs.declared.line.OrderLine.{OrderLine}
 use Rattle.wp_tables.specs.Fields.{Three, name_read, quantity_read, three_texts}
-use Rattle.wp_tables.specs.Reading.{and_then, table_of}
+use Rattle.wp_tables.specs.Reading.{table_of}
+use Rattle.wp_model.specs.Outcomes.{and_then}
 use Rattle.wp_tables.specs.Records.{kept_in}
 use Rattle.wp_tables.specs.declared.fault.RowFault.{RowFault}
 use Rattle.wp_tables.specs.declared.fault.Why.{Why}

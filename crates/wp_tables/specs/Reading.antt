@@ -6,11 +6,7 @@ use Rattle.wp_tables.specs.Records.{Kept}
 use Rattle.wp_tables.specs.declared.fault.RowFault.{RowFault}
 use Rattle.wp_tables.specs.declared.fault.Why.{Why}
 use Rattle.wp_tables.specs.declared.fault.Why.TheVariants as why
-
--- a value goes on to what comes next, and a fault is the answer
-abbrev pub and_then : {A B E : Type 0} → Result A E → (A → Result B E) → Result B E
-and_then (Ok x) next = next x
-and_then (Err fault) next = Err fault
+use Rattle.wp_model.specs.Outcomes.{and_then}
 
 -- a fault at the record with a number
 abbrev pub fault_at : ℕ → Why → RowFault

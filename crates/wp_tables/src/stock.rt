@@ -15,6 +15,7 @@ use indexmap::IndexSet;
 use std::alloc::Global;
 use std::collections::BTreeMap;
 use std::marker::Model;
+use wp_graph::Layout;
 use wp_model::{Location, Memory, Name, StockLine, StockRow};
 
 const MOST_ON_HAND: u32 = 1_000_000;
@@ -23,14 +24,10 @@ const MOST_ROWS: usize = 25_600;
 
 const MOST_PLACES: u32 = 1_000;
 
-const LAST_AISLE: u32 = 64;
-
-const LAST_SLOT: u32 = 200;
-
-fn is_inside(location: &Location) -> bool
-    ensures { result ≡ is_inside location.now }
+fn is_inside(layout: &Layout, location: &Location) -> bool
+    ensures { result ≡ is_inside layout.now location.now }
 {
-    (1..=LAST_AISLE).contains(&location.aisle) && (1..=LAST_SLOT).contains(&location.slot)
+    (1..=layout.aisles()).contains(&location.aisle) && (1..=layout.slots()).contains(&location.slot)
 }
 
 /// The stock that the lines read so far make, and for each article the number of its rows.
@@ -100,11 +97,11 @@ impl StockSoFar {
         }
     }
 
-    fn read_location(&self, field: &[u8]) -> Result<Location, Why>
-        ensures { result ≡ free_location self.now field.now }
+    fn read_location(&self, layout: &Layout, field: &[u8]) -> Result<Location, Why>
+        ensures { result ≡ free_location layout.now self.now field.now }
     {
         let location = read_location(field)?;
-        if !is_inside(&location) {
+        if !is_inside(layout, &location) {
             return Err(Why::UnknownLocation);
         }
         if self.has_row_at(&location) {
@@ -123,10 +120,16 @@ impl StockSoFar {
         Ok(article)
     }
 
-    fn read_three(&self, location: &[u8], article: &[u8], on_hand: &[u8]) -> Result<StockLine, Why>
-        ensures { result ≡ line_of_three self.now (location.now, article.now, on_hand.now) }
+    fn read_three(
+        &self,
+        layout: &Layout,
+        location: &[u8],
+        article: &[u8],
+        on_hand: &[u8],
+    ) -> Result<StockLine, Why>
+        ensures { result ≡ line_of_three layout.now self.now (location.now, article.now, on_hand.now) }
     {
-        let location = self.read_location(location)?;
+        let location = self.read_location(layout, location)?;
         let article = self.read_article(article)?;
         let on_hand = read_number_in(on_hand, 0, MOST_ON_HAND)?;
         Ok(StockLine {
@@ -136,15 +139,15 @@ impl StockSoFar {
         })
     }
 
-    fn read_line(&self, fields: &ByteRecord) -> Result<StockLine, Why>
-        ensures line { result ≡ stock_line_of self.now (fields_of fields.now) }
+    fn read_line(&self, layout: &Layout, fields: &ByteRecord) -> Result<StockLine, Why>
+        ensures line { result ≡ stock_line_of layout.now self.now (fields_of fields.now) }
         ensures joins { IfOk result (MayJoin self.now) }
     {
         if self.len() >= MOST_ROWS {
             return Err(Why::TooManyRows);
         }
         let (location, article, on_hand) = three_texts(fields)?;
-        self.read_three(location, article, on_hand)
+        self.read_three(layout, location, article, on_hand)
     }
 
     fn add(self, line: StockLine) -> Result<StockSoFar, Memory>
@@ -171,10 +174,10 @@ impl StockSoFar {
         })
     }
 
-    fn with(self, row: u64, fields: &ByteRecord) -> Result<StockSoFar, RowFault>
-        ensures { Reads result (at_row row (stock_after self (fields_of fields.now))) }
+    fn with(self, layout: &Layout, row: u64, fields: &ByteRecord) -> Result<StockSoFar, RowFault>
+        ensures { Reads result (at_row row (stock_after layout.now self (fields_of fields.now))) }
     {
-        match self.read_line(fields) {
+        match self.read_line(layout, fields) {
             Ok(line) => Ok(self.add(line)?),
             Err(why) => Err(RowFault { row, why }),
         }
@@ -290,30 +293,30 @@ impl Stock {
     }
 }
 
-fn read_rows(alloc: Global, records: &mut Records) -> Result<StockSoFar, RowFault>
+fn read_rows(alloc: Global, layout: &Layout, records: &mut Records) -> Result<StockSoFar, RowFault>
     requires { IsReading records.old }
-    ensures { Reads result (made_by stock_after empty_stock (kept_left records.old)) }
+    ensures { Reads result (made_by (stock_after layout.now) empty_stock (kept_left records.old)) }
 {
     let mut fields = ByteRecord::new(alloc);
     let mut stock = StockSoFar::new(alloc);
     while let Some(row) = records.next(&mut fields)? {
-        stock = stock.with(row, &fields)?;
+        stock = stock.with(layout, row, &fields)?;
     }
     Ok(stock)
 }
 
-/// The stock that a stock file says: the heading `location,article,on_hand`, and then a record for each row. A
+/// The stock that a stock file says of a layout: the heading `location,article,on_hand`, and then a record for each row. A
 /// record is refused, in this order, as `TooManyRows` where it is the 25,601st, `Columns` where it hasn't three fields,
-/// `NotUtf8` where one isn't text, `BadName` where the first is no location, `UnknownLocation` where its aisle isn't 1
-/// to 64 or its slot isn't 1 to 200, `LocationTwice`, `BadName` where the second is no name, `TooManyPlaces` where the
+/// `NotUtf8` where one isn't text, `BadName` where the first is no location, `UnknownLocation` where the
+/// layout has no such aisle or slot, `LocationTwice`, `BadName` where the second is no name, `TooManyPlaces` where the
 /// article has 1,000 rows already, and `BadNumber` or `OutOfRange` where the third is no number 0 to 1,000,000. The
 /// first record that is refused is the answer, and so is the first record at all, or row 1 where there is none, as
 /// `Columns` where it isn't the heading.
-pub fn read_stock(alloc: Global, text: &Vec<u8>) -> Result<Stock, RowFault>
-    ensures exact { Reads result (stock_said text.now.items) }
+pub fn read_stock(alloc: Global, text: &Vec<u8>, layout: &Layout) -> Result<Stock, RowFault>
+    ensures exact { Reads result (stock_said layout.now text.now.items) }
     ensures read { IfOk result IsReadStock }
 {
     let mut records = Records::under(alloc, text, b"location", b"article", b"on_hand")?;
-    let stock = read_rows(alloc, &mut records)?;
+    let stock = read_rows(alloc, layout, &mut records)?;
     Ok(stock.finish(alloc)?)
 }

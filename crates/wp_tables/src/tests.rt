@@ -1,6 +1,8 @@
 use super::*;
 use std::alloc::{AllocError, Global};
 use std::test::Fail;
+use wp_graph::Layout;
+use wp_model::Memory;
 
 const STOCK: &str = "location,article,on_hand\n";
 
@@ -11,8 +13,15 @@ const DESKS: &str = "desk,command,arguments\n";
 /// A name of the most bytes, of each kind that may stand in it.
 const LONG: &str = "abcdefghijklmnopqrstuvwxyz0123456789-_.Z";
 
+/// The stock of a text, for so many aisles and slots.
+fn stock_in(alloc: Global, aisles: u32, slots: u32, text: &[u8]) -> Result<Stock, RowFault> {
+    let layout = Layout::new(aisles, slots, 1, 1, 1, 1).ok_or(Memory)?;
+    read_stock(alloc, &text.to_vec(alloc)?, &layout)
+}
+
+/// The stock of a text, for the greatest layout.
 fn stock_of(alloc: Global, text: &[u8]) -> Result<Stock, RowFault> {
-    read_stock(alloc, &text.to_vec(alloc)?)
+    stock_in(alloc, 64, 200, text)
 }
 
 /// The orders of a text, for a stock of the articles A and B.
@@ -196,6 +205,24 @@ fn stock_is_read(rt: HostRuntime) -> Result<(), Fail> {
         let stock = stock_of(alloc, text.as_bytes())?;
         assert_eq!(rt; stock_text(alloc, &stock)?.as_str(), said, "{text}");
         assert_eq!(rt; stock.as_rows().len(), stock.rows() as usize);
+    }
+    Ok(())
+}
+
+#[test]
+fn stock_lies_in_its_layout(rt: HostRuntime) -> Result<(), Fail> {
+    let alloc = rt.alloc();
+    for (aisles, slots, location, said) in [
+        (3, 4, "3-4-L", "read"),
+        (3, 4, "4-1-L", "row 2 unknown-location"),
+        (3, 4, "1-5-R", "row 2 unknown-location"),
+        (3, 4, "0-1-L", "row 2 unknown-location"),
+        (64, 200, "64-200-R", "read"),
+        (64, 200, "65-200-R", "row 2 unknown-location"),
+    ] {
+        let text = format!(in alloc; "{STOCK}{location},A,1\n")?;
+        let fault = stock_in(alloc, aisles, slots, text.as_bytes()).err();
+        assert_eq!(rt; told(alloc, fault)?.as_str(), said, "{location}");
     }
     Ok(())
 }

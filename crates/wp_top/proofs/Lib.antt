@@ -5,4 +5,5 @@ pub mod RowsKept
 pub mod Taken
 pub mod Writing
 pub mod Output
+pub mod Jobs
 pub mod Endings

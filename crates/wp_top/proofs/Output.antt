@@ -1,23 +1,17 @@
 -- What a run comes to.
-use Rattle.std.proofs.Common.{◌≡◌, ◌∙◌, sym, ap, subst, ℕ, ◌<◌, ◌≤◌, List, [], ◌∷◌, length, take, Option, Some, Ok, slice_get, arith}
+use Rattle.std.proofs.Common.{◌≡◌, sym, ap, subst, ◌<◌, ◌≤◌, List, [], ◌∷◌, length, Some, slice_get, arith}
 use Rattle.std.specs.List.{All}
 use Rattle.std.proofs.lemmas.List.Sums.{sum_by-cons}
-use Rattle.wp_model.proofs.Histories.{all_answered_is_legal, answered_all-opening}
-use Rattle.wp_machine.proofs.Askings.{states_sound}
-use Rattle.wp_machine.proofs.Floors.{is_opening}
-use Rattle.wp_model.specs.History.{History, opened, state_after}
-use Rattle.wp_model.specs.Opening.{IsOpening, Opening}
+use Rattle.wp_model.proofs.Histories.{answered_all-opening}
+use Rattle.wp_model.specs.History.{opened, state_after}
+use Rattle.wp_model.specs.Opening.{Opening}
 use Rattle.wp_model.specs.State.{opening_state}
 use Rattle.wp_model.specs.Tables.{AreReadScripts, IsReadOpening, most_commands}
 use Rattle.wp_model.specs.declared.command.Command.{Command}
 use Rattle.wp_top.proofs.RowsKept.{AreRowsOf, entries_keep_rows, opening_rows}
-use Rattle.wp_top.proofs.Script.{commands_answered}
 use Rattle.wp_top.proofs.Taken.{IsWithin, refills_within}
-use Rattle.wp_top.specs.Ends.{IsOutput}
 use Rattle.wp_top.specs.Refills.{refills_of}
-use Rattle.wp_top.specs.Runs.{IsOutputOf, desk_history}
-use Rattle.wp_top.specs.Stops.{AreRead}
-use Rattle.wp_top.specs.Words.{FileNames, files_named}
+use Rattle.wp_top.specs.Runs.{desk_history}
 
 -- the one script
 pub one_script : (scripts : List (List Command)) (script : List Command) → AreReadScripts scripts → slice_get scripts 0 ≡ Some script → (scripts ≡ script ∷ []) × (length script ≤ most_commands)
@@ -43,26 +37,3 @@ refills_after opening script read =
     let history = desk_history opening script in
     let same = answered_all-opening (opened opening) 1 script in
     subst (λ o. All (IsWithin (length opening.stock.rows)) (refills_of (record history { opening = o }))) (sym same) (refills_within opening 0 (opening_state opening) history.entries (opening_rows opening read.stock))
-
--- the output of what was read is the output of a run
-pub output_is : (holds : List ℕ → Option (List ℕ)) (words : List (List ℕ)) (names : FileNames) (opening : Opening) (scripts : List (List Command)) (output : List ℕ)
-    → files_named words ≡ Some names → AreRead holds names opening scripts → IsReadOpening opening → IsOutputOf opening scripts output → IsOutput holds words output
-output_is holds words names opening scripts output named read is_read (script, one, is) =
-    let history = desk_history opening script in
-    let same = answered_all-opening (opened opening) 1 script in
-    record {
-      names = names;
-      named = named;
-      texts = read.texts;
-      held = read.held;
-      accepted = read.accepted;
-      runs = record {
-        opening = opening;
-        script = script;
-        says = record { stock = read.stock; orders = read.orders; desks = read.desks ∙ ap Ok one };
-        commands = commands_answered (opened opening) 1 script;
-        legal = all_answered_is_legal (opened opening) 1 script tt;
-        sound = states_sound history (subst IsOpening (sym same) (is_opening opening is_read));
-        is = is;
-      };
-    }

@@ -1,101 +1,113 @@
 -- What came of the files, one after the other.
-use Rattle.std.proofs.Common.{◌≡◌, ◌∙◌, refl, sym, subst, ℕ, ◌<◌, List, [], Option, arith}
-use Rattle.std.specs.Prelude.{unwrap_or}
-use Rattle.wp_model.specs.Opening.{Order, Stock}
-use Rattle.wp_model.specs.declared.command.Command.{Command}
+use Rattle.std.proofs.Common.{◌≡◌, ◌∙◌, refl, ℕ, ◌<◌, Bool, true, false, nat_lt, List, length, Option, Some, Result, Ok, Err, if◌then◌else◌, arith}
+use Rattle.wp_model.specs.Opening.{Opening, Stock}
+use Rattle.wp_model.specs.Warehouse.{Layout}
 use Rattle.wp_outside.specs.Outside.{NoneFalls, SameBytes}
-use Rattle.wp_tables.specs.DeskFile.{scripts_said}
-use Rattle.wp_tables.specs.OrderFile.{orders_said}
-use Rattle.wp_tables.specs.StockFile.{stock_said}
-use Rattle.wp_top.specs.Stops.{AreRead, IsSaid, NothingSaid, Stops}
-use Rattle.wp_top.specs.Texts.{Texts, name_for}
-use Rattle.wp_top.specs.Words.{FileNames}
-use Rattle.wp_top.specs.declared.reading.Stop.{Stop}
-use Rattle.wp_top.specs.declared.reading.Stop.TheVariants as stop
-use Rattle.wp_top.specs.declared.table.Refusal.TheVariants as refusal
-use Rattle.wp_top.specs.declared.table.Table.{Table}
-use Rattle.wp_top.specs.declared.table.Table.TheVariants as table
-use Rattle.wp_top.proofs.Held.{held_before, some_text}
+use Rattle.wp_outside.specs.declared.files.TheConstants.{MAX_FILE_BYTES}
+use Rattle.wp_top.proofs.Held.{are_held, held_at, held_before, some_held, some_text, texts_are}
+use Rattle.wp_top.specs.Ends.{HasRisen}
+use Rattle.wp_top.specs.Stops.{AreNamed, IsSaid, IsStop, IsUnsaid, OpeningIsSaid}
+use Rattle.wp_top.specs.Texts.{Texts, layout_in, name_for, opening_in, orders_in, refused_by, said_in, stock_in}
+use Rattle.wp_model.specs.Outcomes.{and_then}
+use Rattle.wp_top.specs.declared.complaint.Complaint.TheVariants as complaint
+use Rattle.wp_top.specs.declared.complaint.Stop.{Stop}
+use Rattle.wp_top.specs.declared.complaint.Stop.TheVariants as stop
+use Rattle.wp_top.specs.declared.input.Input.{Input}
+use Rattle.wp_top.specs.declared.input.Input.TheVariants as input
+use Rattle.wp_top.specs.declared.input.Refusal.{Refusal}
+use Rattle.wp_top.specs.declared.input.Refusal.TheVariants as refusal
+use Rattle.wp_words.specs.Words.{JobNames}
 
--- all three files were accepted
-pub all_read : (holds mid last : List ℕ → Option (List ℕ)) (names : FileNames) (stock : Stock) (orders : List Order) (scripts : List (List Command))
-    → SameBytes holds mid → SameBytes mid last
-    → IsSaid stock_said holds names.stock stock → IsSaid (orders_said stock) mid names.orders orders → IsSaid scripts_said last names.desks scripts
-    → AreRead holds names (record { stock = stock; orders = orders }) scripts
-all_read holds mid last names stock orders scripts same same' (a, read_a, said_a) (b, read_b, said_b) (c, read_c, said_c) =
-    let texts : Texts = record { stock = a; orders = b; desks = c } in
+abbrev Holding : Type 0
+Holding = List ℕ → Option (List ℕ)
+
+abbrev Counts : Type 0
+Counts = List ℕ → ℕ
+
+-- the count of a file's name rose
+rises : (job : JobNames) (before after : Counts) (f file : Input) (name : List ℕ) → f ≡ file → name_for job file ≡ Some name → before name < after name → HasRisen (Ok job) before after f
+rises job before after f file name e named less = record { job = job; said = refl; name = name; named = rw e named; rose = less }
+
+-- nothing came of the layout
+pub stop_at_layout : (holds : Holding) (job : JobNames) (layout stock orders : List ℕ) (before mid after : Counts) (s : Stop) → AreNamed job layout stock orders
+    → IsUnsaid layout_in holds layout (before layout) (mid layout) input.Layout s → NoneFalls mid after → IsStop holds (Ok job) before after s
+stop_at_layout holds job layout stock orders before mid after (stop.Complaint (complaint.Words why)) named nothing rest = absurd nothing
+stop_at_layout holds job layout stock orders before mid after (stop.Complaint (complaint.Refused f why)) named (e, text, held, none) rest =
     record {
-      texts = texts;
-      held = record {
-        stock = read_a.held;
-        orders = held_before holds mid names.orders b (same names.orders) read_b.held;
-        desks = held_before holds last names.desks c (same' names.desks ∙ same names.desks) read_c.held;
-      };
-      accepted = rw (read_a.short, said_a, read_b.short, said_b, read_c.short, said_c) refl;
-      stock = said_a;
-      orders = said_b;
-      desks = said_c;
+      job = job;
+      said = refl;
+      texts = texts_are text (some_text holds job input.Stock) (some_text holds job input.Orders) (some_text holds job input.Desks) (some_text holds job input.Journal);
+      held = are_held holds job _ _ _ _ _ (held_at holds job input.Layout layout text named.layout_file held) (some_held holds job input.Stock) (some_held holds job input.Orders) (some_held holds job input.Desks) (some_held holds job input.Journal);
+      first = rw (e, none) refl;
     }
-
-rose : (names : FileNames) (before after : List ℕ → ℕ) (t here : Table) → t ≡ here → before (name_for names here) < after (name_for names here) → before (name_for names t) < after (name_for names t)
-rose names before after t here e less = subst (λ t. before (name_for names t) < after (name_for names t)) (sym e) less
+stop_at_layout holds job layout stock orders before mid after (stop.Complaint (complaint.Fault f)) named (e, less) rest =
+    rises job before after f input.Layout layout e named.layout_file (omega (arith, less, rest layout))
+stop_at_layout holds job layout stock orders before mid after (stop.Complaint (complaint.Journal fault)) named nothing rest = absurd nothing
+stop_at_layout holds job layout stock orders before mid after stop.Memory named nothing rest = tt
 
 -- nothing came of the stock file
-pub stop_at_stock : (holds : List ℕ → Option (List ℕ)) (names : FileNames) (before mid after : List ℕ → ℕ) (s : Stop)
-    → NothingSaid stock_said holds names.stock (before names.stock) (mid names.stock) table.Stock s → NoneFalls mid after → Stops holds names before after s
-stop_at_stock holds names before mid after (stop.Refused t refusal.TooLong) (e, text, long) rest =
-    let texts : Texts = record { stock = text; orders = unwrap_or (holds names.orders) []; desks = unwrap_or (holds names.desks) [] } in
-    (texts, record { stock = long.held; orders = some_text holds names.orders; desks = some_text holds names.desks }, rw (e, long.long) refl)
-stop_at_stock holds names before mid after (stop.Refused t (refusal.Row fault)) (e, text, read, none) rest =
-    let texts : Texts = record { stock = text; orders = unwrap_or (holds names.orders) []; desks = unwrap_or (holds names.desks) [] } in
-    (texts, record { stock = read.held; orders = some_text holds names.orders; desks = some_text holds names.desks }, rw (e, read.short, none) refl)
-stop_at_stock holds names before mid after (stop.Fault t) (e, less) rest = rose names before after t table.Stock e (omega (arith, rest names.stock))
-stop_at_stock holds names before mid after stop.Memory nothing rest = tt
+pub stop_at_stock : (holds held : Holding) (job : JobNames) (layout stock orders : List ℕ) (before first second after : Counts) (space : Layout) (s : Stop) → AreNamed job layout stock orders
+    → SameBytes holds held → IsSaid layout_in holds layout space → NoneFalls before first
+    → IsUnsaid (stock_in space) held stock (first stock) (second stock) input.Stock s → NoneFalls second after → IsStop holds (Ok job) before after s
+stop_at_stock holds held job layout stock orders before first second after space (stop.Complaint (complaint.Words why)) named same said so_far nothing rest = absurd nothing
+stop_at_stock holds held job layout stock orders before first second after space (stop.Complaint (complaint.Refused f why)) named same (a, held_a, said_a) so_far (e, text, here, none) rest =
+    record {
+      job = job;
+      said = refl;
+      texts = texts_are a text (some_text holds job input.Orders) (some_text holds job input.Desks) (some_text holds job input.Journal);
+      held = are_held holds job _ _ _ _ _ (held_at holds job input.Layout layout a named.layout_file held_a) (held_at holds job input.Stock stock text named.stock_file (held_before holds held stock text (same stock) here))
+          (some_held holds job input.Orders) (some_held holds job input.Desks) (some_held holds job input.Journal);
+      first = rw (e, said_a, none) refl;
+    }
+stop_at_stock holds held job layout stock orders before first second after space (stop.Complaint (complaint.Fault f)) named same said so_far (e, less) rest =
+    rises job before after f input.Stock stock e named.stock_file (omega (arith, less, so_far stock, rest stock))
+stop_at_stock holds held job layout stock orders before first second after space (stop.Complaint (complaint.Journal fault)) named same said so_far nothing rest = absurd nothing
+stop_at_stock holds held job layout stock orders before first second after space stop.Memory named same said so_far nothing rest = tt
 
 -- nothing came of the order file
-pub stop_at_orders : (holds held : List ℕ → Option (List ℕ)) (names : FileNames) (before first second after : List ℕ → ℕ) (stock : Stock) (s : Stop)
-    → SameBytes holds held → IsSaid stock_said holds names.stock stock → NoneFalls before first
-    → NothingSaid (orders_said stock) held names.orders (first names.orders) (second names.orders) table.Orders s → NoneFalls second after → Stops holds names before after s
-stop_at_orders holds held names before first second after stock (stop.Refused t refusal.TooLong) same (a, read_a, said_a) so_far (e, text, long) rest =
-    let texts : Texts = record { stock = a; orders = text; desks = unwrap_or (holds names.desks) [] } in (
-      texts,
-      record { stock = read_a.held; orders = held_before holds held names.orders text (same names.orders) long.held; desks = some_text holds names.desks },
-      rw (e, read_a.short, said_a, long.long) refl,
-    )
-stop_at_orders holds held names before first second after stock (stop.Refused t (refusal.Row fault)) same (a, read_a, said_a) so_far (e, text, read, none) rest =
-    let texts : Texts = record { stock = a; orders = text; desks = unwrap_or (holds names.desks) [] } in (
-      texts,
-      record { stock = read_a.held; orders = held_before holds held names.orders text (same names.orders) read.held; desks = some_text holds names.desks },
-      rw (e, read_a.short, said_a, read.short, none) refl,
-    )
-stop_at_orders holds held names before first second after stock (stop.Fault t) same said so_far (e, less) rest =
-    rose names before after t table.Orders e (omega (arith, so_far names.orders, rest names.orders))
-stop_at_orders holds held names before first second after stock stop.Memory same said so_far nothing rest = tt
+pub stop_at_orders : (holds held held' : Holding) (job : JobNames) (layout stock orders : List ℕ) (before first after : Counts) (space : Layout) (goods : Stock) (s : Stop) → AreNamed job layout stock orders
+    → SameBytes holds held → SameBytes held held' → IsSaid layout_in holds layout space → IsSaid (stock_in space) held stock goods → NoneFalls before first
+    → IsUnsaid (orders_in goods) held' orders (first orders) (after orders) input.Orders s → IsStop holds (Ok job) before after s
+stop_at_orders holds held held' job layout stock orders before first after space goods (stop.Complaint (complaint.Words why)) named same same' said said' so_far nothing = absurd nothing
+stop_at_orders holds held held' job layout stock orders before first after space goods (stop.Complaint (complaint.Refused f why)) named same same' (a, held_a, said_a) (b, held_b, said_b) so_far (e, text, here, none) =
+    record {
+      job = job;
+      said = refl;
+      texts = texts_are a b text (some_text holds job input.Desks) (some_text holds job input.Journal);
+      held = are_held holds job _ _ _ _ _ (held_at holds job input.Layout layout a named.layout_file held_a) (held_at holds job input.Stock stock b named.stock_file (held_before holds held stock b (same stock) held_b))
+          (held_at holds job input.Orders orders text named.order_file (held_before holds held' orders text (same' orders ∙ same orders) here)) (some_held holds job input.Desks) (some_held holds job input.Journal);
+      first = rw (e, said_a, said_b, none) refl;
+    }
+stop_at_orders holds held held' job layout stock orders before first after space goods (stop.Complaint (complaint.Fault f)) named same same' said said' so_far (e, less) =
+    rises job before after f input.Orders orders e named.order_file (omega (arith, less, so_far orders))
+stop_at_orders holds held held' job layout stock orders before first after space goods (stop.Complaint (complaint.Journal fault)) named same same' said said' so_far nothing = absurd nothing
+stop_at_orders holds held held' job layout stock orders before first after space goods stop.Memory named same same' said said' so_far nothing = tt
 
--- nothing came of the desk file
-pub stop_at_desks : (holds held held' : List ℕ → Option (List ℕ)) (names : FileNames) (before first after : List ℕ → ℕ) (stock : Stock) (orders : List Order) (s : Stop)
-    → SameBytes holds held → SameBytes held held' → IsSaid stock_said holds names.stock stock → IsSaid (orders_said stock) held names.orders orders → NoneFalls before first
-    → NothingSaid scripts_said held' names.desks (first names.desks) (after names.desks) table.Desks s → Stops holds names before after s
-stop_at_desks holds held held' names before first after stock orders (stop.Refused t refusal.TooLong) same same' (a, read_a, said_a) (b, read_b, said_b) so_far (e, text, long) =
-    let texts : Texts = record { stock = a; orders = b; desks = text } in (
-      texts,
-      record {
-        stock = read_a.held;
-        orders = held_before holds held names.orders b (same names.orders) read_b.held;
-        desks = held_before holds held' names.desks text (same' names.desks ∙ same names.desks) long.held;
-      },
-      rw (e, read_a.short, said_a, read_b.short, said_b, long.long) refl,
-    )
-stop_at_desks holds held held' names before first after stock orders (stop.Refused t (refusal.Row fault)) same same' (a, read_a, said_a) (b, read_b, said_b) so_far (e, text, read, none) =
-    let texts : Texts = record { stock = a; orders = b; desks = text } in (
-      texts,
-      record {
-        stock = read_a.held;
-        orders = held_before holds held names.orders b (same names.orders) read_b.held;
-        desks = held_before holds held' names.desks text (same' names.desks ∙ same names.desks) read.held;
-      },
-      rw (e, read_a.short, said_a, read_b.short, said_b, read.short, none) refl,
-    )
-stop_at_desks holds held held' names before first after stock orders (stop.Fault t) same same' said said' so_far (e, less) =
-    rose names before after t table.Desks e (omega (arith, so_far names.desks))
-stop_at_desks holds held held' names before first after stock orders stop.Memory same same' said said' so_far nothing = tt
+-- all three were accepted
+pub opening_said : (holds held held' : Holding) (layout stock orders : List ℕ) (space : Layout) (opening : Opening)
+    → SameBytes holds held → SameBytes held held' → IsSaid layout_in holds layout space → IsSaid (stock_in space) held stock opening.stock → IsSaid (orders_in opening.stock) held' orders opening.orders
+    → OpeningIsSaid holds layout stock orders opening
+opening_said holds held held' layout stock orders space opening same same' said (b, held_b, said_b) (c, held_c, said_c) = record {
+  space = space;
+  layout_file = said;
+  stock_file = (b, held_before holds held stock b (same stock) held_b, said_b);
+  order_file = (c, held_before holds held' orders c (same' orders ∙ same orders) held_c, said_c);
+}
+
+said_by : {A F : Type 0} (make : F → Refusal) (r : Result A F) (x : A) → refused_by make r ≡ Ok x → r ≡ Ok x
+said_by make (Ok y) x is = cc is
+said_by make (Err fault) x is = absurd (cc is)
+
+by_length : {A F : Type 0} (make : F → Refusal) (says : List ℕ → Result A F) (text : List ℕ) (x : A) (long : Bool)
+    → and_then (if long then Err refusal.TooLong else Ok text) (λ text. refused_by make (says text)) ≡ Ok x → says text ≡ Ok x
+by_length make says text x true is = absurd (cc is)
+by_length make says text x false is = said_by make (says text) x is
+
+-- what a text says that isn't too long
+pub is_said : {A F : Type 0} (make : F → Refusal) (says : List ℕ → Result A F) (text : List ℕ) (x : A) → said_in make says text ≡ Ok x → says text ≡ Ok x
+is_said make says text x is = by_length make says text x (nat_lt MAX_FILE_BYTES (length text)) is
+
+-- the opening that accepted texts say
+pub opening_is : (texts : Texts) (space : Layout) (opening : Opening)
+    → layout_in (texts input.Layout) ≡ Ok space → stock_in space (texts input.Stock) ≡ Ok opening.stock → orders_in opening.stock (texts input.Orders) ≡ Ok opening.orders → opening_in texts ≡ Ok opening
+opening_is texts space opening layout stock orders = rw (layout, stock, orders) refl

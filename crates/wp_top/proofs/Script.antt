@@ -1,5 +1,5 @@
 -- A script is answered command by command.
-use Rattle.std.proofs.Common.{◌≡◌, ◌∙◌, refl, sym, ap, ℕ, zero, suc, ◌+◌, ◌<◌, List, [], ◌∷◌, ◌++◌, length, take, Some, slice_get, get_or, append_assoc, arith}
+use Rattle.std.proofs.Common.{◌≡◌, ◌∙◌, refl, sym, ap, ℕ, zero, suc, ◌+◌, List, [], ◌∷◌, ◌++◌, length, take, Some, slice_get, append_assoc, arith}
 use Rattle.std.specs.List.{flat_map}
 use Rattle.std.proofs.lemmas.Grind.{flat_map-append}
 use Rattle.std.proofs.lemmas.List.{append-nil, map-append}
@@ -11,12 +11,6 @@ use Rattle.wp_model.specs.declared.command.Command.{Command}
 use Rattle.wp_model.specs.declared.entry.Entry.{Entry}
 use Rattle.wp_machine.specs.Outcome.{outcome_of}
 use Rattle.wp_top.specs.Refills.{outcomes_from, refill_in, refills_of}
-
--- an item that is read at a place
-pub read_at : (commands : List Command) (i : ℕ) (command : Command) → i < length commands → command ≡ get_or commands i command → slice_get commands i ≡ Some command
-read_at [] i command less is = absurd (omega arith)
-read_at (first ∷ commands) zero command less is = ap Some (sym is)
-read_at (first ∷ commands) (suc i) command less is = read_at commands i command (omega arith) is
 
 one_more : (i : ℕ) → suc i ≡ i + 1
 one_more i = omega arith

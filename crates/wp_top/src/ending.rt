@@ -1,45 +1,20 @@
-ghost use Rattle.std.specs.Prelude.{◌≡◌, ◌<◌, ◌≤◌, Some, IfOk, OnOk, IsErrOf, map, string_bytes};
+ghost use Rattle.std.specs.Prelude.{◌≡◌, ◌<◌, ◌≤◌, Ok, IfOk, IfErr, OnOk, IsErrOf, map, string_bytes};
 ghost use Rattle.wp_model.specs.Journal.{line};
 ghost use Rattle.wp_outside.specs.Outside.{Grows, NoneFalls, SameBytes, TookPrefix};
 ghost use Rattle.wp_outside.specs.declared.sink.SinkFault.TheVariants as sink_fault;
-ghost use Rattle.wp_top.specs.Ends.{Finishes, IsEnding, complaint_text, status_of, text_of};
-ghost use Rattle.wp_top.specs.Runs.{IsOutputOf};
-ghost use Rattle.wp_machine.specs.Opening.{opening_of};
-ghost use Rattle.wp_model.specs.Tables.{AreReadScripts, IsReadOpening};
+ghost use Rattle.wp_top.specs.Ends.{Finishes, IsEnding, IsOutput, complaint_text, status_of, text_of};
+ghost use Rattle.wp_top.specs.Stops.{IsEndOf, IsStop};
+ghost use Rattle.wp_words.specs.Reading.{audit_names, texts_of};
+ghost use Rattle.wp_words.specs.Words.{audit, job_said};
 
-use crate::answering::output_of_script;
-use crate::reading::{Stop, Tables, read_tables};
-use crate::table::{Refusal, Table};
-use crate::words::read_words;
+use crate::auditing::audit_output;
+use crate::complaint::{Complaint, Stop};
+use crate::planning::plan_output;
 use std::alloc::Global;
-use std::fmt;
 use std::fmt::Write;
-use wp_machine::Opening;
 use wp_model::Memory;
 use wp_outside::{Files, Sink, SinkFault, write_text};
-
-/// Why a run has no output.
-#[derive(Clone, Copy, Debug, PartialEq, Eq)]
-pub enum Complaint {
-    /// The words name no run.
-    BadWords,
-    /// A file is refused.
-    Refused(Table, Refusal),
-    /// A file could not be read.
-    Fault(Table),
-}
-
-impl fmt::Display for Complaint {
-    ghost output = { λ complaint. Some (complaint_text complaint) };
-
-    fn fmt<W: fmt::Write>(&self, f: &mut fmt::Formatter<W>) -> fmt::Result {
-        match self {
-            Complaint::BadWords => write!(f, "refused words bad-words"),
-            Complaint::Refused(table, why) => write!(f, "refused {table} {why}"),
-            Complaint::Fault(table) => write!(f, "read fault {table}"),
-        }
-    }
-}
+use wp_words::{AuditWords, Job, read_words};
 
 /// How a run ends, where its text is taken.
 #[derive(Debug, Drop)]
@@ -56,47 +31,62 @@ impl Ending {
     {
         match self {
             Ending::Done(_) => 0,
-            Ending::Complaint(Complaint::BadWords) => 1,
+            Ending::Complaint(Complaint::Words(_)) => 1,
             Ending::Complaint(Complaint::Refused(..)) => 2,
             Ending::Complaint(Complaint::Fault(_)) => 3,
+            Ending::Complaint(Complaint::Journal(_)) => 6,
         }
     }
 }
 
-// The output of what was read.
-fn output_from(alloc: Global, tables: Tables) -> Result<String, Memory>
-    requires opening { IsReadOpening (opening_of tables.stock tables.orders) }
-    requires scripts { AreReadScripts tables.scripts }
-    ensures { IfOk result (λ text. IsOutputOf (opening_of tables.stock tables.orders) tables.scripts (string_bytes text)) }
+fn ending_with(output: Result<String, Stop>) -> Result<Ending, Memory>
+    ensures { IfOk result (IsEndOf output) }
 {
-    let Tables {
-        stock,
-        orders,
-        scripts,
-    } = tables;
-    let opening = Opening::of(stock, orders);
-    let text = output_of_script(alloc, &opening, scripts.script(1))?;
-    Ok(text)
+    match output {
+        Ok(text) => Ok(Ending::Done(text)),
+        Err(Stop::Complaint(why)) => Ok(Ending::Complaint(why)),
+        Err(Stop::Memory) => Err(Memory),
+    }
 }
 
-/// How a run of these words ends.
-pub fn ending_of<F: Files>(alloc: Global, words: &[String], files: &mut F) -> Result<Ending, Memory>
-    ensures is { IfOk result (IsEnding (F.holds files.old) (map string_bytes words.now) (F.faults files.old) (F.faults files.new)) }
+// The output of the job that words ask for.
+fn job_output<F: Files>(alloc: Global, words: &Vec<String>, files: &mut F) -> Result<String, Stop>
+    ensures output { IfOk result (λ text. IsOutput (F.holds files.old) (job_said (texts_of words.now.items)) (string_bytes text)) }
+    ensures stops { IfErr result (IsStop (F.holds files.old) (job_said (texts_of words.now.items)) (F.faults files.old) (F.faults files.new)) }
     ensures same { SameBytes (F.holds files.old) (F.holds files.new) }
     ensures counts { NoneFalls (F.faults files.old) (F.faults files.new) }
 {
-    let Some(words) = read_words(words) else {
-        return Ok(Ending::Complaint(Complaint::BadWords));
-    };
-    match read_tables(alloc, files, &words) {
-        Ok(tables) => {
-            let text = output_from(alloc, tables)?;
-            Ok(Ending::Done(text))
-        }
-        Err(Stop::Refused(table, why)) => Ok(Ending::Complaint(Complaint::Refused(table, why))),
-        Err(Stop::Fault(table)) => Ok(Ending::Complaint(Complaint::Fault(table))),
-        Err(Stop::Memory) => Err(Memory),
+    let job = read_words(alloc, words)?;
+    match &job {
+        Job::Plan(words) => plan_output(alloc, files, words),
+        Job::Audit(words) => audit_output(alloc, files, words),
     }
+}
+
+/// How a run of these words ends.
+pub fn ending_of<F: Files>(
+    alloc: Global,
+    words: &Vec<String>,
+    files: &mut F,
+) -> Result<Ending, Memory>
+    ensures is { IfOk result (IsEnding (F.holds files.old) (job_said (texts_of words.now.items)) (F.faults files.old) (F.faults files.new)) }
+    ensures same { SameBytes (F.holds files.old) (F.holds files.new) }
+    ensures counts { NoneFalls (F.faults files.old) (F.faults files.new) }
+{
+    ending_with(job_output(alloc, words, files))
+}
+
+/// How an audit with these words ends.
+pub fn audit_ending<F: Files>(
+    alloc: Global,
+    words: &AuditWords,
+    files: &mut F,
+) -> Result<Ending, Memory>
+    ensures is { IfOk result (IsEnding (F.holds files.old) (Ok (audit (audit_names words.now))) (F.faults files.old) (F.faults files.new)) }
+    ensures same { SameBytes (F.holds files.old) (F.holds files.new) }
+    ensures counts { NoneFalls (F.faults files.old) (F.faults files.new) }
+{
+    ending_with(audit_output(alloc, files, words))
 }
 
 fn line_of(alloc: Global, complaint: Complaint) -> Result<String, Memory>

@@ -7,6 +7,7 @@ use std::alloc::Global;
 use std::fmt::Write;
 use std::process::Abort;
 use std::test::Fail;
+use wp_graph::Layout;
 use wp_model::{Command, Entry, Hold, Name};
 use wp_tables::{Scripts, read_desks, read_orders, read_stock};
 
@@ -22,7 +23,8 @@ pub struct Case<'a> {
 /// The opening of the records of a stock and of orders.
 pub fn opening_of(alloc: Global, stock: &str, orders: &str) -> Result<Opening, Fail> {
     let stock = format!(in alloc; "location,article,on_hand\n{stock}")?;
-    let stock = read_stock(alloc, &stock.as_bytes().to_vec(alloc)?)?;
+    let layout = Layout::new(64, 200, 1, 1, 1, 1).ok_or("no layout")?;
+    let stock = read_stock(alloc, &stock.as_bytes().to_vec(alloc)?, &layout)?;
     let orders = format!(in alloc; "order,article,quantity\n{orders}")?;
     let orders = read_orders(alloc, &orders.as_bytes().to_vec(alloc)?, &stock)?;
     Ok(Opening::of(stock, orders))

@@ -9,7 +9,7 @@ use Rattle.wp_tables.proofs.laws.first_faults_are_told.Goals as goal
 pub returns : goal.returns
 returns c = record {
   numbers = numbered;
-  stock = first_fault stock_after empty_stock;
+  stock = λ layout. first_fault (stock_after layout) empty_stock;
   orders = λ articles. first_fault (orders_after articles) [];
   desks = first_fault script_after [];
 }

@@ -1,9 +1,10 @@
-use Rattle.std.proofs.Common.{◌∙◌, sym, ap, ap₂, length, ◌++◌, take, arith}
+use Rattle.std.proofs.Common.{◌∙◌, refl, sym, ap, ap₂, length, ◌++◌, take, arith}
 use Rattle.std.proofs.lemmas.List.{length-take}
+use Rattle.std.proofs.lemmas.Option.{slice_get_read}
 use Rattle.wp_model.proofs.Histories.{answered_all-opening}
 use Rattle.wp_model.specs.History.{History, answered, opened}
 use Rattle.wp_machine.specs.Machine.{Asked}
-use Rattle.wp_top.proofs.Script.{answered_all-next, entries_answered, read_at, refills_of-answered}
+use Rattle.wp_top.proofs.Script.{answered_all-next, entries_answered, refills_of-answered}
 use Rattle.wp_top.proofs.answering.answer_script.Goals as goal
 use Rattle.wp_top.specs.Refills.{refill_in, refills_of}
 
@@ -21,7 +22,7 @@ step-answer-requires-clause-few c =
 pub loop-command-preserved : goal.loop-command-preserved
 loop-command-preserved c =
     let command = ap (λ (asked : Asked). asked.command) c.in_ok-ready.ensures ∙ c.in_ok-copy.ensures in
-    let at = read_at c.args.script.now c.loop-command.command-index c.command-item.result c.loop-command-test.true c.command-item.is in
+    let at = slice_get_read c.args.script.now (length c.args.script.now) c.loop-command.command-index c.command-item.result refl c.loop-command-test.true c.command-item.is in
     let next = answered_all-next (opened c.args.opening.now) 1 c.args.script.now c.loop-command.command-index c.command-item.result at in
     let kept = c.in_ok-keep_refill.ensures ∙ ap₂ (λ refills more. refills ++ more) c.loop-command.invariant.refills (ap refill_in c.step-answer.ensures.outcome) in
     record {

@@ -6,4 +6,4 @@ pub returns-in-Err-TooLong-clause-stops : goal.returns-in-Err-TooLong-clause-sto
 returns-in-Err-TooLong-clause-stops g c =
     let was = c.in-Err-TooLong.is ∙ ap Err c.in-Err-TooLong.field-0-is in
     let long = long_text (g.F.Files.holds c.args.files.now) c.args.name.now _ (c.read.ensures.too_long was) in
-    (refl, long.0, long.1)
+    rw c.too_long-in-Err-TooLong.ensures (refl, long.0, long.1, long.2)

@@ -1,15 +1,18 @@
 ghost use Rattle.std.specs.Prelude.{Some};
-ghost use Rattle.wp_top.specs.Texts.{refusal_text, table_text};
+ghost use Rattle.wp_top.specs.Texts.{input_text, refusal_text};
 
 use std::fmt;
+use wp_layout::LayoutFault;
 use wp_tables::RowFault;
 
-/// A file that a run reads.
+/// A file that a job reads.
 #[derive(Clone, Copy, Debug, PartialEq, Eq)]
-pub enum Table {
+pub enum Input {
+    Layout,
     Stock,
     Orders,
     Desks,
+    Journal,
 }
 
 /// Why a file is refused.
@@ -17,18 +20,22 @@ pub enum Table {
 pub enum Refusal {
     /// It has too many bytes.
     TooLong,
-    /// The first record that isn't read, and why.
+    /// The first test that a layout file fails.
+    Layout(LayoutFault),
+    /// The first record of a table that isn't read, and why.
     Row(RowFault),
 }
 
-impl fmt::Display for Table {
-    ghost output = { λ table. Some (table_text table) };
+impl fmt::Display for Input {
+    ghost output = { λ file. Some (input_text file) };
 
     fn fmt<W: fmt::Write>(&self, f: &mut fmt::Formatter<W>) -> fmt::Result {
         f.write_str(match self {
-            Table::Stock => "stock",
-            Table::Orders => "orders",
-            Table::Desks => "desks",
+            Input::Layout => "layout",
+            Input::Stock => "stock",
+            Input::Orders => "orders",
+            Input::Desks => "desks",
+            Input::Journal => "journal",
         })
     }
 }
@@ -39,6 +46,7 @@ impl fmt::Display for Refusal {
     fn fmt<W: fmt::Write>(&self, f: &mut fmt::Formatter<W>) -> fmt::Result {
         match self {
             Refusal::TooLong => write!(f, "too-long"),
+            Refusal::Layout(fault) => write!(f, "{fault}"),
             Refusal::Row(fault) => write!(f, "{fault}"),
         }
     }

@@ -1,0 +1,64 @@
+//! The mode `audit`.
+ghost use Rattle.std.specs.Prelude.{◌≡◌, Ok, IfOk, IfErr, string_bytes};
+ghost use Rattle.wp_journal.specs.Auditing.{audited};
+ghost use Rattle.wp_outside.specs.Outside.{NoneFalls, SameBytes};
+ghost use Rattle.wp_top.specs.Ends.{IsOutput};
+ghost use Rattle.wp_top.specs.Stops.{IsStop, StopsAudit};
+ghost use Rattle.wp_top.specs.Runs.{audit_line};
+ghost use Rattle.wp_words.specs.Reading.{audit_names};
+ghost use Rattle.wp_words.specs.Words.{audit};
+
+use crate::complaint::{Complaint, Stop};
+use crate::input::Input;
+use crate::reading::{read_opening, read_text};
+use std::alloc::Global;
+use std::fmt::Write;
+use wp_journal::{Audit, AuditFault, audit};
+use wp_machine::Opening;
+use wp_model::Memory;
+use wp_outside::Files;
+use wp_words::AuditWords;
+
+fn audit_text(alloc: Global, opening: &Opening, text: &Vec<u8>) -> Result<Audit, Stop>
+    ensures right { IfOk result (λ found. audited opening.now text.now.items ≡ Ok found) }
+    ensures wrong { IfErr result (StopsAudit (audited opening.now text.now.items)) }
+{
+    match audit(alloc, opening, text) {
+        Ok(found) => Ok(found),
+        Err(AuditFault::Memory) => Err(Stop::Memory),
+        Err(fault) => Err(Stop::Complaint(Complaint::Journal(fault))),
+    }
+}
+
+fn line_of(alloc: Global, found: Audit) -> Result<String, Memory>
+    ensures { IfOk result (λ text. string_bytes text ≡ audit_line found) }
+{
+    let entries = found.entries;
+    let mut text = String::new(alloc);
+    writeln!(text, "audit {entries} entries")?;
+    Ok(text)
+}
+
+/// The output of an audit.
+pub fn audit_output<F: Files>(
+    alloc: Global,
+    files: &mut F,
+    words: &AuditWords,
+) -> Result<String, Stop>
+    ensures output { IfOk result (λ text. IsOutput (F.holds files.old) (Ok (audit (audit_names words.now))) (string_bytes text)) }
+    ensures stops { IfErr result (IsStop (F.holds files.old) (Ok (audit (audit_names words.now))) (F.faults files.old) (F.faults files.new)) }
+    ensures same { SameBytes (F.holds files.old) (F.holds files.new) }
+    ensures counts { NoneFalls (F.faults files.old) (F.faults files.new) }
+{
+    let opening = read_opening(
+        alloc,
+        files,
+        words.layout.as_str(),
+        words.stock.as_str(),
+        words.orders.as_str(),
+    )?;
+    let journal = read_text(alloc, files, words.journal.as_str(), Input::Journal)?;
+    let found = audit_text(alloc, &opening, &journal)?;
+    let text = line_of(alloc, found)?;
+    Ok(text)
+}

@@ -1,0 +1,37 @@
+//! The mode `plan`.
+ghost use Rattle.std.specs.Prelude.{Ok, IfOk, IfErr, string_bytes};
+ghost use Rattle.wp_outside.specs.Outside.{NoneFalls, SameBytes};
+ghost use Rattle.wp_top.specs.Ends.{IsOutput};
+ghost use Rattle.wp_top.specs.Stops.{IsStop};
+ghost use Rattle.wp_words.specs.Reading.{plan_names};
+ghost use Rattle.wp_words.specs.Words.{plan};
+
+use crate::answering::output_of_script;
+use crate::complaint::Stop;
+use crate::reading::{read_opening, scripts_from};
+use std::alloc::Global;
+use wp_outside::Files;
+use wp_words::PlanWords;
+
+/// The output of a plan.
+pub fn plan_output<F: Files>(
+    alloc: Global,
+    files: &mut F,
+    words: &PlanWords,
+) -> Result<String, Stop>
+    ensures output { IfOk result (λ text. IsOutput (F.holds files.old) (Ok (plan (plan_names words.now))) (string_bytes text)) }
+    ensures stops { IfErr result (IsStop (F.holds files.old) (Ok (plan (plan_names words.now))) (F.faults files.old) (F.faults files.new)) }
+    ensures same { SameBytes (F.holds files.old) (F.holds files.new) }
+    ensures counts { NoneFalls (F.faults files.old) (F.faults files.new) }
+{
+    let opening = read_opening(
+        alloc,
+        files,
+        words.layout.as_str(),
+        words.stock.as_str(),
+        words.orders.as_str(),
+    )?;
+    let scripts = scripts_from(alloc, files, words.desks.as_str())?;
+    let text = output_of_script(alloc, &opening, scripts.script(1))?;
+    Ok(text)
+}
