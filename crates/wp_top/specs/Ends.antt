@@ -1,5 +1,6 @@
 -- How a run ends.
-use Rattle.std.specs.Prelude.{◌≡◌, ◌⊎◌, ◌++◌, ℕ, ◌<◌, List, [], Option, Some, None, Result, Ok, Err, codes, string_bytes}
+use Rattle.std.specs.Prelude.{◌≡◌, ◌⊎◌, ◌++◌, ℕ, ◌<◌, List, [], Option, Some, None, String, Result, Ok, Err, codes, string_bytes}
+use Rattle.std.specs.declared.alloc.Global.{Global}
 use Rattle.wp_journal.specs.FaultTexts.{audit_fault_text}
 use Rattle.wp_journal.specs.Journals.{Finds}
 use Rattle.wp_journal.specs.declared.verdict.AuditFault.{AuditFault}
@@ -15,13 +16,27 @@ use Rattle.wp_top.specs.declared.ending.Ending.{Ending}
 use Rattle.wp_top.specs.declared.ending.Ending.TheVariants as ending
 use Rattle.wp_top.specs.declared.input.Input.{Input}
 use Rattle.wp_top.specs.declared.input.Input.TheVariants as input
-use Rattle.wp_words.specs.Reading.{fault_text}
-use Rattle.wp_words.specs.Words.{JobNames}
+use Rattle.wp_words.specs.Reading.{audit_names, fault_text, plan_names, texts_of}
+use Rattle.wp_words.specs.Words.{JobNames, audit, job_said, plan}
+use Rattle.wp_words.specs.declared.job.AuditWords.{AuditWords}
+use Rattle.wp_words.specs.declared.job.PlanWords.{PlanWords}
 use Rattle.wp_words.specs.declared.fault.WordsFault.{WordsFault}
 
 -- what is asked for: a job, or the words ask for none
 abbrev pub Asked : Type 0
 Asked = Result JobNames WordsFault
+
+-- the job that the words of an audit ask for
+abbrev pub audit_job : AuditWords → JobNames
+audit_job words = audit (audit_names words)
+
+-- the job that the words of a plan ask for
+abbrev pub plan_job : PlanWords → JobNames
+plan_job words = plan (plan_names words)
+
+-- what the words of the command line ask for
+abbrev pub asked_by : List (String Global) → Asked
+asked_by words = job_said (texts_of words)
 
 -- what is said of words that ask for no job, of a refused file, of a file that could not be read, and of a journal that isn't right
 abbrev pub complaint_text : Complaint → List ℕ

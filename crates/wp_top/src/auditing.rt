@@ -2,11 +2,9 @@
 ghost use Rattle.std.specs.Prelude.{◌≡◌, Ok, IfOk, IfErr, string_bytes};
 ghost use Rattle.wp_journal.specs.Auditing.{audited};
 ghost use Rattle.wp_outside.specs.Outside.{NoneFalls, SameBytes};
-ghost use Rattle.wp_top.specs.Ends.{IsOutput};
+ghost use Rattle.wp_top.specs.Ends.{IsOutput, audit_job};
 ghost use Rattle.wp_top.specs.Stops.{IsStop, StopsAudit};
 ghost use Rattle.wp_top.specs.Runs.{audit_line};
-ghost use Rattle.wp_words.specs.Reading.{audit_names};
-ghost use Rattle.wp_words.specs.Words.{audit};
 
 use crate::complaint::{Complaint, Stop};
 use crate::input::Input;
@@ -45,8 +43,8 @@ pub fn audit_output<F: Files>(
     files: &mut F,
     words: &AuditWords,
 ) -> Result<String, Stop>
-    ensures output { IfOk result (λ text. IsOutput (F.holds files.old) (Ok (audit (audit_names words.now))) (string_bytes text)) }
-    ensures stops { IfErr result (IsStop (F.holds files.old) (Ok (audit (audit_names words.now))) (F.faults files.old) (F.faults files.new)) }
+    ensures output { IfOk result (λ text. IsOutput (F.holds files.old) (Ok (audit_job words.now)) (string_bytes text)) }
+    ensures stops { IfErr result (IsStop (F.holds files.old) (Ok (audit_job words.now)) (F.faults files.old) (F.faults files.new)) }
     ensures same { SameBytes (F.holds files.old) (F.holds files.new) }
     ensures counts { NoneFalls (F.faults files.old) (F.faults files.new) }
 {

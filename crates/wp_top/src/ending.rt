@@ -2,10 +2,8 @@ ghost use Rattle.std.specs.Prelude.{◌≡◌, ◌<◌, ◌≤◌, Ok, IfOk, IfE
 ghost use Rattle.wp_model.specs.Journal.{line};
 ghost use Rattle.wp_outside.specs.Outside.{Grows, NoneFalls, SameBytes, TookPrefix};
 ghost use Rattle.wp_outside.specs.declared.sink.SinkFault.TheVariants as sink_fault;
-ghost use Rattle.wp_top.specs.Ends.{Finishes, IsEnding, IsOutput, complaint_text, status_of, text_of};
+ghost use Rattle.wp_top.specs.Ends.{Finishes, IsEnding, IsOutput, asked_by, audit_job, complaint_text, status_of, text_of};
 ghost use Rattle.wp_top.specs.Stops.{IsEndOf, IsStop};
-ghost use Rattle.wp_words.specs.Reading.{audit_names, texts_of};
-ghost use Rattle.wp_words.specs.Words.{audit, job_said};
 
 use crate::auditing::audit_output;
 use crate::complaint::{Complaint, Stop};
@@ -51,8 +49,8 @@ fn ending_with(output: Result<String, Stop>) -> Result<Ending, Memory>
 
 // The output of the job that words ask for.
 fn job_output<F: Files>(alloc: Global, words: &Vec<String>, files: &mut F) -> Result<String, Stop>
-    ensures output { IfOk result (λ text. IsOutput (F.holds files.old) (job_said (texts_of words.now.items)) (string_bytes text)) }
-    ensures stops { IfErr result (IsStop (F.holds files.old) (job_said (texts_of words.now.items)) (F.faults files.old) (F.faults files.new)) }
+    ensures output { IfOk result (λ text. IsOutput (F.holds files.old) (asked_by words.now.items) (string_bytes text)) }
+    ensures stops { IfErr result (IsStop (F.holds files.old) (asked_by words.now.items) (F.faults files.old) (F.faults files.new)) }
     ensures same { SameBytes (F.holds files.old) (F.holds files.new) }
     ensures counts { NoneFalls (F.faults files.old) (F.faults files.new) }
 {
@@ -69,7 +67,7 @@ pub fn ending_of<F: Files>(
     words: &Vec<String>,
     files: &mut F,
 ) -> Result<Ending, Memory>
-    ensures is { IfOk result (IsEnding (F.holds files.old) (job_said (texts_of words.now.items)) (F.faults files.old) (F.faults files.new)) }
+    ensures is { IfOk result (IsEnding (F.holds files.old) (asked_by words.now.items) (F.faults files.old) (F.faults files.new)) }
     ensures same { SameBytes (F.holds files.old) (F.holds files.new) }
     ensures counts { NoneFalls (F.faults files.old) (F.faults files.new) }
 {
@@ -82,7 +80,7 @@ pub fn audit_ending<F: Files>(
     words: &AuditWords,
     files: &mut F,
 ) -> Result<Ending, Memory>
-    ensures is { IfOk result (IsEnding (F.holds files.old) (Ok (audit (audit_names words.now))) (F.faults files.old) (F.faults files.new)) }
+    ensures is { IfOk result (IsEnding (F.holds files.old) (Ok (audit_job words.now)) (F.faults files.old) (F.faults files.new)) }
     ensures same { SameBytes (F.holds files.old) (F.holds files.new) }
     ensures counts { NoneFalls (F.faults files.old) (F.faults files.new) }
 {

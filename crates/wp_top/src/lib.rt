@@ -16,10 +16,9 @@ mod reading;
 ghost use Rattle.std.specs.Prelude.{◌≡◌, ◌≢◌, ◌≤◌, ◌<◌, ◌⊎◌, Some, None, Ok, Err};
 ghost use Rattle.wp_journal.specs.declared.verdict.AuditFault.{AuditFault};
 ghost use Rattle.wp_outside.specs.Outside.{NoneFalls, SameBytes};
-ghost use Rattle.wp_top.specs.Ends.{AreBadWords, IsDone, IsFault, IsPartial, IsRefused, IsWrong, Stand};
+ghost use Rattle.wp_top.specs.Ends.{AreBadWords, IsDone, IsFault, IsPartial, IsRefused, IsWrong, Stand, asked_by, audit_job};
 ghost use Rattle.wp_top.specs.Texts.{AreTold, Refused, Texts, first_refusal, journal_fault};
-ghost use Rattle.wp_words.specs.Reading.{audit_names, texts_of};
-ghost use Rattle.wp_words.specs.Words.{JobNames, audit, job_said};
+ghost use Rattle.wp_words.specs.Words.{JobNames};
 ghost use Rattle.wp_words.specs.declared.fault.WordsFault.{WordsFault};
 
 use crate::ending::{audit_ending, ending_of, finish};
@@ -37,20 +36,20 @@ pub fn run<R: Sync, F: Files, K: Sink>(
     files: &mut F,
     out: &mut K,
 ) -> u8
-    ensures done { result ≡ 0 → IsDone (F.holds files.old) (job_said (texts_of words.now.items)) (K.taken out.old) (K.taken out.new) }
-    ensures words { result ≡ 1 → AreBadWords (job_said (texts_of words.now.items)) (K.taken out.old) (K.taken out.new) }
-    ensures refused { result ≡ 2 → IsRefused (F.holds files.old) (job_said (texts_of words.now.items)) (K.taken out.old) (K.taken out.new) }
-    ensures fault { result ≡ 3 → IsFault (job_said (texts_of words.now.items)) (F.faults files.old) (F.faults files.new) (K.taken out.old) (K.taken out.new) }
+    ensures done { result ≡ 0 → IsDone (F.holds files.old) (asked_by words.now.items) (K.taken out.old) (K.taken out.new) }
+    ensures words { result ≡ 1 → AreBadWords (asked_by words.now.items) (K.taken out.old) (K.taken out.new) }
+    ensures refused { result ≡ 2 → IsRefused (F.holds files.old) (asked_by words.now.items) (K.taken out.old) (K.taken out.new) }
+    ensures fault { result ≡ 3 → IsFault (asked_by words.now.items) (F.faults files.old) (F.faults files.new) (K.taken out.old) (K.taken out.new) }
     ensures sink { result ≡ 4 → K.faults out.old < K.faults out.new }
-    ensures partial { (result ≡ 4) ⊎ (result ≡ 5) → IsPartial (F.holds files.old) (job_said (texts_of words.now.items)) (F.faults files.old) (F.faults files.new) (K.taken out.old) (K.taken out.new) }
-    ensures wrong { result ≡ 6 → IsWrong (F.holds files.old) (job_said (texts_of words.now.items)) (K.taken out.old) (K.taken out.new) }
+    ensures partial { (result ≡ 4) ⊎ (result ≡ 5) → IsPartial (F.holds files.old) (asked_by words.now.items) (F.faults files.old) (F.faults files.new) (K.taken out.old) (K.taken out.new) }
+    ensures wrong { result ≡ 6 → IsWrong (F.holds files.old) (asked_by words.now.items) (K.taken out.old) (K.taken out.new) }
     ensures statuses { result ≤ 6 }
-    ensures bad_words { (why : WordsFault) → job_said (texts_of words.now.items) ≡ Err why → K.faults out.new ≡ K.faults out.old → (result ≡ 1) ⊎ (result ≡ 5) }
-    ensures bad_files { (job : JobNames) (texts : Texts) (fault : Refused) → job_said (texts_of words.now.items) ≡ Ok job → AreTold (F.holds files.old) job texts → first_refusal job texts ≡ Some fault
+    ensures bad_words { (why : WordsFault) → asked_by words.now.items ≡ Err why → K.faults out.new ≡ K.faults out.old → (result ≡ 1) ⊎ (result ≡ 5) }
+    ensures bad_files { (job : JobNames) (texts : Texts) (fault : Refused) → asked_by words.now.items ≡ Ok job → AreTold (F.holds files.old) job texts → first_refusal job texts ≡ Some fault
         → Stand (F.faults files.old) (F.faults files.new) (K.faults out.old) (K.faults out.new) → (result ≡ 2) ⊎ (result ≡ 5) }
-    ensures bad_journal { (job : JobNames) (texts : Texts) (fault : AuditFault) → job_said (texts_of words.now.items) ≡ Ok job → AreTold (F.holds files.old) job texts → first_refusal job texts ≡ None → journal_fault job texts ≡ Some fault
+    ensures bad_journal { (job : JobNames) (texts : Texts) (fault : AuditFault) → asked_by words.now.items ≡ Ok job → AreTold (F.holds files.old) job texts → first_refusal job texts ≡ None → journal_fault job texts ≡ Some fault
         → Stand (F.faults files.old) (F.faults files.new) (K.faults out.old) (K.faults out.new) → (result ≡ 6) ⊎ (result ≡ 5) }
-    ensures complete { (job : JobNames) (texts : Texts) → job_said (texts_of words.now.items) ≡ Ok job → AreTold (F.holds files.old) job texts → first_refusal job texts ≡ None → journal_fault job texts ≡ None
+    ensures complete { (job : JobNames) (texts : Texts) → asked_by words.now.items ≡ Ok job → AreTold (F.holds files.old) job texts → first_refusal job texts ≡ None → journal_fault job texts ≡ None
         → Stand (F.faults files.old) (F.faults files.new) (K.faults out.old) (K.faults out.new) → (result ≡ 0) ⊎ (result ≡ 5) }
     ensures same { SameBytes (F.holds files.old) (F.holds files.new) }
     ensures counts { NoneFalls (F.faults files.old) (F.faults files.new) }
@@ -69,18 +68,18 @@ pub fn run_audit<F: Files, K: Sink>(
     files: &mut F,
     out: &mut K,
 ) -> u8
-    ensures done { result ≡ 0 → IsDone (F.holds files.old) (Ok (audit (audit_names words.now))) (K.taken out.old) (K.taken out.new) }
-    ensures refused { result ≡ 2 → IsRefused (F.holds files.old) (Ok (audit (audit_names words.now))) (K.taken out.old) (K.taken out.new) }
-    ensures fault { result ≡ 3 → IsFault (Ok (audit (audit_names words.now))) (F.faults files.old) (F.faults files.new) (K.taken out.old) (K.taken out.new) }
+    ensures done { result ≡ 0 → IsDone (F.holds files.old) (Ok (audit_job words.now)) (K.taken out.old) (K.taken out.new) }
+    ensures refused { result ≡ 2 → IsRefused (F.holds files.old) (Ok (audit_job words.now)) (K.taken out.old) (K.taken out.new) }
+    ensures fault { result ≡ 3 → IsFault (Ok (audit_job words.now)) (F.faults files.old) (F.faults files.new) (K.taken out.old) (K.taken out.new) }
     ensures sink { result ≡ 4 → K.faults out.old < K.faults out.new }
-    ensures partial { (result ≡ 4) ⊎ (result ≡ 5) → IsPartial (F.holds files.old) (Ok (audit (audit_names words.now))) (F.faults files.old) (F.faults files.new) (K.taken out.old) (K.taken out.new) }
-    ensures wrong { result ≡ 6 → IsWrong (F.holds files.old) (Ok (audit (audit_names words.now))) (K.taken out.old) (K.taken out.new) }
+    ensures partial { (result ≡ 4) ⊎ (result ≡ 5) → IsPartial (F.holds files.old) (Ok (audit_job words.now)) (F.faults files.old) (F.faults files.new) (K.taken out.old) (K.taken out.new) }
+    ensures wrong { result ≡ 6 → IsWrong (F.holds files.old) (Ok (audit_job words.now)) (K.taken out.old) (K.taken out.new) }
     ensures statuses { (result ≤ 6) × (result ≢ 1) }
-    ensures bad_files { (texts : Texts) (fault : Refused) → AreTold (F.holds files.old) (audit (audit_names words.now)) texts → first_refusal (audit (audit_names words.now)) texts ≡ Some fault
+    ensures bad_files { (texts : Texts) (fault : Refused) → AreTold (F.holds files.old) (audit_job words.now) texts → first_refusal (audit_job words.now) texts ≡ Some fault
         → Stand (F.faults files.old) (F.faults files.new) (K.faults out.old) (K.faults out.new) → (result ≡ 2) ⊎ (result ≡ 5) }
-    ensures bad_journal { (texts : Texts) (fault : AuditFault) → AreTold (F.holds files.old) (audit (audit_names words.now)) texts → first_refusal (audit (audit_names words.now)) texts ≡ None → journal_fault (audit (audit_names words.now)) texts ≡ Some fault
+    ensures bad_journal { (texts : Texts) (fault : AuditFault) → AreTold (F.holds files.old) (audit_job words.now) texts → first_refusal (audit_job words.now) texts ≡ None → journal_fault (audit_job words.now) texts ≡ Some fault
         → Stand (F.faults files.old) (F.faults files.new) (K.faults out.old) (K.faults out.new) → (result ≡ 6) ⊎ (result ≡ 5) }
-    ensures complete { (texts : Texts) → AreTold (F.holds files.old) (audit (audit_names words.now)) texts → first_refusal (audit (audit_names words.now)) texts ≡ None → journal_fault (audit (audit_names words.now)) texts ≡ None
+    ensures complete { (texts : Texts) → AreTold (F.holds files.old) (audit_job words.now) texts → first_refusal (audit_job words.now) texts ≡ None → journal_fault (audit_job words.now) texts ≡ None
         → Stand (F.faults files.old) (F.faults files.new) (K.faults out.old) (K.faults out.new) → (result ≡ 0) ⊎ (result ≡ 5) }
     ensures same { SameBytes (F.holds files.old) (F.holds files.new) }
     ensures counts { NoneFalls (F.faults files.old) (F.faults files.new) }

@@ -1,10 +1,8 @@
 //! The mode `plan`.
 ghost use Rattle.std.specs.Prelude.{Ok, IfOk, IfErr, string_bytes};
 ghost use Rattle.wp_outside.specs.Outside.{NoneFalls, SameBytes};
-ghost use Rattle.wp_top.specs.Ends.{IsOutput};
+ghost use Rattle.wp_top.specs.Ends.{IsOutput, plan_job};
 ghost use Rattle.wp_top.specs.Stops.{IsStop};
-ghost use Rattle.wp_words.specs.Reading.{plan_names};
-ghost use Rattle.wp_words.specs.Words.{plan};
 
 use crate::answering::output_of_script;
 use crate::complaint::Stop;
@@ -19,8 +17,8 @@ pub fn plan_output<F: Files>(
     files: &mut F,
     words: &PlanWords,
 ) -> Result<String, Stop>
-    ensures output { IfOk result (λ text. IsOutput (F.holds files.old) (Ok (plan (plan_names words.now))) (string_bytes text)) }
-    ensures stops { IfErr result (IsStop (F.holds files.old) (Ok (plan (plan_names words.now))) (F.faults files.old) (F.faults files.new)) }
+    ensures output { IfOk result (λ text. IsOutput (F.holds files.old) (Ok (plan_job words.now)) (string_bytes text)) }
+    ensures stops { IfErr result (IsStop (F.holds files.old) (Ok (plan_job words.now)) (F.faults files.old) (F.faults files.new)) }
     ensures same { SameBytes (F.holds files.old) (F.holds files.new) }
     ensures counts { NoneFalls (F.faults files.old) (F.faults files.new) }
 {
