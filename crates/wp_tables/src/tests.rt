@@ -269,76 +269,73 @@ fn stock_is_refused(rt: HostRuntime) -> Result<(), Fail> {
     Ok(())
 }
 
+/// Stock files whose bytes or heading are refused, and what they are told as.
+const BAD_STOCK_BYTES: [(&[u8], &str); 15] = [
+    (b"", "row 1 columns"),
+    (b"\n", "row 1 columns"),
+    (b"\xEF\xBB\xBF", "row 1 columns"),
+    (b",,\n,\n", "row 1 columns"),
+    (b",,\nlocation,article\n", "row 2 columns"),
+    (b"1-1-L,A,5\n", "row 1 columns"),
+    (b"location,article,onhand\n", "row 1 columns"),
+    (b"Location,article,on_hand\n", "row 1 columns"),
+    (b"article,location,on_hand\n", "row 1 columns"),
+    (
+        b"\xEF\xBB\xBF\xEF\xBB\xBFlocation,article,on_hand\n",
+        "row 1 columns",
+    ),
+    (
+        b"location,article,on_hand\n1-1-L,\xFF,5\n",
+        "row 2 not-utf8",
+    ),
+    (
+        b"location,article,on_hand\n1-1-X,A,\xFF\n",
+        "row 2 not-utf8",
+    ),
+    (b"location,article,on_hand\n1-1-L,\xFF\n", "row 2 columns"),
+    (
+        b"location,article,on_hand\n1-1-L,\xC3\xA9,5\n",
+        "row 2 bad-name",
+    ),
+    (
+        b"location,article,on_hand\n1-1-L,A\x00,5\n",
+        "row 2 bad-name",
+    ),
+];
+
+/// The same of order files.
+const BAD_ORDER_BYTES: [(&[u8], &str); 4] = [
+    (b"", "row 1 columns"),
+    (b"order,article\nO1,A,2\n", "row 1 columns"),
+    (b"order,article,quantity\n\xFF,A,1\n", "row 2 not-utf8"),
+    (
+        b"\xEF\xBB\xBForder,article,quantity\n\nO,A,\xFF\n",
+        "row 2 not-utf8",
+    ),
+];
+
+/// The same of desk files.
+const BAD_DESK_BYTES: [(&[u8], &str); 5] = [
+    (b"", "row 1 columns"),
+    (b"desk,command\n", "row 1 columns"),
+    (
+        b"desk,command,arguments\n1,submit,W,\xFF\n",
+        "row 2 not-utf8",
+    ),
+    (b"desk,command,arguments\nx,\xFF\n", "row 2 not-utf8"),
+    (b"desk,command,arguments\n\xFF\n", "row 2 columns"),
+];
+
 #[test]
 fn bytes_and_headings_are_refused(rt: HostRuntime) -> Result<(), Fail> {
     let alloc = rt.alloc();
-    for (text, said) in [
-        (b"".as_slice(), "row 1 columns"),
-        (b"\n".as_slice(), "row 1 columns"),
-        (b"\xEF\xBB\xBF".as_slice(), "row 1 columns"),
-        (b",,\n,\n".as_slice(), "row 1 columns"),
-        (b",,\nlocation,article\n".as_slice(), "row 2 columns"),
-        (b"1-1-L,A,5\n".as_slice(), "row 1 columns"),
-        (b"location,article,onhand\n".as_slice(), "row 1 columns"),
-        (b"Location,article,on_hand\n".as_slice(), "row 1 columns"),
-        (b"article,location,on_hand\n".as_slice(), "row 1 columns"),
-        (
-            b"\xEF\xBB\xBF\xEF\xBB\xBFlocation,article,on_hand\n".as_slice(),
-            "row 1 columns",
-        ),
-        (
-            b"location,article,on_hand\n1-1-L,\xFF,5\n".as_slice(),
-            "row 2 not-utf8",
-        ),
-        (
-            b"location,article,on_hand\n1-1-X,A,\xFF\n".as_slice(),
-            "row 2 not-utf8",
-        ),
-        (
-            b"location,article,on_hand\n1-1-L,\xFF\n".as_slice(),
-            "row 2 columns",
-        ),
-        (
-            b"location,article,on_hand\n1-1-L,\xC3\xA9,5\n".as_slice(),
-            "row 2 bad-name",
-        ),
-        (
-            b"location,article,on_hand\n1-1-L,A\x00,5\n".as_slice(),
-            "row 2 bad-name",
-        ),
-    ] {
+    for (text, said) in BAD_STOCK_BYTES {
         assert_eq!(rt; told(alloc, stock_of(alloc, text).err())?.as_str(), said);
     }
-    for (text, said) in [
-        (b"".as_slice(), "row 1 columns"),
-        (b"order,article\nO1,A,2\n".as_slice(), "row 1 columns"),
-        (
-            b"order,article,quantity\n\xFF,A,1\n".as_slice(),
-            "row 2 not-utf8",
-        ),
-        (
-            b"\xEF\xBB\xBForder,article,quantity\n\nO,A,\xFF\n".as_slice(),
-            "row 2 not-utf8",
-        ),
-    ] {
+    for (text, said) in BAD_ORDER_BYTES {
         assert_eq!(rt; told(alloc, orders_of(alloc, text).err())?.as_str(), said);
     }
-    for (text, said) in [
-        (b"".as_slice(), "row 1 columns"),
-        (b"desk,command\n".as_slice(), "row 1 columns"),
-        (
-            b"desk,command,arguments\n1,submit,W,\xFF\n".as_slice(),
-            "row 2 not-utf8",
-        ),
-        (
-            b"desk,command,arguments\nx,\xFF\n".as_slice(),
-            "row 2 not-utf8",
-        ),
-        (
-            b"desk,command,arguments\n\xFF\n".as_slice(),
-            "row 2 columns",
-        ),
-    ] {
+    for (text, said) in BAD_DESK_BYTES {
         assert_eq!(rt; told(alloc, desks_of(alloc, text).err())?.as_str(), said);
     }
     Ok(())
