@@ -26,11 +26,11 @@ impl fmt::Display for FileFault {
     ghost output = { λ fault. Some (file_fault_text fault) };
 
     fn fmt<W: fmt::Write>(&self, f: &mut fmt::Formatter<W>) -> fmt::Result {
-        match self {
-            FileFault::Failed => write!(f, "the file could not be read"),
-            FileFault::TooLong => write!(f, "the file is too long"),
-            FileFault::Memory => write!(f, "out of memory"),
-        }
+        f.write_str(match self {
+            FileFault::Failed => "the file could not be read",
+            FileFault::TooLong => "the file is too long",
+            FileFault::Memory => "out of memory",
+        })
     }
 }
 

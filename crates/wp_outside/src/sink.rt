@@ -21,10 +21,10 @@ impl fmt::Display for SinkFault {
     ghost output = { λ fault. Some (sink_fault_text fault) };
 
     fn fmt<W: fmt::Write>(&self, f: &mut fmt::Formatter<W>) -> fmt::Result {
-        match self {
-            SinkFault::Failed => write!(f, "the output could not be written"),
-            SinkFault::Memory => write!(f, "out of memory"),
-        }
+        f.write_str(match self {
+            SinkFault::Failed => "the output could not be written",
+            SinkFault::Memory => "out of memory",
+        })
     }
 }
 

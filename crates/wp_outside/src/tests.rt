@@ -1,4 +1,4 @@
-ghost use Rattle.std.specs.Prelude.{vec_len, ◌≡◌, IfOk, Some};
+ghost use Rattle.std.specs.Prelude.{vec_len, ◌≡◌, ◌<◌, IfOk, Some};
 
 use super::*;
 use std::alloc::{AllocError, Global};
@@ -8,7 +8,13 @@ use std::{env, fs, io};
 
 const TEXT: &[u8] = b"first\nsecond\n";
 
-/// Two names and an equal one, each with a content of its own.
+/// Lengths of files, and why they aren't read.
+const LENGTHS: &[(usize, Option<FileFault>)] = &[
+    (MAX_FILE_BYTES, None),
+    (MAX_FILE_BYTES + 1, Some(FileFault::TooLong)),
+];
+
+/// Names, each with a content of its own.
 #[derive(Drop)]
 struct NamedFiles {
     names: Vec<String>,
@@ -16,18 +22,37 @@ struct NamedFiles {
     ghost as_many: { vec_len contents ≡ vec_len names },
 }
 
-fn three_files(alloc: Global) -> Result<NamedFiles, AllocError> {
+fn three_names(alloc: Global) -> Result<Vec<String>, AllocError>
+    ensures { IfOk result (λ names. vec_len names ≡ 3) }
+{
     let names = vec![in alloc;
         String::from_str(alloc, "a")?,
         String::from_str(alloc, "b")?,
         String::from_str(alloc, "a")?,
     ]?;
+    Ok(names)
+}
+
+fn three_contents(alloc: Global) -> Result<Vec<Vec<u8>>, AllocError>
+    ensures { IfOk result (λ contents. vec_len contents ≡ 3) }
+{
     let contents = vec![in alloc;
         b"first".to_vec(alloc)?,
         b"second".to_vec(alloc)?,
         b"third".to_vec(alloc)?,
     ]?;
+    Ok(contents)
+}
+
+/// Two names and an equal one.
+fn three_files(alloc: Global) -> Result<NamedFiles, AllocError> {
+    let names = three_names(alloc)?;
+    let contents = three_contents(alloc)?;
     Ok(NamedFiles { names, contents })
+}
+
+fn zeros(alloc: Global, len: usize) -> Result<Vec<u8>, AllocError> {
+    vec![in alloc; 0u8; len]
 }
 
 /// One file of that many zeros.
@@ -35,10 +60,6 @@ fn long_file(alloc: Global, len: usize) -> Result<NamedFiles, AllocError> {
     let names = vec![in alloc; String::from_str(alloc, "long")?]?;
     let contents = vec![in alloc; zeros(alloc, len)?]?;
     Ok(NamedFiles { names, contents })
-}
-
-fn zeros(alloc: Global, len: usize) -> Result<Vec<u8>, AllocError> {
-    vec![in alloc; 0u8; len]
 }
 
 fn mem_files(named: NamedFiles, fails: Vec<u64>) -> MemFiles {
@@ -98,140 +119,233 @@ impl io::Write for Device {
     }
 }
 
-fn gives<F: Files>(
-    files: &mut F,
-    alloc: Global,
-    name: &str,
-    bytes: &[u8],
-) -> Result<bool, FileFault> {
-    Ok(files.read(alloc, name)?.as_slice() == bytes)
+fn gives<F: Files>(files: &mut F, alloc: Global, name: &str, text: &str) -> bool {
+    match files.read(alloc, name) {
+        Ok(bytes) => bytes.as_slice() == text.as_bytes(),
+        Err(_) => false,
+    }
+}
+
+/// What each name of the three files gives.
+const HELD: &[(&str, &str)] = &[("a", "first"), ("b", "second")];
+
+fn misread_name<F: Files>(files: &mut F, alloc: Global) -> Option<&'static str> {
+    for (name, text) in HELD {
+        if !gives(files, alloc, name, text) {
+            return Some(*name);
+        }
+    }
+    None
 }
 
 #[test]
 fn of_equal_names_the_first_holds_and_an_unknown_name_fails(rt: HostRuntime) -> Result<(), Fail> {
     let alloc = rt.alloc();
     let mut files = mem_files(three_files(alloc)?, Vec::new(alloc));
-    assert!(rt; gives(&mut files, alloc, "a", b"first")?);
-    assert!(rt; gives(&mut files, alloc, "b", b"second")?);
-    assert!(rt; files.read(alloc, "c").err() == Some(FileFault::Failed));
+    assert_eq!(rt; misread_name(&mut files, alloc), None);
+    assert_eq!(rt; files.read(alloc, "c").err(), Some(FileFault::Failed));
     Ok(())
+}
+
+fn takes_the_text(files: &mut NeverFails) -> bool {
+    write_text(files, TEXT).is_ok() && files.taken() == TEXT
 }
 
 #[test]
 fn files_that_never_fail_hold_no_bytes_under_an_unknown_name(rt: HostRuntime) -> Result<(), Fail> {
     let alloc = rt.alloc();
     let mut files = never_fails(alloc, three_files(alloc)?);
-    assert!(rt; gives(&mut files, alloc, "a", b"first")?);
-    assert!(rt; gives(&mut files, alloc, "c", b"")?);
-    write_text(&mut files, TEXT)?;
-    assert!(rt; files.taken() == TEXT);
+    assert_eq!(rt; misread_name(&mut files, alloc), None);
+    assert!(rt; gives(&mut files, alloc, "c", "") && takes_the_text(&mut files));
     Ok(())
 }
 
-#[test]
-fn each_numbered_read_fails_in_turn(rt: HostRuntime) -> Result<(), Fail> {
-    let alloc = rt.alloc();
-    for number in 1..4u64 {
-        let mut files = mem_files(three_files(alloc)?, vec![in alloc; number]?);
-        for call in 1..5u64 {
-            let fault = files.read(alloc, "b").err();
-            assert_eq!(rt; fault.is_some(), call == number, "call {call} of {number}");
+/// The three files, where the read with a number is to fail.
+fn failing_files(alloc: Global, number: u64) -> Result<MemFiles, AllocError> {
+    let fails = vec![in alloc; number]?;
+    Ok(mem_files(three_files(alloc)?, fails))
+}
+
+/// The first of four reads that fails where another should, or gives bytes where it should fail.
+fn misanswered_read(files: &mut MemFiles, alloc: Global, number: u64) -> Option<u64> {
+    for call in 1..5u64 {
+        if files.read(alloc, "b").is_err() != (call == number) {
+            return Some(call);
         }
     }
-    Ok(())
+    None
+}
+
+fn misanswered_number(alloc: Global) -> Result<Option<(u64, u64)>, AllocError> {
+    for number in 1..4u64 {
+        if let Some(call) = misanswered_read(&mut failing_files(alloc, number)?, alloc, number) {
+            return Ok(Some((number, call)));
+        }
+    }
+    Ok(None)
 }
 
 #[test]
-fn a_file_may_have_the_most_bytes_and_not_one_more(rt: HostRuntime) -> Result<(), Fail> {
-    let alloc = rt.alloc();
-    for (len, fault) in [
-        (MAX_FILE_BYTES, None),
-        (MAX_FILE_BYTES + 1, Some(FileFault::TooLong)),
-    ] {
-        let mut files = mem_files(long_file(alloc, len)?, Vec::new(alloc));
-        let mut both = never_fails(alloc, long_file(alloc, len)?);
-        assert_eq!(rt; files.read(alloc, "long").err(), fault);
-        assert_eq!(rt; both.read(alloc, "long").err(), fault);
+fn each_numbered_read_fails_in_turn(rt: HostRuntime) {
+    assert_eq!(rt; misanswered_number(rt.alloc()), Ok(None));
+}
+
+fn fault_in_memory(alloc: Global, len: usize) -> Result<Option<FileFault>, AllocError> {
+    let mut files = mem_files(long_file(alloc, len)?, Vec::new(alloc));
+    Ok(files.read(alloc, "long").err())
+}
+
+fn fault_where_none_fails(alloc: Global, len: usize) -> Result<Option<FileFault>, AllocError> {
+    let mut files = never_fails(alloc, long_file(alloc, len)?);
+    Ok(files.read(alloc, "long").err())
+}
+
+fn misjudged_length(alloc: Global) -> Result<Option<usize>, AllocError> {
+    for (len, fault) in LENGTHS {
+        if fault_in_memory(alloc, *len)? != *fault
+            || fault_where_none_fails(alloc, *len)? != *fault
+        {
+            return Ok(Some(*len));
+        }
     }
-    Ok(())
+    Ok(None)
+}
+
+#[test]
+fn a_file_may_have_the_most_bytes_and_not_one_more(rt: HostRuntime) {
+    assert_eq!(rt; misjudged_length(rt.alloc()), Ok(None));
+}
+
+/// Pieces, and what a sink whose second call fails answers.
+const PIECES: &[(&str, Result<usize, SinkFault>)] = &[
+    ("one", Ok(3)),
+    ("", Ok(0)),
+    ("two", Err(SinkFault::Failed)),
+    ("three", Ok(5)),
+];
+
+fn misanswered_piece(sink: &mut MemSink) -> Option<&'static str> {
+    for (piece, answer) in PIECES {
+        if sink.write(piece.as_bytes()) != *answer {
+            return Some(*piece);
+        }
+    }
+    None
 }
 
 #[test]
 fn an_empty_piece_has_no_number(rt: HostRuntime) -> Result<(), Fail> {
     let alloc = rt.alloc();
     let mut sink = MemSink::of(alloc, vec![in alloc; 2]?);
-    for (piece, answer) in [
-        (b"one".as_slice(), Ok(3)),
-        (b"".as_slice(), Ok(0)),
-        (b"two".as_slice(), Err(SinkFault::Failed)),
-        (b"three".as_slice(), Ok(5)),
-    ] {
-        assert!(rt; sink.write(piece) == answer);
-    }
+    assert_eq!(rt; misanswered_piece(&mut sink), None);
     assert!(rt; sink.taken() == b"onethree".as_slice());
     Ok(())
 }
 
-#[test]
-fn a_text_is_written_byte_by_byte_up_to_each_fault(rt: HostRuntime) -> Result<(), Fail> {
-    let alloc = rt.alloc();
+/// A sink that takes so many bytes, one a call, and then fails.
+fn failing_sink(alloc: Global, taken: u64) -> Result<OneByte, AllocError>
+    requires { taken < 100 }
+{
+    Ok(OneByte {
+        sink: MemSink::of(alloc, vec![in alloc; taken + 1]?),
+    })
+}
+
+/// The first number of bytes after which a failing sink has taken something else of the text.
+fn miswritten_number(alloc: Global) -> Result<Option<usize>, AllocError> {
     for taken in 0..TEXT.len() {
-        let fails = vec![in alloc; taken as u64 + 1]?;
-        let mut out = OneByte {
-            sink: MemSink::of(alloc, fails),
-        };
-        assert_eq!(rt; write_text(&mut out, TEXT).err(), Some(SinkFault::Failed));
-        assert_eq!(rt; out.sink.taken(), &TEXT[..taken]);
+        let mut out = failing_sink(alloc, taken as u64)?;
+        if write_text(&mut out, TEXT) != Err(SinkFault::Failed)
+            || out.sink.taken() != &TEXT[..taken]
+        {
+            return Ok(Some(taken));
+        }
     }
-    let mut out = OneByte {
-        sink: MemSink::of(alloc, Vec::new(alloc)),
-    };
-    write_text(&mut out, TEXT)?;
-    assert_eq!(rt; out.sink.taken(), TEXT);
-    Ok(())
+    Ok(None)
 }
 
 #[test]
-fn a_device_that_takes_nothing_has_failed(rt: HostRuntime) -> Result<(), Fail> {
-    let faults = [
-        (Device::TakesNothing, SinkFault::Failed),
-        (Device::Refuses, SinkFault::Failed),
-        (Device::Keeps, SinkFault::Failed),
-        (Device::WantsMemory, SinkFault::Memory),
-    ];
-    for (device, fault) in faults {
-        let mut sink = StdSink::new(device);
-        assert_eq!(rt;
-            write_text(&mut sink, TEXT).err(),
-            Some(fault),
-            "{device:?}"
-        );
-        assert_eq!(rt; sink.write(b"")?, 0);
+fn a_text_is_written_byte_by_byte_up_to_each_fault(rt: HostRuntime) {
+    assert_eq!(rt; miswritten_number(rt.alloc()), Ok(None));
+}
+
+#[test]
+fn a_whole_text_is_written_byte_by_byte(rt: HostRuntime) {
+    let sink = MemSink::of(rt.alloc(), Vec::new(rt.alloc()));
+    let mut out = OneByte { sink };
+    assert_eq!(rt; write_text(&mut out, TEXT), Ok(()));
+    assert!(rt; out.sink.taken() == TEXT);
+}
+
+/// Devices, and why a sink over one fails.
+const DEVICES: &[(Device, SinkFault)] = &[
+    (Device::TakesNothing, SinkFault::Failed),
+    (Device::Refuses, SinkFault::Failed),
+    (Device::Keeps, SinkFault::Failed),
+    (Device::WantsMemory, SinkFault::Memory),
+];
+
+fn fails_so(device: Device, fault: SinkFault) -> bool {
+    let mut sink = StdSink::new(device);
+    write_text(&mut sink, TEXT) == Err(fault) && sink.write(b"") == Ok(0)
+}
+
+fn misjudged_device() -> Option<Device> {
+    for (device, fault) in DEVICES {
+        if !fails_so(*device, *fault) {
+            return Some(*device);
+        }
     }
+    None
+}
+
+#[test]
+fn a_device_that_takes_nothing_has_failed(rt: HostRuntime) {
+    assert_eq!(rt; misjudged_device(), None);
+}
+
+/// The path of a file that no other process has.
+fn own_path(rt: &HostRuntime) -> Result<String, Fail> {
+    let folder = env::temp_dir(rt)?;
+    let folder = folder.display();
+    let number = id(rt.process());
+    Ok(format!(in rt.alloc(); "{folder}/wp_outside-{number}")?)
+}
+
+fn write_real(rt: &HostRuntime, path: &str) -> Result<(), Fail> {
+    write_text(&mut StdSink::new(fs::create(rt, path)?), TEXT)?;
     Ok(())
+}
+
+fn real_fault(rt: &HostRuntime, path: &str) -> Option<FileFault> {
+    RealFiles::new(rt).read(rt.alloc(), path).err()
+}
+
+/// Whether a file gives the text that is written to it, and fails before.
+fn gives_what_was_written(rt: &HostRuntime, path: &str) -> Result<bool, Fail> {
+    if real_fault(rt, path) != Some(FileFault::Failed) {
+        return Ok(false);
+    }
+    write_real(rt, path)?;
+    Ok(gives(&mut RealFiles::new(rt), rt.alloc(), path, "first\nsecond\n"))
+}
+
+fn misjudged_real_length(rt: &HostRuntime, path: &str) -> Result<Option<usize>, Fail> {
+    for (len, fault) in LENGTHS {
+        fs::write(rt, path, &zeros(rt.alloc(), *len)?)?;
+        if real_fault(rt, path) != *fault {
+            return Ok(Some(*len));
+        }
+    }
+    Ok(None)
 }
 
 #[test]
 fn real_files_give_what_was_written(rt: HostRuntime) -> Result<(), Fail> {
-    let alloc = rt.alloc();
-    let folder = env::temp_dir(&rt)?;
-    let folder = folder.display();
-    let number = id(rt.process());
-    let name = format!(in alloc; "{folder}/wp_outside-{number}")?;
-    let mut files = RealFiles::new(&rt);
-    assert_eq!(rt;
-        files.read(alloc, name.as_str()).err(),
-        Some(FileFault::Failed)
-    );
-    write_text(&mut StdSink::new(fs::create(&rt, &name)?), TEXT)?;
-    assert_eq!(rt; files.read(alloc, name.as_str())?.as_slice(), TEXT);
-    for (len, fault) in [
-        (MAX_FILE_BYTES, None),
-        (MAX_FILE_BYTES + 1, Some(FileFault::TooLong)),
-    ] {
-        fs::write(&rt, &name, &zeros(alloc, len)?)?;
-        assert_eq!(rt; files.read(alloc, name.as_str()).err(), fault);
-    }
-    fs::remove_file(&rt, &name)?;
+    let path = own_path(&rt)?;
+    let written = gives_what_was_written(&rt, path.as_str())?;
+    let length = misjudged_real_length(&rt, path.as_str())?;
+    fs::remove_file(&rt, path.as_str())?;
+    assert_eq!(rt; (written, length), (true, None));
     Ok(())
 }
