@@ -1,6 +1,5 @@
 use super::*;
 use std::alloc::{AllocError, Global};
-use std::test::Fail;
 
 /// Words, parted by single spaces.
 fn words_of(alloc: Global, line: &str) -> Result<Vec<String>, AllocError> {
@@ -11,41 +10,44 @@ fn words_of(alloc: Global, line: &str) -> Result<Vec<String>, AllocError> {
     Ok(words)
 }
 
+fn plan_text(alloc: Global, words: &PlanWords) -> Result<String, AllocError> {
+    let PlanWords {
+        layout,
+        stock,
+        orders,
+        desks,
+    } = words;
+    format!(in alloc; "plan {layout}, {stock}, {orders}, {desks}")
+}
+
+fn audit_text(alloc: Global, words: &AuditWords) -> Result<String, AllocError> {
+    let AuditWords {
+        layout,
+        stock,
+        orders,
+        journal,
+    } = words;
+    format!(in alloc; "audit {layout}, {stock}, {orders}, {journal}")
+}
+
 /// The mode of a job and the names that it gives, or what the fault is told as.
-fn told(alloc: Global, read: Result<Job, WordsFault>) -> Result<String, AllocError> {
+fn told(alloc: Global, read: &Result<Job, WordsFault>) -> Result<String, AllocError> {
     match read {
-        Ok(
-            Job::Plan(
-                PlanWords {
-                    layout,
-                    stock,
-                    orders,
-                    desks,
-                },
-            ),
-        ) => format!(in alloc; "plan {layout}, {stock}, {orders}, {desks}"),
-        Ok(
-            Job::Audit(
-                AuditWords {
-                    layout,
-                    stock,
-                    orders,
-                    journal,
-                },
-            ),
-        ) => format!(in alloc; "audit {layout}, {stock}, {orders}, {journal}"),
-        Err(fault) => format!(in alloc; "{fault}"),
+        Ok(Job::Plan(words)) => plan_text(alloc, words),
+        Ok(Job::Audit(words)) => audit_text(alloc, words),
+        Err(fault) => fault.to_string(alloc),
     }
 }
 
-/// What a line of words is read as.
-fn read_line(alloc: Global, line: &str) -> Result<String, AllocError> {
+/// Whether a line of words is read so.
+fn is_read(alloc: Global, line: &str, said: &str) -> Result<bool, AllocError> {
     let words = words_of(alloc, line)?;
-    told(alloc, read_words(alloc, &words))
+    let text = told(alloc, &read_words(alloc, &words))?;
+    Ok(text.as_str() == said)
 }
 
 /// Words that ask for a job, and what they are read as.
-const JOBS: [(&str, &str); 17] = [
+const JOBS: &[(&str, &str)] = &[
     (
         "plan --layout l --stock s --orders o --desks d",
         "plan l, s, o, d",
@@ -116,17 +118,43 @@ const JOBS: [(&str, &str); 17] = [
     ),
 ];
 
-#[test]
-fn jobs_are_read(rt: HostRuntime) -> Result<(), Fail> {
-    let alloc = rt.alloc();
+/// The first line that is read otherwise.
+fn misread_job(alloc: Global) -> Result<Option<&'static str>, AllocError> {
     for (line, said) in JOBS {
-        assert_eq!(rt; read_line(alloc, line)?.as_str(), said, "{line}");
+        if !is_read(alloc, line, said)? {
+            return Ok(Some(*line));
+        }
     }
-    Ok(())
+    Ok(None)
+}
+
+#[test]
+fn jobs_are_read(rt: HostRuntime) {
+    assert_eq!(rt; misread_job(rt.alloc()), Ok(None));
+}
+
+fn is_refused(alloc: Global, mode: &str, words: &str, said: &str) -> Result<bool, AllocError> {
+    let line = format!(in alloc; "{mode}{words}")?;
+    is_read(alloc, line.as_str(), said)
+}
+
+/// The first words after a mode for which another refusal is said, or none.
+fn misrefused_words(
+    alloc: Global,
+    mode: &str,
+    lines: &[&'static str],
+    said: &str,
+) -> Result<Option<&'static str>, AllocError> {
+    for words in lines {
+        if !is_refused(alloc, mode, words, said)? {
+            return Ok(Some(*words));
+        }
+    }
+    Ok(None)
 }
 
 /// Words that begin with no mode.
-const NO_MODES: [&str; 14] = [
+const NO_MODES: &[&str] = &[
     "fly",
     "",
     "Plan",
@@ -144,18 +172,25 @@ const NO_MODES: [&str; 14] = [
 ];
 
 #[test]
-fn modes_are_refused(rt: HostRuntime) -> Result<(), Fail> {
-    let alloc = rt.alloc();
-    let none = read_words(alloc, &Vec::new(alloc));
-    assert_eq!(rt; told(alloc, none)?.as_str(), "no-mode");
-    for line in NO_MODES {
-        assert_eq!(rt; read_line(alloc, line)?.as_str(), "unknown-mode", "{line}");
-    }
-    Ok(())
+fn modes_are_refused(rt: HostRuntime) {
+    assert_eq!(rt;
+        misrefused_words(rt.alloc(), "", NO_MODES, "unknown-mode"),
+        Ok(None)
+    );
+}
+
+fn what_no_words_are_read_as(alloc: Global) -> Result<String, AllocError> {
+    told(alloc, &read_words(alloc, &Vec::new(alloc)))
+}
+
+#[test]
+fn no_words_are_no_mode(rt: HostRuntime) {
+    let text = what_no_words_are_read_as(rt.alloc()).ok();
+    assert_eq!(rt; text.as_deref(), Some("no-mode"));
 }
 
 /// What may not stand after the word `plan`.
-const BAD_PLANS: [&str; 34] = [
+const BAD_PLANS: &[&str] = &[
     "",
     " ",
     " --stock s --orders o --desks d",
@@ -193,21 +228,15 @@ const BAD_PLANS: [&str; 34] = [
 ];
 
 #[test]
-fn words_of_plan_are_refused(rt: HostRuntime) -> Result<(), Fail> {
-    let alloc = rt.alloc();
-    for words in BAD_PLANS {
-        let line = format!(in alloc; "plan{words}")?;
-        assert_eq!(rt;
-            read_line(alloc, line.as_str())?.as_str(),
-            "bad-words",
-            "{line}"
-        );
-    }
-    Ok(())
+fn words_of_plan_are_refused(rt: HostRuntime) {
+    assert_eq!(rt;
+        misrefused_words(rt.alloc(), "plan", BAD_PLANS, "bad-words"),
+        Ok(None)
+    );
 }
 
 /// What may not stand after the word `audit`.
-const BAD_AUDITS: [&str; 12] = [
+const BAD_AUDITS: &[&str] = &[
     "",
     " --stock s --orders o --journal j",
     " --layout l --orders o --journal j",
@@ -223,15 +252,9 @@ const BAD_AUDITS: [&str; 12] = [
 ];
 
 #[test]
-fn words_of_audit_are_refused(rt: HostRuntime) -> Result<(), Fail> {
-    let alloc = rt.alloc();
-    for words in BAD_AUDITS {
-        let line = format!(in alloc; "audit{words}")?;
-        assert_eq!(rt;
-            read_line(alloc, line.as_str())?.as_str(),
-            "bad-words",
-            "{line}"
-        );
-    }
-    Ok(())
+fn words_of_audit_are_refused(rt: HostRuntime) {
+    assert_eq!(rt;
+        misrefused_words(rt.alloc(), "audit", BAD_AUDITS, "bad-words"),
+        Ok(None)
+    );
 }
