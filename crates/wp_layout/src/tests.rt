@@ -3,13 +3,13 @@ ghost use Rattle.std.specs.Prelude.{◌<◌};
 use super::*;
 use crate::key::KEYS;
 use std::alloc::{AllocError, Global};
-use std::test::Fail;
+use wp_model::Memory;
 
 /// The numbers of a layout file, the version first, then in the order in which they are tested.
 const SMALL: [u64; 7] = [1, 3, 4, 2, 1, 5, 2];
 
 /// Texts that are no layout file, and what they are told as.
-const REFUSED: [(&[u8], &str); 31] = [
+const REFUSED: &[(&[u8], &str)] = &[
     (b"", "not-json"),
     (b"{", "not-json"),
     (b"{} {}", "not-json"),
@@ -98,7 +98,7 @@ const REFUSED: [(&[u8], &str); 31] = [
 ];
 
 /// Texts of layouts, and the six numbers of each.
-const READ: [(&[u8], &str); 4] = [
+const READ: &[(&[u8], &str)] = &[
     (
         b"{\"version\":1,\"aisles\":3,\"slots\":4,\"pitch\":2,\"clearance\":1,\"spacing\":5,\"depot\":1}",
         "3 4 2 1 5 1",
@@ -160,70 +160,114 @@ fn brackets(alloc: Global, depth: usize) -> Result<String, AllocError> {
     Ok(text)
 }
 
-#[test]
-fn other_texts_are_refused(rt: HostRuntime) -> Result<(), Fail> {
-    for (text, fault) in REFUSED {
-        assert_eq!(rt; told(rt.alloc(), text)?.as_str(), fault);
-    }
-    Ok(())
+fn is_told(alloc: Global, text: &[u8], said: &str) -> Result<bool, AllocError> {
+    Ok(told(alloc, text)?.as_str() == said)
 }
 
-#[test]
-fn layouts_are_read(rt: HostRuntime) -> Result<(), Fail> {
-    for (text, numbers) in READ {
-        assert_eq!(rt; told(rt.alloc(), text)?.as_str(), numbers);
-    }
-    Ok(())
-}
-
-#[test]
-fn values_nest_as_deep_as_json_is_read(rt: HostRuntime) -> Result<(), Fail> {
-    for (depth, fault) in [(127, "not-object"), (128, "not-json"), (1000, "not-json")] {
-        let text = brackets(rt.alloc(), depth)?;
-        assert_eq!(rt; told(rt.alloc(), text.as_bytes())?.as_str(), fault);
-    }
-    Ok(())
-}
-
-/// The greatest number of each key, which is read, and those next to its range, which aren't.
-#[test]
-fn numbers_have_their_ranges(rt: HostRuntime) -> Result<(), Fail> {
-    let alloc = rt.alloc();
-    for (at, most) in [1, 64, 200, 10_000, 10_000, 10_000, 3]
-        .into_iter()
-        .enumerate()
-    {
-        let refused = format!(in alloc; "out-of-range {}", KEYS[at])?;
-        for number in [0, most + 1] {
-            let text = file(alloc, with(SMALL, at, number))?;
-            assert_eq!(rt; told(alloc, text.as_bytes())?.as_str(), refused.as_str());
+/// The place of the first text that is told otherwise.
+fn mistold(alloc: Global, texts: &[(&[u8], &str)]) -> Result<Option<usize>, AllocError> {
+    for (place, (text, said)) in texts.iter().enumerate() {
+        if !is_told(alloc, text, said)? {
+            return Ok(Some(place));
         }
-        let text = file(alloc, with(SMALL, at, most))?;
-        assert!(rt; read_layout(alloc, &text.as_bytes().to_vec(alloc)?).is_ok());
     }
-    Ok(())
+    Ok(None)
 }
 
 #[test]
-fn layouts_are_printed_and_read_again(rt: HostRuntime) -> Result<(), Fail> {
-    let alloc = rt.alloc();
-    for (numbers, text) in [
-        (
-            [3, 4, 2, 1, 5, 2],
-            "{\"aisles\":3,\"clearance\":1,\"depot\":2,\"pitch\":2,\"slots\":4,\"spacing\":5,\"version\":1}",
-        ),
-        (
-            [64, 200, 10_000, 9_999, 9_998, 64],
-            "{\"aisles\":64,\"clearance\":9999,\"depot\":64,\"pitch\":10000,\"slots\":200,\"spacing\":9998,\"version\":1}",
-        ),
-    ] {
-        let [aisles, slots, pitch, clearance, spacing, depot] = numbers;
-        let layout = Layout::new(aisles, slots, pitch, clearance, spacing, depot).ok_or(
-            "no layout",
-        )?;
-        let printed = print_layout(alloc, &layout)?;
-        assert!(rt; printed.as_slice() == text.as_bytes());
-        assert!(rt; read_layout(alloc, &printed) == Ok(layout));
+fn other_texts_are_refused(rt: HostRuntime) {
+    assert_eq!(rt; mistold(rt.alloc(), REFUSED), Ok(None));
+}
+
+#[test]
+fn layouts_are_read(rt: HostRuntime) {
+    assert_eq!(rt; mistold(rt.alloc(), READ), Ok(None));
+}
+
+/// How deep lists lie in each other, and what such a text is told as.
+const DEPTHS: &[(usize, &str)] = &[(127, "not-object"), (128, "not-json"), (1000, "not-json")];
+
+fn mistold_depth(alloc: Global) -> Result<Option<usize>, AllocError> {
+    for (depth, said) in DEPTHS {
+        if !is_told(alloc, brackets(alloc, *depth)?.as_bytes(), said)? {
+            return Ok(Some(*depth));
+        }
     }
-    Ok(())
+    Ok(None)
+}
+
+#[test]
+fn values_nest_as_deep_as_json_is_read(rt: HostRuntime) {
+    assert_eq!(rt; mistold_depth(rt.alloc()), Ok(None));
+}
+
+/// The greatest number of each key.
+const MOST: [u64; 7] = [1, 64, 200, 10_000, 10_000, 10_000, 3];
+
+fn is_refused_at(alloc: Global, at: usize, number: u64) -> Result<bool, AllocError>
+    requires { at < 7 }
+{
+    let said = format!(in alloc; "out-of-range {}", KEYS[at])?;
+    let text = file(alloc, with(SMALL, at, number))?;
+    is_told(alloc, text.as_bytes(), said.as_str())
+}
+
+fn is_read_at(alloc: Global, at: usize, number: u64) -> Result<bool, AllocError>
+    requires { at < 7 }
+{
+    let text = file(alloc, with(SMALL, at, number))?;
+    Ok(read_layout(alloc, &text.as_bytes().to_vec(alloc)?).is_ok())
+}
+
+/// The place of the first key whose greatest number isn't read, or one next to its range is.
+fn misjudged_key(alloc: Global) -> Result<Option<usize>, AllocError> {
+    for at in 0..7 {
+        let most = MOST[at];
+        let refused = is_refused_at(alloc, at, 0)?
+            && is_refused_at(alloc, at, most.saturating_add(1))?;
+        if !refused || !is_read_at(alloc, at, most)? {
+            return Ok(Some(at));
+        }
+    }
+    Ok(None)
+}
+
+#[test]
+fn numbers_have_their_ranges(rt: HostRuntime) {
+    assert_eq!(rt; misjudged_key(rt.alloc()), Ok(None));
+}
+
+/// The six numbers of layouts, and their texts.
+const PRINTED: &[([u32; 6], &str)] = &[
+    (
+        [3, 4, 2, 1, 5, 2],
+        "{\"aisles\":3,\"clearance\":1,\"depot\":2,\"pitch\":2,\"slots\":4,\"spacing\":5,\"version\":1}",
+    ),
+    (
+        [64, 200, 10_000, 9_999, 9_998, 64],
+        "{\"aisles\":64,\"clearance\":9999,\"depot\":64,\"pitch\":10000,\"slots\":200,\"spacing\":9998,\"version\":1}",
+    ),
+];
+
+fn is_printed_and_read_again(alloc: Global, layout: Layout, text: &str) -> Result<bool, Memory> {
+    let printed = print_layout(alloc, &layout)?;
+    Ok(printed.as_slice() == text.as_bytes() && read_layout(alloc, &printed) == Ok(layout))
+}
+
+fn misprinted_layout(alloc: Global) -> Result<Option<&'static str>, Memory> {
+    for (numbers, text) in PRINTED {
+        let [aisles, slots, pitch, clearance, spacing, depot] = *numbers;
+        let Some(layout) = Layout::new(aisles, slots, pitch, clearance, spacing, depot) else {
+            return Ok(Some(*text));
+        };
+        if !is_printed_and_read_again(alloc, layout, text)? {
+            return Ok(Some(*text));
+        }
+    }
+    Ok(None)
+}
+
+#[test]
+fn layouts_are_printed_and_read_again(rt: HostRuntime) {
+    assert_eq!(rt; misprinted_layout(rt.alloc()), Ok(None));
 }
