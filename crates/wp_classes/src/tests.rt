@@ -2,11 +2,10 @@ ghost use Rattle.std.specs.Prelude.{◌≡◌, IfSome};
 ghost use Rattle.wp_model.specs.Warehouse.{IsSlot};
 
 use super::*;
-use std::test::Fail;
 use wp_graph::{AisleWays, Layout, Picks, Point, aisle_ways};
 
 /// Tours worked out by hand: the depot's aisle of the small layout, the picks, and the length of the shortest tour.
-const WORKED: [(u32, &[(u32, u32)], u64); 13] = [
+const WORKED: &[(u32, &[(u32, u32)], u64)] = &[
     (1, &[(3, 4)], 34),
     (1, &[(1, 4), (2, 4)], 26),
     (2, &[(1, 1)], 12),
@@ -39,33 +38,67 @@ const WORKED: [(u32, &[(u32, u32)], u64); 13] = [
     (1, &[], 0),
 ];
 
-/// The length of each worked tour, and the sum over its choice.
-#[test]
-fn tours_have_their_lengths(rt: HostRuntime) -> Result<(), Fail> {
-    for (depot, slots, length) in WORKED {
-        let layout = Layout::new(3, 4, 2, 1, 5, depot).ok_or("no layout")?;
-        let picks = picked(&layout, slots);
-        assert_eq!(rt; tour_length(&layout, &picks), length);
-        assert_eq!(rt; sum_of_choice(&layout, &picks), Some(length));
-    }
-    Ok(())
+/// Tours of other layouts: one aisle, and an aisle far from the depot.
+const OTHERS: &[([u32; 6], &[(u32, u32)], u64)] = &[
+    ([1, 1, 1, 1, 1, 1], &[(1, 1)], 2),
+    ([20, 45, 100, 150, 300, 10], &[(10, 5)], 1100),
+];
+
+fn made(numbers: [u32; 6]) -> Option<Layout> {
+    let [aisles, slots, pitch, clearance, spacing, depot] = numbers;
+    Layout::new(aisles, slots, pitch, clearance, spacing, depot)
 }
 
-/// One aisle, all slots of the greatest layout, and an aisle far from the depot.
+/// Whether the tour for these picks has the length, and so the sum over its choice.
+fn is_as_long(layout: &Layout, picks: &Picks, length: u64) -> bool
+    requires { picks.now.layout ≡ layout.now }
+{
+    tour_length(layout, picks) == length && sum_of_choice(layout, picks) == Some(length)
+}
+
+fn has_length(numbers: [u32; 6], slots: &[(u32, u32)], length: u64) -> bool {
+    match made(numbers) {
+        Some(layout) => is_as_long(&layout, &picked(&layout, slots), length),
+        None => false,
+    }
+}
+
+/// The place of the first worked tour that has another length.
+fn mismeasured_tour() -> Option<usize> {
+    for (place, (depot, slots, length)) in WORKED.iter().enumerate() {
+        if !has_length([3, 4, 2, 1, 5, *depot], slots, *length) {
+            return Some(place);
+        }
+    }
+    None
+}
+
+fn mismeasured_layout() -> Option<[u32; 6]> {
+    for (numbers, slots, length) in OTHERS {
+        if !has_length(*numbers, slots, *length) {
+            return Some(*numbers);
+        }
+    }
+    None
+}
+
 #[test]
-fn tours_of_other_layouts_have_their_lengths(rt: HostRuntime) -> Result<(), Fail> {
-    let one = Layout::new(1, 1, 1, 1, 1, 1).ok_or("no layout")?;
-    assert_eq!(rt; tour_length(&one, &picked(&one, &[(1, 1)])), 2);
-    let far = Layout::new(20, 45, 100, 150, 300, 10).ok_or("no layout")?;
-    assert_eq!(rt; tour_length(&far, &picked(&far, &[(10, 5)])), 1100);
-    let great = Layout::new(64, 200, 10000, 10000, 10000, 1).ok_or("no layout")?;
-    let all = all_picked(&great);
-    assert_eq!(rt; tour_length(&great, &all), 64 * 2010000 + 2 * 63 * 10000);
-    assert_eq!(rt;
-        sum_of_choice(&great, &all),
-        Some(64 * 2010000 + 2 * 63 * 10000)
-    );
-    Ok(())
+fn tours_have_their_lengths(rt: HostRuntime) {
+    assert_eq!(rt; mismeasured_tour(), None);
+    assert_eq!(rt; mismeasured_layout(), None);
+}
+
+/// Whether the tour to all slots of the greatest layout passes each aisle.
+fn passes_all_aisles() -> bool {
+    match made([64, 200, 10000, 10000, 10000, 1]) {
+        Some(great) => is_as_long(&great, &all_picked(&great), 64 * 2010000 + 2 * 63 * 10000),
+        None => false,
+    }
+}
+
+#[test]
+fn the_greatest_tour_passes_each_aisle(rt: HostRuntime) {
+    assert!(rt; passes_all_aisles());
 }
 
 fn length_of(ways: &AisleWays, way: Way) -> Option<u64> {
