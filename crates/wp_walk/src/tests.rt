@@ -3,12 +3,11 @@ ghost use Rattle.wp_model.specs.Warehouse.{IsSlot};
 
 use super::*;
 use std::alloc::Global;
-use std::test::Fail;
 use wp_classes::{tour_choice, tour_length};
 use wp_graph::{Layout, Picks, Point, walk_length};
 
 /// The depot's aisle of the small layout, the picks, and the length of the shortest tour.
-const WORKED: [(u32, &[(u32, u32)], u64); 16] = [
+const WORKED: &[(u32, &[(u32, u32)], u64)] = &[
     (1, &[(3, 4)], 34),
     (1, &[(1, 4), (2, 4)], 26),
     (2, &[(1, 1)], 12),
@@ -44,91 +43,24 @@ const WORKED: [(u32, &[(u32, u32)], u64); 16] = [
     (1, &[], 0),
 ];
 
-/// The walk for a shortest tour's choice goes by moves, has the tour's length, begins and ends at the depot and passes
-/// every pick.
-#[test]
-fn walks_are_tours(rt: HostRuntime) -> Result<(), Fail> {
-    let alloc = rt.alloc();
-    for (depot, slots, length) in WORKED {
-        let layout = Layout::new(3, 4, 2, 1, 5, depot).ok_or("no layout")?;
-        let picks = picked(&layout, slots);
-        let walk = walk_of(alloc, &layout, &picks, &tour_choice(&layout, &picks)).map_err(
-            |_| "no memory",
-        )?;
-        assert_eq!(rt; length_walked(alloc, &layout, &picks), Some(length));
-        let home = Point {
-            aisle: depot,
-            slot: 0,
-        };
-        assert_eq!(rt; walk.first().copied(), Some(home));
-        assert_eq!(rt; walk.last().copied(), Some(home));
-        assert!(rt; passes_all(&walk, slots));
+fn made(numbers: [u32; 6]) -> Option<Layout> {
+    let [aisles, slots, pitch, clearance, spacing, depot] = numbers;
+    Layout::new(aisles, slots, pitch, clearance, spacing, depot)
+}
+
+/// The walk for a shortest tour's choice.
+fn walked(alloc: Global, layout: &Layout, picks: &Picks) -> Option<Vec<Point>>
+    requires { picks.now.layout ≡ layout.now }
+{
+    walk_of(alloc, layout, picks, &tour_choice(layout, picks)).ok()
+}
+
+/// The length of a list of points, if it is a closed walk of the layout.
+fn length_of(layout: &Layout, walk: &Vec<Point>) -> Option<u64> {
+    if walk.len() > 100_000 {
+        return None;
     }
-    Ok(())
-}
-
-/// With nothing to pick the walk is the depot alone.
-#[test]
-fn the_walk_for_no_picks_is_the_depot(rt: HostRuntime) -> Result<(), Fail> {
-    let alloc = rt.alloc();
-    let layout = Layout::new(3, 4, 2, 1, 5, 2).ok_or("no layout")?;
-    let picks = Picks::new(&layout);
-    let walk = walk_of(alloc, &layout, &picks, &tour_choice(&layout, &picks)).map_err(
-        |_| "no memory",
-    )?;
-    let depot = Point { aisle: 2, slot: 0 };
-    assert_eq!(rt; walk.as_slice(), [depot].as_slice());
-    Ok(())
-}
-
-/// The points of a small walk, in order.
-#[test]
-fn a_small_walk_goes_point_by_point(rt: HostRuntime) -> Result<(), Fail> {
-    let alloc = rt.alloc();
-    let layout = Layout::new(2, 2, 2, 1, 5, 1).ok_or("no layout")?;
-    let picks = picked(&layout, &[(1, 2), (2, 2)]);
-    let walk = walk_of(alloc, &layout, &picks, &tour_choice(&layout, &picks)).map_err(
-        |_| "no memory",
-    )?;
-    let expected = [
-        (1, 0),
-        (2, 0),
-        (2, 1),
-        (2, 2),
-        (2, 3),
-        (1, 3),
-        (1, 2),
-        (1, 1),
-        (1, 0),
-    ];
-    assert_eq!(rt; walk.len(), expected.len());
-    for (point, (aisle, slot)) in walk.iter().zip(expected) {
-        assert_eq!(rt; *point, Point { aisle, slot });
-    }
-    Ok(())
-}
-
-/// One aisle, an aisle far from the depot, and all slots of the greatest layout.
-#[test]
-fn walks_of_other_layouts_have_their_lengths(rt: HostRuntime) -> Result<(), Fail> {
-    let alloc = rt.alloc();
-    let one = Layout::new(1, 1, 1, 1, 1, 1).ok_or("no layout")?;
-    assert_eq!(rt;
-        length_walked(alloc, &one, &picked(&one, &[(1, 1)])),
-        Some(2)
-    );
-    let far = Layout::new(20, 45, 100, 150, 300, 10).ok_or("no layout")?;
-    assert_eq!(rt;
-        length_walked(alloc, &far, &picked(&far, &[(10, 5)])),
-        Some(1100)
-    );
-    let great = Layout::new(64, 200, 10000, 10000, 10000, 1).ok_or("no layout")?;
-    let all = all_picked(&great);
-    assert_eq!(rt;
-        length_walked(alloc, &great, &all),
-        Some(tour_length(&great, &all))
-    );
-    Ok(())
+    walk_length(layout, walk)
 }
 
 /// Whether a walk passes all of these points.
@@ -145,16 +77,137 @@ fn passes_all(walk: &[Point], slots: &[(u32, u32)]) -> bool {
     true
 }
 
-/// The length of the walk for a shortest tour's choice.
-fn length_walked(alloc: Global, layout: &Layout, picks: &Picks) -> Option<u64>
+/// Whether a walk goes by moves, has the length, begins and ends at the depot and passes every pick.
+fn is_tour(layout: &Layout, walk: &Vec<Point>, slots: &[(u32, u32)], length: u64) -> bool {
+    let home = Point {
+        aisle: layout.depot(),
+        slot: 0,
+    };
+    length_of(layout, walk) == Some(length)
+        && walk.first() == Some(&home)
+        && walk.last() == Some(&home)
+        && passes_all(walk, slots)
+}
+
+/// Whether the walk for the picks is a shortest tour.
+fn walk_is_tour(
+    alloc: Global,
+    numbers: [u32; 6],
+    slots: &[(u32, u32)],
+    length: u64,
+) -> Option<bool> {
+    let layout = made(numbers)?;
+    let walk = walked(alloc, &layout, &picked(&layout, slots))?;
+    Some(is_tour(&layout, &walk, slots, length))
+}
+
+/// The place of the first worked tour for which the walk is none.
+fn misled_walk(alloc: Global) -> Option<usize> {
+    for (place, (depot, slots, length)) in WORKED.iter().enumerate() {
+        if walk_is_tour(alloc, [3, 4, 2, 1, 5, *depot], slots, *length) != Some(true) {
+            return Some(place);
+        }
+    }
+    None
+}
+
+#[test]
+fn walks_are_tours(rt: HostRuntime) {
+    assert_eq!(rt; misled_walk(rt.alloc()), None);
+}
+
+/// Layouts, picks, and the aisles and slots of the walk for them in order. With nothing to pick the walk is the depot
+/// alone.
+const WALKS: &[([u32; 6], &[(u32, u32)], &[(u32, u32)])] = &[
+    ([3, 4, 2, 1, 5, 2], &[], &[(2, 0)]),
+    (
+        [2, 2, 2, 1, 5, 1],
+        &[(1, 2), (2, 2)],
+        &[
+            (1, 0),
+            (2, 0),
+            (2, 1),
+            (2, 2),
+            (2, 3),
+            (1, 3),
+            (1, 2),
+            (1, 1),
+            (1, 0),
+        ],
+    ),
+];
+
+/// Whether a walk has just these points.
+fn goes_by(walk: &[Point], points: &[(u32, u32)]) -> bool {
+    for (point, (aisle, slot)) in walk.iter().zip(points) {
+        if point.aisle != *aisle || point.slot != *slot {
+            return false;
+        }
+    }
+    walk.len() == points.len()
+}
+
+fn walk_goes_by(
+    alloc: Global,
+    numbers: [u32; 6],
+    slots: &[(u32, u32)],
+    points: &[(u32, u32)],
+) -> Option<bool> {
+    let layout = made(numbers)?;
+    let walk = walked(alloc, &layout, &picked(&layout, slots))?;
+    Some(goes_by(&walk, points))
+}
+
+/// The layout of the first walk that has other points.
+fn misplaced_walk(alloc: Global) -> Option<[u32; 6]> {
+    for (numbers, slots, points) in WALKS {
+        if walk_goes_by(alloc, *numbers, slots, points) != Some(true) {
+            return Some(*numbers);
+        }
+    }
+    None
+}
+
+#[test]
+fn small_walks_go_point_by_point(rt: HostRuntime) {
+    assert_eq!(rt; misplaced_walk(rt.alloc()), None);
+}
+
+/// One aisle, and an aisle far from the depot.
+const OTHERS: &[([u32; 6], &[(u32, u32)], u64)] = &[
+    ([1, 1, 1, 1, 1, 1], &[(1, 1)], 2),
+    ([20, 45, 100, 150, 300, 10], &[(10, 5)], 1100),
+];
+
+fn misled_layout(alloc: Global) -> Option<[u32; 6]> {
+    for (numbers, slots, length) in OTHERS {
+        if walk_is_tour(alloc, *numbers, slots, *length) != Some(true) {
+            return Some(*numbers);
+        }
+    }
+    None
+}
+
+#[test]
+fn walks_of_other_layouts_have_their_lengths(rt: HostRuntime) {
+    assert_eq!(rt; misled_layout(rt.alloc()), None);
+}
+
+fn is_as_long_as_the_tour(alloc: Global, layout: &Layout, picks: &Picks) -> Option<bool>
     requires { picks.now.layout ≡ layout.now }
 {
-    let choice = tour_choice(layout, picks);
-    let walk = walk_of(alloc, layout, picks, &choice).ok()?;
-    if walk.len() > 100_000 {
-        return None;
-    }
-    walk_length(layout, &walk)
+    let walk = walked(alloc, layout, picks)?;
+    Some(length_of(layout, &walk) == Some(tour_length(layout, picks)))
+}
+
+fn greatest_walk_is_as_long(alloc: Global) -> Option<bool> {
+    let great = made([64, 200, 10000, 10000, 10000, 1])?;
+    is_as_long_as_the_tour(alloc, &great, &all_picked(&great))
+}
+
+#[test]
+fn the_greatest_walk_has_the_length_of_its_tour(rt: HostRuntime) {
+    assert_eq!(rt; greatest_walk_is_as_long(rt.alloc()), Some(true));
 }
 
 /// A point, where it is a slot of the layout.
