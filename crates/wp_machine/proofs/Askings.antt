@@ -10,7 +10,7 @@ use Rattle.wp_model.specs.Tables.{IsReadOpening}
 use Rattle.wp_model.specs.declared.entry.Entry.{Entry}
 use Rattle.wp_model.specs.declared.memory.Memory.{Memory}
 use Rattle.wp_machine.specs.Machine.{EachStateIsSound, asked_all, asking_of}
-use Rattle.wp_machine.proofs.Floors.{is_opening}
+use Rattle.wp_floor.proofs.Floors.{is_opening}
 use Rattle.wp_machine.specs.declared.asking.Asking.{Asking}
 
 one_more : (i : ℕ) → suc i ≡ i + 1

@@ -8,18 +8,18 @@ use Rattle.wp_model.specs.Step.{Stepped, step}
 use Rattle.wp_model.specs.declared.command.Command.{Command}
 use Rattle.wp_model.specs.declared.entry.Entry.{Entry}
 use Rattle.wp_machine.specs.Answering.{IsAnswer, IsMachine}
-use Rattle.wp_machine.specs.Floor.{IsFloor, state_of}
+use Rattle.wp_floor.specs.Floor.{IsFloor, state_of, wave_count}
 use Rattle.wp_machine.specs.Outcome.{outcome_of}
-use Rattle.wp_machine.specs.declared.floor.Floor.{Floor}
+use Rattle.wp_floor.specs.declared.floor.Floor.{Floor}
 use Rattle.wp_machine.specs.declared.outcome.Answer.{Answer}
 
 -- a machine that was opened
-pub machine_opens : (opening : Opening) (floor : Floor) → IsFloor opening floor → state_of floor ≡ opening_state opening → floor.waves ≡ [] → IsMachine (opened opening) floor
+pub machine_opens : (opening : Opening) (floor : Floor) → IsFloor opening floor → state_of floor ≡ opening_state opening → wave_count floor ≡ 0 → IsMachine (opened opening) floor
 machine_opens opening floor is state none = record {
   legal = tt;
   floor = is;
   state = state;
-  waves = omega (arith, ap length none);
+  waves = omega (arith, none);
   few = omega arith;
 }
 

@@ -4,9 +4,9 @@ use Rattle.wp_model.specs.History.{History, IsLegal, state_after}
 use Rattle.wp_model.specs.Opening.{Opening}
 use Rattle.wp_model.specs.Step.{step}
 use Rattle.wp_model.specs.declared.command.Command.{Command}
-use Rattle.wp_machine.specs.Floor.{HasStepped, IsFloor, state_of}
+use Rattle.wp_floor.specs.Floor.{HasStepped, IsFloor, state_of, wave_count}
+use Rattle.wp_floor.specs.declared.floor.Floor.{Floor}
 use Rattle.wp_machine.specs.Outcome.{outcome_of}
-use Rattle.wp_machine.specs.declared.floor.Floor.{Floor}
 use Rattle.wp_machine.specs.declared.outcome.Answer.{Answer}
 
 -- a command was answered as the entry with a number, with all that its step tells
@@ -20,5 +20,5 @@ pub record IsMachine (history : History) (kept : Floor) : Type 0 where
   pub legal : IsLegal history
   pub floor : IsFloor history.opening kept
   pub state : state_of kept ≡ state_after history
-  pub waves : length kept.waves ≤ length history.entries
+  pub waves : wave_count kept ≤ length history.entries
   pub few : length history.entries < 2 ^ 32

@@ -1,15 +1,4 @@
-pub mod Opening
-pub mod Waves
-pub mod Floor
-pub mod Holding
-pub mod Held
-pub mod Takers
-pub mod Receiving
-pub mod Submitting
-pub mod Releasing
 pub mod Answering
 pub mod Machine
 pub mod Outcome
 pub mod Planning
-pub mod Refilling
-pub mod Wanting

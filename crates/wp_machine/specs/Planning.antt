@@ -1,28 +1,15 @@
 -- What is prepared for a command.
-use Rattle.std.specs.Prelude.{◌≡◌, ℕ, ◌+◌, ◌<◌, ◌==◌, nat_lt, List, length, Option, Some, None, if◌then◌else◌}
-use Rattle.wp_model.specs.Opening.{Opening, most_orders}
+use Rattle.std.specs.Prelude.{◌≡◌, ℕ, ◌<◌, List, Some}
+use Rattle.wp_model.specs.Opening.{Opening}
 use Rattle.wp_model.specs.Tables.{row_number_from}
 use Rattle.wp_model.specs.declared.command.Command.{Command}
 use Rattle.wp_model.specs.declared.command.Command.TheVariants as command
-use Rattle.wp_model.specs.declared.reply.Reply.{Reply}
-use Rattle.wp_model.specs.declared.reply.Reply.TheVariants as reply
-use Rattle.wp_machine.specs.Floor.{IsFreshRoom, most_wants}
-use Rattle.wp_machine.specs.Submitting.{IsNewWave}
-use Rattle.wp_machine.specs.declared.held.Claim.{Claim}
-use Rattle.wp_machine.specs.declared.holding.Rooms.{Rooms}
+use Rattle.wp_floor.specs.Floor.{most_wants}
+use Rattle.wp_floor.specs.Holding.{AreFreshRooms}
+use Rattle.wp_floor.specs.Submitting.{IsPrepared, size_fault, submit_of}
+use Rattle.wp_floor.specs.declared.held.Claim.{Claim}
 use Rattle.wp_machine.specs.declared.planning.Plan.{Plan}
 use Rattle.wp_machine.specs.declared.planning.Plan.TheVariants as plan
-
--- why orders can't make a wave whatever was submitted before: there are none, or too many
-abbrev pub size_fault : List (List ℕ) → Option Reply
-size_fault orders =
-    if length orders == 0 then Some reply.NoOrders
-    else if nat_lt most_orders (length orders) then Some (reply.WaveFull (length orders))
-    else None
-
--- empty rooms, each for one hold a row and so many more
-abbrev pub AreFreshRooms : Opening → ℕ → Rooms → Type 0
-AreFreshRooms opening more rooms = IsFreshRoom (length opening.stock.rows + more) rooms.room × IsFreshRoom (length opening.stock.rows + more) rooms.sheet
 
 -- a claim has the number of the row that lies at its location
 abbrev pub KnowsRow : Opening → Claim → Type 0
@@ -31,7 +18,7 @@ KnowsRow opening claim = row_number_from 0 opening.stock.rows claim.location ≡
 -- what is prepared for a command
 abbrev pub IsPlanOf : Opening → Command → Plan → Type 0
 IsPlanOf opening asked (plan.Refuse answer) = (name : List ℕ) × (orders : List (List ℕ)) × (asked ≡ command.Submit name orders) × (size_fault orders ≡ Some answer)
-IsPlanOf opening asked (plan.Submit new) = (asked ≡ command.Submit new.wave.name new.wave.orders) × IsNewWave opening new.wave
+IsPlanOf opening asked (plan.Submit new) = (asked ≡ submit_of new) × IsPrepared opening new
 IsPlanOf opening asked (plan.Allot name rooms) = (asked ≡ command.Allot name) × AreFreshRooms opening most_wants rooms
 IsPlanOf opening asked (plan.Release name rooms) = (asked ≡ command.Release name) × AreFreshRooms opening most_wants rooms
 IsPlanOf opening asked (plan.Cancel name) = asked ≡ command.Cancel name

@@ -3,20 +3,16 @@ ghost use Rattle.std.specs.Prelude.{◌≡◌, ◌+◌, ◌<◌, ◌^◌, length
 ghost use Rattle.wp_model.specs.declared.command.Command.{Command as CommandData};
 ghost use Rattle.wp_model.specs.declared.command.Command.TheVariants as command;
 ghost use Rattle.wp_machine.specs.Answering.{IsAnswer};
-ghost use Rattle.wp_machine.specs.Floor.{IsFloor};
-ghost use Rattle.wp_machine.specs.Held.{IsRowAt};
-ghost use Rattle.wp_machine.specs.Holding.{HaveSpace};
+ghost use Rattle.wp_floor.specs.Floor.{IsFloor, state_of, wave_count};
+ghost use Rattle.wp_floor.specs.Held.{IsRowAt};
+ghost use Rattle.wp_floor.specs.Holding.{HaveSpace};
 ghost use Rattle.wp_machine.specs.Planning.{IsPlanOf};
-ghost use Rattle.wp_machine.specs.Refilling.{HaveRefillSpace};
+ghost use Rattle.wp_floor.specs.Refilling.{HaveRefillSpace};
 
-use crate::floor::Floor;
-use crate::held::Claim;
-use crate::holding::Rooms;
-use crate::opening::Opening;
 use crate::outcome::{Answer, Outcome, Refill, WaveHolds};
 use crate::planning::Plan;
-use crate::releasing::Sheet;
 use wp_book::Room;
+use wp_floor::{Claim, Floor, Opening, Rooms, Sheet};
 use wp_model::{Name, Reply};
 
 // An answer that tells nothing beside its reply.
@@ -63,67 +59,71 @@ fn refilled(number: u64, wave: Name, claim: &Claim, room: Room) -> Answer
     }
 }
 
-impl Floor {
-    // Answers a release.
-    fn answer_release(&mut self, opening: &Opening, number: u64, name: Name, rooms: Rooms) -> Answer
-        requires floor { IsFloor opening.now self.old }
-        requires rooms { HaveSpace self.old.book rooms }
-        ensures { IsAnswer opening.now number (command.Release name) self.old self.new result }
-    {
-        match self.release(opening, &name, rooms) {
-            Ok(Some(sheet)) => released(number, name, sheet),
-            Ok(None) => plain(number, Reply::Released),
-            Err(why) => plain(number, why),
-        }
+// Answers a release.
+fn answer_release(
+    floor: &mut Floor,
+    opening: &Opening,
+    number: u64,
+    name: Name,
+    rooms: Rooms,
+) -> Answer
+    requires floor { IsFloor opening.now floor.old }
+    requires rooms { HaveSpace (state_of floor.old).rows rooms }
+    ensures { IsAnswer opening.now number (command.Release name) floor.old floor.new result }
+{
+    match floor.release(opening, &name, rooms) {
+        Ok(Some(sheet)) => released(number, name, sheet),
+        Ok(None) => plain(number, Reply::Released),
+        Err(why) => plain(number, why),
     }
+}
 
-    // Answers a loss.
-    fn answer_missing(
-        &mut self,
-        opening: &Opening,
-        number: u64,
-        name: Name,
-        claim: &Claim,
-        rooms: Rooms,
-    ) -> Answer
-        requires floor { IsFloor opening.now self.old }
-        requires row { IsRowAt self.old.book.rows claim.now.location claim.now.row }
-        requires quantity { 0 < claim.now.quantity }
-        requires rooms { HaveRefillSpace self.old.book rooms }
-        ensures { IsAnswer opening.now number (command.Missing name claim.now.order claim.now.location claim.now.quantity) self.old self.new result }
-    {
-        match self.missing(opening, &name, claim, rooms) {
-            Ok(room) => refilled(number, name, claim, room),
-            Err(why) => plain(number, why),
-        }
+// Answers a loss.
+fn answer_missing(
+    floor: &mut Floor,
+    opening: &Opening,
+    number: u64,
+    name: Name,
+    claim: &Claim,
+    rooms: Rooms,
+) -> Answer
+    requires floor { IsFloor opening.now floor.old }
+    requires row { IsRowAt (state_of floor.old).rows claim.now.location claim.now.row }
+    requires quantity { 0 < claim.now.quantity }
+    requires rooms { HaveRefillSpace (state_of floor.old).rows rooms }
+    ensures { IsAnswer opening.now number (command.Missing name claim.now.order claim.now.location claim.now.quantity) floor.old floor.new result }
+{
+    match floor.missing(opening, &name, claim, rooms) {
+        Ok(room) => refilled(number, name, claim, room),
+        Err(why) => plain(number, why),
     }
+}
 
-    /// Answers a command by what was prepared for it, as the entry with a number. It takes no memory.
-    pub fn answer(&mut self, opening: &Opening, number: u64, plan: Plan) -> Answer
-        requires floor { IsFloor opening.now self.old }
-        requires plan { (asked : CommandData) × IsPlanOf opening.now asked plan }
-        requires few { length self.old.waves + 1 < 2 ^ 32 }
-        ensures { (asked : CommandData) → IsPlanOf opening.now asked plan → IsAnswer opening.now number asked self.old self.new result }
-    {
-        match plan {
-            Plan::Refuse(reply) => plain(number, reply),
-            Plan::Submit(new) => plain(number, self.submit(opening, new)),
-            Plan::Allot(name, rooms) => plain(number, self.allot(opening, &name, rooms)),
-            Plan::Release(name, rooms) => self.answer_release(opening, number, name, rooms),
-            Plan::Cancel(name) => plain(number, self.cancel(opening, &name)),
-            Plan::Pick(name, claim) => plain(number, self.pick(opening, &name, &claim)),
-            Plan::Missing(name, claim, rooms) => {
-                self.answer_missing(opening, number, name, &claim, rooms)
-            }
-            Plan::Receive {
-                location,
-                row,
-                article,
-                quantity,
-            } => plain(
-                number,
-                self.receive(opening, &location, row, &article, quantity),
-            ),
+/// Answers a command by what was prepared for it, as the entry with a number. It takes no memory.
+pub fn answer_plan(floor: &mut Floor, opening: &Opening, number: u64, plan: Plan) -> Answer
+    requires floor { IsFloor opening.now floor.old }
+    requires plan { (asked : CommandData) × IsPlanOf opening.now asked plan }
+    requires few { wave_count floor.old + 1 < 2 ^ 32 }
+    ensures { (asked : CommandData) → IsPlanOf opening.now asked plan → IsAnswer opening.now number asked floor.old floor.new result }
+{
+    match plan {
+        Plan::Refuse(reply) => plain(number, reply),
+        Plan::Submit(new) => plain(number, floor.submit(opening, new)),
+        Plan::Allot(name, rooms) => plain(number, floor.allot(opening, &name, rooms)),
+        Plan::Release(name, rooms) => answer_release(floor, opening, number, name, rooms),
+        Plan::Cancel(name) => plain(number, floor.cancel(opening, &name)),
+        Plan::Pick(name, claim) => plain(number, floor.pick(opening, &name, &claim)),
+        Plan::Missing(name, claim, rooms) => {
+            answer_missing(floor, opening, number, name, &claim, rooms)
         }
+        Plan::Receive {
+            location,
+            row,
+            article,
+            quantity,
+        } => plain(
+            number,
+            floor.receive(opening, &location, row, &article, quantity),
+        ),
     }
 }

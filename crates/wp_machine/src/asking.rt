@@ -1,13 +1,13 @@
 //! What desks ask, one after the other, in whatever order they come.
 ghost use Rattle.std.specs.Prelude.{◌≡◌, ◌<◌, ◌^◌, length, map, IfOk, IsTrue};
 ghost use Rattle.std.specs.List.{All};
-ghost use Rattle.wp_model.specs.History.{IsLegal, opened};
+ghost use Rattle.wp_model.specs.History.{IsLegal, answered, opened};
 ghost use Rattle.wp_model.specs.Plain.{is_plain};
 ghost use Rattle.wp_machine.specs.Machine.{EachStateIsSound, asked_all, asking_of};
 
 use crate::machine::{Machine, prepare};
-use crate::opening::Opening;
 use std::alloc::Global;
+use wp_floor::Opening;
 use wp_model::{Command, Entries, Memory};
 
 /// A desk, 1 to 8, and what it asks for.
@@ -15,6 +15,41 @@ use wp_model::{Command, Entries, Memory};
 pub struct Asking {
     pub desk: u32,
     pub command: Command,
+}
+
+// A machine answers what a desk asks for.
+fn answer_asking(
+    alloc: Global,
+    opening: &Opening,
+    machine: &mut Machine<'_>,
+    asking: &Asking,
+) -> Result<(), Memory>
+    requires plain { IsTrue (is_plain asking.now.command) }
+    requires same { machine.old.opening ≡ opening.now }
+    requires few { length machine.old.entries < 4294967295 }
+    ensures { IfOk result (λ _. machine.new ≡ answered machine.old asking.now.desk asking.now.command) }
+{
+    let ready = prepare(alloc, opening, asking.command.copy(alloc)?)?;
+    machine.step(asking.desk, ready);
+    Ok(())
+}
+
+// A machine that has answered nothing answers all that desks ask, one after the other.
+fn answer_each(
+    alloc: Global,
+    opening: &Opening,
+    machine: &mut Machine<'_>,
+    askings: &[Asking],
+) -> Result<(), Memory>
+    requires plain { All (λ asking. IsTrue (is_plain asking.command)) askings.now }
+    requires few { length askings.now < 2 ^ 32 }
+    requires fresh { machine.old ≡ opened opening.now }
+    ensures { IfOk result (λ _. machine.new ≡ asked_all (opened opening.now) askings.now) }
+{
+    for asking in askings {
+        answer_asking(alloc, opening, machine, asking)?;
+    }
+    Ok(())
 }
 
 // A machine that answered all that desks ask, one after the other.
@@ -28,10 +63,7 @@ fn machine_asked<'a>(
     ensures { IfOk result (λ machine. machine ≡ asked_all (opened opening.now) askings.now) }
 {
     let mut machine = Machine::open(alloc, opening)?;
-    for asking in askings {
-        let ready = prepare(alloc, opening, asking.command.copy(alloc)?)?;
-        machine.step(asking.desk, ready);
-    }
+    answer_each(alloc, opening, &mut machine, askings)?;
     Ok(machine)
 }
 

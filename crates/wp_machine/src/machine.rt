@@ -7,12 +7,12 @@ ghost use Rattle.wp_model.specs.Tables.{IsReadOpening};
 ghost use Rattle.wp_machine.specs.Outcome.{outcome_of};
 ghost use Rattle.wp_machine.specs.Planning.{IsPlanOf};
 
-use crate::floor::Floor;
-use crate::opening::Opening;
+use crate::answers::answer_plan;
 use crate::outcome::Answer;
 use crate::planning::{Plan, plan_command};
 use std::alloc::Global;
 use std::marker::Model;
+use wp_floor::{Floor, Opening};
 use wp_model::{Cell, Chain, Command, Entries, Entry, Memory, Name, Reply, Row, WaveState};
 
 /// A command with all that its step needs, so that the step takes no memory. Contracts see the opening that it was
@@ -51,6 +51,20 @@ impl Ready<'_> {
     }
 }
 
+// What is prepared for a command, and room for its entry.
+fn parts_of(
+    alloc: Global,
+    opening: &Opening,
+    command: &Command,
+) -> Result<(Plan, Cell<Entry>), Memory>
+    requires { IsTrue (is_plain command.now) }
+    ensures { IfOk result (λ parts. IsPlanOf opening.now command.now parts.0) }
+{
+    let plan = plan_command(alloc, opening, command)?;
+    let cell = Cell::new(alloc)?;
+    Ok((plan, cell))
+}
+
 /// Takes the memory that a command's step needs, and looks its names up.
 pub fn prepare<'a>(
     alloc: Global,
@@ -60,8 +74,7 @@ pub fn prepare<'a>(
     requires { IsTrue (is_plain command) }
     ensures { IfOk result (λ ready. ready ≡ record { opening = opening.now; command = command }) }
 {
-    let plan = plan_command(alloc, opening, &command)?;
-    let cell = Cell::new(alloc)?;
+    let (plan, cell) = parts_of(alloc, opening, &command)?;
     Ok(Ready {
         opening,
         command,
@@ -150,7 +163,7 @@ impl<'a> Machine<'a> {
         ensures outcome { result.outcome ≡ outcome_of (length self.old.entries) (state_after self.old) ready.entry.command (step self.old.opening (state_after self.old) ready.entry.command) }
     {
         let (command, plan, cell) = ready.into_parts();
-        let answer = self.floor.answer(self.opening, self.count, plan);
+        let answer = answer_plan(&mut self.floor, self.opening, self.count, plan);
         let entry = entry_of(self.count, desk, command, answer.reply);
         self.entries.push(entry, cell);
         self.count += 1;
@@ -168,7 +181,7 @@ impl<'a> Machine<'a> {
     pub fn rows(&self) -> u32
         ensures { result ≡ length (state_after self.now).rows }
     {
-        self.floor.book.rows()
+        self.floor.rows()
     }
 
     /// A row as it stands.
@@ -176,16 +189,13 @@ impl<'a> Machine<'a> {
         requires { row < length (state_after self.now).rows }
         ensures { slice_get (state_after self.now).rows row ≡ Some result }
     {
-        self.floor.book.row(row)
+        self.floor.row(row)
     }
 
     /// How far the wave of a name is. None comes exactly where no submit of that name was done.
     pub fn state(&self, wave: &Name) -> Option<WaveState>
         ensures { result ≡ option_map (λ found. found.1.state) (wave_from 0 (state_after self.now).waves wave.now) }
     {
-        match self.floor.waves.find(wave) {
-            Some(kept) => Some(kept.state),
-            None => None,
-        }
+        self.floor.state(wave)
     }
 }

@@ -1,28 +1,13 @@
 //! What a command's step needs, prepared beforehand.
-ghost use Rattle.std.specs.Prelude.{◌≡◌, ◌≤◌, None, IfOk, IsTrue};
+ghost use Rattle.std.specs.Prelude.{◌≡◌, IfOk, IsTrue};
 ghost use Rattle.wp_model.specs.Plain.{is_plain};
 ghost use Rattle.wp_model.specs.Tables.{IsReadOpening, row_number_from};
 ghost use Rattle.wp_model.specs.declared.command.Command.TheVariants as command;
-ghost use Rattle.wp_machine.specs.Floor.{most_wants};
-ghost use Rattle.wp_machine.specs.Planning.{AreFreshRooms, IsPlanOf, size_fault};
-ghost use Rattle.wp_machine.specs.Submitting.{IsNewWave};
+ghost use Rattle.wp_machine.specs.Planning.{IsPlanOf};
 
-use crate::held::Claim;
-use crate::holding::Rooms;
-use crate::opening::Opening;
-use crate::submitting::NewWave;
-use crate::wanting::wants_of_orders;
-use crate::waves::KeptWave;
 use std::alloc::Global;
-use wp_book::Room;
-use wp_model::{Cell, Command, Location, Memory, Name, Names, Reply, WaveState};
-
-const MOST_ORDERS: u32 = 64;
-
-const MOST_WANTS: u32 = 64 * 50;
-
-// Units that are lost are wanted once more, for one order.
-const REFILL_WANTS: u32 = 1;
+use wp_floor::{Claim, NewWave, Opening, Rooms, size_fault};
+use wp_model::{Command, Location, Memory, Name, Names, Reply};
 
 /// What a command's step needs: its names looked up, and the memory that it may take.
 #[derive(Drop)]
@@ -43,45 +28,6 @@ pub enum Plan {
     },
 }
 
-// Why orders can't make a wave whatever was submitted before: there are none, or too many.
-fn size_fault(orders: &Names) -> Option<Reply>
-    ensures { result ≡ size_fault orders.now }
-{
-    if orders.is_empty() {
-        return Some(Reply::NoOrders);
-    }
-    if orders.len() > MOST_ORDERS {
-        return Some(Reply::WaveFull(orders.len()));
-    }
-    None
-}
-
-// A wave of these orders, of which nothing was done, and room for it.
-fn new_wave(
-    alloc: Global,
-    opening: &Opening,
-    name: &Name,
-    orders: &Names,
-) -> Result<NewWave, Memory>
-    requires read { IsReadOpening opening.now }
-    requires size { size_fault orders.now ≡ None }
-    ensures named { IfOk result (λ new. (new.wave.name ≡ name.now) × (new.wave.orders ≡ orders.now)) }
-    ensures new { IfOk result (λ new. IsNewWave opening.now new.wave) }
-{
-    let wants = wants_of_orders(alloc, opening, orders.as_slice())?;
-    let wave = KeptWave {
-        name: *name,
-        orders: orders.copy(alloc)?,
-        state: WaveState::Submitted,
-        picked: false,
-        wants,
-        copy: Some(orders.copy(alloc)?),
-        sheet: None,
-    };
-    let cell = Cell::new(alloc)?;
-    Ok(NewWave { wave, cell })
-}
-
 // What a submit needs.
 fn plan_submit(
     alloc: Global,
@@ -94,19 +40,8 @@ fn plan_submit(
 {
     match size_fault(orders) {
         Some(fault) => Ok(Plan::Refuse(fault)),
-        None => Ok(Plan::Submit(new_wave(alloc, opening, name, orders)?)),
+        None => Ok(Plan::Submit(NewWave::prepare(alloc, opening, name, orders)?)),
     }
-}
-
-// Empty rooms, each for one hold a row and so many more.
-fn fresh_rooms(alloc: Global, opening: &Opening, more: u32) -> Result<Rooms, Memory>
-    requires { more ≤ most_wants }
-    ensures { IfOk result (AreFreshRooms opening.now more) }
-{
-    let size = opening.stock().rows() + more;
-    let room = Room::new(alloc, size)?;
-    let sheet = Room::new(alloc, size)?;
-    Ok(Rooms { room, sheet })
 }
 
 // What a desk says of units that are held, with the row at the location.
@@ -129,12 +64,8 @@ pub fn plan_command(alloc: Global, opening: &Opening, command: &Command) -> Resu
     let stock = opening.stock();
     match command {
         Command::Submit { wave, orders } => plan_submit(alloc, opening, wave, orders),
-        Command::Allot { wave } => {
-            Ok(Plan::Allot(*wave, fresh_rooms(alloc, opening, MOST_WANTS)?))
-        }
-        Command::Release { wave } => {
-            Ok(Plan::Release(*wave, fresh_rooms(alloc, opening, MOST_WANTS)?))
-        }
+        Command::Allot { wave } => Ok(Plan::Allot(*wave, Rooms::for_wave(alloc, opening)?)),
+        Command::Release { wave } => Ok(Plan::Release(*wave, Rooms::for_wave(alloc, opening)?)),
         Command::Cancel { wave } => Ok(Plan::Cancel(*wave)),
         Command::Pick {
             wave,
@@ -149,7 +80,7 @@ pub fn plan_command(alloc: Global, opening: &Opening, command: &Command) -> Resu
             quantity,
         } => {
             let claim = claim_of(opening, order, location, *quantity);
-            Ok(Plan::Missing(*wave, claim, fresh_rooms(alloc, opening, REFILL_WANTS)?))
+            Ok(Plan::Missing(*wave, claim, Rooms::for_refill(alloc, opening)?))
         }
         Command::Receive {
             location,

@@ -5,7 +5,7 @@ use Rattle.wp_journal.specs.Auditing.{audited}
 use Rattle.wp_journal.specs.declared.verdict.Audit.{Audit}
 use Rattle.wp_layout.specs.LayoutFile.{layout_said}
 use Rattle.wp_machine.proofs.Askings.{states_sound}
-use Rattle.wp_machine.proofs.Floors.{is_opening}
+use Rattle.wp_floor.proofs.Floors.{is_opening}
 use Rattle.wp_model.proofs.Histories.{all_answered_is_legal, answered_all-opening}
 use Rattle.wp_model.specs.History.{opened}
 use Rattle.wp_model.specs.Opening.{IsOpening, Opening}

@@ -1,4 +1,4 @@
-use super::telling::{Case, told};
+use super::telling::{Case, assert_each_told};
 use std::test::Fail;
 
 const GIVEN_UP: [Case<'static>; 5] = [
@@ -140,9 +140,5 @@ released 3 W2 of O2; 0 1 3
 
 #[test]
 fn waves_that_are_given_up_free_their_orders_and_units(rt: HostRuntime) -> Result<(), Fail> {
-    let alloc = rt.alloc();
-    for case in GIVEN_UP {
-        assert_eq!(rt; told(&rt, alloc, &case)?.as_str(), case.told);
-    }
-    Ok(())
+    assert_each_told(&rt, rt.alloc(), &GIVEN_UP)
 }

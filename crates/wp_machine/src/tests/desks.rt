@@ -3,7 +3,7 @@ ghost use Rattle.std.specs.List.{All};
 ghost use Rattle.wp_model.specs.Plain.{is_plain, is_plain_location, is_plain_quantity};
 
 use super::telling::{opening_of, push_entries, scripts_of};
-use crate::{Asking, answer_all};
+use crate::{Asking, Opening, answer_all};
 use std::alloc::Global;
 use std::process::Abort;
 use std::test::Fail;
@@ -133,7 +133,13 @@ O2,A,3
     ),
 ];
 
-/// What the desks ask for when they come in these turns, each with its commands one after the other.
+// What a desk asks for next.
+fn next_asking(alloc: Global, desk: u32, next: Option<&Command>) -> Result<Asking, Fail> {
+    let command = next.ok_or("a turn too many")?.copy(alloc)?;
+    Ok(Asking { desk, command })
+}
+
+// What the desks ask for when they come in these turns, each with its commands one after the other.
 fn askings_in(
     alloc: Global,
     first: &[Command],
@@ -144,16 +150,21 @@ fn askings_in(
     let mut second = second.iter();
     let mut askings = Vec::new(alloc);
     for desk in turns {
-        let desk = *desk;
-        let next = if desk == 1 {
+        let next = if *desk == 1 {
             first.next()
         } else {
             second.next()
         };
-        let command = next.ok_or("a turn too many")?.copy(alloc)?;
-        askings.push(Asking { desk, command })?;
+        askings.push(next_asking(alloc, *desk, next)?)?;
     }
     Ok(askings)
+}
+
+// The same of the records of the desks.
+fn askings_of(alloc: Global, desks: &Desks<'_>, turns: &[u32]) -> Result<Vec<Asking>, Fail> {
+    let first = scripts_of(alloc, desks.first)?;
+    let second = scripts_of(alloc, desks.second)?;
+    askings_in(alloc, first.script(1), second.script(1), turns)
 }
 
 fn is_near(location: &Location) -> bool
@@ -168,7 +179,7 @@ fn is_moderate(quantity: u32) -> bool
     1 <= quantity && quantity <= 100_000
 }
 
-/// Whether a command is one as a table writes it.
+// Whether a command is one as a table writes it.
 fn is_written(command: &Command) -> bool
     ensures { result ≡ is_plain command.now }
 {
@@ -195,7 +206,7 @@ fn is_written(command: &Command) -> bool
     }
 }
 
-/// Whether each command is one as a table writes it.
+// Whether each command is one as a table writes it.
 fn are_written(askings: &[Asking]) -> bool
     ensures { IsTrue result → All (λ asking. IsTrue (is_plain asking.command)) askings.now }
 {
@@ -207,32 +218,40 @@ fn are_written(askings: &[Asking]) -> bool
     true
 }
 
-/// The entries of what desks ask for in these turns.
-fn entries_in(
+// The entries of what desks ask for are these.
+fn assert_entries(
+    rt: &impl Abort,
+    alloc: Global,
+    opening: &Opening,
+    askings: &[Asking],
+    entries: &str,
+) -> Result<(), Fail> {
+    assert!(rt; askings.len() <= 100);
+    assert!(rt; are_written(askings));
+    let all = answer_all(alloc, opening, askings)?;
+    let mut text = String::new(alloc);
+    push_entries(&mut text, all.as_slice())?;
+    assert_eq!(rt; text.as_str(), entries);
+    Ok(())
+}
+
+// The desks are answered in their turns.
+fn assert_turns(
     rt: &impl Abort,
     alloc: Global,
     desks: &Desks<'_>,
-    turns: &[u32],
-) -> Result<String, Fail> {
+    turns: &Turns<'_>,
+) -> Result<(), Fail> {
     let opening = opening_of(alloc, desks.stock, desks.orders)?;
-    let first = scripts_of(alloc, desks.first)?;
-    let second = scripts_of(alloc, desks.second)?;
-    let askings = askings_in(alloc, first.script(1), second.script(1), turns)?;
-    let askings = askings.as_slice();
-    assert!(rt; askings.len() <= 100);
-    assert!(rt; are_written(askings));
-    let mut text = String::new(alloc);
-    push_entries(&mut text, answer_all(alloc, &opening, askings)?.as_slice())?;
-    Ok(text)
+    let askings = askings_of(alloc, desks, turns.desks)?;
+    assert_entries(rt, alloc, &opening, askings.as_slice(), turns.entries)
 }
 
 #[test]
 fn desks_are_answered_in_the_order_in_which_they_come(rt: HostRuntime) -> Result<(), Fail> {
-    let alloc = rt.alloc();
-    for (desks, both) in TURNS {
+    for (desks, both) in &TURNS {
         for turns in both {
-            let entries = entries_in(&rt, alloc, &desks, turns.desks)?;
-            assert_eq!(rt; entries.as_str(), turns.entries);
+            assert_turns(&rt, rt.alloc(), desks, turns)?;
         }
     }
     Ok(())

@@ -1,4 +1,4 @@
-use super::telling::{Case, told};
+use super::telling::{Case, assert_each_told};
 use std::test::Fail;
 
 const BY_OVERLAP: [Case<'static>; 5] = [
@@ -238,18 +238,10 @@ released 5 W2 of O2; 0 0 4
 
 #[test]
 fn orders_take_what_overlaps(rt: HostRuntime) -> Result<(), Fail> {
-    let alloc = rt.alloc();
-    for case in BY_OVERLAP {
-        assert_eq!(rt; told(&rt, alloc, &case)?.as_str(), case.told);
-    }
-    Ok(())
+    assert_each_told(&rt, rt.alloc(), &BY_OVERLAP)
 }
 
 #[test]
 fn first_short_article_is_told_and_nothing_is_held(rt: HostRuntime) -> Result<(), Fail> {
-    let alloc = rt.alloc();
-    for case in SHORT {
-        assert_eq!(rt; told(&rt, alloc, &case)?.as_str(), case.told);
-    }
-    Ok(())
+    assert_each_told(&rt, rt.alloc(), &SHORT)
 }

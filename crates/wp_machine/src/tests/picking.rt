@@ -1,4 +1,4 @@
-use super::telling::{Case, told};
+use super::telling::{Case, assert_each_told};
 use std::test::Fail;
 
 /// Units that are missing: held elsewhere, or lost.
@@ -284,18 +284,10 @@ refilled 2 W1 for O1; 0 1 1
 
 #[test]
 fn missing_units_are_held_elsewhere_or_lost(rt: HostRuntime) -> Result<(), Fail> {
-    let alloc = rt.alloc();
-    for case in LOSSES {
-        assert_eq!(rt; told(&rt, alloc, &case)?.as_str(), case.told);
-    }
-    Ok(())
+    assert_each_told(&rt, rt.alloc(), &LOSSES)
 }
 
 #[test]
 fn waves_are_done_after_their_last_unit(rt: HostRuntime) -> Result<(), Fail> {
-    let alloc = rt.alloc();
-    for case in LAST_UNITS {
-        assert_eq!(rt; told(&rt, alloc, &case)?.as_str(), case.told);
-    }
-    Ok(())
+    assert_each_told(&rt, rt.alloc(), &LAST_UNITS)
 }

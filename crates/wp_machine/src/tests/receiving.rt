@@ -1,4 +1,4 @@
-use super::telling::{Case, told};
+use super::telling::{Case, assert_each_told};
 use std::test::Fail;
 
 const RECEIPTS: [Case<'static>; 2] = [
@@ -72,9 +72,5 @@ released 1 W1 of O1; 0 0 5
 
 #[test]
 fn a_row_takes_up_to_1_000_000_units(rt: HostRuntime) -> Result<(), Fail> {
-    let alloc = rt.alloc();
-    for case in RECEIPTS {
-        assert_eq!(rt; told(&rt, alloc, &case)?.as_str(), case.told);
-    }
-    Ok(())
+    assert_each_told(&rt, rt.alloc(), &RECEIPTS)
 }

@@ -1,4 +1,4 @@
-use super::telling::{Case, told};
+use super::telling::{Case, assert_each_told};
 use std::test::Fail;
 
 /// Commands that several tests refuse, of which the first is told.
@@ -184,9 +184,5 @@ released 10 W2 of O3; 0 2 1
 
 #[test]
 fn first_reason_to_refuse_is_told(rt: HostRuntime) -> Result<(), Fail> {
-    let alloc = rt.alloc();
-    for case in REFUSALS {
-        assert_eq!(rt; told(&rt, alloc, &case)?.as_str(), case.told);
-    }
-    Ok(())
+    assert_each_told(&rt, rt.alloc(), &REFUSALS)
 }

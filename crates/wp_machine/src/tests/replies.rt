@@ -1,6 +1,7 @@
-use super::telling::{Case, told};
-use std::alloc::{AllocError, Global};
+use super::telling::{Case, assert_told};
+use std::alloc::Global;
 use std::fmt::Write;
+use std::process::Abort;
 use std::test::Fail;
 
 /// Every kind of reply but that to a wave of too many orders.
@@ -83,22 +84,19 @@ released 24 W2 of O3; 0 2 2
 
 #[test]
 fn each_kind_of_reply_is_given(rt: HostRuntime) -> Result<(), Fail> {
-    let alloc = rt.alloc();
-    assert_eq!(rt; told(&rt, alloc, &EACH_KIND)?.as_str(), EACH_KIND.told);
-    Ok(())
+    assert_told(&rt, rt.alloc(), &EACH_KIND)
 }
 
-/// The names of so many orders, each after a mark.
-fn orders_after(alloc: Global, mark: &str, orders: u32) -> Result<String, Fail> {
-    let mut text = String::new(alloc);
+// The names of so many orders, each after a mark.
+fn push_orders(text: &mut String, mark: &str, orders: u32) -> Result<(), Fail> {
     for earlier in 0..orders {
         let number = earlier + 1;
         write!(text, "{mark}O{number}")?;
     }
-    Ok(text)
+    Ok(())
 }
 
-/// A record of each of 65 orders, for one unit.
+// A record of each of 65 orders, for one unit.
 fn many_orders(alloc: Global) -> Result<String, Fail> {
     let mut text = String::new(alloc);
     for number in 1..66 {
@@ -107,42 +105,64 @@ fn many_orders(alloc: Global) -> Result<String, Fail> {
     Ok(text)
 }
 
-/// One unit for each of 64 orders, at one row.
-fn many_holds(alloc: Global) -> Result<String, Fail> {
+// A submit of 65 orders, one of 64, and of 65 once more; and the release of the wave.
+fn many_commands(alloc: Global) -> Result<String, Fail> {
     let mut text = String::new(alloc);
+    for orders in [65, 64, 65] {
+        text.push_str("1,submit,W1")?;
+        push_orders(&mut text, ",", orders)?;
+        text.push_str("\n")?;
+    }
+    text.push_str("1,release,W1\n")?;
+    Ok(text)
+}
+
+// The entry of a submit of so many orders.
+fn push_submit(text: &mut String, number: u32, orders: u32, reply: &str) -> Result<(), Fail> {
+    write!(text, "{number} 1 submit W1")?;
+    push_orders(text, " ", orders)?;
+    writeln!(text, " -> {reply}")?;
+    Ok(())
+}
+
+// What a release of 64 orders tells, of which each holds one unit at one row.
+fn push_release(text: &mut String) -> Result<(), Fail> {
+    text.push_str("released 3 W1 of")?;
+    push_orders(text, " ", 64)?;
     for place in 0..64 {
         write!(text, "; {place} 0 1")?;
     }
+    text.push_str("\n")?;
+    Ok(())
+}
+
+fn many_told(alloc: Global) -> Result<String, Fail> {
+    let mut text = String::new(alloc);
+    push_submit(&mut text, 0, 65, "refused wave-full 65")?;
+    push_submit(&mut text, 1, 64, "submitted")?;
+    push_submit(&mut text, 2, 65, "refused wave-full 65")?;
+    text.push_str("3 1 release W1 -> released\n")?;
+    push_release(&mut text)?;
+    text.push_str("1-1-L 70 6 64\n")?;
     Ok(text)
+}
+
+// The same commands are told so for these orders.
+fn assert_many(rt: &impl Abort, alloc: Global, orders: &str, desk: &str) -> Result<(), Fail> {
+    let told = many_told(alloc)?;
+    let case = Case {
+        stock: "1-1-L,A,70\n",
+        orders,
+        desk,
+        told: told.as_str(),
+    };
+    assert_told(rt, alloc, &case)
 }
 
 #[test]
 fn a_wave_takes_64_orders_and_not_one_more(rt: HostRuntime) -> Result<(), Fail> {
     let alloc = rt.alloc();
     let orders = many_orders(alloc)?;
-    let full = orders_after(alloc, ",", 64)?;
-    let over = orders_after(alloc, ",", 65)?;
-    let desk = format!(in alloc;
-        "1,submit,W1{over}\n1,submit,W1{full}\n1,submit,W1{over}\n1,release,W1\n"
-    )?;
-    let full = orders_after(alloc, " ", 64)?;
-    let over = orders_after(alloc, " ", 65)?;
-    let holds = many_holds(alloc)?;
-    let all = format!(in alloc;
-        "0 1 submit W1{over} -> refused wave-full 65
-1 1 submit W1{full} -> submitted
-2 1 submit W1{over} -> refused wave-full 65
-3 1 release W1 -> released
-released 3 W1 of{full}{holds}
-1-1-L 70 6 64
-"
-    )?;
-    let case = Case {
-        stock: "1-1-L,A,70\n",
-        orders: orders.as_str(),
-        desk: desk.as_str(),
-        told: all.as_str(),
-    };
-    assert_eq!(rt; told(&rt, alloc, &case)?.as_str(), case.told);
-    Ok(())
+    let desk = many_commands(alloc)?;
+    assert_many(&rt, alloc, orders.as_str(), desk.as_str())
 }

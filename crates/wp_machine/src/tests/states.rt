@@ -1,4 +1,4 @@
-ghost use Rattle.std.specs.Prelude.{IsTrue};
+ghost use Rattle.std.specs.Prelude.{◌≡◌, IsTrue};
 ghost use Rattle.std.specs.List.{All};
 ghost use Rattle.wp_model.specs.Plain.{is_plain};
 
@@ -116,7 +116,42 @@ fn push_stand(text: &mut String, machine: &Machine<'_>) -> Result<(), Fail> {
     Ok(())
 }
 
-/// Adds how a machine stands before the first command of desk 1 and after each.
+// A machine answers a command, and then stands so.
+fn push_next(
+    rt: &impl Abort,
+    alloc: Global,
+    opening: &Opening,
+    machine: &mut Machine<'_>,
+    command: &Command,
+    text: &mut String,
+) -> Result<(), Fail>
+    requires plain { IsTrue (is_plain command.now) }
+    requires same { machine.old.opening ≡ opening.now }
+    ensures { machine.new.opening ≡ opening.now }
+{
+    answer(rt, alloc, opening, machine, command)?;
+    push_stand(text, machine)
+}
+
+// The same for each command of a script.
+fn push_each(
+    rt: &impl Abort,
+    alloc: Global,
+    opening: &Opening,
+    machine: &mut Machine<'_>,
+    script: &[Command],
+    text: &mut String,
+) -> Result<(), Fail>
+    requires plain { All (λ command. IsTrue (is_plain command)) script.now }
+    requires same { machine.old.opening ≡ opening.now }
+{
+    for command in script {
+        push_next(rt, alloc, opening, machine, command, text)?;
+    }
+    Ok(())
+}
+
+// How a new machine stands before the first command of a script and after each.
 fn push_stands(
     rt: &impl Abort,
     alloc: Global,
@@ -128,26 +163,42 @@ fn push_stands(
 {
     let mut machine = Machine::open(alloc, opening)?;
     push_stand(text, &machine)?;
-    for command in script {
-        answer(rt, alloc, opening, &mut machine, command)?;
-        push_stand(text, &machine)?;
-    }
-    Ok(())
+    push_each(rt, alloc, opening, &mut machine, script, text)
 }
 
-fn stands(rt: &impl Abort, alloc: Global, story: &Story<'_>) -> Result<String, Fail> {
+fn push_desk(
+    rt: &impl Abort,
+    alloc: Global,
+    opening: &Opening,
+    desk: &str,
+    text: &mut String,
+) -> Result<(), Fail> {
+    let scripts = scripts_of(alloc, desk)?;
+    push_stands(rt, alloc, opening, scripts.script(1), text)
+}
+
+fn push_story(
+    rt: &impl Abort,
+    alloc: Global,
+    story: &Story<'_>,
+    text: &mut String,
+) -> Result<(), Fail> {
     let opening = opening_of(alloc, story.stock, story.orders)?;
-    let scripts = scripts_of(alloc, story.desk)?;
+    push_desk(rt, alloc, &opening, story.desk, text)
+}
+
+// A machine stands as a story says.
+fn assert_stands(rt: &impl Abort, alloc: Global, story: &Story<'_>) -> Result<(), Fail> {
     let mut text = String::new(alloc);
-    push_stands(rt, alloc, &opening, scripts.script(1), &mut text)?;
-    Ok(text)
+    push_story(rt, alloc, story, &mut text)?;
+    assert_eq!(rt; text.as_str(), story.stands);
+    Ok(())
 }
 
 #[test]
 fn waves_and_rows_go_from_state_to_state(rt: HostRuntime) -> Result<(), Fail> {
-    let alloc = rt.alloc();
-    for story in STORIES {
-        assert_eq!(rt; stands(&rt, alloc, &story)?.as_str(), story.stands);
+    for story in &STORIES {
+        assert_stands(&rt, rt.alloc(), story)?;
     }
     Ok(())
 }

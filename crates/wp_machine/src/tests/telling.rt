@@ -1,6 +1,7 @@
-ghost use Rattle.std.specs.Prelude.{◌≡◌, IsTrue};
+ghost use Rattle.std.specs.Prelude.{◌≡◌, IsTrue, IfOk};
 ghost use Rattle.std.specs.List.{All};
 ghost use Rattle.wp_model.specs.Plain.{is_plain};
+ghost use Rattle.wp_model.specs.Tables.{AreReadOrders};
 
 use crate::{Answer, Machine, Opening, Outcome, prepare};
 use std::alloc::Global;
@@ -9,7 +10,7 @@ use std::process::Abort;
 use std::test::Fail;
 use wp_graph::Layout;
 use wp_model::{Command, Entry, Hold, Name};
-use wp_tables::{Scripts, read_desks, read_orders, read_stock};
+use wp_tables::{Orders, Scripts, Stock, read_desks, read_orders, read_stock};
 
 /// The records of a stock, of orders and of desk 1's commands, and all that a machine tells when it answers them.
 #[derive(Clone, Copy)]
@@ -20,20 +21,36 @@ pub struct Case<'a> {
     pub told: &'a str,
 }
 
+// The bytes of a file of a heading and records.
+fn file_of(alloc: Global, heading: &str, records: &str) -> Result<Vec<u8>, Fail> {
+    let text = format!(in alloc; "{heading}\n{records}")?;
+    Ok(text.as_bytes().to_vec(alloc)?)
+}
+
+fn stock_of(alloc: Global, records: &str) -> Result<Stock, Fail> {
+    let file = file_of(alloc, "location,article,on_hand", records)?;
+    let layout = Layout::new(64, 200, 1, 1, 1, 1).ok_or("no layout")?;
+    Ok(read_stock(alloc, &file, &layout)?)
+}
+
+fn orders_of(alloc: Global, records: &str, stock: &Stock) -> Result<Orders, Fail>
+    ensures { IfOk result (AreReadOrders stock.now.articles) }
+{
+    let file = file_of(alloc, "order,article,quantity", records)?;
+    Ok(read_orders(alloc, &file, stock)?)
+}
+
 /// The opening of the records of a stock and of orders.
 pub fn opening_of(alloc: Global, stock: &str, orders: &str) -> Result<Opening, Fail> {
-    let stock = format!(in alloc; "location,article,on_hand\n{stock}")?;
-    let layout = Layout::new(64, 200, 1, 1, 1, 1).ok_or("no layout")?;
-    let stock = read_stock(alloc, &stock.as_bytes().to_vec(alloc)?, &layout)?;
-    let orders = format!(in alloc; "order,article,quantity\n{orders}")?;
-    let orders = read_orders(alloc, &orders.as_bytes().to_vec(alloc)?, &stock)?;
+    let stock = stock_of(alloc, stock)?;
+    let orders = orders_of(alloc, orders, &stock)?;
     Ok(Opening::of(stock, orders))
 }
 
 /// The script of the records of desk 1's commands.
 pub fn scripts_of(alloc: Global, desk: &str) -> Result<Scripts, Fail> {
-    let desks = format!(in alloc; "desk,command,arguments\n{desk}")?;
-    Ok(read_desks(alloc, &desks.as_bytes().to_vec(alloc)?)?)
+    let file = file_of(alloc, "desk,command,arguments", desk)?;
+    Ok(read_desks(alloc, &file)?)
 }
 
 /// A line of each entry.
@@ -114,34 +131,105 @@ pub fn answer(
     Ok(machine.step(1, ready))
 }
 
-/// A machine that answered the commands of desk 1, whose answers' further lines are added to a text.
-fn answered<'a>(
+// A machine answers a command of desk 1, and what the answer tells beside its reply is added to a text.
+fn answer_told(
     rt: &impl Abort,
     alloc: Global,
-    opening: &'a Opening,
+    opening: &Opening,
+    machine: &mut Machine<'_>,
+    command: &Command,
+    text: &mut String,
+) -> Result<(), Fail>
+    requires plain { IsTrue (is_plain command.now) }
+    requires same { machine.old.opening ≡ opening.now }
+    ensures { machine.new.opening ≡ opening.now }
+{
+    let answer = answer(rt, alloc, opening, machine, command)?;
+    push_outcome(text, &answer.outcome)
+}
+
+// The same for each command of a script.
+fn answer_each(
+    rt: &impl Abort,
+    alloc: Global,
+    opening: &Opening,
+    machine: &mut Machine<'_>,
     script: &[Command],
     text: &mut String,
-) -> Result<Machine<'a>, Fail>
+) -> Result<(), Fail>
+    requires plain { All (λ command. IsTrue (is_plain command)) script.now }
+    requires same { machine.old.opening ≡ opening.now }
+{
+    for command in script {
+        answer_told(rt, alloc, opening, machine, command, text)?;
+    }
+    Ok(())
+}
+
+// The entries of a machine, what its answers told beside their replies, and its rows.
+fn push_told(
+    text: &mut String,
+    alloc: Global,
+    machine: &Machine<'_>,
+    outcomes: &str,
+) -> Result<(), Fail> {
+    let entries = machine.entries(alloc)?;
+    push_entries(text, entries.as_slice())?;
+    text.push_str(outcomes)?;
+    push_rows(text, machine)
+}
+
+// All that a new machine tells when it answers a script.
+fn push_script(
+    text: &mut String,
+    rt: &impl Abort,
+    alloc: Global,
+    opening: &Opening,
+    script: &[Command],
+) -> Result<(), Fail>
     requires { All (λ command. IsTrue (is_plain command)) script.now }
 {
     let mut machine = Machine::open(alloc, opening)?;
-    for command in script {
-        let answer = answer(rt, alloc, opening, &mut machine, command)?;
-        push_outcome(text, &answer.outcome)?;
-    }
-    Ok(machine)
+    let mut outcomes = String::new(alloc);
+    answer_each(rt, alloc, opening, &mut machine, script, &mut outcomes)?;
+    push_told(text, alloc, &machine, outcomes.as_str())
 }
 
-/// All that a machine tells when it answers the commands of a case: the entries, what the answers tell beside their
-/// replies, and the rows after the last.
-pub fn told(rt: &impl Abort, alloc: Global, case: &Case<'_>) -> Result<String, Fail> {
+fn push_desk(
+    text: &mut String,
+    rt: &impl Abort,
+    alloc: Global,
+    opening: &Opening,
+    desk: &str,
+) -> Result<(), Fail> {
+    let scripts = scripts_of(alloc, desk)?;
+    push_script(text, rt, alloc, opening, scripts.script(1))
+}
+
+// All that a machine tells when it answers the commands of a case: the entries, what the answers tell beside their
+// replies, and the rows after the last.
+fn push_case(
+    text: &mut String,
+    rt: &impl Abort,
+    alloc: Global,
+    case: &Case<'_>,
+) -> Result<(), Fail> {
     let opening = opening_of(alloc, case.stock, case.orders)?;
-    let scripts = scripts_of(alloc, case.desk)?;
-    let mut outcomes = String::new(alloc);
-    let machine = answered(rt, alloc, &opening, scripts.script(1), &mut outcomes)?;
+    push_desk(text, rt, alloc, &opening, case.desk)
+}
+
+/// A case is told as it says.
+pub fn assert_told(rt: &impl Abort, alloc: Global, case: &Case<'_>) -> Result<(), Fail> {
     let mut text = String::new(alloc);
-    push_entries(&mut text, machine.entries(alloc)?.as_slice())?;
-    text.push_str(outcomes.as_str())?;
-    push_rows(&mut text, &machine)?;
-    Ok(text)
+    push_case(&mut text, rt, alloc, case)?;
+    assert_eq!(rt; text.as_str(), case.told);
+    Ok(())
+}
+
+/// Each of these cases is told as it says.
+pub fn assert_each_told(rt: &impl Abort, alloc: Global, cases: &[Case<'_>]) -> Result<(), Fail> {
+    for case in cases {
+        assert_told(rt, alloc, case)?;
+    }
+    Ok(())
 }

@@ -1,6 +1,6 @@
 use Rattle.std.proofs.Common.{arith}
 use Rattle.std.proofs.lemmas.Result.{err_from_is_err_and}
-use Rattle.wp_machine.specs.Opening.{opening_of}
+use Rattle.wp_floor.specs.Opening.{opening_of}
 use Rattle.wp_top.proofs.Refusals.{opening_said, stop_at_layout, stop_at_orders, stop_at_stock}
 use Rattle.wp_top.proofs.reading.read_opening.Goals as goal
 

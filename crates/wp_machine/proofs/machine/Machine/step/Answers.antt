@@ -7,8 +7,8 @@ use Rattle.wp_machine.specs.Planning.{IsPlanOf}
 use Rattle.wp_machine.proofs.Stepping.{asked_of, entry_is, machine_steps, outcome_is, reply_is}
 use Rattle.wp_machine.proofs.machine.Machine.step.Goals as goal
 
-pub answer-answer-requires-clause-plan : goal.answer-answer-requires-clause-plan
-answer-answer-requires-clause-plan c =
+pub answer_plan-answer-requires-clause-plan : goal.answer_plan-answer-requires-clause-plan
+answer_plan-answer-requires-clause-plan c =
     let asked = c.into_parts-command.result.0 in
     let same : c.args.ready.opening ≡ c.self.inside.opening.now = c.requires.same ∙ ap (λ (h : History). h.opening) (sym c.self.view_is) in
     (asked, subst (λ (o : Opening). IsPlanOf o asked c.into_parts-command.result.1) same c.into_parts-command.ensures.plan)
@@ -21,9 +21,9 @@ invariant_of-self c =
     let plan = subst (λ (o : Opening). IsPlanOf o asked c.into_parts-command.result.1) same c.into_parts-command.ensures.plan in
     let few = rw (← c.self.view_is) at c.requires.few in
     let floor = c.self.inside.floor in
-    let next = c.answer-answer.new.self in
-    let answer = c.answer-answer.result in
-    let is = asked_of h c.self.inside.count c.args.desk asked floor next answer c.self.invariant.0 few c.self.invariant.1 (c.answer-answer.ensures asked plan) in
+    let next = c.answer_plan-answer.new.floor in
+    let answer = c.answer_plan-answer.result in
+    let is = asked_of h c.self.inside.count c.args.desk asked floor next answer c.self.invariant.0 few c.self.invariant.1 (c.answer_plan-answer.ensures asked plan) in
     let entry = c.entry_of-entry.ensures ∙ entry_is h c.args.desk asked floor next answer is c.self.inside.count c.self.invariant.0 in
     let entries : c.push.new.self ≡ h.entries ++ next_entry h c.args.desk asked ∷ [] = c.push.ensures ∙ ap (λ (e : Entry). h.entries ++ e ∷ []) entry in (
       omega (arith, c.self.invariant.0, ap length entries, length-append h.entries (next_entry h c.args.desk asked ∷ [])),
@@ -37,8 +37,8 @@ returns-clause-history c =
     let same : c.args.ready.opening ≡ c.self.inside.opening.now = c.requires.same ∙ ap (λ (h : History). h.opening) (sym c.self.view_is) in
     let plan = subst (λ (o : Opening). IsPlanOf o asked c.into_parts-command.result.1) same c.into_parts-command.ensures.plan in
     let few = rw (← c.self.view_is) at c.requires.few in
-    let is = asked_of h c.self.inside.count c.args.desk asked c.self.inside.floor c.answer-answer.new.self c.answer-answer.result c.self.invariant.0 few c.self.invariant.1 (c.answer-answer.ensures asked plan) in
-    let entry = c.entry_of-entry.ensures ∙ entry_is h c.args.desk asked c.self.inside.floor c.answer-answer.new.self c.answer-answer.result is c.self.inside.count c.self.invariant.0 in
+    let is = asked_of h c.self.inside.count c.args.desk asked c.self.inside.floor c.answer_plan-answer.new.floor c.answer_plan-answer.result c.self.invariant.0 few c.self.invariant.1 (c.answer_plan-answer.ensures asked plan) in
+    let entry = c.entry_of-entry.ensures ∙ entry_is h c.args.desk asked c.self.inside.floor c.answer_plan-answer.new.floor c.answer_plan-answer.result is c.self.inside.count c.self.invariant.0 in
     rw (← c.self.view_is, ← c.into_parts-command.ensures.command, c.push.ensures, entry) refl
 
 pub returns-clause-number : goal.returns-clause-number
@@ -47,7 +47,7 @@ returns-clause-number c =
     let asked = c.into_parts-command.result.0 in
     let same : c.args.ready.opening ≡ c.self.inside.opening.now = c.requires.same ∙ ap (λ (h : History). h.opening) (sym c.self.view_is) in
     let plan = subst (λ (o : Opening). IsPlanOf o asked c.into_parts-command.result.1) same c.into_parts-command.ensures.plan in
-    rw (← c.self.view_is) ((c.answer-answer.ensures asked plan).numbered ∙ c.self.invariant.0)
+    rw (← c.self.view_is) ((c.answer_plan-answer.ensures asked plan).numbered ∙ c.self.invariant.0)
 
 pub returns-clause-reply : goal.returns-clause-reply
 returns-clause-reply c =
@@ -56,8 +56,8 @@ returns-clause-reply c =
     let same : c.args.ready.opening ≡ c.self.inside.opening.now = c.requires.same ∙ ap (λ (h : History). h.opening) (sym c.self.view_is) in
     let plan = subst (λ (o : Opening). IsPlanOf o asked c.into_parts-command.result.1) same c.into_parts-command.ensures.plan in
     let few = rw (← c.self.view_is) at c.requires.few in
-    let is = asked_of h c.self.inside.count c.args.desk asked c.self.inside.floor c.answer-answer.new.self c.answer-answer.result c.self.invariant.0 few c.self.invariant.1 (c.answer-answer.ensures asked plan) in
-    rw (← c.self.view_is, ← c.into_parts-command.ensures.command) (reply_is h c.args.desk asked c.self.inside.floor c.answer-answer.new.self c.answer-answer.result is)
+    let is = asked_of h c.self.inside.count c.args.desk asked c.self.inside.floor c.answer_plan-answer.new.floor c.answer_plan-answer.result c.self.invariant.0 few c.self.invariant.1 (c.answer_plan-answer.ensures asked plan) in
+    rw (← c.self.view_is, ← c.into_parts-command.ensures.command) (reply_is h c.args.desk asked c.self.inside.floor c.answer_plan-answer.new.floor c.answer_plan-answer.result is)
 
 pub returns-clause-outcome : goal.returns-clause-outcome
 returns-clause-outcome c =
@@ -66,5 +66,5 @@ returns-clause-outcome c =
     let same : c.args.ready.opening ≡ c.self.inside.opening.now = c.requires.same ∙ ap (λ (h : History). h.opening) (sym c.self.view_is) in
     let plan = subst (λ (o : Opening). IsPlanOf o asked c.into_parts-command.result.1) same c.into_parts-command.ensures.plan in
     let few = rw (← c.self.view_is) at c.requires.few in
-    let is = asked_of h c.self.inside.count c.args.desk asked c.self.inside.floor c.answer-answer.new.self c.answer-answer.result c.self.invariant.0 few c.self.invariant.1 (c.answer-answer.ensures asked plan) in
-    rw (← c.self.view_is, ← c.into_parts-command.ensures.command) (outcome_is h c.args.desk asked c.self.inside.floor c.answer-answer.new.self c.answer-answer.result is)
+    let is = asked_of h c.self.inside.count c.args.desk asked c.self.inside.floor c.answer_plan-answer.new.floor c.answer_plan-answer.result c.self.invariant.0 few c.self.invariant.1 (c.answer_plan-answer.ensures asked plan) in
+    rw (← c.self.view_is, ← c.into_parts-command.ensures.command) (outcome_is h c.args.desk asked c.self.inside.floor c.answer_plan-answer.new.floor c.answer_plan-answer.result is)

@@ -1,0 +1,6 @@
+use Rattle.wp_floor.specs.Wanting.{AreWantsBefore}
+use Rattle.wp_floor.proofs.wanting.wants_of_orders.Given as goal
+
+-- the orders so far have their wants
+abbrev pub invariant-loop-place : goal.invariant-loop-place
+invariant-loop-place l = AreWantsBefore l.opening l.orders l.place l.wants.items

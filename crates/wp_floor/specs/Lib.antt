@@ -1,0 +1,11 @@
+pub mod Opening
+pub mod Waves
+pub mod Floor
+pub mod Holding
+pub mod Held
+pub mod Takers
+pub mod Receiving
+pub mod Submitting
+pub mod Releasing
+pub mod Refilling
+pub mod Wanting

@@ -1,0 +1,22 @@
+//! The floor on which the commands of desks are done: the stock book, the waves, and who has which order. Each command
+//! is one step of it, which takes no memory: what it needs was made before.
+#![tactic(auto)]
+
+mod floor;
+mod held;
+mod holding;
+mod opening;
+mod refilling;
+mod releasing;
+mod standing;
+mod submitting;
+mod wanting;
+mod wave_steps;
+mod waves;
+
+pub use floor::Floor;
+pub use held::Claim;
+pub use holding::Rooms;
+pub use opening::Opening;
+pub use releasing::Sheet;
+pub use submitting::{NewWave, size_fault};

@@ -1,0 +1,147 @@
+//! A wave that a desk wants to submit, and what keeps it from being submitted.
+ghost use Rattle.std.specs.Prelude.{◌≡◌, ◌+◌, ◌<◌, ◌^◌, [], List, None, length, IfOk};
+ghost use Rattle.wp_model.specs.State.{Wave};
+ghost use Rattle.wp_model.specs.Step.{first_order_fault, order_fault};
+ghost use Rattle.wp_model.specs.Tables.{IsReadOpening};
+ghost use Rattle.wp_model.specs.declared.command.Command.TheVariants as command;
+ghost use Rattle.wp_floor.specs.Floor.{AreTakers, HasStepped, IsFloor, wave_count};
+ghost use Rattle.wp_floor.specs.Submitting.{IsNewWave, IsPrepared, size_fault, submit_of};
+
+use crate::floor::{Floor, put_takers};
+use crate::opening::Opening;
+use crate::wanting::wants_of_orders;
+use crate::waves::KeptWave;
+use std::alloc::Global;
+use wp_model::{Cell, Memory, Name, Names, Reply, WaveState};
+
+/// A wave that a desk wants to submit, and room for it.
+#[derive(Drop)]
+pub struct NewWave {
+    pub(crate) wave: KeptWave,
+    pub(crate) cell: Cell<KeptWave>,
+}
+
+const MOST_ORDERS: u32 = 64;
+
+/// Why orders can't make a wave whatever was submitted before: there are none, or too many.
+pub fn size_fault(orders: &Names) -> Option<Reply>
+    ensures { result ≡ size_fault orders.now }
+{
+    if orders.is_empty() {
+        return Some(Reply::NoOrders);
+    }
+    if orders.len() > MOST_ORDERS {
+        return Some(Reply::WaveFull(orders.len()));
+    }
+    None
+}
+
+// A wave of these orders, of which nothing was done.
+fn new_wave(
+    alloc: Global,
+    opening: &Opening,
+    name: &Name,
+    orders: &Names,
+) -> Result<KeptWave, Memory>
+    requires read { IsReadOpening opening.now }
+    requires size { size_fault orders.now ≡ None }
+    ensures name { IfOk result (λ wave. wave.name ≡ name.now) }
+    ensures orders { IfOk result (λ wave. wave.orders ≡ orders.now) }
+    ensures new { IfOk result (IsNewWave opening.now) }
+{
+    let wants = wants_of_orders(alloc, opening, orders.as_slice())?;
+    Ok(KeptWave {
+        name: *name,
+        orders: orders.copy(alloc)?,
+        state: WaveState::Submitted,
+        picked: false,
+        wants,
+        copy: Some(orders.copy(alloc)?),
+        sheet: None,
+    })
+}
+
+impl NewWave {
+    /// A wave of a name and orders, with the memory that it needs once it is submitted.
+    pub fn prepare(
+        alloc: Global,
+        opening: &Opening,
+        name: &Name,
+        orders: &Names,
+    ) -> Result<NewWave, Memory>
+        requires read { IsReadOpening opening.now }
+        requires size { size_fault orders.now ≡ None }
+        ensures submits { IfOk result (λ new. submit_of new ≡ command.Submit name.now orders.now) }
+        ensures prepared { IfOk result (IsPrepared opening.now) }
+    {
+        let wave = new_wave(alloc, opening, name, orders)?;
+        let cell = Cell::new(alloc)?;
+        Ok(NewWave { wave, cell })
+    }
+}
+
+// Why an order can't join a wave, after the orders that were named before it.
+fn order_fault(
+    takers: &[Option<Name>],
+    opening: &Opening,
+    before: &[Name],
+    order: &Name,
+) -> Option<Reply>
+    requires { length takers.now ≡ length opening.now.orders }
+    ensures { (waves : List Wave) → AreTakers opening.now waves takers.now → result ≡ order_fault opening.now waves before.now order.now }
+{
+    let Some(number) = opening.orders().find(order) else {
+        return Some(Reply::UnknownOrder(*order));
+    };
+    if before.contains(order) {
+        return Some(Reply::OrderTwice(*order));
+    }
+    let taker = takers[number as usize];
+    match taker {
+        Some(wave) => Some(Reply::OrderTaken {
+            order: *order,
+            wave,
+        }),
+        None => None,
+    }
+}
+
+/// Why orders can't make a wave, by the first of them that can't join it. None comes exactly where each can.
+pub fn first_order_fault(
+    takers: &[Option<Name>],
+    opening: &Opening,
+    orders: &[Name],
+) -> Option<Reply>
+    requires { length takers.now ≡ length opening.now.orders }
+    ensures { (waves : List Wave) → AreTakers opening.now waves takers.now → result ≡ first_order_fault opening.now waves [] orders.now }
+{
+    for place in 0..orders.len() {
+        let fault = order_fault(takers, opening, &orders[..place], &orders[place]);
+        if fault.is_some() {
+            return fault;
+        }
+    }
+    None
+}
+
+impl Floor {
+    /// Submit: the wave joins the others, and has its orders.
+    pub fn submit(&mut self, opening: &Opening, new: NewWave) -> Reply
+        requires floor { IsFloor opening.now self.old }
+        requires new { IsPrepared opening.now new }
+        requires few { wave_count self.old + 1 < 2 ^ 32 }
+        ensures { HasStepped opening.now (submit_of new) self.old self.new result }
+    {
+        let NewWave { wave, cell } = new;
+        if self.waves.has(&wave.name) {
+            return Reply::KnownWave;
+        }
+        let orders = wave.orders.as_slice();
+        if let Some(fault) = first_order_fault(self.takers.as_slice(), opening, orders) {
+            return fault;
+        }
+        put_takers(&mut self.takers, opening, orders, &Some(wave.name));
+        self.waves.push(wave, cell);
+        Reply::Submitted
+    }
+}

@@ -1,0 +1,92 @@
+//! What the orders of a wave want.
+ghost use Rattle.std.specs.Prelude.{◌≡◌, ◌+◌, ◌<◌, ◌≤◌, ◌^◌, ◌==◌, ◌∷◌, [], length, IfOk};
+ghost use Rattle.std.specs.List.{All, position};
+ghost use Rattle.wp_allot.specs.declared.want.Want.{Want as WantData};
+ghost use Rattle.wp_model.specs.Opening.{IsLine, lines_of, most_lines, most_orders};
+ghost use Rattle.wp_model.specs.Tables.{IsReadOpening};
+ghost use Rattle.wp_floor.specs.Floor.{AreWantsOf};
+ghost use Rattle.wp_floor.specs.Wanting.{AreBefore, AreSome, AreSplit, HaveAdded, KeepArticles, all_units, line_units};
+
+use crate::opening::Opening;
+use std::alloc::Global;
+use wp_allot::Want;
+use wp_model::{Line, Memory, Name};
+
+// The place of the first want of an article.
+fn find_article(wants: &[Want], article: u32) -> Option<usize>
+    ensures { result ≡ position (λ (want : WantData). want.article == article) wants.now }
+{
+    wants.iter().position(|want| want.article == article)
+}
+
+// Adds a line of the order at a place, whose wants begin at a start: its units go to the order's want of its article,
+// or make a want of their own, the last.
+fn add_line(wants: &mut Vec<Want>, start: usize, place: u32, line: &Line) -> Result<(), Memory>
+    requires split { AreSplit start place wants.old.items }
+    requires some { 0 < line.now.quantity }
+    requires small { all_units wants.old.items + line.now.quantity < 2 ^ 64 }
+    ensures split { IfOk result (λ _. AreSplit start place wants.new.items) }
+    ensures added { IfOk result (λ _. HaveAdded place (line.now ∷ []) wants.old.items wants.new.items) }
+    ensures articles { IfOk result (λ _. KeepArticles (line.now ∷ []) wants.old.items wants.new.items) }
+{
+    let quantity = u64::from(line.quantity);
+    match find_article(&wants[start..], line.article) {
+        Some(offset) => {
+            wants[start + offset].quantity += quantity;
+            Ok(())
+        }
+        None => Ok(wants.push(Want {
+            order: place,
+            article: line.article,
+            quantity,
+        })?),
+    }
+}
+
+// Adds the lines of the order at a place, after the wants of the orders before it.
+fn add_order(wants: &mut Vec<Want>, place: u32, lines: &[Line]) -> Result<(), Memory>
+    requires before { AreBefore place wants.old.items }
+    requires some { AreSome lines.now }
+    requires small { all_units wants.old.items + line_units lines.now < 2 ^ 64 }
+    ensures before { IfOk result (λ _. AreBefore (place + 1) wants.new.items) }
+    ensures added { IfOk result (λ _. HaveAdded place lines.now wants.old.items wants.new.items) }
+    ensures articles { IfOk result (λ _. KeepArticles lines.now wants.old.items wants.new.items) }
+{
+    let start = wants.len();
+    for line in lines {
+        add_line(wants, start, place, line)?;
+    }
+    Ok(())
+}
+
+// The lines of the order with a name, none where it isn't known.
+fn order_lines<'a>(opening: &'a Opening, order: &Name) -> &'a [Line]
+    requires { IsReadOpening opening.now }
+    ensures lines { result.now ≡ lines_of opening.now.orders order.now }
+    ensures each { All (IsLine opening.now.stock.articles) result.now }
+    ensures few { length result.now ≤ most_lines }
+{
+    let known = opening.orders();
+    match known.find(order) {
+        Some(number) => known.lines(number),
+        None => &[],
+    }
+}
+
+/// What the orders of a wave want, each in its place: for an order one want an article that its lines are of, of the
+/// units of these lines. An order that isn't known wants nothing.
+pub fn wants_of_orders(
+    alloc: Global,
+    opening: &Opening,
+    orders: &[Name],
+) -> Result<Vec<Want>, Memory>
+    requires read { IsReadOpening opening.now }
+    requires few { length orders.now ≤ most_orders }
+    ensures { IfOk result (λ wants. AreWantsOf opening.now orders.now wants.items) }
+{
+    let mut wants = Vec::new(alloc);
+    for (place, order) in orders.iter().enumerate() {
+        add_order(&mut wants, place as u32, order_lines(opening, order))?;
+    }
+    Ok(wants)
+}
