@@ -247,12 +247,23 @@ fn assert_turns(
     assert_entries(rt, alloc, &opening, askings.as_slice(), turns.entries)
 }
 
+// The same for each of these turns.
+fn assert_all_turns(
+    rt: &impl Abort,
+    alloc: Global,
+    desks: &Desks<'_>,
+    all: &[Turns<'_>],
+) -> Result<(), Fail> {
+    for turns in all {
+        assert_turns(rt, alloc, desks, turns)?;
+    }
+    Ok(())
+}
+
 #[test]
 fn desks_are_answered_in_the_order_in_which_they_come(rt: HostRuntime) -> Result<(), Fail> {
     for (desks, both) in &TURNS {
-        for turns in both {
-            assert_turns(&rt, rt.alloc(), desks, turns)?;
-        }
+        assert_all_turns(&rt, rt.alloc(), desks, both)?;
     }
     Ok(())
 }

@@ -126,8 +126,8 @@ pub fn answer(
     requires same { machine.old.opening ≡ opening.now }
     ensures { machine.new.opening ≡ opening.now }
 {
-    let ready = prepare(alloc, opening, command.copy(alloc)?)?;
     assert!(rt; machine.count() < 1000);
+    let ready = prepare(alloc, opening, command.copy(alloc)?)?;
     Ok(machine.step(1, ready))
 }
 
@@ -168,10 +168,10 @@ fn answer_each(
 
 // The entries of a machine, what its answers told beside their replies, and its rows.
 fn push_told(
-    text: &mut String,
     alloc: Global,
     machine: &Machine<'_>,
     outcomes: &str,
+    text: &mut String,
 ) -> Result<(), Fail> {
     let entries = machine.entries(alloc)?;
     push_entries(text, entries.as_slice())?;
@@ -181,47 +181,47 @@ fn push_told(
 
 // All that a new machine tells when it answers a script.
 fn push_script(
-    text: &mut String,
     rt: &impl Abort,
     alloc: Global,
     opening: &Opening,
     script: &[Command],
+    text: &mut String,
 ) -> Result<(), Fail>
     requires { All (λ command. IsTrue (is_plain command)) script.now }
 {
     let mut machine = Machine::open(alloc, opening)?;
     let mut outcomes = String::new(alloc);
     answer_each(rt, alloc, opening, &mut machine, script, &mut outcomes)?;
-    push_told(text, alloc, &machine, outcomes.as_str())
+    push_told(alloc, &machine, outcomes.as_str(), text)
 }
 
 fn push_desk(
-    text: &mut String,
     rt: &impl Abort,
     alloc: Global,
     opening: &Opening,
     desk: &str,
+    text: &mut String,
 ) -> Result<(), Fail> {
     let scripts = scripts_of(alloc, desk)?;
-    push_script(text, rt, alloc, opening, scripts.script(1))
+    push_script(rt, alloc, opening, scripts.script(1), text)
 }
 
 // All that a machine tells when it answers the commands of a case: the entries, what the answers tell beside their
 // replies, and the rows after the last.
 fn push_case(
-    text: &mut String,
     rt: &impl Abort,
     alloc: Global,
     case: &Case<'_>,
+    text: &mut String,
 ) -> Result<(), Fail> {
     let opening = opening_of(alloc, case.stock, case.orders)?;
-    push_desk(text, rt, alloc, &opening, case.desk)
+    push_desk(rt, alloc, &opening, case.desk, text)
 }
 
 /// A case is told as it says.
 pub fn assert_told(rt: &impl Abort, alloc: Global, case: &Case<'_>) -> Result<(), Fail> {
     let mut text = String::new(alloc);
-    push_case(&mut text, rt, alloc, case)?;
+    push_case(rt, alloc, case, &mut text)?;
     assert_eq!(rt; text.as_str(), case.told);
     Ok(())
 }
