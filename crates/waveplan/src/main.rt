@@ -6,7 +6,7 @@ ghost use Rattle.std.specs.Prelude.{◌≡◌, ◌∷◌, [], map, codes, string
 use std::alloc::{AllocError, Global};
 use std::process::ExitCode;
 use std::{env, io};
-use wp_outside::{RealFiles, StdSink};
+use wp_outside::{RealFiles, StdSink, SystemFiles};
 use wp_top::run;
 
 // Words that stand for such as aren't UTF-8: a mode without its options, which is refused as bad words.
@@ -27,7 +27,7 @@ fn main(rt: HostRuntime) -> ExitCode {
     let Ok(words) = words else {
         return ExitCode::from(5);
     };
-    let mut files = RealFiles::new(&rt);
+    let mut files = RealFiles::new(SystemFiles::of(&rt));
     let mut out = StdSink::new(io::writer(&rt));
     ExitCode::from(run(&rt, alloc, &words, &mut files, &mut out))
 }

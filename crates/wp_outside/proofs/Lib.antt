@@ -1,2 +1,3 @@
 mod Shelves
 pub mod Taking
+pub mod Telling

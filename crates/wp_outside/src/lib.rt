@@ -10,9 +10,11 @@
 mod calls;
 mod fault_count;
 mod files;
+mod flushing;
 mod mem_files;
 mod mem_sink;
 mod never_fails;
+mod opener;
 mod real_files;
 mod shelf;
 mod sink;
@@ -20,9 +22,11 @@ mod std_sink;
 mod writing;
 
 pub use files::{FileFault, Files, MAX_FILE_BYTES};
+pub use flushing::Tells;
 pub use mem_files::MemFiles;
 pub use mem_sink::MemSink;
 pub use never_fails::NeverFails;
+pub use opener::{Opens, SystemFiles};
 pub use real_files::RealFiles;
 pub use sink::{Sink, SinkFault};
 pub use std_sink::StdSink;

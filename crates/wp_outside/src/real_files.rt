@@ -1,4 +1,4 @@
-ghost use Rattle.std.specs.Prelude.{◌≡◌, ◌≢◌, ◌≤◌, None, vec_len, IfOk, IfSome, IsErrOf};
+ghost use Rattle.std.specs.Prelude.{◌≡◌, ◌≢◌, ◌≤◌, ◌+◌, ◌⊎◌, vec_len, IfOk, IfSome, IsErrOf};
 ghost use Rattle.std.specs.IoError.{error_kind};
 ghost use Rattle.std.specs.declared.io.ErrorKind.TheVariants.{OutOfMemory};
 ghost use Rattle.wp_outside.specs.Outside.{IsTooLong};
@@ -6,49 +6,64 @@ ghost use Rattle.wp_outside.specs.declared.files.FileFault.TheVariants.{Failed, 
 
 use crate::fault_count::FaultCount;
 use crate::files::{FileFault, Files, MAX_FILE_BYTES};
+use crate::opener::Opens;
 use std::alloc::{AllocError, Global};
+use std::io;
 use std::io::Read;
 use std::marker::Model;
-use std::rt::Files as FileSystem;
-use std::{fs, io};
 
 /// How many bytes one read asks for.
 const PIECE_BYTES: usize = 65_536;
 
-/// The files of the system. They tell no bytes, only how many reads failed, which clauses see.
+/// Files that are opened by their names, as those of the system, and how often reading one failed. They tell their bytes
+/// where the opener does.
 #[derive(Drop)]
-pub struct RealFiles<'a, R: FileSystem> {
-    rt: &'a R,
+pub struct RealFiles<O: Opens + Drop> {
+    opener: O,
     faults: FaultCount,
 }
 
-impl<'a, R: FileSystem> Model for RealFiles<'a, R> {
-    ghost use Rattle.std.specs.Prelude.{ℕ};
+impl<O: Opens + Drop> Model for RealFiles<O> {
+    ghost use Rattle.wp_outside.specs.Devices.{Opened};
 
-    ghost Value = { ℕ };
+    ghost Value = { Opened O };
 
-    ghost view = { λ s. s.faults };
+    ghost view = { λ s. record { opener = s.opener; faults = s.faults } };
 }
 
-impl<'a, R: FileSystem> RealFiles<'a, R> {
-    /// The files that the runtime opens. No read failed yet.
-    pub fn new(rt: &'a R) -> RealFiles<'a, R>
-        ensures { result ≡ 0 }
+impl<O: Opens + Drop> RealFiles<O> {
+    /// The files that this opener opens. No read failed yet.
+    pub fn new(opener: O) -> RealFiles<O>
+        ensures { result ≡ record { opener = opener; faults = 0 } }
     {
         RealFiles {
-            rt,
+            opener,
             faults: FaultCount::zero(),
         }
     }
 }
 
-impl<'a, R: FileSystem> Files for RealFiles<'a, R> {
-    ghost holds = { λ _ _. None };
+impl<O: Opens + Drop> Files for RealFiles<O> {
+    ghost holds = { λ s. O.holds s.opener };
 
-    ghost faults = { λ s _. s };
+    ghost faults = { λ s _. s.faults };
 
-    fn read(&mut self, alloc: Global, name: &str) -> Result<Vec<u8>, FileFault> {
-        let answer = open_and_read(self.rt, alloc, name);
+    /// Each failure counts once, for all names, and nothing else does.
+    fn read(&mut self, alloc: Global, name: &str) -> Result<Vec<u8>, FileFault>
+        ensures counted { IsErrOf result FileFault.Failed → self.new.faults ≡ self.old.faults + 1 }
+        ensures uncounted { (IsErrOf result FileFault.Failed → ⊥) → self.new.faults ≡ self.old.faults }
+
+        ensures bytes { IfOk result (λ read.
+            IfSome (O.holds self.old.opener name.now) (λ told. read.items ≡ told)) }
+        ensures same { self.new.opener ≡ self.old.opener }
+        ensures too_long { IsErrOf result FileFault.TooLong
+            → IfSome (O.holds self.old.opener name.now) IsTooLong }
+        ensures long { IfSome (O.holds self.old.opener name.now) (λ told.
+            IsTooLong told
+            → self.new.faults ≡ self.old.faults
+            → IsErrOf result FileFault.TooLong ⊎ IsErrOf result FileFault.Memory) }
+    {
+        let answer = open_and_read(&self.opener, alloc, name);
         if let Err(FileFault::Failed) = answer {
             self.faults.raise()?;
         }
@@ -70,10 +85,14 @@ impl From<io::Error> for FileFault {
     }
 }
 
-fn open_and_read<R: FileSystem>(rt: &R, alloc: Global, name: &str) -> Result<Vec<u8>, FileFault>
-    ensures { IfOk result (λ bytes. vec_len bytes ≤ MAX_FILE_BYTES) }
+fn open_and_read<O: Opens>(opener: &O, alloc: Global, name: &str) -> Result<Vec<u8>, FileFault>
+    ensures bytes { IfOk result (λ bytes.
+        IfSome (O.holds opener.now name.now) (λ told. bytes.items ≡ told)) }
+    ensures fits { IfOk result (λ bytes. vec_len bytes ≤ MAX_FILE_BYTES) }
+    ensures too_long { IsErrOf result FileFault.TooLong
+        → IfSome (O.holds opener.now name.now) IsTooLong }
 {
-    let mut file = fs::open(rt, name)?;
+    let mut file = opener.open(name)?;
     read_to_limit(&mut file, alloc)
 }
 

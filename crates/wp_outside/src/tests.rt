@@ -1,4 +1,4 @@
-ghost use Rattle.std.specs.Prelude.{vec_len, ◌≡◌, ◌<◌, IfOk, Some};
+ghost use Rattle.std.specs.Prelude.{vec_len, ◌≡◌, ◌<◌, IfOk, Some, refl};
 
 use super::*;
 use std::alloc::{AllocError, Global};
@@ -99,6 +99,16 @@ enum Device {
     Refuses,
     Keeps,
     WantsMemory,
+}
+
+/// It tells nothing.
+impl Tells for Device {
+    ghost alike = { λ _ _. refl };
+}
+
+/// A file of the system tells nothing.
+impl Tells for fs::File {
+    ghost alike = { λ _ _. refl };
 }
 
 impl io::Write for Device {
@@ -304,12 +314,12 @@ fn a_device_that_takes_nothing_has_failed(rt: HostRuntime) {
     assert_eq!(rt; misjudged_device(), None);
 }
 
-/// The path of a file that no other process has.
+/// The path of a file that no other process has. Its name begins and ends with a space.
 fn own_path(rt: &HostRuntime) -> Result<String, Fail> {
     let folder = env::temp_dir(rt)?;
     let folder = folder.display();
     let number = id(rt.process());
-    Ok(format!(in rt.alloc(); "{folder}/wp_outside-{number}")?)
+    Ok(format!(in rt.alloc(); "{folder}/ wp_outside-{number} ")?)
 }
 
 fn write_real(rt: &HostRuntime, path: &str) -> Result<(), Fail> {
@@ -318,16 +328,26 @@ fn write_real(rt: &HostRuntime, path: &str) -> Result<(), Fail> {
 }
 
 fn real_fault(rt: &HostRuntime, path: &str) -> Option<FileFault> {
-    RealFiles::new(rt).read(rt.alloc(), path).err()
+    RealFiles::new(SystemFiles::of(rt))
+        .read(rt.alloc(), path)
+        .err()
 }
 
-/// Whether a file gives the text that is written to it, and fails before.
+/// Whether a file gives the text that is written to it, fails before, and is found under its very name alone.
 fn gives_what_was_written(rt: &HostRuntime, path: &str) -> Result<bool, Fail> {
     if real_fault(rt, path) != Some(FileFault::Failed) {
         return Ok(false);
     }
     write_real(rt, path)?;
-    Ok(gives(&mut RealFiles::new(rt), rt.alloc(), path, "first\nsecond\n"))
+    if real_fault(rt, path.trim_end()) != Some(FileFault::Failed) {
+        return Ok(false);
+    }
+    Ok(gives(
+        &mut RealFiles::new(SystemFiles::of(rt)),
+        rt.alloc(),
+        path,
+        "first\nsecond\n",
+    ))
 }
 
 fn misjudged_real_length(rt: &HostRuntime, path: &str) -> Result<Option<usize>, Fail> {
