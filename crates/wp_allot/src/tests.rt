@@ -13,14 +13,20 @@ use wp_tables::read_stock;
 /// Two rows of the article 0 and one of the article 1.
 const STOCK: &str = "location,article,on_hand\n1-1-L,A,3\n1-2-L,A,4\n1-3-L,B,5\n";
 
-fn want(order: u32, article: u32, quantity: u64) -> Want
-    ensures { result ≡ record { order = order; article = article; quantity = quantity } }
-{
+/// An order, an article and so many units.
+type Wanted = (u32, u32, u64);
+
+fn want(wanted: Wanted) -> Want {
+    let (order, article, quantity) = wanted;
     Want {
         order,
         article,
         quantity,
     }
+}
+
+fn pair(wanted: [Wanted; 2]) -> [Want; 2] {
+    [want(wanted[0]), want(wanted[1])]
 }
 
 fn book_of(alloc: Global, text: &str) -> Result<StockBook, Fail> {
@@ -139,92 +145,166 @@ fn rows_text(alloc: Global, book: &StockBook) -> Result<String, AllocError> {
     Ok(said)
 }
 
+/// What is held for the wants, as text.
+fn overlaps_text(
+    rt: &impl Abort,
+    alloc: Global,
+    wants: &[Want],
+    except: Option<u32>,
+) -> Result<String, Fail> {
+    let book = book_of(alloc, STOCK)?;
+    let room = overlaps(rt, alloc, &book, wants, except)?;
+    Ok(holds_text(alloc, room.as_slice())?)
+}
+
+/// The rows after the wants are held.
+fn rows_after(
+    rt: &impl Abort,
+    alloc: Global,
+    wants: &[Want],
+    except: Option<u32>,
+) -> Result<String, Fail> {
+    let mut book = book_of(alloc, STOCK)?;
+    allot_all(rt, alloc, &mut book, 3, wants, except)?;
+    Ok(rows_text(alloc, &book)?)
+}
+
+/// Wants, the excepted row, what is held for them, and the rows after that.
+const DEALT: [([Wanted; 2], Option<u32>, &str, &str); 6] = [
+    (
+        [(0, 0, 2), (1, 0, 4)],
+        None,
+        "0 0 2;1 0 1;1 1 3;",
+        "0 3;1 3;5 0;",
+    ),
+    ([(0, 0, 3), (1, 0, 4)], None, "0 0 3;1 1 4;", "0 3;0 4;5 0;"),
+    (
+        [(0, 1, 5), (0, 0, 7)],
+        None,
+        "0 0 3;0 1 4;0 2 5;",
+        "0 3;0 4;0 5;",
+    ),
+    ([(2, 0, 1), (5, 1, 1)], None, "2 0 1;5 2 1;", "2 1;4 0;4 1;"),
+    (
+        [(0, 0, 3), (1, 0, 1)],
+        Some(0),
+        "0 1 3;1 1 1;",
+        "3 0;0 4;5 0;",
+    ),
+    (
+        [(0, 0, 3), (1, 0, 1)],
+        Some(2),
+        "0 0 3;1 1 1;",
+        "0 3;3 1;5 0;",
+    ),
+];
+
+/// The place of the first wants that are held otherwise.
+fn first_other_overlap(
+    rt: &impl Abort,
+    alloc: Global,
+    cases: &[([Wanted; 2], Option<u32>, &str, &str)],
+) -> Result<Option<usize>, Fail> {
+    for (at, (wants, except, holds, _)) in cases.iter().enumerate() {
+        if overlaps_text(rt, alloc, &pair(*wants), *except)?.as_str() != *holds {
+            return Ok(Some(at));
+        }
+    }
+    Ok(None)
+}
+
+/// The place of the first wants that leave other rows.
+fn first_other_rows(
+    rt: &impl Abort,
+    alloc: Global,
+    cases: &[([Wanted; 2], Option<u32>, &str, &str)],
+) -> Result<Option<usize>, Fail> {
+    for (at, (wants, except, _, rows)) in cases.iter().enumerate() {
+        if rows_after(rt, alloc, &pair(*wants), *except)?.as_str() != *rows {
+            return Ok(Some(at));
+        }
+    }
+    Ok(None)
+}
+
 #[test]
 fn orders_take_what_overlaps(rt: HostRuntime) -> Result<(), Fail> {
     let alloc = rt.alloc();
-    for (wants, except, holds, rows) in [
-        (
-            [want(0, 0, 2), want(1, 0, 4)],
-            None,
-            "0 0 2;1 0 1;1 1 3;",
-            "0 3;1 3;5 0;",
-        ),
-        (
-            [want(0, 0, 3), want(1, 0, 4)],
-            None,
-            "0 0 3;1 1 4;",
-            "0 3;0 4;5 0;",
-        ),
-        (
-            [want(0, 1, 5), want(0, 0, 7)],
-            None,
-            "0 0 3;0 1 4;0 2 5;",
-            "0 3;0 4;0 5;",
-        ),
-        (
-            [want(2, 0, 1), want(5, 1, 1)],
-            None,
-            "2 0 1;5 2 1;",
-            "2 1;4 0;4 1;",
-        ),
-        (
-            [want(0, 0, 3), want(1, 0, 1)],
-            Some(0),
-            "0 1 3;1 1 1;",
-            "3 0;0 4;5 0;",
-        ),
-        (
-            [want(0, 0, 3), want(1, 0, 1)],
-            Some(2),
-            "0 0 3;1 1 1;",
-            "0 3;3 1;5 0;",
-        ),
-    ] {
-        let mut book = book_of(alloc, STOCK)?;
-        let room = overlaps(&rt, alloc, &book, wants.as_slice(), except)?;
-        assert_eq!(rt; holds_text(alloc, room.as_slice())?.as_str(), holds);
-        allot_all(&rt, alloc, &mut book, 3, wants.as_slice(), except)?;
-        assert_eq!(rt; rows_text(alloc, &book)?.as_str(), rows);
-    }
+    assert_eq!(rt; first_other_overlap(&rt, alloc, &DEALT)?, None);
+    assert_eq!(rt; first_other_rows(&rt, alloc, &DEALT)?, None);
     Ok(())
+}
+
+/// Wants, the excepted row, and the article that is short with how much of it is wanted and free.
+const SHORT: [([Wanted; 2], Option<u32>, Option<(u32, u64, u64)>); 7] = [
+    ([(0, 0, 4), (1, 0, 4)], None, Some((0, 8, 7))),
+    ([(0, 0, 4), (1, 0, 3)], None, None),
+    ([(0, 0, 5), (1, 1, 1)], Some(0), Some((0, 5, 4))),
+    ([(0, 0, 4), (1, 1, 1)], Some(0), None),
+    ([(0, 1, 9), (0, 0, 9)], None, Some((0, 9, 7))),
+    ([(0, 2, 1), (0, 1, 6)], None, Some((1, 6, 5))),
+    ([(0, 7, 1), (1, 0, 7)], None, Some((7, 1, 0))),
+];
+
+fn shortage_of(
+    rt: &impl Abort,
+    book: &StockBook,
+    wants: &[Want],
+    except: Option<u32>,
+) -> Option<(u32, u64, u64)> {
+    assert!(rt; are_regular(wants));
+    match short_article(book, wants, except) {
+        Some(short) => Some((short.article, short.wanted, short.free)),
+        None => None,
+    }
+}
+
+/// The place of the first wants of which another article is short.
+fn first_other_shortage(
+    rt: &impl Abort,
+    book: &StockBook,
+    cases: &[([Wanted; 2], Option<u32>, Option<(u32, u64, u64)>)],
+) -> Option<usize> {
+    for (at, (wants, except, short)) in cases.iter().enumerate() {
+        if shortage_of(rt, book, &pair(*wants), *except) != *short {
+            return Some(at);
+        }
+    }
+    None
 }
 
 #[test]
 fn short_articles_are_told(rt: HostRuntime) -> Result<(), Fail> {
     let alloc = rt.alloc();
-    let mut book = book_of(alloc, STOCK)?;
-    for (wants, except, short) in [
-        ([want(0, 0, 4), want(1, 0, 4)], None, Some((0, 8, 7))),
-        ([want(0, 0, 4), want(1, 0, 3)], None, None),
-        ([want(0, 0, 5), want(1, 1, 1)], Some(0), Some((0, 5, 4))),
-        ([want(0, 0, 4), want(1, 1, 1)], Some(0), None),
-        ([want(0, 1, 9), want(0, 0, 9)], None, Some((0, 9, 7))),
-        ([want(0, 2, 1), want(0, 1, 6)], None, Some((1, 6, 5))),
-        ([want(0, 7, 1), want(1, 0, 7)], None, Some((7, 1, 0))),
-    ] {
-        assert!(rt; are_regular(wants.as_slice()));
-        let found = short_article(&book, wants.as_slice(), except);
-        let short = short.map(|(article, wanted, free)| Short {
-            article,
-            wanted,
-            free,
-        });
-        assert_eq!(rt; found, short);
-    }
+    let book = book_of(alloc, STOCK)?;
+    assert_eq!(rt; first_other_shortage(&rt, &book, &SHORT), None);
     assert_eq!(rt; rows_text(alloc, &book)?.as_str(), "3 0;4 0;5 0;");
-    allot_all(&rt, alloc, &mut book, 0, [want(0, 0, 2)].as_slice(), None)?;
-    allot_all(
-        &rt,
-        alloc,
-        &mut book,
-        0,
-        [want(0, 0, 4)].as_slice(),
-        Some(0),
-    )?;
-    allot_all(&rt, alloc, &mut book, 1, [].as_slice(), None)?;
+    Ok(())
+}
+
+/// Three waves hold one after the other.
+fn allot_three(rt: &impl Abort, alloc: Global, book: &mut StockBook) -> Result<(), Fail> {
+    allot_all(rt, alloc, book, 0, &[want((0, 0, 2))], None)?;
+    allot_all(rt, alloc, book, 0, &[want((0, 0, 4))], Some(0))?;
+    allot_all(rt, alloc, book, 1, &[], None)
+}
+
+#[test]
+fn waves_hold_one_after_the_other(rt: HostRuntime) -> Result<(), Fail> {
+    let alloc = rt.alloc();
+    let mut book = book_of(alloc, STOCK)?;
+    allot_three(&rt, alloc, &mut book)?;
     assert_eq!(rt; rows_text(alloc, &book)?.as_str(), "1 2;0 4;5 0;");
     assert_eq!(rt; book.held_at(0, 0, 1), 4);
     assert!(rt; book.holds_none(1));
+    Ok(())
+}
+
+/// Rows of 200 slots of an aisle, of three units each.
+fn put_aisle(alloc: Global, text: &mut String, aisle: u32) -> Result<(), AllocError> {
+    for slot in 1..=200 {
+        text.push_str(format!(in alloc; "{aisle}-{slot}-R,A,3\n")?.as_str())?;
+    }
     Ok(())
 }
 
@@ -232,51 +312,96 @@ fn short_articles_are_told(rt: HostRuntime) -> Result<(), Fail> {
 fn long_stock(alloc: Global) -> Result<String, AllocError> {
     let mut text = String::from_str(alloc, "location,article,on_hand\n")?;
     for aisle in 1..=5 {
-        for slot in 1..=200 {
-            text.push_str(format!(in alloc; "{aisle}-{slot}-R,A,3\n")?.as_str())?;
-        }
+        put_aisle(alloc, &mut text, aisle)?;
     }
     Ok(text)
 }
 
-#[test]
-fn long_line_is_dealt(rt: HostRuntime) -> Result<(), Fail> {
-    let alloc = rt.alloc();
-    let mut book = book_of(alloc, long_stock(alloc)?.as_str())?;
-    assert_eq!(rt; book.rows(), 1000);
+fn long_book(alloc: Global) -> Result<StockBook, Fail> {
+    let text = long_stock(alloc)?;
+    book_of(alloc, text.as_str())
+}
+
+/// 64 orders of 46 units each.
+fn long_wants(alloc: Global) -> Result<Vec<Want>, AllocError> {
     let mut wants = Vec::new(alloc);
     for order in 0..64 {
-        wants.push(want(order, 0, 46))?;
+        wants.push(want((order, 0, 46)))?;
     }
-    let room = overlaps(&rt, alloc, &book, wants.as_slice(), None)?;
+    Ok(wants)
+}
+
+fn long_overlaps(rt: &impl Abort, alloc: Global) -> Result<Room, Fail> {
+    let book = long_book(alloc)?;
+    let wants = long_wants(alloc)?;
+    overlaps(rt, alloc, &book, wants.as_slice(), None)
+}
+
+/// Whether a hold is what the interval of its order has in common with that of its row.
+fn is_overlap(hold: &Hold) -> bool {
+    let order = u64::from(hold.order);
+    let row = u64::from(hold.row);
+    let start = (46 * order).max(3 * row);
+    let end = (46 * order + 46).min(3 * row + 3);
+    start + u64::from(hold.quantity) == end
+}
+
+fn first_other_hold(holds: &[Hold]) -> Option<usize> {
+    for (at, hold) in holds.iter().enumerate() {
+        if !is_overlap(hold) {
+            return Some(at);
+        }
+    }
+    None
+}
+
+fn units_in(holds: &[Hold]) -> u64 {
     let mut units = 0u64;
-    for hold in room.as_slice() {
-        let order = u64::from(hold.order);
-        let row = u64::from(hold.row);
-        let start = (46 * order).max(3 * row);
-        let end = (46 * order + 46).min(3 * row + 3);
-        assert_eq!(rt;
-            start + u64::from(hold.quantity),
-            end,
-            "order {order}, row {row}"
-        );
+    for hold in holds {
         units = units.saturating_add(u64::from(hold.quantity));
     }
-    assert_eq!(rt; units, 2944);
-    allot_all(&rt, alloc, &mut book, 0, wants.as_slice(), None)?;
-    assert_eq!(rt; book.free_of(0, None), 56);
-    for (order, row, units) in [
-        (0, 14, 3),
-        (0, 15, 1),
-        (1, 15, 2),
-        (63, 981, 1),
-        (63, 982, 0),
-    ] {
-        assert_eq!(rt;
-            book.held_at(0, order, row),
-            units,
-            "order {order}, row {row}"
-        );
+    units
+}
+
+#[test]
+fn long_line_is_dealt(rt: HostRuntime) -> Result<(), Fail> {
+    let room = long_overlaps(&rt, rt.alloc())?;
+    assert_eq!(rt; first_other_hold(room.as_slice()), None);
+    assert_eq!(rt; units_in(room.as_slice()), 2944);
+    Ok(())
+}
+
+fn allot_long(rt: &impl Abort, alloc: Global, book: &mut StockBook) -> Result<(), Fail> {
+    let wants = long_wants(alloc)?;
+    allot_all(rt, alloc, book, 0, wants.as_slice(), None)
+}
+
+/// The order, the row and the units that are held at places of the long line.
+const HELD: [(u32, u32, u32); 5] = [
+    (0, 14, 3),
+    (0, 15, 1),
+    (1, 15, 2),
+    (63, 981, 1),
+    (63, 982, 0),
+];
+
+/// The place of the first row of which another number is held.
+fn first_other_held(book: &StockBook, cases: &[(u32, u32, u32)]) -> Option<usize> {
+    for (at, (order, row, units)) in cases.iter().enumerate() {
+        if book.held_at(0, *order, *row) != *units {
+            return Some(at);
+        }
     }
+    None
+}
+
+#[test]
+fn long_line_is_held(rt: HostRuntime) -> Result<(), Fail> {
+    let alloc = rt.alloc();
+    let mut book = long_book(alloc)?;
+    assert_eq!(rt; book.rows(), 1000);
+    allot_long(&rt, alloc, &mut book)?;
+    assert_eq!(rt; book.free_of(0, None), 56);
+    assert_eq!(rt; first_other_held(&book, &HELD), None);
     Ok(())
 }
