@@ -1,10 +1,13 @@
+ghost use Rattle.std.specs.Prelude.{IfOk};
+ghost use Rattle.wp_model.specs.Tables.{AreReadOrders};
+
 use super::*;
 use std::alloc::{AllocError, Global};
 use std::test::Fail;
 use wp_graph::Layout;
 use wp_machine::Opening;
 use wp_model::Memory;
-use wp_tables::{RowFault, read_orders, read_stock};
+use wp_tables::{Orders, RowFault, Stock, read_orders, read_stock};
 
 /// A line of each command, of each reply, and of the least and the greatest numbers.
 const LINES: [&str; 38] = [
@@ -173,10 +176,20 @@ const JOURNALS: [(&str, &str); 22] = [
     ),
 ];
 
-fn opening_of(alloc: Global, stock: &str, orders: &str) -> Result<Opening, RowFault> {
+fn stock_of(alloc: Global, text: &str) -> Result<Stock, RowFault> {
     let layout = Layout::new(64, 200, 1, 1, 1, 1).ok_or(Memory)?;
-    let stock = read_stock(alloc, &stock.as_bytes().to_vec(alloc)?, &layout)?;
-    let orders = read_orders(alloc, &orders.as_bytes().to_vec(alloc)?, &stock)?;
+    read_stock(alloc, &text.as_bytes().to_vec(alloc)?, &layout)
+}
+
+fn orders_of(alloc: Global, text: &str, stock: &Stock) -> Result<Orders, RowFault>
+    ensures { IfOk result (AreReadOrders stock.now.articles) }
+{
+    read_orders(alloc, &text.as_bytes().to_vec(alloc)?, stock)
+}
+
+fn opening_of(alloc: Global, stock: &str, orders: &str) -> Result<Opening, RowFault> {
+    let stock = stock_of(alloc, stock)?;
+    let orders = orders_of(alloc, orders, &stock)?;
     Ok(Opening::of(stock, orders))
 }
 
@@ -191,6 +204,104 @@ fn found(alloc: Global, opening: &Opening, text: &str) -> Result<String, AllocEr
     }
 }
 
+/// The first journal of which something else is found than stands beside it.
+fn first_other_finding<'a>(
+    alloc: Global,
+    opening: &Opening,
+    cases: &[(&'a str, &str)],
+) -> Result<Option<&'a str>, AllocError> {
+    for (text, finding) in cases {
+        if found(alloc, opening, text)?.as_str() != *finding {
+            return Ok(Some(*text));
+        }
+    }
+    Ok(None)
+}
+
+/// Whether a line is read as an entry that is printed as it.
+fn is_printed_again(alloc: Global, line: &str) -> Result<bool, EntryFault> {
+    let entry = read_entry(alloc, line.as_bytes())?;
+    let printed = print_entry(alloc, &entry)?;
+    Ok(printed.as_slice() == line.as_bytes())
+}
+
+fn first_printed_otherwise<'a>(
+    alloc: Global,
+    lines: &[&'a str],
+) -> Result<Option<&'a str>, EntryFault> {
+    for line in lines {
+        if !is_printed_again(alloc, line)? {
+            return Ok(Some(*line));
+        }
+    }
+    Ok(None)
+}
+
+#[test]
+fn lines_are_read_and_printed_again(rt: HostRuntime) -> Result<(), Fail> {
+    assert_eq!(rt; first_printed_otherwise(rt.alloc(), &LINES)?, None);
+    Ok(())
+}
+
+fn is_no_entry(alloc: Global, line: &[u8]) -> bool {
+    match read_entry(alloc, line) {
+        Ok(_) => false,
+        Err(fault) => fault == EntryFault::NotEntry,
+    }
+}
+
+/// The place of the first line that is read, or refused otherwise than as no entry.
+fn first_entry(alloc: Global, lines: &[&[u8]]) -> Option<usize> {
+    for (at, line) in lines.iter().enumerate() {
+        if !is_no_entry(alloc, line) {
+            return Some(at);
+        }
+    }
+    None
+}
+
+#[test]
+fn other_lines_are_refused(rt: HostRuntime) -> Result<(), Fail> {
+    assert_eq!(rt; first_entry(rt.alloc(), &OTHER_LINES), None);
+    Ok(())
+}
+
+/// The line of a submission that names so many orders.
+fn submission_of(alloc: Global, count: u32) -> Result<String, AllocError> {
+    let mut line = String::from_str(alloc, "0 1 submit W1")?;
+    for order in 0..count {
+        line.push_str(format!(in alloc; " O{order}")?.as_str())?;
+    }
+    line.push_str(" -> refused wave-full 100\n")?;
+    Ok(line)
+}
+
+fn is_read(alloc: Global, count: u32) -> Result<bool, AllocError> {
+    let line = submission_of(alloc, count)?;
+    Ok(read_entry(alloc, line.as_bytes()).is_ok())
+}
+
+#[test]
+fn a_wave_names_at_most_100_orders(rt: HostRuntime) -> Result<(), Fail> {
+    assert!(rt; is_read(rt.alloc(), 100)?);
+    assert!(rt; !is_read(rt.alloc(), 101)?);
+    Ok(())
+}
+
+fn journals() -> &'static [(&'static str, &'static str)] {
+    &JOURNALS
+}
+
+#[test]
+fn journals_are_audited(rt: HostRuntime) -> Result<(), Fail> {
+    let opening = opening_of(rt.alloc(), STOCK, ORDERS)?;
+    assert_eq!(rt;
+        first_other_finding(rt.alloc(), &opening, journals())?,
+        None
+    );
+    Ok(())
+}
+
 /// A journal of so many entries.
 fn long_journal(alloc: Global, entries: u32) -> Result<String, AllocError> {
     let mut text = String::from_str(alloc, "journal\n")?;
@@ -202,64 +313,21 @@ fn long_journal(alloc: Global, entries: u32) -> Result<String, AllocError> {
     Ok(text)
 }
 
-#[test]
-fn lines_are_read_and_printed_again(rt: HostRuntime) -> Result<(), Fail> {
-    let alloc = rt.alloc();
-    for line in LINES {
-        let entry = read_entry(alloc, line.as_bytes())?;
-        let printed = print_entry(alloc, &entry)?;
-        assert!(rt; printed.as_slice() == line.as_bytes(), "{line}");
-    }
-    Ok(())
-}
-
-#[test]
-fn other_lines_are_refused(rt: HostRuntime) -> Result<(), Fail> {
-    let alloc = rt.alloc();
-    for line in OTHER_LINES {
-        match read_entry(alloc, line) {
-            Ok(_) => assert!(rt; false, "{line:?}"),
-            Err(fault) => assert!(rt; fault == EntryFault::NotEntry, "{line:?}"),
-        }
-    }
-    Ok(())
-}
-
-#[test]
-fn a_wave_names_at_most_100_orders(rt: HostRuntime) -> Result<(), Fail> {
-    let alloc = rt.alloc();
-    for (count, reads) in [(100_u32, true), (101, false)] {
-        let mut line = String::from_str(alloc, "0 1 submit W1")?;
-        for order in 0..count {
-            line.push_str(format!(in alloc; " O{order}")?.as_str())?;
-        }
-        line.push_str(" -> refused wave-full 100\n")?;
-        assert!(rt;
-            read_entry(alloc, line.as_bytes()).is_ok() == reads,
-            "{count}"
-        );
-    }
-    Ok(())
-}
-
-#[test]
-fn journals_are_audited(rt: HostRuntime) -> Result<(), Fail> {
-    let alloc = rt.alloc();
-    let opening = opening_of(alloc, STOCK, ORDERS)?;
-    for (text, finding) in JOURNALS {
-        assert_eq!(rt; found(alloc, &opening, text)?.as_str(), finding, "{text}");
-    }
-    Ok(())
+/// What an audit finds of so many entries.
+fn found_of(alloc: Global, opening: &Opening, entries: u32) -> Result<String, AllocError> {
+    let text = long_journal(alloc, entries)?;
+    found(alloc, opening, text.as_str())
 }
 
 #[test]
 fn a_journal_has_at_most_10_000_entries(rt: HostRuntime) -> Result<(), Fail> {
     let alloc = rt.alloc();
     let opening = opening_of(alloc, STOCK, ORDERS)?;
-    for (entries, finding) in [(10_000, "10000 entries"), (10_001, "line 10002")] {
-        let text = long_journal(alloc, entries)?;
-        assert_eq!(rt; found(alloc, &opening, text.as_str())?.as_str(), finding);
-    }
+    assert_eq!(rt;
+        found_of(alloc, &opening, 10_000)?.as_str(),
+        "10000 entries"
+    );
+    assert_eq!(rt; found_of(alloc, &opening, 10_001)?.as_str(), "line 10002");
     Ok(())
 }
 
