@@ -4,14 +4,18 @@ use std::test::Fail;
 use wp_graph::Layout;
 use wp_model::Memory;
 
-const STOCK: &str = "location,article,on_hand\n";
+/// What a text is read as.
+#[derive(Clone, Copy)]
+enum Table {
+    /// Stock, in the greatest layout.
+    Stock,
+    /// Orders, over the articles A and B.
+    Orders,
+    Desks,
+}
 
-const ORDERS: &str = "order,article,quantity\n";
-
-const DESKS: &str = "desk,command,arguments\n";
-
-/// A name of the most bytes, of each kind that may stand in it.
-const LONG: &str = "abcdefghijklmnopqrstuvwxyz0123456789-_.Z";
+/// One row of the article A and one of B.
+const STOCK_OF_TWO: &[u8] = b"location,article,on_hand\n1-1-R,A,5\n1-1-L,B,5\n";
 
 /// The stock of a text, for so many aisles and slots.
 fn stock_in(alloc: Global, aisles: u32, slots: u32, text: &[u8]) -> Result<Stock, RowFault> {
@@ -26,7 +30,7 @@ fn stock_of(alloc: Global, text: &[u8]) -> Result<Stock, RowFault> {
 
 /// The orders of a text, for a stock of the articles A and B.
 fn orders_of(alloc: Global, text: &[u8]) -> Result<Orders, RowFault> {
-    let stock = stock_of(alloc, b"location,article,on_hand\n1-1-R,A,5\n1-1-L,B,5\n")?;
+    let stock = stock_of(alloc, STOCK_OF_TWO)?;
     read_orders(alloc, &text.to_vec(alloc)?, &stock)
 }
 
@@ -34,16 +38,15 @@ fn desks_of(alloc: Global, text: &[u8]) -> Result<Scripts, RowFault> {
     read_desks(alloc, &text.to_vec(alloc)?)
 }
 
-/// What a fault is told as, and `read` where there is none.
-fn told(alloc: Global, fault: Option<RowFault>) -> Result<String, AllocError> {
+fn row_and_why(fault: Option<RowFault>) -> Option<(u64, Why)> {
     match fault {
-        Some(fault) => format!(in alloc; "{fault}"),
-        None => String::from_str(alloc, "read"),
+        Some(fault) => Some((fault.row, fault.why)),
+        None => None,
     }
 }
 
-/// Each row's location, article and units on hand, and then the articles.
-fn stock_text(alloc: Global, stock: &Stock) -> Result<String, AllocError> {
+/// Each row's location, article and units on hand.
+fn rows_text(alloc: Global, stock: &Stock) -> Result<String, AllocError> {
     let mut said = String::new(alloc);
     for i in 0..stock.rows() {
         let row = stock.row(i);
@@ -52,6 +55,12 @@ fn stock_text(alloc: Global, stock: &Stock) -> Result<String, AllocError> {
         let on_hand = row.on_hand;
         said.push_str(format!(in alloc; "{location} {article} {on_hand};")?.as_str())?;
     }
+    Ok(said)
+}
+
+/// Each row's location, article and units on hand, and then the articles.
+fn stock_text(alloc: Global, stock: &Stock) -> Result<String, AllocError> {
+    let mut said = rows_text(alloc, stock)?;
     for a in 0..stock.articles() {
         let name = stock.article(a);
         said.push_str(format!(in alloc; " {name}")?.as_str())?;
@@ -59,18 +68,24 @@ fn stock_text(alloc: Global, stock: &Stock) -> Result<String, AllocError> {
     Ok(said)
 }
 
-/// Each order's name, and the article and quantity of each of its lines.
+/// The article and the quantity of each line.
+fn lines_text(alloc: Global, lines: &[Line]) -> Result<String, AllocError> {
+    let mut said = String::new(alloc);
+    for line in lines {
+        let article = line.article;
+        let quantity = line.quantity;
+        said.push_str(format!(in alloc; " {article}*{quantity}")?.as_str())?;
+    }
+    Ok(said)
+}
+
+/// Each order's name and lines.
 fn orders_text(alloc: Global, orders: &Orders) -> Result<String, AllocError> {
     let mut said = String::new(alloc);
     for i in 0..orders.count() {
         let name = orders.name(i);
-        said.push_str(format!(in alloc; "{name}")?.as_str())?;
-        for line in orders.lines(i) {
-            let article = line.article;
-            let quantity = line.quantity;
-            said.push_str(format!(in alloc; " {article}*{quantity}")?.as_str())?;
-        }
-        said.push_str(";")?;
+        let lines = lines_text(alloc, orders.lines(i))?;
+        said.push_str(format!(in alloc; "{name}{lines};")?.as_str())?;
     }
     Ok(said)
 }
@@ -86,208 +101,225 @@ fn desks_text(alloc: Global, scripts: &Scripts) -> Result<String, AllocError> {
     Ok(said)
 }
 
-/// How many rows are of an article, and 0 where the stock has no such article.
-fn places_of(stock: &Stock, a: u32) -> u32 {
-    if a < stock.articles() {
-        stock.places(a)
-    } else {
-        0
+fn fault_text(alloc: Global, fault: RowFault) -> Result<String, AllocError> {
+    format!(in alloc; "{fault}")
+}
+
+fn stock_said(alloc: Global, text: &[u8]) -> Result<String, AllocError> {
+    match stock_of(alloc, text) {
+        Ok(stock) => stock_text(alloc, &stock),
+        Err(fault) => fault_text(alloc, fault),
     }
 }
 
-fn repeated(alloc: Global, piece: &str, count: usize) -> Result<String, AllocError> {
-    let mut text = String::new(alloc);
-    for _ in 0..count {
-        text.push_str(piece)?;
+fn orders_said(alloc: Global, text: &[u8]) -> Result<String, AllocError> {
+    match orders_of(alloc, text) {
+        Ok(orders) => orders_text(alloc, &orders),
+        Err(fault) => fault_text(alloc, fault),
     }
-    Ok(text)
 }
 
-/// A desk file of so many records of one text, and then another.
-fn desks_with(alloc: Global, piece: &str, count: usize, last: &str) -> Result<String, AllocError> {
-    let pieces = repeated(alloc, piece, count)?;
-    format!(in alloc; "{DESKS}{pieces}{last}")
-}
-
-/// A desk file by which a wave of so many orders is submitted.
-fn submission_of(alloc: Global, count: u32) -> Result<String, AllocError> {
-    let mut text = format!(in alloc; "{DESKS}1,submit,W")?;
-    for i in 0..count {
-        text.push_str(format!(in alloc; ",O{i}")?.as_str())?;
+fn desks_said(alloc: Global, text: &[u8]) -> Result<String, AllocError> {
+    match desks_of(alloc, text) {
+        Ok(scripts) => desks_text(alloc, &scripts),
+        Err(fault) => fault_text(alloc, fault),
     }
-    Ok(text)
 }
 
-/// An order file of so many orders of one line.
-fn orders_with(alloc: Global, count: u32) -> Result<String, AllocError> {
-    let mut text = String::from_str(alloc, ORDERS)?;
-    for i in 0..count {
-        text.push_str(format!(in alloc; "O{i},A,1\n")?.as_str())?;
+/// What is read of a text, or what its fault is told as.
+fn said(alloc: Global, table: Table, text: &[u8]) -> Result<String, AllocError> {
+    match table {
+        Table::Stock => stock_said(alloc, text),
+        Table::Orders => orders_said(alloc, text),
+        Table::Desks => desks_said(alloc, text),
     }
-    Ok(text)
 }
 
-/// A stock file of the rows of so many aisles, 400 an aisle, with an article for each aisle and slot.
-fn stock_with(alloc: Global, aisles: u32) -> Result<String, AllocError> {
-    let mut text = String::from_str(alloc, STOCK)?;
-    for aisle in 1..=aisles {
-        for slot in 1..=200 {
-            let place = format!(in alloc; "{aisle}-{slot}")?;
-            let rows = format!(in alloc; "{place}-R,A{place},1\n{place}-L,A{place},1\n")?;
-            text.push_str(rows.as_str())?;
+/// The first records that, under a heading, aren't read, or told, as what stands beside them.
+fn first_other<'a>(
+    alloc: Global,
+    table: Table,
+    heading: &str,
+    cases: &[(&'a str, &'a str)],
+) -> Result<Option<&'a str>, AllocError> {
+    for (records, wanted) in cases {
+        let text = format!(in alloc; "{heading}{records}")?;
+        if said(alloc, table, text.as_bytes())?.as_str() != *wanted {
+            return Ok(Some(*records));
         }
     }
-    Ok(text)
+    Ok(None)
+}
+
+/// The place of the first text that isn't told as what stands beside it.
+fn first_other_bytes(
+    alloc: Global,
+    table: Table,
+    cases: &[(&[u8], &str)],
+) -> Result<Option<usize>, AllocError> {
+    for (at, (text, wanted)) in cases.iter().enumerate() {
+        if said(alloc, table, text)?.as_str() != *wanted {
+            return Ok(Some(at));
+        }
+    }
+    Ok(None)
+}
+
+const STOCK: &str = "location,article,on_hand\n";
+
+const ORDERS: &str = "order,article,quantity\n";
+
+const DESKS: &str = "desk,command,arguments\n";
+
+/// Faults, each with what it is told as in row 25,602.
+const FAULTS: [(Why, &str); 16] = [
+    (Why::Columns, "row 25602 columns"),
+    (Why::NotUtf8, "row 25602 not-utf8"),
+    (Why::BadName, "row 25602 bad-name"),
+    (Why::BadNumber, "row 25602 bad-number"),
+    (Why::OutOfRange, "row 25602 out-of-range"),
+    (Why::UnknownLocation, "row 25602 unknown-location"),
+    (Why::LocationTwice, "row 25602 location-twice"),
+    (Why::UnknownArticle, "row 25602 unknown-article"),
+    (Why::UnknownCommand, "row 25602 unknown-command"),
+    (Why::DeskNumber, "row 25602 desk-number"),
+    (Why::TooManyRows, "row 25602 too-many-rows"),
+    (Why::TooManyPlaces, "row 25602 too-many-places"),
+    (Why::TooManyOrders, "row 25602 too-many-orders"),
+    (Why::TooManyLines, "row 25602 too-many-lines"),
+    (Why::TooManyWaves, "row 25602 too-many-waves"),
+    (Why::Memory, "row 25602 memory"),
+];
+
+/// The first fault that isn't told as what stands beside it.
+fn first_other_fault(alloc: Global, cases: &[(Why, &str)]) -> Result<Option<Why>, AllocError> {
+    for (why, wanted) in cases {
+        let why = *why;
+        let fault = RowFault { row: 25_602, why };
+        if fault_text(alloc, fault)?.as_str() != *wanted {
+            return Ok(Some(why));
+        }
+    }
+    Ok(None)
 }
 
 #[test]
 fn faults_are_told(rt: HostRuntime) -> Result<(), Fail> {
-    let alloc = rt.alloc();
-    for (why, said) in [
-        (Why::Columns, "columns"),
-        (Why::NotUtf8, "not-utf8"),
-        (Why::BadName, "bad-name"),
-        (Why::BadNumber, "bad-number"),
-        (Why::OutOfRange, "out-of-range"),
-        (Why::UnknownLocation, "unknown-location"),
-        (Why::LocationTwice, "location-twice"),
-        (Why::UnknownArticle, "unknown-article"),
-        (Why::UnknownCommand, "unknown-command"),
-        (Why::DeskNumber, "desk-number"),
-        (Why::TooManyRows, "too-many-rows"),
-        (Why::TooManyPlaces, "too-many-places"),
-        (Why::TooManyOrders, "too-many-orders"),
-        (Why::TooManyLines, "too-many-lines"),
-        (Why::TooManyWaves, "too-many-waves"),
-        (Why::Memory, "memory"),
-    ] {
-        let fault = RowFault { row: 25_602, why };
-        let wanted = format!(in alloc; "row 25602 {said}")?;
-        assert_eq!(rt; format!(in alloc; "{fault}")?.as_str(), wanted.as_str());
-    }
+    assert_eq!(rt; first_other_fault(rt.alloc(), &FAULTS)?, None);
     Ok(())
 }
 
+/// Stock files, and what is read of them: the rows, and the articles.
+const STOCKS: [(&str, &str); 8] = [
+    ("location,article,on_hand\n", ""),
+    (
+        "location,article,on_hand\n2-1-R,B,5\n2-1-L,A,0\n1-200-R,C,1000000\n",
+        "1-200-R 2 1000000;2-1-L 1 0;2-1-R 0 5; B A C",
+    ),
+    (
+        "location,article,on_hand\n10-1-L,X,1\n9-10-L,X,2\n9-9-L,Z,3",
+        "9-9-L 1 3;9-10-L 0 2;10-1-L 0 1; X Z",
+    ),
+    (
+        "location,article,on_hand\n00001-00007-L,A,000000000000000007\n",
+        "1-7-L 0 7; A",
+    ),
+    (
+        "location,article,on_hand\n1-1-L,a,1\n1-1-R,A,2\n",
+        "1-1-L 0 1;1-1-R 1 2; a A",
+    ),
+    (
+        "\u{FEFF}location,article,on_hand\r\n10-05-R,SKU-4711,12,,\r\n",
+        "10-5-R 0 12; SKU-4711",
+    ),
+    (
+        "\"location\",\"article\",on_hand\r1-1-L,\"A\",\"5\"\r",
+        "1-1-L 0 5; A",
+    ),
+    (
+        "\n,,\nlocation,article,on_hand,,\n\n,\n1-1-L,A,5\n",
+        "1-1-L 0 5; A",
+    ),
+];
+
 #[test]
 fn stock_is_read(rt: HostRuntime) -> Result<(), Fail> {
-    let alloc = rt.alloc();
-    for (text, said) in [
-        ("location,article,on_hand\n", ""),
-        (
-            "location,article,on_hand\n2-1-R,B,5\n2-1-L,A,0\n1-200-R,C,1000000\n",
-            "1-200-R 2 1000000;2-1-L 1 0;2-1-R 0 5; B A C",
-        ),
-        (
-            "location,article,on_hand\n10-1-L,X,1\n9-10-L,X,2\n9-9-L,Z,3",
-            "9-9-L 1 3;9-10-L 0 2;10-1-L 0 1; X Z",
-        ),
-        (
-            "location,article,on_hand\n00001-00007-L,A,000000000000000007\n",
-            "1-7-L 0 7; A",
-        ),
-        (
-            "location,article,on_hand\n1-1-L,a,1\n1-1-R,A,2\n",
-            "1-1-L 0 1;1-1-R 1 2; a A",
-        ),
-        (
-            "\u{FEFF}location,article,on_hand\r\n10-05-R,SKU-4711,12,,\r\n",
-            "10-5-R 0 12; SKU-4711",
-        ),
-        (
-            "\"location\",\"article\",on_hand\r1-1-L,\"A\",\"5\"\r",
-            "1-1-L 0 5; A",
-        ),
-        (
-            "\n,,\nlocation,article,on_hand,,\n\n,\n1-1-L,A,5\n",
-            "1-1-L 0 5; A",
-        ),
-    ] {
-        let stock = stock_of(alloc, text.as_bytes())?;
-        assert_eq!(rt; stock_text(alloc, &stock)?.as_str(), said, "{text}");
-        assert_eq!(rt; stock.as_rows().len(), stock.rows() as usize);
-    }
+    assert_eq!(rt; first_other(rt.alloc(), Table::Stock, "", &STOCKS)?, None);
     Ok(())
+}
+
+/// Layouts of so many aisles and slots, a location, and whether it lies in the layout.
+const PLACES: [(u32, u32, &[u8], bool); 6] = [
+    (3, 4, b"location,article,on_hand\n3-4-L,A,1\n", true),
+    (3, 4, b"location,article,on_hand\n4-1-L,A,1\n", false),
+    (3, 4, b"location,article,on_hand\n1-5-R,A,1\n", false),
+    (3, 4, b"location,article,on_hand\n0-1-L,A,1\n", false),
+    (64, 200, b"location,article,on_hand\n64-200-R,A,1\n", true),
+    (64, 200, b"location,article,on_hand\n65-200-R,A,1\n", false),
+];
+
+/// The place of the first row that is, or isn't, taken as it should be.
+fn first_other_place(alloc: Global, cases: &[(u32, u32, &[u8], bool)]) -> Option<usize> {
+    for (at, (aisles, slots, text, lies)) in cases.iter().enumerate() {
+        let fault = stock_in(alloc, *aisles, *slots, text).err();
+        let wanted = if *lies {
+            None
+        } else {
+            Some((2, Why::UnknownLocation))
+        };
+        if row_and_why(fault) != wanted {
+            return Some(at);
+        }
+    }
+    None
 }
 
 #[test]
 fn stock_lies_in_its_layout(rt: HostRuntime) -> Result<(), Fail> {
-    let alloc = rt.alloc();
-    for (aisles, slots, location, said) in [
-        (3, 4, "3-4-L", "read"),
-        (3, 4, "4-1-L", "row 2 unknown-location"),
-        (3, 4, "1-5-R", "row 2 unknown-location"),
-        (3, 4, "0-1-L", "row 2 unknown-location"),
-        (64, 200, "64-200-R", "read"),
-        (64, 200, "65-200-R", "row 2 unknown-location"),
-    ] {
-        let text = format!(in alloc; "{STOCK}{location},A,1\n")?;
-        let fault = stock_in(alloc, aisles, slots, text.as_bytes()).err();
-        assert_eq!(rt; told(alloc, fault)?.as_str(), said, "{location}");
-    }
+    assert_eq!(rt; first_other_place(rt.alloc(), &PLACES), None);
     Ok(())
 }
 
+/// Records of stock files, and what they are told as.
+const BAD_STOCKS: [(&str, &str); 19] = [
+    ("1-1-L,A\n", "row 2 columns"),
+    ("1-1-L,A,\n", "row 2 columns"),
+    ("1-1-L,A,5,,6\n", "row 2 columns"),
+    (",A,5\n", "row 2 bad-name"),
+    ("1-1-l,A,1\n", "row 2 bad-name"),
+    ("1-1,A,1\n", "row 2 bad-name"),
+    ("1-1-L-L,A,1\n", "row 2 bad-name"),
+    (" 1-1-L,A,1\n", "row 2 bad-name"),
+    ("1-1-L,A b,x\n", "row 2 bad-name"),
+    ("65-1-L,A b,1\n", "row 2 unknown-location"),
+    ("1-0-L,A,1\n", "row 2 unknown-location"),
+    ("99999-201-L,A,1\n", "row 2 unknown-location"),
+    ("1-1-L,A,1\n1-1-L,A b,x\n1-1-L\n", "row 3 location-twice"),
+    ("1-1-L,A,1\n1-1-R,A,x\n", "row 3 bad-number"),
+    ("1-1-L,A,-1\n", "row 2 bad-number"),
+    ("1-1-L,A,1.0\n", "row 2 bad-number"),
+    ("1-1-L,A, 1\n", "row 2 bad-number"),
+    ("1-1-L,A,999999999999999999\n", "row 2 out-of-range"),
+    ("location,article,on_hand\n", "row 2 bad-name"),
+];
+
 #[test]
 fn stock_is_refused(rt: HostRuntime) -> Result<(), Fail> {
-    let alloc = rt.alloc();
-    for (records, said) in [
-        ("1-1-L,A", "row 2 columns"),
-        ("1-1-L,A,", "row 2 columns"),
-        ("1-1-L,A,5,,6", "row 2 columns"),
-        ("1-1-L,A,5\n2-1-L,A\n", "row 3 columns"),
-        (",,,\n\n1-1-L,A\n", "row 3 columns"),
-        ("1-1-L,,5", "row 2 bad-name"),
-        (",A,5", "row 2 bad-name"),
-        ("1-1-X,A,1", "row 2 bad-name"),
-        ("1-1-l,A,1", "row 2 bad-name"),
-        ("1-1,A,1", "row 2 bad-name"),
-        ("1-1-L-L,A,1", "row 2 bad-name"),
-        (" 1-1-L,A,1", "row 2 bad-name"),
-        ("1-000001-L,A,1", "row 2 bad-name"),
-        ("1-1-L,A b,x", "row 2 bad-name"),
-        ("0-1-L,A,1", "row 2 unknown-location"),
-        ("65-1-L,A b,1", "row 2 unknown-location"),
-        ("1-0-L,A,1", "row 2 unknown-location"),
-        ("99999-201-L,A,1", "row 2 unknown-location"),
-        ("1-1-L,A,1\n01-1-L,B,1", "row 3 location-twice"),
-        ("1-1-L,A,1\n1-1-L,A b,x\n1-1-L", "row 3 location-twice"),
-        ("1-1-L,A,1\n1-1-R,A,x", "row 3 bad-number"),
-        ("1-1-L,A,", "row 2 columns"),
-        ("1-1-L,A,0000000000000000005", "row 2 bad-number"),
-        ("1-1-L,A,-1", "row 2 bad-number"),
-        ("1-1-L,A,+1", "row 2 bad-number"),
-        ("1-1-L,A,1.0", "row 2 bad-number"),
-        ("1-1-L,A, 1", "row 2 bad-number"),
-        ("1-1-L,A,1000001", "row 2 out-of-range"),
-        ("1-1-L,A,999999999999999999", "row 2 out-of-range"),
-        ("location,article,on_hand", "row 2 bad-name"),
-    ] {
-        let text = format!(in alloc; "{STOCK}{records}\n")?;
-        let fault = stock_of(alloc, text.as_bytes()).err();
-        assert_eq!(rt; told(alloc, fault)?.as_str(), said, "{records}");
-    }
+    assert_eq!(rt;
+        first_other(rt.alloc(), Table::Stock, STOCK, &BAD_STOCKS)?,
+        None
+    );
     Ok(())
 }
 
 /// Stock files whose bytes or heading are refused, and what they are told as.
-const BAD_STOCK_BYTES: [(&[u8], &str); 15] = [
-    (b"", "row 1 columns"),
+const BAD_STOCK_BYTES: [(&[u8], &str); 10] = [
     (b"\n", "row 1 columns"),
-    (b"\xEF\xBB\xBF", "row 1 columns"),
     (b",,\n,\n", "row 1 columns"),
-    (b",,\nlocation,article\n", "row 2 columns"),
     (b"1-1-L,A,5\n", "row 1 columns"),
     (b"location,article,onhand\n", "row 1 columns"),
     (b"Location,article,on_hand\n", "row 1 columns"),
     (b"article,location,on_hand\n", "row 1 columns"),
-    (
-        b"\xEF\xBB\xBF\xEF\xBB\xBFlocation,article,on_hand\n",
-        "row 1 columns",
-    ),
-    (
-        b"location,article,on_hand\n1-1-L,\xFF,5\n",
-        "row 2 not-utf8",
-    ),
     (
         b"location,article,on_hand\n1-1-X,A,\xFF\n",
         "row 2 not-utf8",
@@ -304,9 +336,7 @@ const BAD_STOCK_BYTES: [(&[u8], &str); 15] = [
 ];
 
 /// The same of order files.
-const BAD_ORDER_BYTES: [(&[u8], &str); 4] = [
-    (b"", "row 1 columns"),
-    (b"order,article\nO1,A,2\n", "row 1 columns"),
+const BAD_ORDER_BYTES: [(&[u8], &str); 2] = [
     (b"order,article,quantity\n\xFF,A,1\n", "row 2 not-utf8"),
     (
         b"\xEF\xBB\xBForder,article,quantity\n\nO,A,\xFF\n",
@@ -315,9 +345,7 @@ const BAD_ORDER_BYTES: [(&[u8], &str); 4] = [
 ];
 
 /// The same of desk files.
-const BAD_DESK_BYTES: [(&[u8], &str); 5] = [
-    (b"", "row 1 columns"),
-    (b"desk,command\n", "row 1 columns"),
+const BAD_DESK_BYTES: [(&[u8], &str); 3] = [
     (
         b"desk,command,arguments\n1,submit,W,\xFF\n",
         "row 2 not-utf8",
@@ -329,269 +357,452 @@ const BAD_DESK_BYTES: [(&[u8], &str); 5] = [
 #[test]
 fn bytes_and_headings_are_refused(rt: HostRuntime) -> Result<(), Fail> {
     let alloc = rt.alloc();
-    for (text, said) in BAD_STOCK_BYTES {
-        assert_eq!(rt; told(alloc, stock_of(alloc, text).err())?.as_str(), said);
-    }
-    for (text, said) in BAD_ORDER_BYTES {
-        assert_eq!(rt; told(alloc, orders_of(alloc, text).err())?.as_str(), said);
-    }
-    for (text, said) in BAD_DESK_BYTES {
-        assert_eq!(rt; told(alloc, desks_of(alloc, text).err())?.as_str(), said);
-    }
+    assert_eq!(rt;
+        first_other_bytes(alloc, Table::Stock, &BAD_STOCK_BYTES)?,
+        None
+    );
+    assert_eq!(rt;
+        first_other_bytes(alloc, Table::Orders, &BAD_ORDER_BYTES)?,
+        None
+    );
+    assert_eq!(rt;
+        first_other_bytes(alloc, Table::Desks, &BAD_DESK_BYTES)?,
+        None
+    );
     Ok(())
 }
+
+/// A name of the most bytes, of each kind that may stand in it, and one of a byte more.
+const LONG_NAMES: [(&str, &str); 2] = [
+    (
+        "1-1-L,abcdefghijklmnopqrstuvwxyz0123456789-_.Z,5\n",
+        "1-1-L 0 5; abcdefghijklmnopqrstuvwxyz0123456789-_.Z",
+    ),
+    (
+        "1-1-L,abcdefghijklmnopqrstuvwxyz0123456789-_.Z0,5\n",
+        "row 2 bad-name",
+    ),
+];
 
 #[test]
 fn a_name_has_at_most_40_bytes(rt: HostRuntime) -> Result<(), Fail> {
-    let alloc = rt.alloc();
-    let stock = format!(in alloc; "{STOCK}1-1-L,{LONG},5\n")?;
-    let stock = stock_of(alloc, stock.as_bytes())?;
-    let said = format!(in alloc; "1-1-L 0 5; {LONG}")?;
-    assert_eq!(rt; stock_text(alloc, &stock)?.as_str(), said.as_str());
-    let longer = format!(in alloc; "{STOCK}1-1-L,{LONG}0,5\n")?;
-    let fault = stock_of(alloc, longer.as_bytes()).err();
-    assert_eq!(rt; told(alloc, fault)?.as_str(), "row 2 bad-name");
+    assert_eq!(rt;
+        first_other(rt.alloc(), Table::Stock, STOCK, &LONG_NAMES)?,
+        None
+    );
+    Ok(())
+}
+
+const FOUND_STOCK: &[u8] = b"location,article,on_hand\n2-1-L,A,5\n1-1-L,B,5\n1-2-R,A,5\n";
+
+const FOUND_ORDERS: &[u8] = b"order,article,quantity\nA,B,1\nB,A,2\n";
+
+/// Names, and the number of the article and of the order of that name.
+const NAMED: [(&str, Option<u32>); 4] = [("A", Some(0)), ("B", Some(1)), ("a", None), ("AB", None)];
+
+/// Locations, and the number of the row there.
+const LOCATED: [(&str, Option<u32>); 7] = [
+    ("1-1-L", Some(0)),
+    ("1-2-R", Some(1)),
+    ("2-1-L", Some(2)),
+    ("1-1-R", None),
+    ("1-2-L", None),
+    ("0-1-L", None),
+    ("3-1-L", None),
+];
+
+/// What is found by a text.
+#[derive(Clone, Copy)]
+enum Sought<'a> {
+    Article(&'a Stock),
+    Order(&'a Orders),
+    Row(&'a Stock),
+}
+
+/// The number that is found by a text, where it is a name, or a location.
+fn found(sought: Sought<'_>, text: &str) -> Option<Option<u32>> {
+    match sought {
+        Sought::Article(stock) => Some(stock.find(&Name::new(text.as_bytes())?)),
+        Sought::Order(orders) => Some(orders.find(&Name::new(text.as_bytes())?)),
+        Sought::Row(stock) => Some(stock.row_at(Location::read(text.as_bytes())?)),
+    }
+}
+
+/// The first text by which another number is found than stands beside it.
+fn first_other_found<'a>(sought: Sought<'_>, cases: &[(&'a str, Option<u32>)]) -> Option<&'a str> {
+    for (text, number) in cases {
+        if found(sought, text) != Some(*number) {
+            return Some(*text);
+        }
+    }
+    None
+}
+
+#[test]
+fn all_rows_are_given(rt: HostRuntime) -> Result<(), Fail> {
+    let stock = stock_of(rt.alloc(), FOUND_STOCK)?;
+    assert!(rt; stock.rows() == 3 && stock.as_rows().len() == 3);
     Ok(())
 }
 
 #[test]
-fn a_stock_has_at_most_25_600_rows(rt: HostRuntime) -> Result<(), Fail> {
-    let alloc = rt.alloc();
-    let mut text = stock_with(alloc, 64)?;
-    let stock = stock_of(alloc, text.as_bytes())?;
-    assert_eq!(rt; stock.rows(), 25_600);
-    assert_eq!(rt; stock.articles(), 12_800);
-    assert_eq!(rt; places_of(&stock, 12_799), 2);
-    text.push_str("x\n")?;
-    let fault = stock_of(alloc, text.as_bytes()).err();
-    assert_eq!(rt; told(alloc, fault)?.as_str(), "row 25602 too-many-rows");
+fn articles_and_rows_are_found(rt: HostRuntime) -> Result<(), Fail> {
+    let stock = stock_of(rt.alloc(), FOUND_STOCK)?;
+    assert_eq!(rt; first_other_found(Sought::Article(&stock), &NAMED), None);
+    assert_eq!(rt; first_other_found(Sought::Row(&stock), &LOCATED), None);
     Ok(())
 }
 
 #[test]
-fn an_article_has_at_most_1_000_rows(rt: HostRuntime) -> Result<(), Fail> {
-    let alloc = rt.alloc();
+fn orders_are_found(rt: HostRuntime) -> Result<(), Fail> {
+    let orders = orders_of(rt.alloc(), FOUND_ORDERS)?;
+    assert_eq!(rt; first_other_found(Sought::Order(&orders), &NAMED), None);
+    Ok(())
+}
+
+/// Records of order files, and what is read of them: each order with its lines.
+const ORDER_RECORDS: [(&str, &str); 4] = [
+    ("", ""),
+    ("O1,B,1\nO1,A,100000\n", "O1 1*1 0*100000;"),
+    ("O2,A,1\nO1,B,2\nO2,B,3\nO2,A,1\n", "O2 0*1 1*3 0*1;O1 1*2;"),
+    (
+        "\"O1\",\"A\",\"004\"\r\n,\r\nO2,B,000000000000000009,\r\n",
+        "O1 0*4;O2 1*9;",
+    ),
+];
+
+#[test]
+fn orders_are_read(rt: HostRuntime) -> Result<(), Fail> {
+    assert_eq!(rt;
+        first_other(rt.alloc(), Table::Orders, ORDERS, &ORDER_RECORDS)?,
+        None
+    );
+    Ok(())
+}
+
+/// Records of order files, and what they are told as.
+const BAD_ORDERS: [(&str, &str); 11] = [
+    ("O1,A,1,1\n", "row 2 columns"),
+    ("O1,A\n", "row 2 columns"),
+    ("O1,A,\n", "row 2 columns"),
+    (",A,1\n", "row 2 bad-name"),
+    ("O 1,C,x\n", "row 2 bad-name"),
+    ("O1,,1\n", "row 2 bad-name"),
+    ("O1,a b,1\n", "row 2 bad-name"),
+    ("O1,C,x\n", "row 2 unknown-article"),
+    ("O1,a,1\n", "row 2 unknown-article"),
+    ("O1,A,x\n", "row 2 bad-number"),
+    ("O1,A,1\n\n,,\nO2,A,0\nO3\n", "row 4 out-of-range"),
+];
+
+#[test]
+fn orders_are_refused(rt: HostRuntime) -> Result<(), Fail> {
+    assert_eq!(rt;
+        first_other(rt.alloc(), Table::Orders, ORDERS, &BAD_ORDERS)?,
+        None
+    );
+    Ok(())
+}
+
+/// Records of desk files, and what is read of them: each command with its desk.
+const DESK_RECORDS: [(&str, &str); 5] = [
+    ("", ""),
+    (
+        "1,submit,W,O2,O1,O2\n1,release,W",
+        "1 submit W O2 O1 O2;1 release W;",
+    ),
+    (
+        "01,submit,W1,O1\n\n1,allot,W1,,,\n",
+        "1 submit W1 O1;1 allot W1;",
+    ),
+    (
+        "1,submit,W\r\n\"1\",cancel,\"W\"\r\n",
+        "1 submit W;1 cancel W;",
+    ),
+    (
+        "1,pick,W,O,99999-00000-L,1\n1,missing,W,O,0-99999-R,100000\n1,receive,01-1-L,A,007\n",
+        "1 pick W O 99999-0-L 1;1 missing W O 0-99999-R 100000;1 receive 1-1-L A 7;",
+    ),
+];
+
+#[test]
+fn desks_are_read(rt: HostRuntime) -> Result<(), Fail> {
+    assert_eq!(rt;
+        first_other(rt.alloc(), Table::Desks, DESKS, &DESK_RECORDS)?,
+        None
+    );
+    Ok(())
+}
+
+#[test]
+fn there_is_one_desk(rt: HostRuntime) -> Result<(), Fail> {
+    let scripts = desks_of(rt.alloc(), DESKS.as_bytes())?;
+    assert_eq!(rt; scripts.desks(), 1);
+    Ok(())
+}
+
+/// Records of desk files, and what they are told as.
+const BAD_DESKS: [(&str, &str); 23] = [
+    ("1,\n", "row 2 columns"),
+    ("1,allot,W,O\n", "row 2 columns"),
+    ("1,release,W,\n", "1 release W;"),
+    ("1,cancel,W,,W\n", "row 2 columns"),
+    ("1,missing,W b,O,1-1-L,1,1\n", "row 2 columns"),
+    ("1,receive,1-1-L,A,1,1\n", "row 2 columns"),
+    ("x,hold,W\n", "row 2 bad-number"),
+    (",allot,W\n", "row 2 bad-number"),
+    ("0000000000000000001,allot,W\n", "row 2 bad-number"),
+    ("9,hold,W\n", "row 2 desk-number"),
+    ("2,allot,W\n", "row 2 desk-number"),
+    ("1,,W\n", "row 2 unknown-command"),
+    ("1,submit,,O\n", "row 2 bad-name"),
+    ("1,submit,W,O,,O\n", "row 2 bad-name"),
+    ("1,allot,W b\n", "row 2 bad-name"),
+    ("1,pick,W,O b,x,x\n", "row 2 bad-name"),
+    ("1,pick,W,O,1-1,x\n", "row 2 bad-name"),
+    ("1,pick,W,O,1-1-L,x\n", "row 2 bad-number"),
+    ("1,missing,W,O,1-1-L,100001\n", "row 2 out-of-range"),
+    ("1,receive,1-1-L,A b,0\n", "row 2 bad-name"),
+    ("1,receive,100000-1-L,A,1\n", "row 2 bad-name"),
+    ("1,receive,1-1-L,A,0\n", "row 2 out-of-range"),
+    ("1,allot,W\n\n,\n1,hold\n1,allot\n", "row 4 unknown-command"),
+];
+
+#[test]
+fn desks_are_refused(rt: HostRuntime) -> Result<(), Fail> {
+    assert_eq!(rt;
+        first_other(rt.alloc(), Table::Desks, DESKS, &BAD_DESKS)?,
+        None
+    );
+    Ok(())
+}
+
+/// Files of as many records of a kind as there may be.
+#[derive(Clone, Copy)]
+enum FullFile {
+    Rows,
+    PlacesOfA,
+    LinesOfO,
+    Orders,
+    Commands,
+    Waves,
+}
+
+/// A heading, and so many records of one text.
+fn repeated(alloc: Global, heading: &str, record: &str, count: u32) -> Result<String, AllocError> {
+    let mut text = String::from_str(alloc, heading)?;
+    for _ in 0..count {
+        text.push_str(record)?;
+    }
+    Ok(text)
+}
+
+/// The records of both sides of an aisle, with an article for each slot.
+fn put_aisle(alloc: Global, text: &mut String, aisle: u32) -> Result<(), AllocError> {
+    for slot in 1..=200 {
+        let place = format!(in alloc; "{aisle}-{slot}")?;
+        text.push_str(format!(in alloc; "{place}-R,A{place},1\n{place}-L,A{place},1\n")?.as_str())?;
+    }
+    Ok(())
+}
+
+fn rows_of_64_aisles(alloc: Global) -> Result<String, AllocError> {
+    let mut text = String::from_str(alloc, STOCK)?;
+    for aisle in 1..=64 {
+        put_aisle(alloc, &mut text, aisle)?;
+    }
+    Ok(text)
+}
+
+fn rows_of_a(alloc: Global) -> Result<String, AllocError> {
     let mut text = String::from_str(alloc, STOCK)?;
     for place in 0..1_000 {
         let aisle = 1 + place / 200;
         let slot = 1 + place % 200;
         text.push_str(format!(in alloc; "{aisle}-{slot}-L,A,1\n")?.as_str())?;
     }
-    text.push_str("60-1-L,B,1\n")?;
-    let stock = stock_of(alloc, text.as_bytes())?;
-    assert_eq!(rt; places_of(&stock, 0), 1_000);
-    assert_eq!(rt; places_of(&stock, 1), 1);
-    text.push_str("60-2-L,A,x\n")?;
-    let fault = stock_of(alloc, text.as_bytes()).err();
-    assert_eq!(rt; told(alloc, fault)?.as_str(), "row 1003 too-many-places");
-    Ok(())
+    Ok(text)
 }
 
-#[test]
-fn what_has_a_name_or_a_location_is_found(rt: HostRuntime) -> Result<(), Fail> {
-    let alloc = rt.alloc();
-    let stock = stock_of(
-        alloc,
-        b"location,article,on_hand\n2-1-L,A,5\n1-1-L,B,5\n1-2-R,A,5\n",
-    )?;
-    let orders = orders_of(alloc, b"order,article,quantity\nA,B,1\nB,A,2\n")?;
-    for (text, number) in [("A", Some(0)), ("B", Some(1)), ("a", None), ("AB", None)] {
-        let name = Name::new(text.as_bytes());
-        assert!(rt; name.is_some(), "{text}");
-        if let Some(name) = name {
-            assert!(rt; stock.find(&name) == number, "article {text}");
-            assert!(rt; orders.find(&name) == number, "order {text}");
+fn orders_of_one_line(alloc: Global) -> Result<String, AllocError> {
+    let mut text = String::from_str(alloc, ORDERS)?;
+    for i in 0..10_000 {
+        text.push_str(format!(in alloc; "O{i},A,1\n")?.as_str())?;
+    }
+    Ok(text)
+}
+
+fn full_text(alloc: Global, of: FullFile) -> Result<String, AllocError> {
+    match of {
+        FullFile::Rows => rows_of_64_aisles(alloc),
+        FullFile::PlacesOfA => rows_of_a(alloc),
+        FullFile::LinesOfO => repeated(alloc, ORDERS, "O,A,1\n", 50),
+        FullFile::Orders => orders_of_one_line(alloc),
+        FullFile::Commands => repeated(alloc, DESKS, "1,allot,W\n", 10_000),
+        FullFile::Waves => repeated(alloc, DESKS, "1,submit,W,O\n", 500),
+    }
+}
+
+fn fault_in(alloc: Global, of: FullFile, text: &[u8]) -> Option<RowFault> {
+    match of {
+        FullFile::Rows | FullFile::PlacesOfA => stock_of(alloc, text).err(),
+        FullFile::LinesOfO | FullFile::Orders => orders_of(alloc, text).err(),
+        FullFile::Commands | FullFile::Waves => desks_of(alloc, text).err(),
+    }
+}
+
+/// A full file with further records, and its fault.
+fn fault_after(alloc: Global, of: FullFile, more: &str) -> Result<Option<RowFault>, AllocError> {
+    let mut text = full_text(alloc, of)?;
+    text.push_str(more)?;
+    Ok(fault_in(alloc, of, text.as_bytes()))
+}
+
+/// Full files, further records, and the record that is refused and why.
+const LIMITS: [(FullFile, &str, Option<(u64, Why)>); 14] = [
+    (FullFile::Rows, "", None),
+    (FullFile::Rows, "x\n", Some((25_602, Why::TooManyRows))),
+    (FullFile::PlacesOfA, "60-1-L,B,1\n", None),
+    (
+        FullFile::PlacesOfA,
+        "60-1-L,B,1\n60-2-L,A,x\n",
+        Some((1_003, Why::TooManyPlaces)),
+    ),
+    (FullFile::LinesOfO, "P,A,1\n", None),
+    (
+        FullFile::LinesOfO,
+        "P,A,1\nO,C,x\n",
+        Some((53, Why::TooManyLines)),
+    ),
+    (FullFile::Orders, "", None),
+    (
+        FullFile::Orders,
+        "O7,A,1\nN,C,x\n",
+        Some((10_003, Why::TooManyOrders)),
+    ),
+    (FullFile::Commands, "", None),
+    (FullFile::Commands, "x\n", Some((10_002, Why::TooManyRows))),
+    (FullFile::Waves, "1,allot,W\n", None),
+    (
+        FullFile::Waves,
+        "1,submit,W\n",
+        Some((502, Why::TooManyWaves)),
+    ),
+    (FullFile::Waves, "1,submit,W b\n", Some((502, Why::BadName))),
+    (FullFile::Waves, "1,submit\n", Some((502, Why::Columns))),
+];
+
+/// The place of the first file that is refused otherwise.
+fn first_other_limit(
+    alloc: Global,
+    cases: &[(FullFile, &str, Option<(u64, Why)>)],
+) -> Result<Option<usize>, AllocError> {
+    for (at, (of, more, wanted)) in cases.iter().enumerate() {
+        let fault = fault_after(alloc, *of, more)?;
+        if row_and_why(fault) != *wanted {
+            return Ok(Some(at));
         }
     }
-    for (text, row) in [
-        ("1-1-L", Some(0)),
-        ("1-2-R", Some(1)),
-        ("2-1-L", Some(2)),
-        ("1-1-R", None),
-        ("1-2-L", None),
-        ("0-1-L", None),
-        ("3-1-L", None),
-    ] {
-        let location = Location::read(text.as_bytes());
-        assert!(rt; location.is_some(), "{text}");
-        if let Some(location) = location {
-            assert!(rt; stock.row_at(location) == row, "row at {text}");
-        }
+    Ok(None)
+}
+
+#[test]
+fn files_have_limits(rt: HostRuntime) -> Result<(), Fail> {
+    assert_eq!(rt; first_other_limit(rt.alloc(), &LIMITS)?, None);
+    Ok(())
+}
+
+/// How many rows are of an article, and 0 where the stock has no such article.
+fn places_of(stock: &Stock, a: u32) -> u32 {
+    if a < stock.articles() {
+        stock.places(a)
+    } else {
+        0
     }
-    assert_eq!(rt; places_of(&stock, 0), 2);
-    assert_eq!(rt; places_of(&stock, 1), 1);
+}
+
+/// How many rows and articles there are, and how many rows of the first, the second and the 12,800th article.
+fn counts_in(alloc: Global, text: &[u8]) -> Result<[u32; 5], RowFault> {
+    let stock = stock_of(alloc, text)?;
+    Ok([
+        stock.rows(),
+        stock.articles(),
+        places_of(&stock, 0),
+        places_of(&stock, 1),
+        places_of(&stock, 12_799),
+    ])
+}
+
+/// The same of a full file.
+fn counts_of(alloc: Global, of: FullFile) -> Result<[u32; 5], RowFault> {
+    let text = full_text(alloc, of)?;
+    counts_in(alloc, text.as_bytes())
+}
+
+#[test]
+fn rows_and_places_are_counted(rt: HostRuntime) -> Result<(), Fail> {
+    let alloc = rt.alloc();
+    assert_eq!(rt; counts_in(alloc, FOUND_STOCK)?, [3, 2, 2, 1, 0]);
+    assert_eq!(rt;
+        counts_of(alloc, FullFile::Rows)?,
+        [25_600, 12_800, 2, 2, 2]
+    );
+    assert_eq!(rt;
+        counts_of(alloc, FullFile::PlacesOfA)?,
+        [1_000, 1, 1_000, 0, 0]
+    );
     Ok(())
 }
 
 #[test]
-fn orders_are_read(rt: HostRuntime) -> Result<(), Fail> {
-    let alloc = rt.alloc();
-    for (records, said) in [
-        ("", ""),
-        ("O1,B,1\nO1,A,100000\n", "O1 1*1 0*100000;"),
-        ("O2,A,1\nO1,B,2\nO2,B,3\nO2,A,1\n", "O2 0*1 1*3 0*1;O1 1*2;"),
-        (
-            "\"O1\",\"A\",\"004\"\r\n,\r\nO2,B,000000000000000009,\r\n",
-            "O1 0*4;O2 1*9;",
-        ),
-    ] {
-        let text = format!(in alloc; "{ORDERS}{records}")?;
-        let orders = orders_of(alloc, text.as_bytes())?;
-        assert_eq!(rt; orders_text(alloc, &orders)?.as_str(), said, "{records}");
-    }
-    Ok(())
-}
-
-#[test]
-fn orders_are_refused(rt: HostRuntime) -> Result<(), Fail> {
-    let alloc = rt.alloc();
-    for (records, said) in [
-        ("O1,A,1,1", "row 2 columns"),
-        ("O1,A", "row 2 columns"),
-        ("O1,A,", "row 2 columns"),
-        (",A,1", "row 2 bad-name"),
-        ("O 1,C,x", "row 2 bad-name"),
-        ("O1,,1", "row 2 bad-name"),
-        ("O1,a b,1", "row 2 bad-name"),
-        ("O1,C,x", "row 2 unknown-article"),
-        ("O1,a,1", "row 2 unknown-article"),
-        ("O1,A,0000000000000000002", "row 2 bad-number"),
-        ("O1,A,x", "row 2 bad-number"),
-        ("O1,A,0", "row 2 out-of-range"),
-        ("O1,A,100001", "row 2 out-of-range"),
-        ("O1,A,1\n\n,,\nO2,A,0\nO3", "row 4 out-of-range"),
-    ] {
-        let text = format!(in alloc; "{ORDERS}{records}\n")?;
-        let fault = orders_of(alloc, text.as_bytes()).err();
-        assert_eq!(rt; told(alloc, fault)?.as_str(), said, "{records}");
-    }
-    Ok(())
-}
-
-#[test]
-fn an_order_has_at_most_50_lines(rt: HostRuntime) -> Result<(), Fail> {
-    let alloc = rt.alloc();
-    let lines = repeated(alloc, "O,A,1\n", 50)?;
-    let text = format!(in alloc; "{ORDERS}{lines}P,A,1\n")?;
-    let orders = orders_of(alloc, text.as_bytes())?;
-    let wanted = repeated(alloc, " 0*1", 50)?;
-    let said = format!(in alloc; "O{wanted};P 0*1;")?;
-    assert_eq!(rt; orders_text(alloc, &orders)?.as_str(), said.as_str());
-    let text = format!(in alloc; "{ORDERS}{lines}P,A,1\nO,C,x\n")?;
-    let fault = orders_of(alloc, text.as_bytes()).err();
-    assert_eq!(rt; told(alloc, fault)?.as_str(), "row 53 too-many-lines");
-    Ok(())
-}
-
-#[test]
-fn there_are_at_most_10_000_orders(rt: HostRuntime) -> Result<(), Fail> {
-    let alloc = rt.alloc();
-    let mut text = orders_with(alloc, 10_000)?;
-    let orders = orders_of(alloc, text.as_bytes())?;
+fn all_orders_are_counted(rt: HostRuntime) -> Result<(), Fail> {
+    let text = orders_of_one_line(rt.alloc())?;
+    let orders = orders_of(rt.alloc(), text.as_bytes())?;
     assert_eq!(rt; orders.count(), 10_000);
-    text.push_str("O7,A,1\nN,C,x\n")?;
-    let fault = orders_of(alloc, text.as_bytes()).err();
-    assert_eq!(rt; told(alloc, fault)?.as_str(), "row 10003 too-many-orders");
     Ok(())
 }
 
 #[test]
-fn desks_are_read(rt: HostRuntime) -> Result<(), Fail> {
+fn an_order_has_50_lines(rt: HostRuntime) -> Result<(), Fail> {
     let alloc = rt.alloc();
-    for (records, said) in [
-        ("", ""),
-        (
-            "1,submit,W,O2,O1,O2\n1,release,W",
-            "1 submit W O2 O1 O2;1 release W;",
-        ),
-        (
-            "01,submit,W1,O1\n\n1,allot,W1,,,\n",
-            "1 submit W1 O1;1 allot W1;",
-        ),
-        (
-            "1,submit,W\r\n\"1\",cancel,\"W\"\r\n",
-            "1 submit W;1 cancel W;",
-        ),
-        (
-            "1,pick,W,O,99999-00000-L,1\n1,missing,W,O,0-99999-R,100000\n1,receive,01-1-L,A,007\n",
-            "1 pick W O 99999-0-L 1;1 missing W O 0-99999-R 100000;1 receive 1-1-L A 7;",
-        ),
-    ] {
-        let text = format!(in alloc; "{DESKS}{records}")?;
-        let scripts = desks_of(alloc, text.as_bytes())?;
-        assert_eq!(rt; scripts.desks(), 1);
-        assert_eq!(rt; desks_text(alloc, &scripts)?.as_str(), said, "{records}");
-    }
+    let text = full_text(alloc, FullFile::LinesOfO)?;
+    let wanted = repeated(alloc, "O", " 0*1", 50)?;
+    let said = orders_said(alloc, text.as_bytes())?;
+    assert_eq!(rt; said.trim_end_matches(';'), wanted.as_str());
     Ok(())
 }
 
-#[test]
-fn desks_are_refused(rt: HostRuntime) -> Result<(), Fail> {
-    let alloc = rt.alloc();
-    for (records, said) in [
-        ("1", "row 2 columns"),
-        ("1,", "row 2 columns"),
-        ("1,submit", "row 2 columns"),
-        ("1,allot", "row 2 columns"),
-        ("1,allot,W,O", "row 2 columns"),
-        ("1,release,W,", "read"),
-        ("1,cancel,W,,W", "row 2 columns"),
-        ("1,pick,W,O,1-1-L", "row 2 columns"),
-        ("1,missing,W b,O,1-1-L,1,1", "row 2 columns"),
-        ("1,receive,1-1-L,A,1,1", "row 2 columns"),
-        ("x,hold,W", "row 2 bad-number"),
-        (",allot,W", "row 2 bad-number"),
-        ("0000000000000000001,allot,W", "row 2 bad-number"),
-        ("9,hold,W", "row 2 desk-number"),
-        ("0,allot,W", "row 2 desk-number"),
-        ("2,allot,W", "row 2 desk-number"),
-        ("1,hold", "row 2 unknown-command"),
-        ("1,Allot,W", "row 2 unknown-command"),
-        ("1,,W", "row 2 unknown-command"),
-        ("1,submit,,O", "row 2 bad-name"),
-        ("1,submit,W,O,,O", "row 2 bad-name"),
-        ("1,allot,W b", "row 2 bad-name"),
-        ("1,pick,W,O b,x,x", "row 2 bad-name"),
-        ("1,pick,W,O,1-1,x", "row 2 bad-name"),
-        ("1,pick,W,O,1-1-L,x", "row 2 bad-number"),
-        ("1,pick,W,O,1-1-L,0", "row 2 out-of-range"),
-        ("1,missing,W,O,1-1-L,100001", "row 2 out-of-range"),
-        ("1,receive,1-1-L,A b,0", "row 2 bad-name"),
-        ("1,receive,100000-1-L,A,1", "row 2 bad-name"),
-        ("1,receive,1-1-L,A,0", "row 2 out-of-range"),
-        ("1,allot,W\n\n,\n1,hold\n1,allot", "row 4 unknown-command"),
-    ] {
-        let text = format!(in alloc; "{DESKS}{records}\n")?;
-        let fault = desks_of(alloc, text.as_bytes()).err();
-        assert_eq!(rt; told(alloc, fault)?.as_str(), said, "{records}");
+/// How many orders a wave names, and whether its submission is read.
+const SUBMISSIONS: [(u32, bool); 3] = [(0, true), (100, true), (101, false)];
+
+/// A desk file by which a wave of so many orders is submitted.
+fn submission_of(alloc: Global, count: u32) -> Result<String, AllocError> {
+    let mut text = repeated(alloc, DESKS, "1,submit,W", 1)?;
+    for i in 0..count {
+        text.push_str(format!(in alloc; ",O{i}")?.as_str())?;
     }
-    Ok(())
+    Ok(text)
+}
+
+/// The first number of orders that is, or isn't, read as it should be.
+fn first_other_submission(alloc: Global, cases: &[(u32, bool)]) -> Result<Option<u32>, AllocError> {
+    for (count, reads) in cases {
+        let text = submission_of(alloc, *count)?;
+        let fault = desks_of(alloc, text.as_bytes()).err();
+        let wanted = if *reads {
+            None
+        } else {
+            Some((2, Why::Columns))
+        };
+        if row_and_why(fault) != wanted {
+            return Ok(Some(*count));
+        }
+    }
+    Ok(None)
 }
 
 #[test]
-fn desk_files_have_limits(rt: HostRuntime) -> Result<(), Fail> {
-    let alloc = rt.alloc();
-    for (piece, count, last, said) in [
-        ("1,allot,W\n", 10_000, "", "read"),
-        ("1,allot,W\n", 10_000, "x\n", "row 10002 too-many-rows"),
-        ("1,submit,W,O\n", 500, "1,allot,W\n", "read"),
-        (
-            "1,submit,W,O\n",
-            500,
-            "1,submit,W\n",
-            "row 502 too-many-waves",
-        ),
-        ("1,submit,W,O\n", 500, "1,submit,W b\n", "row 502 bad-name"),
-        ("1,submit,W,O\n", 500, "1,submit\n", "row 502 columns"),
-    ] {
-        let text = desks_with(alloc, piece, count, last)?;
-        let fault = desks_of(alloc, text.as_bytes()).err();
-        assert_eq!(rt; told(alloc, fault)?.as_str(), said, "{last}");
-    }
-    for (count, said) in [(0, "read"), (100, "read"), (101, "row 2 columns")] {
-        let text = submission_of(alloc, count)?;
-        let fault = desks_of(alloc, text.as_bytes()).err();
-        assert_eq!(rt; told(alloc, fault)?.as_str(), said);
-    }
+fn a_wave_names_at_most_100_orders(rt: HostRuntime) -> Result<(), Fail> {
+    assert_eq!(rt; first_other_submission(rt.alloc(), &SUBMISSIONS)?, None);
     Ok(())
 }
