@@ -1,0 +1,80 @@
+//! What the lines of a case say beside its files: the words, and the calls that fail.
+
+use crate::fault::CaseFault;
+use crate::narrow::NarrowSink;
+use std::alloc::Global;
+use wp_model::Memory;
+
+/// How each line of a case begins, where it isn't empty.
+const BEGINNINGS: [&str; 8] = [
+    "#",
+    "words ",
+    "file ",
+    "bytes ",
+    "rows ",
+    "failing read ",
+    "failing write ",
+    "one byte a write",
+];
+
+fn is_known(line: &str) -> bool {
+    line.is_empty()
+        || BEGINNINGS
+            .iter()
+            .any(|beginning| line.starts_with(*beginning))
+}
+
+/// Tells a line that no case may have.
+pub fn test_lines(lines: &str) -> Result<(), CaseFault> {
+    if lines.lines().all(|line| is_known(line)) {
+        Ok(())
+    } else {
+        Err(CaseFault::Line)
+    }
+}
+
+fn add_words(words: &mut Vec<String>, alloc: Global, more: &str) -> Result<(), Memory> {
+    for word in more.split(' ') {
+        words.push(String::from_str(alloc, word)?)?;
+    }
+    Ok(())
+}
+
+/// The words of the command line.
+pub fn words_of(alloc: Global, lines: &str) -> Result<Vec<String>, Memory> {
+    let mut words = Vec::new(alloc);
+    for line in lines.lines() {
+        if let Some(more) = line.strip_prefix("words ") {
+            add_words(&mut words, alloc, more)?;
+        }
+    }
+    Ok(words)
+}
+
+fn add_number(numbers: &mut Vec<u64>, digits: &str) -> Result<(), CaseFault> {
+    let Ok(number) = digits.parse::<u64>() else {
+        return Err(CaseFault::Line);
+    };
+    if numbers.push(number).is_err() {
+        return Err(CaseFault::Memory);
+    }
+    Ok(())
+}
+
+/// The numbers of the calls that fail, each in a line that begins so.
+pub fn failing(alloc: Global, lines: &str, beginning: &str) -> Result<Vec<u64>, CaseFault> {
+    let mut numbers = Vec::new(alloc);
+    for line in lines.lines() {
+        if let Some(digits) = line.strip_prefix(beginning) {
+            add_number(&mut numbers, digits)?;
+        }
+    }
+    Ok(numbers)
+}
+
+/// The sink of a case.
+pub fn sink_of(alloc: Global, lines: &str) -> Result<NarrowSink, CaseFault> {
+    let one_byte = lines.lines().any(|line| line == "one byte a write");
+    let fails = failing(alloc, lines, "failing write ")?;
+    Ok(NarrowSink::of(alloc, fails, one_byte))
+}
