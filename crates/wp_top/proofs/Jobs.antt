@@ -1,5 +1,5 @@
 -- What the jobs come to.
-use Rattle.std.proofs.Common.{◌≡◌, ◌∙◌, refl, sym, ap, subst, ℕ, List, [], ◌∷◌, Option, Ok, Err, arith}
+use Rattle.std.proofs.Common.{◌≡◌, refl, sym, subst, ℕ, inl, inr, List, [], ◌∷◌, Option, Ok, Err, arith}
 use Rattle.wp_journal.proofs.Findings.{answer_finds}
 use Rattle.wp_journal.specs.Auditing.{audited}
 use Rattle.wp_journal.specs.declared.verdict.Audit.{Audit}
@@ -10,7 +10,6 @@ use Rattle.wp_model.proofs.Histories.{all_answered_is_legal, answered_all-openin
 use Rattle.wp_model.specs.History.{opened}
 use Rattle.wp_model.specs.Opening.{IsOpening, Opening}
 use Rattle.wp_model.specs.Tables.{IsReadOpening}
-use Rattle.wp_model.specs.declared.command.Command.{Command}
 use Rattle.wp_outside.specs.Outside.{NoneFalls, SameBytes}
 use Rattle.wp_tables.specs.DeskFile.{scripts_said}
 use Rattle.wp_tables.specs.OrderFile.{orders_said}
@@ -20,8 +19,7 @@ use Rattle.wp_top.proofs.Refusals.{is_said}
 use Rattle.wp_top.proofs.Script.{commands_answered}
 use Rattle.wp_top.specs.Ends.{IsOutput}
 use Rattle.wp_top.specs.Runs.{Says, audit_line, desk_history}
-use Rattle.wp_top.specs.Sections.{output_of}
-use Rattle.wp_top.specs.Stops.{IsRead, IsSaid, IsStop, IsUnsaid, OpeningIsSaid, StopsAudit}
+use Rattle.wp_top.specs.Stops.{IsDay, IsFound, IsRead, IsStop, IsUnsaid, OpeningIsSaid, StopsAudit, StopsFinding}
 use Rattle.wp_top.specs.Texts.{Texts, layout_in, orders_in, scripts_in, stock_in, text_in}
 use Rattle.wp_top.specs.declared.complaint.Complaint.TheVariants as complaint
 use Rattle.wp_top.specs.declared.complaint.Stop.{Stop}
@@ -69,7 +67,7 @@ stop_at_desks holds held names before first after opening (stop.Complaint (compl
 stop_at_desks holds held names before first after opening stop.Memory same said so_far nothing = tt
 
 -- nothing came of the journal
-pub stop_at_journal : (holds held : Holding) (names : AuditNames) (before first after : Counts) (opening : Opening) (s : Stop)
+stop_at_journal : (holds held : Holding) (names : AuditNames) (before first after : Counts) (opening : Opening) (s : Stop)
     → SameBytes holds held → OpeningIsSaid holds names.layout names.stock names.orders opening → NoneFalls before first
     → IsUnsaid text_in held names.journal (first names.journal) (after names.journal) input.Journal s → IsStop holds (Ok (audit names)) before after s
 stop_at_journal holds held names before first after opening (stop.Complaint (complaint.Words why)) same said so_far nothing = absurd nothing
@@ -92,7 +90,7 @@ stop_at_journal holds held names before first after opening (stop.Complaint (com
 stop_at_journal holds held names before first after opening stop.Memory same said so_far nothing = tt
 
 -- the journal isn't right
-pub stop_at_fault : (holds held : Holding) (names : AuditNames) (before after : Counts) (opening : Opening) (text : List ℕ) (s : Stop)
+stop_at_fault : (holds held : Holding) (names : AuditNames) (before after : Counts) (opening : Opening) (text : List ℕ) (s : Stop)
     → SameBytes holds held → OpeningIsSaid holds names.layout names.stock names.orders opening → IsRead held names.journal text
     → StopsAudit (audited opening text) s → IsStop holds (Ok (audit names)) before after s
 stop_at_fault holds held names before after opening text (stop.Complaint (complaint.Words why)) same said read nothing = absurd nothing
@@ -119,12 +117,21 @@ stop_at_fault holds held names before after opening text (stop.Complaint (compla
     }
 stop_at_fault holds held names before after opening text stop.Memory same said read nothing = tt
 
+-- the audit finds nothing
+pub stop_at_finding : (holds held : Holding) (names : AuditNames) (before first after : Counts) (opening : Opening) (s : Stop)
+    → SameBytes holds held → OpeningIsSaid holds names.layout names.stock names.orders opening → NoneFalls before first
+    → StopsFinding held opening names.journal (first names.journal) (after names.journal) s → IsStop holds (Ok (audit names)) before after s
+stop_at_finding holds held names before first after opening s same said so_far (inl nothing) = stop_at_journal holds held names before first after opening s same said so_far nothing
+stop_at_finding holds held names before first after opening s same said so_far (inr (text, read, wrong)) = stop_at_fault holds held names before after opening text s same said read wrong
+
 -- the output of a plan
-pub plan_is : (holds held : Holding) (names : PlanNames) (opening : Opening) (scripts : List (List Command)) (script : List Command) (output : List ℕ)
-    → SameBytes holds held → OpeningIsSaid holds names.layout names.stock names.orders opening → IsReadOpening opening → IsSaid scripts_in held names.desks scripts → scripts ≡ script ∷ []
-    → output ≡ output_of (desk_history opening script) → IsOutput holds (Ok (plan names)) output
-plan_is holds held names opening scripts script output same said read (d, held_d, said_d) one is =
+pub plan_is : (holds held : Holding) (names : PlanNames) (opening : Opening) (output : List ℕ)
+    → SameBytes holds held → OpeningIsSaid holds names.layout names.stock names.orders opening → IsReadOpening opening → IsDay held opening names.desks output
+    → IsOutput holds (Ok (plan names)) output
+plan_is holds held names opening output same said read day =
     let job = plan names in
+    let script = day.script in
+    let (d, held_d, said_d) = day.desk_file in
     let (a, held_a, said_a) = said.layout_file in
     let (b, held_b, said_b) = said.stock_file in
     let (c, held_c, said_c) = said.order_file in
@@ -144,20 +151,23 @@ plan_is holds held names opening scripts script output same said read (d, held_d
         opening = opening;
         says = says_of texts said.space opening said_a said_b said_c;
         script = script;
-        desk_file = is_said refusal.Row scripts_said d scripts said_d ∙ ap Ok one;
+        desk_file = is_said refusal.Row scripts_said d (script ∷ []) said_d;
         commands = commands_answered (opened opening) 1 script;
         legal = all_answered_is_legal (opened opening) 1 script tt;
         sound = states_sound history (subst IsOpening (sym begun) (is_opening opening read));
-        is = is;
+        is = day.is;
       };
     }
 
 -- the output of an audit
-pub audit_is : (holds held : Holding) (names : AuditNames) (opening : Opening) (text : List ℕ) (found : Audit) (output : List ℕ)
-    → SameBytes holds held → OpeningIsSaid holds names.layout names.stock names.orders opening → IsRead held names.journal text → audited opening text ≡ Ok found
+pub audit_is : (holds held : Holding) (names : AuditNames) (opening : Opening) (found : Audit) (output : List ℕ)
+    → SameBytes holds held → OpeningIsSaid holds names.layout names.stock names.orders opening → IsFound held opening names.journal found
     → output ≡ audit_line found → IsOutput holds (Ok (audit names)) output
-audit_is holds held names opening text found output same said read right is =
+audit_is holds held names opening found output same said finding is =
     let job = audit names in
+    let text = finding.text in
+    let read = finding.read in
+    let right = finding.right in
     let (a, held_a, said_a) = said.layout_file in
     let (b, held_b, said_b) = said.stock_file in
     let (c, held_c, said_c) = said.order_file in

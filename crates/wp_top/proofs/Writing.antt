@@ -1,5 +1,5 @@
 -- A text grows item by item.
-use Rattle.std.proofs.Common.{◌≡◌, ◌∙◌, sym, ap, ap₂, ℕ, zero, suc, ◌+◌, List, [], ◌∷◌, ◌++◌, take, Some, slice_get, append_assoc, arith}
+use Rattle.std.proofs.Common.{◌≡◌, ◌∙◌, sym, ap, ℕ, zero, suc, ◌+◌, List, [], ◌∷◌, ◌++◌, take, Some, slice_get, append_assoc, arith}
 use Rattle.std.specs.List.{flat_map}
 use Rattle.std.proofs.lemmas.Grind.{flat_map-append}
 use Rattle.std.proofs.lemmas.List.{append-nil}
@@ -22,8 +22,3 @@ flat_map-next f xs i x is =
 pub grown : (old text new heading items item more : List ℕ) → text ≡ old ++ (heading ++ items) → new ≡ text ++ item → more ≡ items ++ item → new ≡ old ++ (heading ++ more)
 grown old text new heading items item more so_far next is =
     next ∙ (ap (λ text. text ++ item) so_far ∙ (append_assoc old (heading ++ items) item ∙ ap (λ text. old ++ text) (append_assoc heading items item ∙ ap (λ text. heading ++ text) (sym is))))
-
--- a text that was written section by section
-pub sections : {t0 t1 t2 t3 t4 a b c a' b' c' : List ℕ} (d : List ℕ) → t0 ≡ [] → t1 ≡ t0 ++ a → t2 ≡ t1 ++ b → t3 ≡ t2 ++ c → t4 ≡ t3 ++ d → a ≡ a' → b ≡ b' → c ≡ c' → t4 ≡ a' ++ b' ++ c' ++ d
-sections d e0 e1 e2 e3 e4 same_a same_b same_c =
-    e4 ∙ ap (λ t. t ++ d) (e3 ∙ ap₂ (λ t x. t ++ x) (e2 ∙ ap₂ (λ t x. t ++ x) (e1 ∙ ap₂ (λ t x. t ++ x) e0 same_a) same_b) same_c)

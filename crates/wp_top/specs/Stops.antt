@@ -1,14 +1,18 @@
 -- What came of the files, one after the other, and why a job stops.
-use Rattle.std.specs.Prelude.{◌≡◌, ℕ, ◌<◌, ⊤, Bool, true, false, List, Option, Some, String, Result, Ok, Err, if◌then◌else◌}
+use Rattle.std.specs.Prelude.{◌≡◌, ℕ, ◌<◌, ⊤, ◌⊎◌, Bool, true, false, List, [], ◌∷◌, Option, Some, String, Result, Ok, Err, if◌then◌else◌}
 use Rattle.std.specs.declared.alloc.Global.{Global}
+use Rattle.wp_journal.specs.Auditing.{audited}
 use Rattle.wp_journal.specs.declared.verdict.Audit.{Audit}
 use Rattle.wp_journal.specs.declared.verdict.AuditFault.{AuditFault}
 use Rattle.wp_layout.specs.declared.fault.LayoutFault.{LayoutFault}
 use Rattle.wp_layout.specs.declared.fault.LayoutFault.TheVariants as layout_fault
 use Rattle.wp_model.specs.Opening.{Opening}
 use Rattle.wp_model.specs.Warehouse.{Layout}
+use Rattle.wp_model.specs.declared.command.Command.{Command}
 use Rattle.wp_top.specs.Ends.{Asked, IsCause}
-use Rattle.wp_top.specs.Texts.{IsHeld, layout_in, name_for, orders_in, stock_in, text_in}
+use Rattle.wp_top.specs.Runs.{desk_history}
+use Rattle.wp_top.specs.Sections.{output_of}
+use Rattle.wp_top.specs.Texts.{IsHeld, layout_in, name_for, orders_in, scripts_in, stock_in, text_in}
 use Rattle.wp_top.specs.declared.complaint.Complaint.TheVariants as complaint
 use Rattle.wp_top.specs.declared.complaint.Stop.{Stop}
 use Rattle.wp_top.specs.declared.complaint.Stop.TheVariants as stop
@@ -74,6 +78,12 @@ IsStop holds asked before after stop.Memory = ⊤
 abbrev pub OpeningIsUnsaid : (List ℕ → Option (List ℕ)) → List ℕ → List ℕ → List ℕ → (List ℕ → ℕ) → (List ℕ → ℕ) → Stop → Type 0
 OpeningIsUnsaid holds layout stock orders before after why = (job : JobNames) → AreNamed job layout stock orders → IsStop holds (Ok job) before after why
 
+-- the output of an opening and of the desk file of this name
+pub record IsDay (holds : List ℕ → Option (List ℕ)) (opening : Opening) (name output : List ℕ) : Type 0 where
+  pub script : List Command
+  pub desk_file : IsSaid scripts_in holds name (script ∷ [])
+  pub is : output ≡ output_of (desk_history opening script)
+
 -- a journal stops a run where it isn't right
 abbrev pub StopsAudit : Result Audit AuditFault → Stop → Type 0
 StopsAudit said (stop.Complaint (complaint.Words why)) = ⊥
@@ -81,6 +91,16 @@ StopsAudit said (stop.Complaint (complaint.Refused file why)) = ⊥
 StopsAudit said (stop.Complaint (complaint.Fault file)) = ⊥
 StopsAudit said (stop.Complaint (complaint.Journal fault)) = said ≡ Err fault
 StopsAudit said stop.Memory = ⊤
+
+-- the audit of the journal of this name finds that it is right
+pub record IsFound (holds : List ℕ → Option (List ℕ)) (opening : Opening) (name : List ℕ) (found : Audit) : Type 0 where
+  pub text : List ℕ
+  pub read : IsRead holds name text
+  pub right : audited opening text ≡ Ok found
+
+-- it finds nothing: nothing came of the file, or the journal isn't right
+abbrev pub StopsFinding : (List ℕ → Option (List ℕ)) → Opening → List ℕ → ℕ → ℕ → Stop → Type 0
+StopsFinding holds opening name before after why = IsUnsaid text_in holds name before after input.Journal why ⊎ ((text : List ℕ) × IsRead holds name text × StopsAudit (audited opening text) why)
 
 -- the ending of an output, or of a stop
 abbrev pub IsEndOf : Result (String Global) Stop → Ending → Type 0

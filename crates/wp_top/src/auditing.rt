@@ -3,7 +3,7 @@ ghost use Rattle.std.specs.Prelude.{◌≡◌, Ok, IfOk, IfErr, string_bytes};
 ghost use Rattle.wp_journal.specs.Auditing.{audited};
 ghost use Rattle.wp_outside.specs.Outside.{NoneFalls, SameBytes};
 ghost use Rattle.wp_top.specs.Ends.{IsOutput, audit_job};
-ghost use Rattle.wp_top.specs.Stops.{IsStop, StopsAudit};
+ghost use Rattle.wp_top.specs.Stops.{IsFound, IsStop, StopsAudit, StopsFinding};
 ghost use Rattle.wp_top.specs.Runs.{audit_line};
 
 use crate::complaint::{Complaint, Stop};
@@ -37,6 +37,22 @@ fn line_of(alloc: Global, found: Audit) -> Result<String, Memory>
     Ok(text)
 }
 
+// What the audit of the journal of this name finds.
+fn found_in<F: Files>(
+    alloc: Global,
+    files: &mut F,
+    opening: &Opening,
+    name: &str,
+) -> Result<Audit, Stop>
+    ensures found { IfOk result (IsFound (F.holds files.old) opening.now name.now) }
+    ensures stops { IfErr result (StopsFinding (F.holds files.old) opening.now name.now (F.faults files.old name.now) (F.faults files.new name.now)) }
+    ensures same { SameBytes (F.holds files.old) (F.holds files.new) }
+    ensures counts { NoneFalls (F.faults files.old) (F.faults files.new) }
+{
+    let journal = read_text(alloc, files, name, Input::Journal)?;
+    audit_text(alloc, opening, &journal)
+}
+
 /// The output of an audit.
 pub fn audit_output<F: Files>(
     alloc: Global,
@@ -55,8 +71,7 @@ pub fn audit_output<F: Files>(
         words.stock.as_str(),
         words.orders.as_str(),
     )?;
-    let journal = read_text(alloc, files, words.journal.as_str(), Input::Journal)?;
-    let found = audit_text(alloc, &opening, &journal)?;
+    let found = found_in(alloc, files, &opening, words.journal.as_str())?;
     let text = line_of(alloc, found)?;
     Ok(text)
 }

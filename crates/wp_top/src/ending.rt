@@ -95,6 +95,16 @@ fn line_of(alloc: Global, complaint: Complaint) -> Result<String, Memory>
     Ok(text)
 }
 
+fn write_line<K: Sink>(alloc: Global, complaint: Complaint, out: &mut K) -> Result<(), SinkFault>
+    ensures whole { OnOk result (Grows (K.taken out.old) (K.taken out.new) (line (complaint_text complaint))) }
+    ensures prefix { TookPrefix (K.taken out.old) (K.taken out.new) (line (complaint_text complaint)) }
+    ensures counts { K.faults out.old ≤ K.faults out.new }
+    ensures failed { IsErrOf result sink_fault.Failed → K.faults out.old < K.faults out.new }
+{
+    let line = line_of(alloc, complaint)?;
+    write_text(out, line.as_bytes())
+}
+
 fn write_ending<K: Sink>(alloc: Global, ending: &Ending, out: &mut K) -> Result<(), SinkFault>
     ensures whole { OnOk result (Grows (K.taken out.old) (K.taken out.new) (text_of ending.now)) }
     ensures prefix { TookPrefix (K.taken out.old) (K.taken out.new) (text_of ending.now) }
@@ -102,15 +112,9 @@ fn write_ending<K: Sink>(alloc: Global, ending: &Ending, out: &mut K) -> Result<
     ensures failed { IsErrOf result sink_fault.Failed → K.faults out.old < K.faults out.new }
 {
     match ending {
-        Ending::Done(text) => {
-            write_text(out, text.as_bytes())?;
-        }
-        Ending::Complaint(complaint) => {
-            let line = line_of(alloc, *complaint)?;
-            write_text(out, line.as_bytes())?;
-        }
+        Ending::Done(text) => write_text(out, text.as_bytes()),
+        Ending::Complaint(complaint) => write_line(alloc, *complaint, out),
     }
-    Ok(())
 }
 
 /// Writes the text of an ending, and gives the status: the ending's, 4 where the sink failed, 5 for want of memory.

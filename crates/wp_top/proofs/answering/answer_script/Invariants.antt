@@ -6,6 +6,6 @@ use Rattle.wp_top.proofs.answering.answer_script.Given as goal
 -- the commands so far were answered, and their refills kept
 abbrev pub invariant-loop-command : goal.invariant-loop-command
 invariant-loop-command l = record {
-  machine : l.machine ≡ answered_all (opened l.opening) 1 (take l.command-index l.script);
-  refills : l.refills.items ≡ refills_of l.machine;
+  machine : l.answered.machine ≡ answered_all (opened l.opening) 1 (take l.command-index l.script);
+  refills : l.answered.refills.items ≡ refills_of l.answered.machine;
 }

@@ -1,8 +1,7 @@
 use Rattle.std.proofs.Common.{ap, sym, Some}
 use Rattle.std.specs.Prelude.{string_bytes}
-use Rattle.std.proofs.lemmas.Result.{err_from_is_err_and}
+use Rattle.std.proofs.lemmas.Result.{IfErr-weaker, IfOk-weaker, err_from_is_err_and}
 use Rattle.wp_top.proofs.Jobs.{plan_is, stop_at_desks}
-use Rattle.wp_top.proofs.Output.{one_script}
 use Rattle.wp_top.proofs.planning.plan_output.Goals as goal
 use Rattle.wp_words.specs.Reading.{plan_names}
 use Rattle.wp_words.specs.Words.{plan}
@@ -14,23 +13,21 @@ returns-in_err-opening-clause-stops g c =
     (c.in_err-opening.ensures.stops (plan (plan_names c.args.words.now))
     (record { layout_file = ap Some (sym c.as_str.ensures.value); stock_file = ap Some (sym c.as_str-2.ensures.value); order_file = ap Some (sym c.as_str-3.ensures.value) }))
 
-pub returns-in_err-scripts-clause-stops : goal.returns-in_err-scripts-clause-stops
-returns-in_err-scripts-clause-stops g c =
+pub returns-clause-stops : goal.returns-clause-stops
+returns-clause-stops g c =
     let holds = g.F.Files.holds in
     let faults = g.F.Files.faults in
-    let p = err_from_is_err_and c.from_residual-in_err-scripts.result c.from_residual-in_err-scripts.ensures.1 in
     let said = rw (c.as_str.ensures.value, c.as_str-2.ensures.value, c.as_str-3.ensures.value) at c.in_ok-opening.ensures.said in
-    rw (p.1, p.2)
-    (stop_at_desks (holds c.args.files.now) (holds c.read_opening.new.files) (plan_names c.args.words.now) (faults c.args.files.now) (faults c.read_opening.new.files) (faults c.scripts_from.new.files)
-    c.in_ok-opening.opening c.in_err-scripts.field-0.0 c.read_opening.ensures.same said c.read_opening.ensures.counts (rw c.as_str-4.ensures.value at c.in_err-scripts.ensures.stops))
-
-pub output_of_script-requires-clause-few : goal.output_of_script-requires-clause-few
-output_of_script-requires-clause-few g c = (one_script c.in_ok-scripts.scripts c.script.result.now c.in_ok-scripts.ensures.read c.script.ensures.script).1
+    IfErr-weaker c.output_of_desks.result _ _
+    (λ s nothing. stop_at_desks (holds c.args.files.now) (holds c.read_opening.new.files) (plan_names c.args.words.now) (faults c.args.files.now) (faults c.read_opening.new.files) (faults c.output_of_desks.new.files)
+    c.in_ok-opening.opening s c.read_opening.ensures.same said c.read_opening.ensures.counts (rw c.as_str-4.ensures.value at nothing))
+    c.output_of_desks.ensures.stops
 
 pub returns-clause-output : goal.returns-clause-output
 returns-clause-output g c =
     let holds = g.F.Files.holds in
     let said = rw (c.as_str.ensures.value, c.as_str-2.ensures.value, c.as_str-3.ensures.value) at c.in_ok-opening.ensures.said in
-    plan_is (holds c.args.files.now) (holds c.read_opening.new.files) (plan_names c.args.words.now) c.in_ok-opening.opening c.in_ok-scripts.scripts c.script.result.now (string_bytes c.in_ok-text.text)
-    c.read_opening.ensures.same said c.in_ok-opening.ensures.read (rw c.as_str-4.ensures.value at c.in_ok-scripts.ensures.said)
-    (one_script c.in_ok-scripts.scripts c.script.result.now c.in_ok-scripts.ensures.read c.script.ensures.script).0 c.in_ok-text.ensures
+    IfOk-weaker c.output_of_desks.result _ _
+    (λ text day. plan_is (holds c.args.files.now) (holds c.read_opening.new.files) (plan_names c.args.words.now) c.in_ok-opening.opening (string_bytes text)
+    c.read_opening.ensures.same said c.in_ok-opening.ensures.read (rw c.as_str-4.ensures.value at day))
+    c.output_of_desks.ensures.output

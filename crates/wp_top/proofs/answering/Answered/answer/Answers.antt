@@ -1,0 +1,11 @@
+use Rattle.std.proofs.Common.{◌∙◌, sym, ap, ap₂, ◌++◌}
+use Rattle.std.proofs.lemmas.Result.{IfOk-equal}
+use Rattle.wp_top.proofs.Script.{refills_of-answered}
+use Rattle.wp_top.proofs.answering.Answered.answer.Goals as goal
+use Rattle.wp_top.specs.Refills.{refill_in, refills_of}
+
+pub returns-clause-told : goal.returns-clause-told
+returns-clause-told c =
+    IfOk-equal c.keep_refill.result _ _ _ c.keep_refill.ensures
+    (ap₂ (λ refills more. refills ++ more) c.requires.told (ap refill_in c.step-answer.ensures.outcome)
+    ∙ sym (ap refills_of c.step-answer.ensures.history ∙ refills_of-answered c.args.self.now.machine 1 c.in_ok-ready.ready.command))
