@@ -13,7 +13,7 @@ use std::alloc::Global;
 use std::process::ExitCode;
 use std::{fs, io};
 use wp_model::Memory;
-use wp_outside::{Files, MemFiles, RealFiles, Sink, StdSink, write_text};
+use wp_outside::{Files, MemFiles, RealFiles, Sink, StdSink, SystemFiles, write_text};
 use wp_top::run;
 
 fn heading(alloc: Global, name: &str, status: u8) -> Result<String, Memory> {
@@ -86,7 +86,7 @@ fn run_file(rt: &HostRuntime) -> Result<(), CaseFault> {
     let Ok(text) = fs::read_to_string(rt, "cases.txt") else {
         return Err(CaseFault::File);
     };
-    let mut source = RealFiles::new(rt);
+    let mut source = RealFiles::new(SystemFiles::of(rt));
     let mut out = StdSink::new(io::writer(rt));
     run_cases(rt, rt.alloc(), text.as_str(), &mut source, &mut out)
 }

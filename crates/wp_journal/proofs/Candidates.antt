@@ -1,6 +1,6 @@
 -- The line of an entry is read as this entry, so a line is of one entry.
-use Rattle.std.proofs.Common.{◌≡◌, ◌∙◌, refl, sym, ap, ℕ, ◌-◌, ◌<◌, ◌^◌, true, false, List, [], ◌∷◌, ◌++◌, length, take, arith, leb-true, ltb-true, length-append, lit<}
-use Rattle.std.specs.Prelude.{◌&&◌, codes, nat_le, nat_lt, Some, None, Result, Err}
+use Rattle.std.proofs.Common.{◌≡◌, ◌∙◌, refl, sym, ap, ℕ, ◌-◌, ◌<◌, ◌^◌, true, false, List, [], ◌∷◌, ◌++◌, ◌⊎◌, inl, inr, length, take, arith, leb-true, ltb-true, length-append, lit<}
+use Rattle.std.specs.Prelude.{◌&&◌, codes, nat_le, nat_lt, Some, None, IfOk, Result, Ok, Err}
 use Rattle.std.specs.Fmt.{decimal}
 use Rattle.std.specs.List.{list_all}
 use Rattle.std.proofs.Math.Seq.{take-append_seam}
@@ -12,7 +12,7 @@ use Rattle.wp_model.specs.Plain.{is_plain}
 use Rattle.wp_model.specs.declared.command.Command.{Command}
 use Rattle.wp_model.specs.declared.entry.Entry.{Entry}
 use Rattle.wp_model.specs.declared.reply.Reply.{Reply}
-use Rattle.wp_journal.specs.Grammar.{IsLineOf, IsNoLine, has_names, is_line_entry, is_line_reply}
+use Rattle.wp_journal.specs.Grammar.{IsLineOf, IsNoLine, IsOnlyLineOf, has_names, is_line_entry, is_line_reply}
 use Rattle.wp_journal.specs.Reading.{candidate_of, entry_from, entry_in, wants_memory}
 use Rattle.wp_journal.specs.Splits.{Word, after_arrow, before_arrow, is_arrow, words_of}
 use Rattle.wp_journal.specs.declared.fault.EntryFault.{EntryFault}
@@ -130,3 +130,10 @@ same_why a b e = cc e
 -- so a reader that answers so is right
 pub refusal : (line : List ℕ) (result : Result Entry EntryFault) (why : EntryFault) → result ≡ Err why → (wants_memory why ≡ false → candidate_of line ≡ None) → result ≡ Err fault.NotEntry → IsNoLine line
 refusal line result why is told said = no_line_read line (told (ap wants_memory (same_why why fault.NotEntry (sym is ∙ said))))
+
+-- the line of an entry is read as it, where there is memory
+pub one_reading : (line : List ℕ) (result : Result Entry EntryFault) → IfOk result (IsOnlyLineOf line) → (result ≡ Err fault.NotEntry → IsNoLine line) → (entry : Entry) → IsLineOf line entry
+    → (result ≡ Ok entry) ⊎ (result ≡ Err fault.Memory)
+one_reading line (Ok read) only refuses entry is = inl (ap Ok (sym (only entry is)))
+one_reading line (Err fault.NotEntry) only refuses entry is = absurd (refuses refl entry is)
+one_reading line (Err fault.Memory) only refuses entry is = inr refl

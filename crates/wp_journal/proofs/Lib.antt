@@ -4,5 +4,6 @@ pub mod WordBytes
 pub mod EntryWords
 pub mod ReadBack
 pub mod Candidates
-pub mod Audits
+pub mod Lines
 pub mod Findings
+pub mod OneFinding

@@ -1,11 +1,8 @@
 -- The entry that a line may be of: where it is the line of one, of this.
-use Rattle.std.specs.Prelude.{◌≡◌, ℕ, ◌-◌, ◌&&◌, if◌then◌else◌, Bool, true, false, List, [], ◌∷◌, length, take, Option, Some, None, option_map, Result, Ok, Err}
+use Rattle.std.specs.Prelude.{◌≡◌, ℕ, ◌-◌, Bool, true, false, List, [], ◌∷◌, length, take, Option, Some, None, option_map, Result, Ok, Err}
 use Rattle.std.specs.Option.{option_and_then}
-use Rattle.std.specs.Str.{bytes_eq}
-use Rattle.wp_model.specs.Journal.{entry_line}
 use Rattle.wp_model.specs.declared.entry.Entry.{Entry}
 use Rattle.wp_journal.specs.Commands.{command_in}
-use Rattle.wp_journal.specs.Grammar.{is_line_entry}
 use Rattle.wp_journal.specs.Numbers.{small_of, whole_of}
 use Rattle.wp_journal.specs.Replies.{reply_in}
 use Rattle.wp_journal.specs.Splits.{Word, after_arrow, before_arrow, words_of}
@@ -40,11 +37,3 @@ entry_in (number ∷ desk ∷ sentence) = option_and_then (λ n. option_and_then
 -- the entry that the words of a line without its last byte write
 abbrev pub candidate_of : List ℕ → Option Entry
 candidate_of line = entry_in (words_of (take (length line - 1) line))
-
--- an entry, where this is its line
-abbrev pub if_line : List ℕ → Entry → Option Entry
-if_line line entry = if is_line_entry entry && bytes_eq (entry_line entry) line then Some entry else None
-
--- the entry whose line this is
-abbrev pub entry_of : List ℕ → Option Entry
-entry_of line = option_and_then (if_line line) (candidate_of line)

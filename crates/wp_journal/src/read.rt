@@ -1,8 +1,9 @@
-ghost use Rattle.std.specs.Prelude.{◌≡◌, ◌&&◌, Err, IfOk};
+ghost use Rattle.std.specs.Prelude.{◌≡◌, ◌&&◌, ◌⊎◌, Ok, Err, IfOk};
 ghost use Rattle.std.specs.Str.{bytes_eq};
 ghost use Rattle.wp_model.specs.Journal.{entry_line};
 ghost use Rattle.wp_journal.specs.Grammar.{IsLineOf, IsNoLine, IsOnlyLineOf, is_line_entry};
-ghost use Rattle.wp_journal.specs.Reading.{Gives, candidate_of, entry_in, entry_of};
+ghost use Rattle.wp_model.specs.declared.entry.Entry.{Entry};
+ghost use Rattle.wp_journal.specs.Reading.{Gives, candidate_of, entry_in};
 ghost use Rattle.wp_journal.specs.Splits.{words_now};
 ghost use Rattle.wp_journal.specs.declared.fault.EntryFault.TheVariants as fault;
 
@@ -14,7 +15,7 @@ use crate::print::print_entry;
 use crate::reply::read_reply;
 use crate::words::{split_at_arrow, words_of};
 use std::alloc::Global;
-use wp_model::Entry;
+use wp_model::{Entry, Memory};
 
 fn read_words(alloc: Global, words: &[&[u8]]) -> Result<Entry, EntryFault>
     ensures { Gives result (entry_in (words_now words.now)) }
@@ -46,11 +47,26 @@ fn candidate(alloc: Global, line: &[u8]) -> Result<Entry, EntryFault>
     read_words(alloc, words.as_slice())
 }
 
-fn is_line_of(line: &[u8], printed: &[u8], entry: &Entry) -> bool
-    requires { printed.now ≡ entry_line entry.now }
-    ensures { result ≡ (is_line_entry entry.now && bytes_eq (entry_line entry.now) line.now) }
+/// Whether a line is that of an entry of the journal.
+pub fn has_line(alloc: Global, entry: &Entry, line: &[u8]) -> Result<bool, Memory>
+    ensures { IfOk result (λ is. is ≡ (is_line_entry entry.now && bytes_eq (entry_line entry.now) line.now)) }
 {
-    is_line_entry(entry) && printed == line
+    Ok(is_line_entry(entry) && print_entry(alloc, entry)?.as_slice() == line)
+}
+
+// The entry whose line this is.
+fn entry_of_line(alloc: Global, line: &[u8]) -> Result<Entry, EntryFault>
+    ensures entry { IfOk result (IsLineOf line.now) }
+    ensures only { IfOk result (IsOnlyLineOf line.now) }
+    ensures refusal { result ≡ Err fault.NotEntry → IsNoLine line.now }
+{
+    let entry = candidate(alloc, line)?;
+    let is_its_line = has_line(alloc, &entry, line)?;
+    if is_its_line {
+        Ok(entry)
+    } else {
+        Err(EntryFault::NotEntry)
+    }
 }
 
 /// The entry whose line this is, its line feed with it: what `print_entry` writes of an entry whose number is below
@@ -59,15 +75,9 @@ fn is_line_of(line: &[u8], printed: &[u8], entry: &Entry) -> bool
 /// such entry. A line is of one entry alone.
 pub fn read_entry(alloc: Global, line: &[u8]) -> Result<Entry, EntryFault>
     ensures entry { IfOk result (IsLineOf line.now) }
-    ensures exact { Gives result (entry_of line.now) }
+    ensures exact { (entry : Entry) → IsLineOf line.now entry → (result ≡ Ok entry) ⊎ (result ≡ Err fault.Memory) }
     ensures only { IfOk result (IsOnlyLineOf line.now) }
     ensures refusal { result ≡ Err fault.NotEntry → IsNoLine line.now }
 {
-    let entry = candidate(alloc, line)?;
-    let printed = print_entry(alloc, &entry)?;
-    if is_line_of(line, printed.as_slice(), &entry) {
-        Ok(entry)
-    } else {
-        Err(EntryFault::NotEntry)
-    }
+    entry_of_line(alloc, line)
 }

@@ -1,14 +1,18 @@
 //! Audits of journals: the machine answers each entry's command again, and its own entries are compared with the lines.
-ghost use Rattle.std.specs.Prelude.{◌≡◌, ◌<◌, IfOk, IsTrue, length};
+ghost use Rattle.std.specs.Prelude.{◌≡◌, ◌↔◌, ◌⊎◌, ◌<◌, ◌∷◌, ℕ, List, Result, Err, IfOk, IsTrue, codes, length};
 ghost use Rattle.std.specs.List.{position_or_len};
-ghost use Rattle.wp_model.specs.History.{answered, next_entry, opened};
+ghost use Rattle.wp_model.specs.History.{answered, next_entry};
+ghost use Rattle.wp_model.specs.Journal.{line};
 ghost use Rattle.wp_model.specs.Plain.{is_plain};
-ghost use Rattle.wp_journal.specs.Journals.{Finds};
-ghost use Rattle.wp_journal.specs.Auditing.{Answers, Leads, MayGoOn, after_line, audited, audited_from, bad_line, first_line, is_end, is_feed, is_head, judged, line_after, lines_of, numbered};
+ghost use Rattle.wp_journal.specs.Auditing.{Judges, MayGoOn, Tells, after_line, first_line, is_head};
+ghost use Rattle.wp_journal.specs.Grammar.{IsLineOf, IsOnlyLineOf};
+ghost use Rattle.wp_journal.specs.Journals.{Shows, is_end, is_feed, line_number_after, lines_of};
+ghost use Rattle.wp_journal.specs.declared.verdict.Audit.{Audit};
+ghost use Rattle.wp_journal.specs.declared.verdict.AuditFault.{AuditFault};
+ghost use Rattle.wp_journal.specs.declared.verdict.AuditFault.TheVariants as fault;
 
 use crate::fault::EntryFault;
-use crate::print::print_entry;
-use crate::read::read_entry;
+use crate::read::{has_line, read_entry};
 use crate::verdict::{Audit, AuditFault};
 use std::alloc::Global;
 use wp_machine::{Machine, Opening, prepare};
@@ -53,7 +57,7 @@ fn is_end(line: &[u8]) -> bool
 // The fault of a bad line after all that the machine has answered.
 fn bad_line(machine: &Machine<'_>) -> AuditFault
     requires { length machine.now.entries < 4294967295 }
-    ensures { result ≡ bad_line machine.now }
+    ensures { result ≡ fault.BadLine (line_number_after machine.now) }
 {
     AuditFault::BadLine(machine.count() + 2)
 }
@@ -82,7 +86,7 @@ fn answer(
     })
 }
 
-// Answers an entry's command again, and compares the line with that of the machine's entry.
+// Answers the command of the entry of the next number again, and compares its line with that of the machine's entry.
 fn judge(
     alloc: Global,
     opening: &Opening,
@@ -93,12 +97,14 @@ fn judge(
     requires same { opening.now ≡ machine.old.opening }
     requires few { length machine.old.entries < 4294967295 }
     requires plain { IsTrue (is_plain entry.now.command) }
-    ensures leads { Leads result machine.new (judged machine.old line.now entry.now) }
+    requires number { entry.now.number ≡ length machine.old.entries }
+    requires is { IsLineOf line.now entry.now }
+    ensures judges { Judges machine.old line.now machine.new result }
     ensures history { IfOk result (λ _. machine.new ≡ answered machine.old entry.now.desk entry.now.command) }
 {
     let right = answer(alloc, opening, machine, entry)?;
-    let written = print_entry(alloc, &right)?;
-    if written.as_slice() == line {
+    let is_right = has_line(alloc, &right, line)?;
+    if is_right {
         Ok(())
     } else {
         Err(AuditFault::WrongReply {
@@ -109,7 +115,7 @@ fn judge(
     }
 }
 
-// Takes the entry of a line in, where it has the next number.
+// Takes an entry in, where it has the next number.
 fn take_entry(
     alloc: Global,
     opening: &Opening,
@@ -121,7 +127,9 @@ fn take_entry(
     requires few { length machine.old.entries < 4294967295 }
     requires plain { IsTrue (is_plain entry.now.command) }
     requires number { entry.now.number < 10000 }
-    ensures leads { Leads result machine.new (numbered machine.old line.now entry.now) }
+    requires is { IsLineOf line.now entry.now }
+    requires only { IsOnlyLineOf line.now entry.now }
+    ensures judges { Judges machine.old line.now machine.new result }
     ensures next { IfOk result (λ _. MayGoOn machine.old machine.new) }
 {
     if entry.number == machine.count() {
@@ -140,7 +148,7 @@ fn take_line(
 ) -> Result<(), AuditFault>
     requires same { opening.now ≡ machine.old.opening }
     requires few { length machine.old.entries < 4294967295 }
-    ensures leads { Leads result machine.new (line_after machine.old line.now) }
+    ensures judges { Judges machine.old line.now machine.new result }
     ensures next { IfOk result (λ _. MayGoOn machine.old machine.new) }
 {
     match read_entry(alloc, line) {
@@ -152,7 +160,7 @@ fn take_line(
 
 // Audits the lines after the head.
 fn audit_entries(alloc: Global, opening: &Opening, text: &[u8]) -> Result<Audit, AuditFault>
-    ensures { Answers result (audited_from (opened opening.now) (lines_of text.now)) }
+    ensures { (whole : List ℕ) → lines_of whole ≡ line (codes "journal") ∷ lines_of text.now → Tells opening.now whole result }
 {
     let mut machine = Machine::open(alloc, opening)?;
     let mut rest = text;
@@ -171,7 +179,7 @@ fn audit_entries(alloc: Global, opening: &Opening, text: &[u8]) -> Result<Audit,
 
 // Audits a text, from the head on.
 fn audit_text(alloc: Global, opening: &Opening, text: &[u8]) -> Result<Audit, AuditFault>
-    ensures { Answers result (audited opening.now text.now) }
+    ensures { Tells opening.now text.now result }
 {
     if text.is_empty() {
         return Err(AuditFault::BadLine(1));
@@ -190,8 +198,8 @@ fn audit_text(alloc: Global, opening: &Opening, text: &[u8]) -> Result<Audit, Au
 /// `BadLine` comes exactly where it is neither the entry with the next number below 10,000 nor a heading in its place,
 /// or the text ends before it; `WrongReply` comes exactly where it is the next entry and its reply isn't the machine's.
 pub fn audit(alloc: Global, opening: &Opening, text: &Vec<u8>) -> Result<Audit, AuditFault>
-    ensures exact { Answers result (audited opening.now text.now.items) }
-    ensures finds { Finds opening.now text.now.items result }
+    ensures tells { Tells opening.now text.now.items result }
+    ensures exact { (found : Result Audit AuditFault) → Shows opening.now text.now.items found → (result ≡ found) ⊎ (result ≡ Err fault.Memory) }
 {
     audit_text(alloc, opening, text.as_slice())
 }

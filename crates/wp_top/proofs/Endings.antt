@@ -1,33 +1,35 @@
--- What each status says, from how a run ended.
-use Rattle.std.proofs.Common.{◌≡◌, ◌∙◌, refl, sym, ap, subst, ℕ, ◌<◌, ◌≤◌, ◌⊎◌, inl, inr, List, Option, Some, None, Result, Ok, Err, arith, string_bytes}
-use Rattle.std.specs.Prelude.{IfOk, IfErr, String}
+-- What a run promises, from how it ended.
+use Rattle.std.proofs.Common.{◌≡◌, ◌∙◌, refl, sym, ap, ap₂, subst, ℕ, ◌<◌, ◌≤◌, ◌⊎◌, inl, inr, List, [], ◌∷◌, ◌++◌, map, append_assoc, Option, Some, None, Result, Ok, Err, arith, string_bytes}
+use Rattle.std.specs.Prelude.{IfOk, IfErr, OnErr, String}
+use Rattle.wp_model.specs.declared.memory.Memory.{Memory}
+use Rattle.std.specs.List.{All}
 use Rattle.std.specs.declared.alloc.Global.{Global}
+use Rattle.std.proofs.lemmas.List.{append-nil}
+use Rattle.std.proofs.lemmas.List.Elements.{All-cons, All-head, All-nil, All-tail}
+use Rattle.wp_journal.proofs.OneFinding.{shows_one}
+use Rattle.wp_journal.specs.declared.verdict.Audit.{Audit}
 use Rattle.wp_journal.specs.declared.verdict.AuditFault.{AuditFault}
-use Rattle.wp_outside.specs.Outside.{Grows, TookPrefix}
-use Rattle.wp_top.specs.Ends.{AreBadWords, Asked, Finishes, HasRisen, IsDone, IsEnding, IsFault, IsOutput, IsPartial, IsRefused, IsWrong, Stand, status_of, text_of}
-use Rattle.wp_top.specs.Stops.{IsEndOf, IsStop}
-use Rattle.wp_top.specs.Texts.{AreHeld, AreTold, IsHeld, Refused, Texts, first_refusal, journal_fault, name_for}
+use Rattle.wp_model.specs.Outcomes.{and_then}
+use Rattle.wp_outside.specs.Outside.{Grows, NoneFalls, SameBytes, TookPrefix}
+use Rattle.wp_top.proofs.FilesRead.{Counts, Holding, say_further}
+use Rattle.wp_top.specs.Ends.{Asked, HasRisen, HaveSaid, IsFirstRefused, IsOutput}
+use Rattle.wp_top.specs.Promise.{AreGoodFiles, AreToldToSay, Complains, Course, EndsWith, FilesStand, IsBadFile, IsDue, Keeps, SinkStands, Took}
+use Rattle.wp_top.specs.Runs.{ComesTo, IsRight, IsWrong}
+use Rattle.wp_top.specs.Stops.{Finishes, IsEndOf, IsEnding, IsStop, number_of, status_of, text_of}
+use Rattle.wp_top.specs.Texts.{AreHeld, AreTold, File, IsHeld, ReadFile, Said, Say, file_of, files_of, nothing_said, said_after, said_with}
 use Rattle.wp_top.specs.declared.complaint.Complaint.TheVariants as complaint
+use Rattle.wp_top.specs.declared.complaint.Finding.{Finding}
+use Rattle.wp_top.specs.declared.complaint.Finding.TheVariants as finding
 use Rattle.wp_top.specs.declared.complaint.Stop.{Stop}
 use Rattle.wp_top.specs.declared.complaint.Stop.TheVariants as stop
 use Rattle.wp_top.specs.declared.ending.Ending.{Ending}
 use Rattle.wp_top.specs.declared.ending.Ending.TheVariants as ending
 use Rattle.wp_top.specs.declared.input.Input.{Input}
-use Rattle.wp_top.specs.declared.input.Input.TheVariants as input
+use Rattle.wp_top.specs.declared.input.Refusal.{Refusal}
+use Rattle.wp_top.specs.declared.status.Status.{Status}
+use Rattle.wp_top.specs.declared.status.Status.TheVariants as status
 use Rattle.wp_words.specs.Words.{JobNames, audit, plan}
 use Rattle.wp_words.specs.declared.fault.WordsFault.{WordsFault}
-
-abbrev Holding : Type 0
-Holding = List ℕ → Option (List ℕ)
-
-abbrev Counts : Type 0
-Counts = List ℕ → ℕ
-
--- a run ended so
-pub record HasEnded (holds : List ℕ → Option (List ℕ)) (asked : Asked) (before after : List ℕ → ℕ) (old new : Option (List ℕ)) (sink sink' status : ℕ) : Type 0 where
-  pub ended : Ending
-  pub cause : IsEnding holds asked before after ended
-  pub finishes : Finishes ended old new sink sink' status
 
 -- an output or a stop has an ending of its own
 pub ends : (holds : Holding) (asked : Asked) (before after : Counts) (output : Result (String Global) Stop) (e : Ending)
@@ -36,13 +38,19 @@ ends holds asked before after (Ok text) e is stops end = rw end is
 ends holds asked before after (Err (stop.Complaint why)) e is stops end = rw end stops
 ends holds asked before after (Err stop.Memory) e is stops end = absurd end
 
--- no ending has status 4 or 5
-own : (e : Ending) → (status_of e < 4) ⊎ (status_of e ≡ 6)
+-- a run ended so
+pub record HasEnded (asked : Asked) (run : Course) (ended : Status) : Type 0 where
+  pub ending : Ending
+  pub cause : IsEnding run.holds asked run.faults run.faults' ending
+  pub finishes : Finishes ending run.taken run.taken' run.sink run.sink' ended
+
+-- the status of an ending is its own
+own : (e : Ending) → (number_of (status_of e) < 4) ⊎ (number_of (status_of e) ≡ 6)
 own (ending.Done text) = inl (omega arith)
 own (ending.Complaint (complaint.Words why)) = inl (omega arith)
 own (ending.Complaint (complaint.Refused f why)) = inl (omega arith)
 own (ending.Complaint (complaint.Fault f)) = inl (omega arith)
-own (ending.Complaint (complaint.Journal fault)) = inr refl
+own (ending.Complaint (complaint.Wrong found)) = inr refl
 
 neither : (n : ℕ) → (n < 4) ⊎ (n ≡ 6) → (n ≡ 4) ⊎ (n ≡ 5) → ⊥
 neither n (inl few) (inl is) = omega (arith, few, is)
@@ -51,230 +59,346 @@ neither n (inr six) (inl is) = omega (arith, six, is)
 neither n (inr six) (inr is) = omega (arith, six, is)
 
 -- with another status than 4 and 5 the whole text was taken
-whole : (e : Ending) (old new : Option (List ℕ)) (before after status n : ℕ) → Finishes e old new before after status → status ≡ n → (n < 4) ⊎ (n ≡ 6) → (status_of e ≡ n) × Grows old new (text_of e)
-whole e old new before after status n (inl (is, grows)) same other = (sym is ∙ same, grows)
-whole e old new before after status n (inr (inl (is, rose, took))) same other = absurd (neither n other (inl (sym same ∙ is)))
-whole e old new before after status n (inr (inr (is, took))) same other = absurd (neither n other (inr (sym same ∙ is)))
+whole : (asked : Asked) (run : Course) (ended : Status) (n : ℕ) (e : Ending) → Finishes e run.taken run.taken' run.sink run.sink' ended → number_of ended ≡ n → (n < 4) ⊎ (n ≡ 6) → (number_of (status_of e) ≡ n) × Took run (text_of e)
+whole asked run ended n e (inl (is, grows)) same other = (ap number_of (sym is) ∙ same, grows)
+whole asked run ended n e (inr (inl (is, rose, took))) same other = absurd (neither n other (inl (sym same ∙ ap number_of is)))
+whole asked run ended n e (inr (inr (is, took))) same other = absurd (neither n other (inr (sym same ∙ ap number_of is)))
 
-when_done : (holds : Holding) (asked : Asked) (before after : Counts) (e : Ending) (old new : Option (List ℕ)) → IsEnding holds asked before after e → status_of e ≡ 0 → Grows old new (text_of e) → IsDone holds asked old new
-when_done holds asked before after (ending.Done text) old new is status grows = (string_bytes text, is, grows)
-when_done holds asked before after (ending.Complaint (complaint.Words why)) old new is status grows = absurd (cc status)
-when_done holds asked before after (ending.Complaint (complaint.Refused f why)) old new is status grows = absurd (cc status)
-when_done holds asked before after (ending.Complaint (complaint.Fault f)) old new is status grows = absurd (cc status)
-when_done holds asked before after (ending.Complaint (complaint.Journal fault)) old new is status grows = absurd (cc status)
+when_done : (asked : Asked) (run : Course) (e : Ending) → IsEnding run.holds asked run.faults run.faults' e → number_of (status_of e) ≡ 0 → Took run (text_of e) → (output : List ℕ) × IsOutput run.holds asked output × Took run output
+when_done asked run (ending.Done text) is status took = (string_bytes text, is, took)
+when_done asked run (ending.Complaint (complaint.Words why)) is status took = absurd (omega (arith, status))
+when_done asked run (ending.Complaint (complaint.Refused f why)) is status took = absurd (omega (arith, status))
+when_done asked run (ending.Complaint (complaint.Fault f)) is status took = absurd (omega (arith, status))
+when_done asked run (ending.Complaint (complaint.Wrong found)) is status took = absurd (omega (arith, status))
 
--- status 0
-pub done_says : {holds : Holding} {asked : Asked} {before after : Counts} {old new : Option (List ℕ)} {sink sink' status : ℕ} → HasEnded holds asked before after old new sink sink' status → status ≡ 0 → IsDone holds asked old new
-done_says {holds} {asked} {before} {after} {old} {new} {sink} {sink'} {status} run same =
-    let taken = whole run.ended old new sink sink' status 0 run.finishes same (inl (omega arith)) in
-    when_done holds asked before after run.ended old new run.cause taken.0 taken.1
+when_words : (asked : Asked) (run : Course) (e : Ending) → IsEnding run.holds asked run.faults run.faults' e → number_of (status_of e) ≡ 1 → Took run (text_of e) → (why : WordsFault) × Complains asked run (complaint.Words why)
+when_words asked run (ending.Done text) is status took = absurd (omega (arith, status))
+when_words asked run (ending.Complaint (complaint.Words why)) is status took = (why, (is, took))
+when_words asked run (ending.Complaint (complaint.Refused f why)) is status took = absurd (omega (arith, status))
+when_words asked run (ending.Complaint (complaint.Fault f)) is status took = absurd (omega (arith, status))
+when_words asked run (ending.Complaint (complaint.Wrong found)) is status took = absurd (omega (arith, status))
 
-when_words : (holds : Holding) (asked : Asked) (before after : Counts) (e : Ending) (old new : Option (List ℕ)) → IsEnding holds asked before after e → status_of e ≡ 1 → Grows old new (text_of e) → AreBadWords asked old new
-when_words holds asked before after (ending.Done text) old new is status grows = absurd (cc status)
-when_words holds asked before after (ending.Complaint (complaint.Words why)) old new is status grows = (why, is, grows)
-when_words holds asked before after (ending.Complaint (complaint.Refused f why)) old new is status grows = absurd (cc status)
-when_words holds asked before after (ending.Complaint (complaint.Fault f)) old new is status grows = absurd (cc status)
-when_words holds asked before after (ending.Complaint (complaint.Journal fault)) old new is status grows = absurd (cc status)
+when_refused : (asked : Asked) (run : Course) (e : Ending) → IsEnding run.holds asked run.faults run.faults' e → number_of (status_of e) ≡ 2 → Took run (text_of e) → (file : Input) × (why : Refusal) × Complains asked run (complaint.Refused file why)
+when_refused asked run (ending.Done text) is status took = absurd (omega (arith, status))
+when_refused asked run (ending.Complaint (complaint.Words why)) is status took = absurd (omega (arith, status))
+when_refused asked run (ending.Complaint (complaint.Refused f why)) is status took = (f, why, (is, took))
+when_refused asked run (ending.Complaint (complaint.Fault f)) is status took = absurd (omega (arith, status))
+when_refused asked run (ending.Complaint (complaint.Wrong found)) is status took = absurd (omega (arith, status))
 
--- status 1
-pub words_says : {holds : Holding} {asked : Asked} {before after : Counts} {old new : Option (List ℕ)} {sink sink' status : ℕ} → HasEnded holds asked before after old new sink sink' status → status ≡ 1 → AreBadWords asked old new
-words_says {holds} {asked} {before} {after} {old} {new} {sink} {sink'} {status} run same =
-    let taken = whole run.ended old new sink sink' status 1 run.finishes same (inl (omega arith)) in
-    when_words holds asked before after run.ended old new run.cause taken.0 taken.1
+when_fault : (asked : Asked) (run : Course) (e : Ending) → IsEnding run.holds asked run.faults run.faults' e → number_of (status_of e) ≡ 3 → Took run (text_of e) → (file : Input) × Complains asked run (complaint.Fault file)
+when_fault asked run (ending.Done text) is status took = absurd (omega (arith, status))
+when_fault asked run (ending.Complaint (complaint.Words why)) is status took = absurd (omega (arith, status))
+when_fault asked run (ending.Complaint (complaint.Refused f why)) is status took = absurd (omega (arith, status))
+when_fault asked run (ending.Complaint (complaint.Fault f)) is status took = (f, (is, took))
+when_fault asked run (ending.Complaint (complaint.Wrong found)) is status took = absurd (omega (arith, status))
 
-when_refused : (holds : Holding) (asked : Asked) (before after : Counts) (e : Ending) (old new : Option (List ℕ)) → IsEnding holds asked before after e → status_of e ≡ 2 → Grows old new (text_of e) → IsRefused holds asked old new
-when_refused holds asked before after (ending.Done text) old new is status grows = absurd (cc status)
-when_refused holds asked before after (ending.Complaint (complaint.Words why)) old new is status grows = absurd (cc status)
-when_refused holds asked before after (ending.Complaint (complaint.Refused f why)) old new is status grows = (record { file = f; why = why }, is, grows)
-when_refused holds asked before after (ending.Complaint (complaint.Fault f)) old new is status grows = absurd (cc status)
-when_refused holds asked before after (ending.Complaint (complaint.Journal fault)) old new is status grows = absurd (cc status)
+when_wrong : (asked : Asked) (run : Course) (e : Ending) → IsEnding run.holds asked run.faults run.faults' e → number_of (status_of e) ≡ 6 → Took run (text_of e) → (found : Finding) × Complains asked run (complaint.Wrong found)
+when_wrong asked run (ending.Done text) is status took = absurd (omega (arith, status))
+when_wrong asked run (ending.Complaint (complaint.Words why)) is status took = absurd (omega (arith, status))
+when_wrong asked run (ending.Complaint (complaint.Refused f why)) is status took = absurd (omega (arith, status))
+when_wrong asked run (ending.Complaint (complaint.Fault f)) is status took = absurd (omega (arith, status))
+when_wrong asked run (ending.Complaint (complaint.Wrong found)) is status took = (found, (is, took))
 
--- status 2
-pub refused_says : {holds : Holding} {asked : Asked} {before after : Counts} {old new : Option (List ℕ)} {sink sink' status : ℕ} → HasEnded holds asked before after old new sink sink' status → status ≡ 2 → IsRefused holds asked old new
-refused_says {holds} {asked} {before} {after} {old} {new} {sink} {sink'} {status} run same =
-    let taken = whole run.ended old new sink sink' status 2 run.finishes same (inl (omega arith)) in
-    when_refused holds asked before after run.ended old new run.cause taken.0 taken.1
+sink_rose : (asked : Asked) (run : Course) (ended : Status) (e : Ending) → Finishes e run.taken run.taken' run.sink run.sink' ended → number_of ended ≡ 4 → run.sink < run.sink'
+sink_rose asked run ended e (inl (is, grows)) same = absurd (neither (number_of (status_of e)) (own e) (inl (ap number_of (sym is) ∙ same)))
+sink_rose asked run ended e (inr (inl (is, rose, took))) same = rose
+sink_rose asked run ended e (inr (inr (is, took))) same = absurd (omega (arith, ap number_of is, same))
 
-when_fault : (holds : Holding) (asked : Asked) (before after : Counts) (e : Ending) (old new : Option (List ℕ)) → IsEnding holds asked before after e → status_of e ≡ 3 → Grows old new (text_of e) → IsFault asked before after old new
-when_fault holds asked before after (ending.Done text) old new is status grows = absurd (cc status)
-when_fault holds asked before after (ending.Complaint (complaint.Words why)) old new is status grows = absurd (cc status)
-when_fault holds asked before after (ending.Complaint (complaint.Refused f why)) old new is status grows = absurd (cc status)
-when_fault holds asked before after (ending.Complaint (complaint.Fault f)) old new is status grows = (f, is, grows)
-when_fault holds asked before after (ending.Complaint (complaint.Journal fault)) old new is status grows = absurd (cc status)
+due : (asked : Asked) (run : Course) (e : Ending) → IsEnding run.holds asked run.faults run.faults' e → IsDue asked run (text_of e)
+due asked run (ending.Done text) is = inl is
+due asked run (ending.Complaint why) is = inr (why, is, refl)
 
--- status 3
-pub fault_says : {holds : Holding} {asked : Asked} {before after : Counts} {old new : Option (List ℕ)} {sink sink' status : ℕ} → HasEnded holds asked before after old new sink sink' status → status ≡ 3 → IsFault asked before after old new
-fault_says {holds} {asked} {before} {after} {old} {new} {sink} {sink'} {status} run same =
-    let taken = whole run.ended old new sink sink' status 3 run.finishes same (inl (omega arith)) in
-    when_fault holds asked before after run.ended old new run.cause taken.0 taken.1
+part_taken : (run : Course) (ended : Status) (e : Ending) → Finishes e run.taken run.taken' run.sink run.sink' ended → (number_of ended ≡ 4) ⊎ (number_of ended ≡ 5) → TookPrefix run.taken run.taken' (text_of e)
+part_taken run ended e (inl (is, grows)) same = absurd (neither (number_of (status_of e)) (own e) (rw is at same))
+part_taken run ended e (inr (inl (is, rose, took))) same = took
+part_taken run ended e (inr (inr (is, took))) same = took
 
-when_wrong : (holds : Holding) (asked : Asked) (before after : Counts) (e : Ending) (old new : Option (List ℕ)) → IsEnding holds asked before after e → status_of e ≡ 6 → Grows old new (text_of e) → IsWrong holds asked old new
-when_wrong holds asked before after (ending.Done text) old new is status grows = absurd (cc status)
-when_wrong holds asked before after (ending.Complaint (complaint.Words why)) old new is status grows = absurd (cc status)
-when_wrong holds asked before after (ending.Complaint (complaint.Refused f why)) old new is status grows = absurd (cc status)
-when_wrong holds asked before after (ending.Complaint (complaint.Fault f)) old new is status grows = absurd (cc status)
-when_wrong holds asked before after (ending.Complaint (complaint.Journal fault)) old new is status grows = (fault, is, grows)
+few_statuses : (s : Status) → number_of s ≤ 6
+few_statuses status.Done = omega arith
+few_statuses status.BadWords = omega arith
+few_statuses status.Refused = omega arith
+few_statuses status.ReadFault = omega arith
+few_statuses status.WriteFault = omega arith
+few_statuses status.OutOfMemory = omega arith
+few_statuses status.Wrong = omega arith
 
--- status 6
-pub wrong_says : {holds : Holding} {asked : Asked} {before after : Counts} {old new : Option (List ℕ)} {sink sink' status : ℕ} → HasEnded holds asked before after old new sink sink' status → status ≡ 6 → IsWrong holds asked old new
-wrong_says {holds} {asked} {before} {after} {old} {new} {sink} {sink'} {status} run same =
-    let taken = whole run.ended old new sink sink' status 6 run.finishes same (inr refl) in
-    when_wrong holds asked before after run.ended old new run.cause taken.0 taken.1
-
-sink_rose : (e : Ending) (old new : Option (List ℕ)) (sink sink' status : ℕ) → Finishes e old new sink sink' status → status ≡ 4 → sink < sink'
-sink_rose e old new sink sink' status (inl (is, grows)) same = absurd (neither (status_of e) (own e) (inl (sym is ∙ same)))
-sink_rose e old new sink sink' status (inr (inl (is, rose, took))) same = rose
-sink_rose e old new sink sink' status (inr (inr (is, took))) same = absurd (omega (arith, is, same))
-
--- status 4
-pub sink_says : {holds : Holding} {asked : Asked} {before after : Counts} {old new : Option (List ℕ)} {sink sink' status : ℕ} → HasEnded holds asked before after old new sink sink' status → status ≡ 4 → sink < sink'
-sink_says {holds} {asked} {before} {after} {old} {new} {sink} {sink'} {status} run same = sink_rose run.ended old new sink sink' status run.finishes same
-
-part_taken : (e : Ending) (old new : Option (List ℕ)) (sink sink' status : ℕ) → Finishes e old new sink sink' status → (status ≡ 4) ⊎ (status ≡ 5) → TookPrefix old new (text_of e)
-part_taken e old new sink sink' status (inl (is, grows)) same = absurd (neither (status_of e) (own e) (rw is at same))
-part_taken e old new sink sink' status (inr (inl (is, rose, took))) same = took
-part_taken e old new sink sink' status (inr (inr (is, took))) same = took
-
--- statuses 4 and 5
-pub partial_says : {holds : Holding} {asked : Asked} {before after : Counts} {old new : Option (List ℕ)} {sink sink' status : ℕ} → HasEnded holds asked before after old new sink sink' status → (status ≡ 4) ⊎ (status ≡ 5) → IsPartial holds asked before after old new
-partial_says {holds} {asked} {before} {after} {old} {new} {sink} {sink'} {status} run same = inr (run.ended, run.cause, part_taken run.ended old new sink sink' status run.finishes same)
-
-at_most_six : (n : ℕ) → (n < 4) ⊎ (n ≡ 6) → n ≤ 6
-at_most_six n (inl few) = omega (arith, few)
-at_most_six n (inr six) = omega (arith, six)
-
-few_statuses : (e : Ending) (old new : Option (List ℕ)) (sink sink' status : ℕ) → Finishes e old new sink sink' status → status ≤ 6
-few_statuses e old new sink sink' status (inl (is, grows)) = omega (arith, is, at_most_six (status_of e) (own e))
-few_statuses e old new sink sink' status (inr (inl (is, rose, took))) = omega (arith, is)
-few_statuses e old new sink sink' status (inr (inr (is, took))) = omega (arith, is)
-
--- there is no other status
-pub statuses_say : {holds : Holding} {asked : Asked} {before after : Counts} {old new : Option (List ℕ)} {sink sink' status : ℕ} → HasEnded holds asked before after old new sink sink' status → status ≤ 6
-statuses_say {holds} {asked} {before} {after} {old} {new} {sink} {sink'} {status} run = few_statuses run.ended old new sink sink' status run.finishes
+-- while the sink's count stands the status is the ending's, or memory ran out
+stands : (run : Course) (ended : Status) (n : ℕ) (e : Ending) → Finishes e run.taken run.taken' run.sink run.sink' ended → SinkStands run → number_of (status_of e) ≡ n → EndsWith n (number_of ended)
+stands run ended n e (inl (is, grows)) same ends = inl (ap number_of is ∙ ends)
+stands run ended n e (inr (inl (is, rose, took))) same ends = absurd (omega (arith, rose, same))
+stands run ended n e (inr (inr (is, took))) same ends = inr (ap number_of is)
 
 not_both : {A E : Type 0} (o : Result A E) (a : A) (e : E) → o ≡ Ok a → o ≡ Err e → ⊥
 not_both o a e ok err = let same : Ok a ≡ Err e = sym ok ∙ err in cc same
 
--- a job that is asked for has no status 1
-pub never_words : {holds : Holding} {asked : Asked} {before after : Counts} {old new : Option (List ℕ)} {sink sink' status : ℕ} → HasEnded holds asked before after old new sink sink' status → (job : JobNames) → asked ≡ Ok job → status ≡ 1 → ⊥
-never_words {holds} {asked} {before} {after} {old} {new} {sink} {sink'} {status} run job said same = let bad = words_says run same in not_both asked job bad.0 said bad.1
+ends_for_words : (asked : Asked) (run : Course) (e : Ending) (why : WordsFault) → IsEnding run.holds asked run.faults run.faults' e → asked ≡ Err why → number_of (status_of e) ≡ 1
+ends_for_words asked run (ending.Done text) w is bad = absurd (not_both asked is.job w is.asked_for bad)
+ends_for_words asked run (ending.Complaint (complaint.Words why)) w is bad = refl
+ends_for_words asked run (ending.Complaint (complaint.Refused f why)) w is bad = absurd (not_both asked is.0 w is.1 bad)
+ends_for_words asked run (ending.Complaint (complaint.Fault f)) w is bad = absurd (not_both asked is.0 w is.1 bad)
+ends_for_words asked run (ending.Complaint (complaint.Wrong found)) w is bad = absurd (not_both asked is.job w is.asked_for bad)
 
--- while the sink's count stands the status is the ending's, or memory was wanting
-stands : (e : Ending) (old new : Option (List ℕ)) (sink sink' status n : ℕ) → Finishes e old new sink sink' status → sink' ≡ sink → status_of e ≡ n → (status ≡ n) ⊎ (status ≡ 5)
-stands e old new sink sink' status n (inl (is, grows)) same ends = inl (is ∙ ends)
-stands e old new sink sink' status n (inr (inl (is, rose, took))) same ends = absurd (omega (arith, rose, same))
-stands e old new sink sink' status n (inr (inr (is, took))) same ends = inr is
-
-ends_for_words : (holds : Holding) (asked : Asked) (before after : Counts) (e : Ending) (why : WordsFault) → IsEnding holds asked before after e → asked ≡ Err why → status_of e ≡ 1
-ends_for_words holds asked before after (ending.Done text) w is bad = absurd (not_both asked is.job w is.said bad)
-ends_for_words holds asked before after (ending.Complaint (complaint.Words why)) w is bad = refl
-ends_for_words holds asked before after (ending.Complaint (complaint.Refused f why)) w is bad = absurd (not_both asked is.job w is.said bad)
-ends_for_words holds asked before after (ending.Complaint (complaint.Fault f)) w is bad = absurd (not_both asked is.job w is.said bad)
-ends_for_words holds asked before after (ending.Complaint (complaint.Journal fault)) w is bad = absurd (not_both asked is.job w is.said bad)
-
--- words that ask for no job
-pub words_end : {holds : Holding} {asked : Asked} {before after : Counts} {old new : Option (List ℕ)} {sink sink' status : ℕ} → HasEnded holds asked before after old new sink sink' status → (why : WordsFault) → asked ≡ Err why → sink' ≡ sink → (status ≡ 1) ⊎ (status ≡ 5)
-words_end {holds} {asked} {before} {after} {old} {new} {sink} {sink'} {status} run why bad same =
-    stands run.ended old new sink sink' status 1 run.finishes same (ends_for_words holds asked before after run.ended why run.cause bad)
-
+-- what is told is what was read
 told_text : (holds : Holding) (name told text : List ℕ) → holds name ≡ Some told → IsHeld holds name text → text ≡ told
 told_text holds name told text is held = rw is at held
 
--- the text of a file that is held is the one that is told
-told_for : (holds : Holding) (job : JobNames) (told texts : Texts) (file : Input) (name : List ℕ) → AreTold holds job told → AreHeld holds job texts → name_for job file ≡ Some name → texts file ≡ told file
-told_for holds job told texts file name are held named = told_text holds name (told file) (texts file) (are file name named) (held file name named)
+same_read : (holds : Holding) (a b : ReadFile) → a.file ≡ b.file → holds b.file.name ≡ Some b.text → IsHeld holds a.file.name a.text → a ≡ b
+same_read holds a b file told held =
+    let at : IsHeld holds b.file.name a.text = subst (λ (f : File). IsHeld holds f.name a.text) file held in
+    ap₂ (λ (f : File) (t : List ℕ). let r : ReadFile = record { file = f; text = t } in r) file (told_text holds b.file.name b.text a.text told at)
 
--- what is told is refused as what was read
-refused_as : (holds : Holding) (job : JobNames) (told texts : Texts) → AreTold holds job told → AreHeld holds job texts → first_refusal job texts ≡ first_refusal job told
-refused_as holds (plan names) told texts are held =
-    let at : (file : Input) (name : List ℕ) → name_for (plan names) file ≡ Some name → texts file ≡ told file = λ file name named. told_for holds (plan names) told texts file name are held named in
-    rw (at input.Layout names.layout refl, at input.Stock names.stock refl, at input.Orders names.orders refl, at input.Desks names.desks refl) refl
-refused_as holds (audit names) told texts are held =
-    let at : (file : Input) (name : List ℕ) → name_for (audit names) file ≡ Some name → texts file ≡ told file = λ file name named. told_for holds (audit names) told texts file name are held named in
-    rw (at input.Layout names.layout refl, at input.Stock names.stock refl, at input.Orders names.orders refl, at input.Journal names.journal refl) refl
+first_file : (a b : File) (xs ys : List File) → ◌≡◌ {A = List File} (a ∷ xs) (b ∷ ys) → a ≡ b
+first_file a b xs ys e = cc e
 
--- what is told is as right as what was read
-wrong_as : (holds : Holding) (job : JobNames) (told texts : Texts) → AreTold holds job told → AreHeld holds job texts → journal_fault job texts ≡ journal_fault job told
-wrong_as holds (plan names) told texts are held = refl
-wrong_as holds (audit names) told texts are held =
-    let at : (file : Input) (name : List ℕ) → name_for (audit names) file ≡ Some name → texts file ≡ told file = λ file name named. told_for holds (audit names) told texts file name are held named in
-    rw (at input.Layout names.layout refl, at input.Stock names.stock refl, at input.Orders names.orders refl, at input.Journal names.journal refl) refl
+other_files : (a b : File) (xs ys : List File) → ◌≡◌ {A = List File} (a ∷ xs) (b ∷ ys) → xs ≡ ys
+other_files a b xs ys e = cc e
 
-held_by : (holds : Holding) (asked : Asked) (job other : JobNames) (texts : Texts) → asked ≡ Ok job → asked ≡ Ok other → AreHeld holds other texts → AreHeld holds job texts
-held_by holds asked job other texts said other_said held =
-    let both : Ok other ≡ Ok job = sym other_said ∙ said in
-    let same : other ≡ job = cc both in
-    subst (λ j. AreHeld holds j texts) same held
+-- files that hold what is told were read as it
+same_texts : (holds : Holding) (xs ys : List ReadFile) → map (λ (r : ReadFile). r.file) xs ≡ map (λ (r : ReadFile). r.file) ys → AreHeld holds xs → AreTold holds ys → xs ≡ ys
+same_texts holds [] [] same held told = refl
+same_texts holds [] (y ∷ ys) same held told = absurd (cc same)
+same_texts holds (x ∷ xs) [] same held told = absurd (cc same)
+same_texts holds (x ∷ xs) (y ∷ ys) same held told =
+    ap₂ (λ (r : ReadFile) (rs : List ReadFile). r ∷ rs)
+    (same_read holds x y (first_file x.file y.file (map (λ (r : ReadFile). r.file) xs) (map (λ (r : ReadFile). r.file) ys) same)
+    (All-head (λ (r : ReadFile). holds r.file.name ≡ Some r.text) y ys told) (All-head (λ (r : ReadFile). IsHeld holds r.file.name r.text) x xs held))
+    (same_texts holds xs ys (other_files x.file y.file (map (λ (r : ReadFile). r.file) xs) (map (λ (r : ReadFile). r.file) ys) same)
+    (All-tail (λ (r : ReadFile). IsHeld holds r.file.name r.text) x xs held) (All-tail (λ (r : ReadFile). holds r.file.name ≡ Some r.text) y ys told))
 
-by_job : {A : Type 0} (asked : Asked) (job other : JobNames) (f : JobNames → A) → asked ≡ Ok job → asked ≡ Ok other → f other ≡ f job
-by_job asked job other f said other_said =
-    let both : Ok other ≡ Ok job = sym other_said ∙ said in
-    let same : other ≡ job = cc both in
-    ap f same
+same_ok : (a b : Said) → ◌≡◌ {A = Result Said Refusal} (Ok a) (Ok b) → a ≡ b
+same_ok a b e = cc e
 
--- the first refusal of what is told is that of what was read
-same_refusal : (holds : Holding) (asked : Asked) (job other : JobNames) (told texts : Texts) → asked ≡ Ok job → asked ≡ Ok other → AreTold holds job told → AreHeld holds other texts → first_refusal other texts ≡ first_refusal job told
-same_refusal holds asked job other told texts said other_said are held =
-    by_job asked job other (λ j. first_refusal j texts) said other_said ∙ refused_as holds job told texts are (held_by holds asked job other texts said other_said held)
+-- what files say is one thing
+pub one_said : (holds : Holding) (files : List File) (a b : Said) → HaveSaid holds files a → AreToldToSay holds files b → a ≡ b
+one_said holds files a b p q =
+    let same = same_texts holds p.read q.read (p.are ∙ sym q.are) p.held q.told in
+    same_ok a b (sym p.say ∙ (ap (said_after nothing_said) same ∙ q.say))
 
--- the journal that is told is as right as the one that was read
-same_fault : (holds : Holding) (asked : Asked) (job other : JobNames) (told texts : Texts) → asked ≡ Ok job → asked ≡ Ok other → AreTold holds job told → AreHeld holds other texts → journal_fault other texts ≡ journal_fault job told
-same_fault holds asked job other told texts said other_said are held =
-    by_job asked job other (λ j. journal_fault j texts) said other_said ∙ wrong_as holds job told texts are (held_by holds asked job other texts said other_said held)
+-- files and their texts, where one file stands among them
+record IsSplit (read : List ReadFile) (before : List File) (file : File) : Type 0 where
+  first : List ReadFile
+  here : ReadFile
+  others : List ReadFile
+  parts : read ≡ first ++ here ∷ others
+  are : map (λ (r : ReadFile). r.file) first ≡ before
+  is : here.file ≡ file
 
-no_rise : (asked : Asked) (before after : Counts) (f : Input) → HasRisen asked before after f → ((name : List ℕ) → after name ≡ before name) → ⊥
-no_rise asked before after f risen same = omega (arith, risen.rose, same risen.name)
+split_more : (r : ReadFile) (rs : List ReadFile) (before : List File) (file : File) (f : File) → r.file ≡ f → IsSplit rs before file → IsSplit (r ∷ rs) (f ∷ before) file
+split_more r rs before file f same split = record {
+  first = r ∷ split.first;
+  here = split.here;
+  others = split.others;
+  parts = ap (λ (l : List ReadFile). r ∷ l) split.parts;
+  are = ap₂ (λ (g : File) (gs : List File). g ∷ gs) same split.are;
+  is = split.is;
+}
 
-none_some : {A : Type 0} (o p : Option A) (a : A) → o ≡ p → o ≡ None → p ≡ Some a → ⊥
-none_some o p a same none some = let e : None ≡ Some a = sym none ∙ (same ∙ some) in cc e
+split : (read : List ReadFile) (before : List File) (file : File) (later : List File) → map (λ (r : ReadFile). r.file) read ≡ before ++ file ∷ later → IsSplit read before file
+split [] [] file later same = absurd (cc same)
+split [] (f ∷ before) file later same = absurd (cc same)
+split (r ∷ rs) [] file later same = record { first = []; here = r; others = rs; parts = refl; are = refl; is = first_file r.file file (map (λ (r : ReadFile). r.file) rs) later same }
+split (r ∷ rs) (f ∷ before) file later same =
+    split_more r rs before file f (first_file r.file f (map (λ (r : ReadFile). r.file) rs) (before ++ file ∷ later) same)
+    (split rs before file later (other_files r.file f (map (λ (r : ReadFile). r.file) rs) (before ++ file ∷ later) same))
 
-some_none : {A : Type 0} (o p : Option A) (a : A) → o ≡ p → o ≡ Some a → p ≡ None → ⊥
-some_none o p a same some none = let e : Some a ≡ None = sym some ∙ (same ∙ none) in cc e
+all_first : {X : Type 0} (P : X → Type 0) (xs ys : List X) → All P (xs ++ ys) → All P xs
+all_first P [] ys all = All-nil P
+all_first P (x ∷ xs) ys all = All-cons P x xs (All-head P x (xs ++ ys) all) (all_first P xs ys (All-tail P x (xs ++ ys) all))
 
-ends_for_fault : (holds : Holding) (asked : Asked) (before after : Counts) (e : Ending) (job : JobNames) (told : Texts) (fault : Refused) → IsEnding holds asked before after e
-    → asked ≡ Ok job → AreTold holds job told → first_refusal job told ≡ Some fault → ((name : List ℕ) → after name ≡ before name) → status_of e ≡ 2
-ends_for_fault holds asked before after (ending.Done text) job told fault is said are first same =
-    absurd (none_some _ _ fault (same_refusal holds asked job is.job told is.texts said is.said are is.held) is.accepted first)
-ends_for_fault holds asked before after (ending.Complaint (complaint.Words why)) job told fault is said are first same = absurd (not_both asked job why said is)
-ends_for_fault holds asked before after (ending.Complaint (complaint.Refused f why)) job told fault is said are first same = refl
-ends_for_fault holds asked before after (ending.Complaint (complaint.Fault f)) job told fault is said are first same = absurd (no_rise asked before after f is same)
-ends_for_fault holds asked before after (ending.Complaint (complaint.Journal wrong)) job told fault is said are first same =
-    absurd (none_some _ _ fault (same_refusal holds asked job is.job told is.texts said is.said are is.held) is.accepted first)
+all_here : {X : Type 0} (P : X → Type 0) (xs : List X) (x : X) (ys : List X) → All P (xs ++ x ∷ ys) → P x
+all_here P [] x ys all = All-head P x ys all
+all_here P (y ∷ xs) x ys all = all_here P xs x ys (All-tail P y (xs ++ x ∷ ys) all)
 
--- a file that is refused
-pub fault_ends : {holds : Holding} {asked : Asked} {before after : Counts} {old new : Option (List ℕ)} {sink sink' status : ℕ} → HasEnded holds asked before after old new sink sink' status → (job : JobNames) (told : Texts) (fault : Refused) → asked ≡ Ok job → AreTold holds job told
-    → first_refusal job told ≡ Some fault → Stand before after sink sink' → (status ≡ 2) ⊎ (status ≡ 5)
-fault_ends {holds} {asked} {before} {after} {old} {new} {sink} {sink'} {status} run job told fault said are first stand =
-    stands run.ended old new sink sink' status 2 run.finishes stand.out (ends_for_fault holds asked before after run.ended job told fault run.cause said are first stand.files)
+not_refused : (a : Said) (why : Refusal) → ◌≡◌ {A = Result Said Refusal} (Ok a) (Err why) → ⊥
+not_refused a why e = cc e
 
-ends_for_wrong : (holds : Holding) (asked : Asked) (before after : Counts) (e : Ending) (job : JobNames) (told : Texts) (fault : AuditFault) → IsEnding holds asked before after e
-    → asked ≡ Ok job → AreTold holds job told → first_refusal job told ≡ None → journal_fault job told ≡ Some fault → ((name : List ℕ) → after name ≡ before name) → status_of e ≡ 6
-ends_for_wrong holds asked before after (ending.Done text) job told fault is said are none wrong same =
-    absurd (none_some _ _ fault (same_fault holds asked job is.job told is.texts said is.said are is.held) is.right wrong)
-ends_for_wrong holds asked before after (ending.Complaint (complaint.Words why)) job told fault is said are none wrong same = absurd (not_both asked job why said is)
-ends_for_wrong holds asked before after (ending.Complaint (complaint.Refused f why)) job told fault is said are none wrong same =
-    absurd (some_none _ _ (record { file = f; why = why }) (same_refusal holds asked job is.job told is.texts said is.said are is.held) is.first none)
-ends_for_wrong holds asked before after (ending.Complaint (complaint.Fault f)) job told fault is said are none wrong same = absurd (no_rise asked before after f is same)
-ends_for_wrong holds asked before after (ending.Complaint (complaint.Journal other)) job told fault is said are none wrong same = refl
+-- what a refused file leaves of those that follow
+refused_there : (first others : List ReadFile) (here : ReadFile) (said all : Said) (why : Refusal) → Say first said → said_with said here.file.kind here.text ≡ Err why → Say (first ++ here ∷ others) all → ⊥
+refused_there first others here said all why say refused whole =
+    not_refused all why (sym whole ∙ (say_further first (here ∷ others) said say ∙ ap (λ r. and_then r (λ s. said_after s others)) refused))
 
--- a journal that isn't right
-pub wrong_ends : {holds : Holding} {asked : Asked} {before after : Counts} {old new : Option (List ℕ)} {sink sink' status : ℕ} → HasEnded holds asked before after old new sink sink' status → (job : JobNames) (told : Texts) (fault : AuditFault) → asked ≡ Ok job → AreTold holds job told
-    → first_refusal job told ≡ None → journal_fault job told ≡ Some fault → Stand before after sink sink' → (status ≡ 6) ⊎ (status ≡ 5)
-wrong_ends {holds} {asked} {before} {after} {old} {new} {sink} {sink'} {status} run job told fault said are none wrong stand =
-    stands run.ended old new sink sink' status 6 run.finishes stand.out (ends_for_wrong holds asked before after run.ended job told fault run.cause said are none wrong stand.files)
+-- files that say something have none that is told and refused
+none_told : (holds : Holding) (files before : List File) (file : File) (later : List File) (all said : Said) (text : List ℕ) (why : Refusal) → HaveSaid holds files all → files ≡ before ++ file ∷ later
+    → AreToldToSay holds before said → holds file.name ≡ Some text → said_with said file.kind text ≡ Err why → ⊥
+none_told holds files before file later all said text why have place accepted told refused =
+    let at = split have.read before file later (have.are ∙ place) in
+    let held : AreHeld holds (at.first ++ at.here ∷ at.others) = subst (AreHeld holds) at.parts have.held in
+    let same = same_texts holds at.first accepted.read (at.are ∙ sym accepted.are) (all_first (λ (r : ReadFile). IsHeld holds r.file.name r.text) at.first (at.here ∷ at.others) held) accepted.told in
+    let here : IsHeld holds file.name at.here.text = subst (λ (f : File). IsHeld holds f.name at.here.text) at.is (all_here (λ (r : ReadFile). IsHeld holds r.file.name r.text) at.first at.here at.others held) in
+    let text_is = told_text holds file.name text at.here.text told here in
+    refused_there at.first at.others at.here said all why (ap (said_after nothing_said) same ∙ accepted.say)
+    (ap (λ (f : File). said_with said f.kind at.here.text) at.is ∙ (ap (said_with said file.kind) text_is ∙ refused)) (ap (said_after nothing_said) (sym at.parts) ∙ have.say)
 
-ends_for_good : (holds : Holding) (asked : Asked) (before after : Counts) (e : Ending) (job : JobNames) (told : Texts) → IsEnding holds asked before after e
-    → asked ≡ Ok job → AreTold holds job told → first_refusal job told ≡ None → journal_fault job told ≡ None → ((name : List ℕ) → after name ≡ before name) → status_of e ≡ 0
-ends_for_good holds asked before after (ending.Done text) job told is said are none right same = refl
-ends_for_good holds asked before after (ending.Complaint (complaint.Words why)) job told is said are none right same = absurd (not_both asked job why said is)
-ends_for_good holds asked before after (ending.Complaint (complaint.Refused f why)) job told is said are none right same =
-    absurd (some_none _ _ (record { file = f; why = why }) (same_refusal holds asked job is.job told is.texts said is.said are is.held) is.first none)
-ends_for_good holds asked before after (ending.Complaint (complaint.Fault f)) job told is said are none right same = absurd (no_rise asked before after f is same)
-ends_for_good holds asked before after (ending.Complaint (complaint.Journal fault)) job told is said are none right same =
-    absurd (some_none _ _ fault (same_fault holds asked job is.job told is.texts said is.said are is.held) is.wrong right)
+-- files that are told to say something have none that is refused
+none_refused : (holds : Holding) (files : List File) (all : Said) (kind : Input) (why : Refusal) → AreToldToSay holds files all → IsFirstRefused holds files kind why → ⊥
+none_refused holds files all kind why told first =
+    let at = split told.read first.before (file_of kind first.name) first.later (told.are ∙ first.place) in
+    let are : AreTold holds (at.first ++ at.here ∷ at.others) = subst (AreTold holds) at.parts told.told in
+    let same = same_texts holds first.accepted.read at.first (first.accepted.are ∙ sym at.are) first.accepted.held (all_first (λ (r : ReadFile). holds r.file.name ≡ Some r.text) at.first (at.here ∷ at.others) are) in
+    let here : holds first.name ≡ Some at.here.text = subst (λ (f : File). holds f.name ≡ Some at.here.text) at.is (all_here (λ (r : ReadFile). holds r.file.name ≡ Some r.text) at.first at.here at.others are) in
+    let text_is = told_text holds first.name at.here.text first.text here first.held in
+    refused_there at.first at.others at.here first.said all why (ap (said_after nothing_said) (sym same) ∙ first.accepted.say)
+    (ap (λ (f : File). said_with first.said f.kind at.here.text) at.is ∙ (ap (said_with first.said kind) (sym text_is) ∙ first.refused)) (ap (said_after nothing_said) (sym at.parts) ∙ told.say)
 
--- a job and good files
-pub good_ends : {holds : Holding} {asked : Asked} {before after : Counts} {old new : Option (List ℕ)} {sink sink' status : ℕ} → HasEnded holds asked before after old new sink sink' status → (job : JobNames) (told : Texts) → asked ≡ Ok job → AreTold holds job told → first_refusal job told ≡ None → journal_fault job told ≡ None
-    → Stand before after sink sink' → (status ≡ 0) ⊎ (status ≡ 5)
-good_ends {holds} {asked} {before} {after} {old} {new} {sink} {sink'} {status} run job told said are none right stand =
-    stands run.ended old new sink sink' status 0 run.finishes stand.out (ends_for_good holds asked before after run.ended job told run.cause said are none right stand.files)
+-- no count rose of a name that stands
+none_rose : (holds : Holding) (files : List File) (run : Course) (kind : Input) → FilesStand run files → HasRisen holds files run.faults run.faults' kind → ⊥
+none_rose holds files run kind stand risen =
+    let at : run.faults' risen.name ≡ run.faults risen.name =
+    all_here (λ (f : File). run.faults' f.name ≡ run.faults f.name) risen.before (file_of kind risen.name) risen.later (subst (FilesStand run) risen.place stand) in
+    omega (arith, risen.rose, at)
+
+-- two places in one list: the same, or one before the other
+abbrev Comes : List File → File → List File → Type 0
+Comes xs x ys = (zs : List File) × (ys ≡ xs ++ x ∷ zs)
+
+abbrev Places : List File → File → List File → File → Type 0
+Places xs x ys y = ((xs ≡ ys) × (x ≡ y)) ⊎ Comes xs x ys ⊎ Comes ys y xs
+
+one_on : (f g : File) (xs : List File) (x : File) (ys : List File) (y : File) → f ≡ g → Places xs x ys y → Places (f ∷ xs) x (g ∷ ys) y
+one_on f g xs x ys y same (inl (a, b)) = inl (ap₂ (λ (h : File) (hs : List File). h ∷ hs) same a, b)
+one_on f g xs x ys y same (inr (inl (zs, a))) = inr (inl (zs, ap₂ (λ (h : File) (hs : List File). h ∷ hs) (sym same) a))
+one_on f g xs x ys y same (inr (inr (zs, a))) = inr (inr (zs, ap₂ (λ (h : File) (hs : List File). h ∷ hs) same a))
+
+places : (xs : List File) (x : File) (xs' ys : List File) (y : File) (ys' : List File) → xs ++ x ∷ xs' ≡ ys ++ y ∷ ys' → Places xs x ys y
+places [] x xs' [] y ys' same = inl (refl, first_file x y xs' ys' same)
+places [] x xs' (g ∷ ys) y ys' same = inr (inl (ys, ap (λ (h : File). h ∷ ys) (sym (first_file x g xs' (ys ++ y ∷ ys') same))))
+places (f ∷ xs) x xs' [] y ys' same = inr (inr (xs, ap (λ (h : File). h ∷ xs) (first_file f y (xs ++ x ∷ xs') ys' same)))
+places (f ∷ xs) x xs' (g ∷ ys) y ys' same =
+    one_on f g xs x ys y (first_file f g (xs ++ x ∷ xs') (ys ++ y ∷ ys') same) (places xs x xs' ys y ys' (other_files f g (xs ++ x ∷ xs') (ys ++ y ∷ ys') same))
+
+up_to_file : (before : List File) (file : File) (later : List File) → before ++ file ∷ later ≡ (before ++ file ∷ []) ++ later
+up_to_file before file later = sym (append_assoc before (file ∷ []) later)
+
+-- where a file is told and refused, no count rose of a file behind it
+bad_before_rise : (asked : Asked) (run : Course) (bad : IsBadFile asked run) (kind : Input) → HasRisen run.holds (files_of bad.job) run.faults run.faults' kind → ⊥
+bad_before_rise asked run bad kind risen =
+    elim (places risen.before (file_of kind risen.name) risen.later bad.before bad.file bad.later (sym risen.place ∙ bad.place)) as (λ _. ⊥) [
+      | inl same ↦
+          (let at : run.faults' bad.file.name ≡ run.faults bad.file.name = all_here (λ (f : File). run.faults' f.name ≡ run.faults f.name) bad.before bad.file [] bad.stand in
+          let name = ap (λ (f : File). f.name) same.1 in
+          omega (arith, subst (λ (n : List ℕ). run.faults n < run.faults' n) name risen.rose, at))
+      | inr other ↦ elim other as (λ _. ⊥) [
+        | inl earlier ↦
+            (let stand : FilesStand run ((risen.before ++ file_of kind risen.name ∷ earlier.0) ++ bad.file ∷ []) = subst (λ (fs : List File). FilesStand run (fs ++ bad.file ∷ [])) earlier.1 bad.stand in
+            let at : run.faults' risen.name ≡ run.faults risen.name =
+            all_here (λ (f : File). run.faults' f.name ≡ run.faults f.name) risen.before (file_of kind risen.name) earlier.0
+            (all_first (λ (f : File). run.faults' f.name ≡ run.faults f.name) (risen.before ++ file_of kind risen.name ∷ earlier.0) (bad.file ∷ []) stand) in
+            omega (arith, risen.rose, at))
+        | inr later ↦ none_told run.holds risen.before bad.before bad.file later.0 risen.said bad.said bad.text bad.why risen.accepted later.1 bad.accepted bad.told bad.refused
+      ]
+    ]
+
+job_is : (asked : Asked) (a b : JobNames) → asked ≡ Ok a → asked ≡ Ok b → a ≡ b
+job_is asked a b p q = let same : ◌≡◌ {A = Asked} (Ok a) (Ok b) = sym p ∙ q in cc same
+
+ends_for_bad_file : (asked : Asked) (run : Course) (e : Ending) → IsEnding run.holds asked run.faults run.faults' e → IsBadFile asked run → number_of (status_of e) ≡ 2
+ends_for_bad_file asked run (ending.Done text) is bad =
+    absurd (none_told run.holds (files_of bad.job) bad.before bad.file bad.later is.said bad.said bad.text bad.why
+    (subst (λ (j : JobNames). HaveSaid run.holds (files_of j) is.said) (job_is asked is.job bad.job is.asked_for bad.asked_for) is.accepted) bad.place bad.accepted bad.told bad.refused)
+ends_for_bad_file asked run (ending.Complaint (complaint.Words why)) is bad = absurd (not_both asked bad.job why bad.asked_for is)
+ends_for_bad_file asked run (ending.Complaint (complaint.Refused f why)) is bad = refl
+ends_for_bad_file asked run (ending.Complaint (complaint.Fault f)) is bad =
+    absurd (bad_before_rise asked run bad f (subst (λ (j : JobNames). HasRisen run.holds (files_of j) run.faults run.faults' f) (job_is asked is.0 bad.job is.1 bad.asked_for) is.2))
+ends_for_bad_file asked run (ending.Complaint (complaint.Wrong found)) is bad =
+    absurd (none_told run.holds (files_of bad.job) bad.before bad.file bad.later is.said bad.said bad.text bad.why
+    (subst (λ (j : JobNames). HaveSaid run.holds (files_of j) is.said) (job_is asked is.job bad.job is.asked_for bad.asked_for) is.accepted) bad.place bad.accepted bad.told bad.refused)
+
+ok_no_err : (a : Audit) (fault : AuditFault) → ◌≡◌ {A = Result Audit AuditFault} (Ok a) (Err fault) → ⊥
+ok_no_err a fault e = cc e
+
+-- what a job holds against its files isn't both right and wrong
+right_no_wrong : (job : JobNames) (said : Said) (found : Finding) → IsRight job said → IsWrong job said found → ⊥
+right_no_wrong (plan names) said found right wrong = wrong
+right_no_wrong (audit names) said (finding.Journal fault) (entries, right) wrong =
+    ok_no_err (record { entries = entries }) fault (shows_one said.opening said.journal (Ok (record { entries = entries })) (Err fault) right wrong)
+
+-- an output is what right files come to
+right_output : (job : JobNames) (said : Said) (output : List ℕ) → ComesTo job said output → IsRight job said
+right_output (plan names) said output comes = tt
+right_output (audit names) said output comes = (comes.entries, comes.shows)
+
+-- what the files of the job say is what they are told to say
+said_is : (asked : Asked) (run : Course) (job other : JobNames) (said more : Said) → AreGoodFiles asked run job said → asked ≡ Ok other → HaveSaid run.holds (files_of other) more → (other ≡ job) × (more ≡ said)
+said_is asked run job other said more good asked_for have =
+    let same = job_is asked other job asked_for good.asked_for in
+    (same, one_said run.holds (files_of job) more said (subst (λ (j : JobNames). HaveSaid run.holds (files_of j) more) same have) good.accepted)
+
+ends_for_wrong : (asked : Asked) (run : Course) (e : Ending) (job : JobNames) (said : Said) (found : Finding) → IsEnding run.holds asked run.faults run.faults' e → AreGoodFiles asked run job said → IsWrong job said found → number_of (status_of e) ≡ 6
+ends_for_wrong asked run (ending.Done text) job said found is good wrong =
+    let same = said_is asked run job is.job said is.said good is.asked_for is.accepted in
+    absurd (right_no_wrong job said found (right_output job said (string_bytes text) (subst (λ (s : Said). ComesTo job s (string_bytes text)) same.1 (subst (λ (j : JobNames). ComesTo j is.said (string_bytes text)) same.0 is.comes))) wrong)
+ends_for_wrong asked run (ending.Complaint (complaint.Words why)) job said found is good wrong = absurd (not_both asked job why good.asked_for is)
+ends_for_wrong asked run (ending.Complaint (complaint.Refused f why)) job said found is good wrong =
+    absurd (none_refused run.holds (files_of job) said f why good.accepted (subst (λ (j : JobNames). IsFirstRefused run.holds (files_of j) f why) (job_is asked is.0 job is.1 good.asked_for) is.2))
+ends_for_wrong asked run (ending.Complaint (complaint.Fault f)) job said found is good wrong =
+    absurd (none_rose run.holds (files_of job) run f good.stand (subst (λ (j : JobNames). HasRisen run.holds (files_of j) run.faults run.faults' f) (job_is asked is.0 job is.1 good.asked_for) is.2))
+ends_for_wrong asked run (ending.Complaint (complaint.Wrong other)) job said found is good wrong = refl
+
+ends_for_good : (asked : Asked) (run : Course) (e : Ending) (job : JobNames) (said : Said) → IsEnding run.holds asked run.faults run.faults' e → AreGoodFiles asked run job said → IsRight job said → number_of (status_of e) ≡ 0
+ends_for_good asked run (ending.Done text) job said is good right = refl
+ends_for_good asked run (ending.Complaint (complaint.Words why)) job said is good right = absurd (not_both asked job why good.asked_for is)
+ends_for_good asked run (ending.Complaint (complaint.Refused f why)) job said is good right =
+    absurd (none_refused run.holds (files_of job) said f why good.accepted (subst (λ (j : JobNames). IsFirstRefused run.holds (files_of j) f why) (job_is asked is.0 job is.1 good.asked_for) is.2))
+ends_for_good asked run (ending.Complaint (complaint.Fault f)) job said is good right =
+    absurd (none_rose run.holds (files_of job) run f good.stand (subst (λ (j : JobNames). HasRisen run.holds (files_of j) run.faults run.faults' f) (job_is asked is.0 job is.1 good.asked_for) is.2))
+ends_for_good asked run (ending.Complaint (complaint.Wrong found)) job said is good right =
+    let same = said_is asked run job is.job said is.said good is.asked_for is.accepted in
+    absurd (right_no_wrong job said found right (subst (λ (s : Said). IsWrong job s found) same.1 (subst (λ (j : JobNames). IsWrong j is.said found) same.0 is.wrong)))
+
+-- what a run left as it was
+pub record IsFrame (run : Course) : Type 0 where
+  pub same : SameBytes run.holds run.held
+  pub counts : NoneFalls run.faults run.faults'
+  pub sink : run.sink ≤ run.sink'
+
+-- a run that ended so keeps its promise
+pub keeps : (asked : Asked) (run : Course) (ended : Status) → IsFrame run → HasEnded asked run ended → Keeps asked run (number_of ended)
+keeps asked run ended frame so =
+    let e = so.ending in
+    record {
+      done = λ status. let t = whole asked run ended 0 e so.finishes status (inl (omega arith)) in when_done asked run e so.cause t.0 t.1;
+      words = λ status. let t = whole asked run ended 1 e so.finishes status (inl (omega arith)) in when_words asked run e so.cause t.0 t.1;
+      refused = λ status. let t = whole asked run ended 2 e so.finishes status (inl (omega arith)) in when_refused asked run e so.cause t.0 t.1;
+      fault = λ status. let t = whole asked run ended 3 e so.finishes status (inl (omega arith)) in when_fault asked run e so.cause t.0 t.1;
+      sink = sink_rose asked run ended e so.finishes;
+      partial = λ status. inr (text_of e, due asked run e so.cause, part_taken run ended e so.finishes status);
+      wrong = λ status. let t = whole asked run ended 6 e so.finishes status (inr refl) in when_wrong asked run e so.cause t.0 t.1;
+      most = few_statuses ended;
+      bad_words = λ why bad stand. stands run ended 1 e so.finishes stand (ends_for_words asked run e why so.cause bad);
+      bad_file = λ bad stand. stands run ended 2 e so.finishes stand (ends_for_bad_file asked run e so.cause bad);
+      bad_journal = λ job said found good wrong stand. stands run ended 6 e so.finishes stand (ends_for_wrong asked run e job said found so.cause good wrong);
+      complete = λ job said good right stand. stands run ended 0 e so.finishes stand (ends_for_good asked run e job said so.cause good right);
+      same = frame.same;
+      counts = frame.counts;
+      sink_count = frame.sink;
+    }
+
+nothing_more : (taken taken' : Option (List ℕ)) → taken' ≡ taken → Grows taken taken' []
+nothing_more None taken' same = same
+nothing_more (Some bytes) taken' same = same ∙ ap Some (sym (append-nil bytes))
+
+-- so does one that had no memory before it could end
+pub keeps_nothing : (asked : Asked) (run : Course) → IsFrame run → run.taken' ≡ run.taken → Keeps asked run 5
+keeps_nothing asked run frame took = record {
+  done = λ status. absurd (omega (arith, status));
+  words = λ status. absurd (omega (arith, status));
+  refused = λ status. absurd (omega (arith, status));
+  fault = λ status. absurd (omega (arith, status));
+  sink = λ status. absurd (omega (arith, status));
+  partial = λ status. inl (nothing_more run.taken run.taken' took);
+  wrong = λ status. absurd (omega (arith, status));
+  most = omega arith;
+  bad_words = λ why bad stand. inr refl;
+  bad_file = λ bad stand. inr refl;
+  bad_journal = λ job said found good wrong stand. inr refl;
+  complete = λ job said good right stand. inr refl;
+  same = frame.same;
+  counts = frame.counts;
+  sink_count = frame.sink;
+}
+
+-- a run with its ending, or without
+pub run_keeps : (asked : Asked) (run : Course) (made : Result Ending Memory) (ended : Status) → IsFrame run → IfOk made (IsEnding run.holds asked run.faults run.faults')
+    → IfOk made (λ (e : Ending). Finishes e run.taken run.taken' run.sink run.sink' ended) → OnErr made ((ended ≡ status.OutOfMemory) × (run.taken' ≡ run.taken)) → Keeps asked run (number_of ended)
+run_keeps asked run (Ok e) ended frame cause finishes nothing = keeps asked run ended frame (record { ending = e; cause = cause; finishes = finishes })
+run_keeps asked run (Err memory) ended frame cause finishes nothing = subst (Keeps asked run) (ap number_of (sym nothing.0)) (keeps_nothing asked run frame nothing.1)

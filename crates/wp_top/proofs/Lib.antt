@@ -1,5 +1,4 @@
-pub mod Held
-pub mod Refusals
+pub mod FilesRead
 pub mod Script
 pub mod RowsKept
 pub mod Taken
@@ -7,3 +6,4 @@ pub mod Writing
 pub mod Output
 pub mod Jobs
 pub mod Endings
+pub mod LongTexts

@@ -11,7 +11,7 @@ use Rattle.wp_model.specs.declared.command.Command.{Command}
 use Rattle.wp_top.proofs.RowsKept.{AreRowsOf, entries_keep_rows, opening_rows}
 use Rattle.wp_top.proofs.Taken.{IsWithin, refills_within}
 use Rattle.wp_top.specs.Refills.{refills_of}
-use Rattle.wp_top.specs.Runs.{desk_history}
+use Rattle.wp_top.specs.Parts.{desk_history}
 
 -- the one script
 pub one_script : (scripts : List (List Command)) (script : List Command) → AreReadScripts scripts → slice_get scripts 0 ≡ Some script → (scripts ≡ script ∷ []) × (length script ≤ most_commands)

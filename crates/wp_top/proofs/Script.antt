@@ -1,15 +1,19 @@
 -- A script is answered command by command.
-use Rattle.std.proofs.Common.{◌≡◌, ◌∙◌, refl, sym, ap, ℕ, zero, suc, ◌+◌, List, [], ◌∷◌, ◌++◌, length, take, Some, slice_get, append_assoc, arith}
+use Rattle.std.proofs.Common.{◌≡◌, ◌∙◌, refl, sym, ap, ℕ, zero, suc, ◌+◌, ◌-◌, ◌≤◌, Bool, true, false, List, [], ◌∷◌, ◌++◌, length, take, Some, slice_get, append_assoc, arith}
+use Rattle.std.specs.Prelude.{◌==◌, if◌then◌else◌}
+use Rattle.std.proofs.lemmas.Bool.Decides.{nat_tests}
+use Rattle.std.proofs.lemmas.Option.{slice_get_past}
 use Rattle.std.specs.List.{flat_map}
 use Rattle.std.proofs.lemmas.Grind.{flat_map-append}
-use Rattle.std.proofs.lemmas.List.{append-nil, map-append}
-use Rattle.wp_model.specs.History.{History, answered, answered_all, commands_of, next_entry, state_after, state_from}
+use Rattle.std.proofs.lemmas.List.{append-nil}
+use Rattle.wp_model.specs.History.{History, answered, answered_all, next_entry, opened, state_after, state_from}
 use Rattle.wp_model.specs.Opening.{Opening}
 use Rattle.wp_model.specs.State.{State, opening_state}
 use Rattle.wp_model.specs.Step.{step}
 use Rattle.wp_model.specs.declared.command.Command.{Command}
 use Rattle.wp_model.specs.declared.entry.Entry.{Entry}
 use Rattle.wp_machine.specs.Outcome.{outcome_of}
+use Rattle.wp_top.specs.Parts.{desk_history, part_of, script_of}
 use Rattle.wp_top.specs.Refills.{outcomes_from, refill_in, refills_of}
 
 one_more : (i : ℕ) → suc i ≡ i + 1
@@ -26,13 +30,43 @@ pub answered_all-next : (history : History) (desk : ℕ) (commands : List Comman
     → answered_all history desk (take (i + 1) commands) ≡ answered (answered_all history desk (take i commands)) desk command
 answered_all-next history desk commands i command is = ap (λ n. answered_all history desk (take n commands)) (sym (one_more i)) ∙ next_of history desk commands i command is
 
--- what was answered are the commands
-pub commands_answered : (history : History) (desk : ℕ) (commands : List Command) → commands_of (answered_all history desk commands).entries ≡ commands_of history.entries ++ commands
-commands_answered history desk [] = sym (append-nil (commands_of history.entries))
-commands_answered history desk (command ∷ commands) =
-    commands_answered (answered history desk command) desk commands
-    ∙ (ap (λ cs. cs ++ commands) (map-append (λ (entry : Entry). entry.command) history.entries (next_entry history desk command ∷ []))
-    ∙ append_assoc (commands_of history.entries) (command ∷ []) commands)
+onto_part : (test : Bool) (command : Command) (xs ys zs : List Command) → xs ≡ ys ++ zs → (if test then command ∷ xs else xs) ≡ (if test then command ∷ ys else ys) ++ zs
+onto_part true command xs ys zs same = ap (λ cs. command ∷ cs) same
+onto_part false command xs ys zs same = same
+
+part_more : (desk : ℕ) (entries more : List Entry) → part_of desk (entries ++ more) ≡ part_of desk entries ++ part_of desk more
+part_more desk [] more = refl
+part_more desk (entry ∷ entries) more = onto_part (entry.desk == desk) entry.command (part_of desk (entries ++ more)) (part_of desk entries) (part_of desk more) (part_more desk entries more)
+
+none_either_way : (test : Bool) → ◌≡◌ {A = List Command} (if test then [] else []) []
+none_either_way true = refl
+none_either_way false = refl
+
+by_desk : (test : Bool) (command : Command) (commands : List Command) → (if test then command ∷ [] else []) ++ (if test then commands else []) ≡ (if test then command ∷ commands else [])
+by_desk true command commands = refl
+by_desk false command commands = refl
+
+-- what was answered are the commands, all of the one desk
+part_answered : (history : History) (desk : ℕ) (commands : List Command) (other : ℕ) → part_of other (answered_all history desk commands).entries ≡ part_of other history.entries ++ (if desk == other then commands else [])
+part_answered history desk [] other = sym (ap (λ cs. part_of other history.entries ++ cs) (none_either_way (desk == other)) ∙ append-nil (part_of other history.entries))
+part_answered history desk (command ∷ commands) other =
+    part_answered (answered history desk command) desk commands other
+    ∙ (ap (λ cs. cs ++ (if desk == other then commands else [])) (part_more other history.entries (next_entry history desk command ∷ []))
+    ∙ (append_assoc (part_of other history.entries) (if desk == other then command ∷ [] else []) (if desk == other then commands else [])
+    ∙ ap (λ cs. part_of other history.entries ++ cs) (by_desk (desk == other) command commands)))
+
+only_script : (script : List Command) (desk : ℕ) → (if 1 == desk then script else []) ≡ script_of (script ∷ []) desk
+only_script script zero = refl
+only_script script (suc zero) = refl
+only_script script (suc (suc n)) =
+    let past : 1 ≤ suc (suc n) - 1 = omega arith in
+    let other : (1 == suc (suc n)) ≡ false = grind (arith, nat_tests) in
+    let some : (suc (suc n) == 0) ≡ false = grind (arith, nat_tests) in
+    rw (other, some, slice_get_past (script ∷ []) (suc (suc n) - 1) past) refl
+
+-- the part of each desk is its script
+pub parts_are : (opening : Opening) (script : List Command) (desk : ℕ) → part_of desk (desk_history opening script).entries ≡ script_of (script ∷ []) desk
+parts_are opening script desk = part_answered (opened opening) 1 script desk ∙ only_script script desk
 
 -- there is an entry for each command
 pub entries_answered : (history : History) (desk : ℕ) (commands : List Command) → length (answered_all history desk commands).entries ≡ length history.entries + length commands

@@ -1,21 +1,16 @@
--- How a run ends.
-use Rattle.std.specs.Prelude.{◌≡◌, ◌⊎◌, ◌++◌, ℕ, ◌<◌, List, [], Option, Some, None, String, Result, Ok, Err, codes, string_bytes}
+-- The lines of complaints, and what each has for its cause.
+use Rattle.std.specs.Prelude.{◌≡◌, ◌++◌, ℕ, ◌<◌, List, ◌∷◌, Option, String, Result, Ok, Err, codes, map}
 use Rattle.std.specs.declared.alloc.Global.{Global}
 use Rattle.wp_journal.specs.FaultTexts.{audit_fault_text}
-use Rattle.wp_journal.specs.Journals.{Finds}
-use Rattle.wp_journal.specs.declared.verdict.AuditFault.{AuditFault}
 use Rattle.wp_model.specs.Journal.{after_space, line}
-use Rattle.wp_model.specs.Opening.{Opening}
-use Rattle.wp_model.specs.Warehouse.{Layout}
-use Rattle.wp_outside.specs.Outside.{Grows, TookPrefix}
-use Rattle.wp_top.specs.Runs.{ComesTo, Says}
-use Rattle.wp_top.specs.Texts.{AreHeld, Refused, Texts, first_refusal, input_text, journal_fault, name_for, refusal_text}
+use Rattle.wp_top.specs.Runs.{ComesTo, IsWrong}
+use Rattle.wp_top.specs.Texts.{AreHeld, File, IsHeld, ReadFile, Said, Say, file_of, files_of, input_text, refusal_text, said_with}
 use Rattle.wp_top.specs.declared.complaint.Complaint.{Complaint}
 use Rattle.wp_top.specs.declared.complaint.Complaint.TheVariants as complaint
-use Rattle.wp_top.specs.declared.ending.Ending.{Ending}
-use Rattle.wp_top.specs.declared.ending.Ending.TheVariants as ending
+use Rattle.wp_top.specs.declared.complaint.Finding.{Finding}
+use Rattle.wp_top.specs.declared.complaint.Finding.TheVariants as finding
 use Rattle.wp_top.specs.declared.input.Input.{Input}
-use Rattle.wp_top.specs.declared.input.Input.TheVariants as input
+use Rattle.wp_top.specs.declared.input.Refusal.{Refusal}
 use Rattle.wp_words.specs.Reading.{audit_names, fault_text, plan_names, texts_of}
 use Rattle.wp_words.specs.Words.{JobNames, audit, job_said, plan}
 use Rattle.wp_words.specs.declared.job.AuditWords.{AuditWords}
@@ -38,109 +33,69 @@ plan_job words = plan (plan_names words)
 abbrev pub asked_by : List (String Global) → Asked
 asked_by words = job_said (texts_of words)
 
+-- what is found
+abbrev pub finding_text : Finding → List ℕ
+finding_text (finding.Journal fault) = codes "journal" ++ after_space (audit_fault_text fault)
+
 -- what is said of words that ask for no job, of a refused file, of a file that could not be read, and of a journal that isn't right
 abbrev pub complaint_text : Complaint → List ℕ
 complaint_text (complaint.Words why) = codes "refused words" ++ after_space (fault_text why)
 complaint_text (complaint.Refused file why) = codes "refused" ++ after_space (input_text file) ++ after_space (refusal_text why)
 complaint_text (complaint.Fault file) = codes "read fault" ++ after_space (input_text file)
-complaint_text (complaint.Journal fault) = codes "refused journal" ++ after_space (audit_fault_text fault)
+complaint_text (complaint.Wrong found) = codes "refused" ++ after_space (finding_text found)
 
--- the text of an ending
-abbrev pub text_of : Ending → List ℕ
-text_of (ending.Done text) = string_bytes text
-text_of (ending.Complaint why) = line (complaint_text why)
+-- the line of a complaint
+abbrev pub complaint_line : Complaint → List ℕ
+complaint_line why = line (complaint_text why)
 
--- the status of an ending whose text was taken
-abbrev pub status_of : Ending → ℕ
-status_of (ending.Done text) = 0
-status_of (ending.Complaint (complaint.Words why)) = 1
-status_of (ending.Complaint (complaint.Refused file why)) = 2
-status_of (ending.Complaint (complaint.Fault file)) = 3
-status_of (ending.Complaint (complaint.Journal fault)) = 6
+-- these files hold texts, where that is told, none of which is refused, and together they say this
+pub record HaveSaid (holds : List ℕ → Option (List ℕ)) (files : List File) (said : Said) : Type 0 where
+  pub read : List ReadFile
+  pub are : map (λ read. read.file) read ≡ files
+  pub held : AreHeld holds read
+  pub say : Say read said
 
--- a job is asked for, none of its files is refused, the journal that it audits is right, and the output is that of the job
+-- one of these files is refused, and those before it aren't
+pub record IsFirstRefused (holds : List ℕ → Option (List ℕ)) (files : List File) (kind : Input) (why : Refusal) : Type 0 where
+  pub before : List File
+  pub name : List ℕ
+  pub later : List File
+  pub place : files ≡ before ++ file_of kind name ∷ later
+  pub said : Said
+  pub accepted : HaveSaid holds before said
+  pub text : List ℕ
+  pub held : IsHeld holds name text
+  pub refused : said_with said kind text ≡ Err why
+
+-- the count of faults rose for the name of one of these files, and those before it aren't refused
+pub record HasRisen (holds : List ℕ → Option (List ℕ)) (files : List File) (counts counts' : List ℕ → ℕ) (kind : Input) : Type 0 where
+  pub before : List File
+  pub name : List ℕ
+  pub later : List File
+  pub place : files ≡ before ++ file_of kind name ∷ later
+  pub said : Said
+  pub accepted : HaveSaid holds before said
+  pub rose : counts name < counts' name
+
+-- a job is asked for, none of its files is refused, and the output is what they come to
 pub record IsOutput (holds : List ℕ → Option (List ℕ)) (asked : Asked) (output : List ℕ) : Type 0 where
   pub job : JobNames
-  pub said : asked ≡ Ok job
-  pub texts : Texts
-  pub held : AreHeld holds job texts
-  pub accepted : first_refusal job texts ≡ None
-  pub right : journal_fault job texts ≡ None
-  pub comes : ComesTo job texts output
+  pub asked_for : asked ≡ Ok job
+  pub said : Said
+  pub accepted : HaveSaid holds (files_of job) said
+  pub comes : ComesTo job said output
 
--- a job is asked for, and this is the first of its files that is refused, and why
-pub record IsFirstFault (holds : List ℕ → Option (List ℕ)) (asked : Asked) (fault : Refused) : Type 0 where
+-- a job is asked for, none of its files is refused, but this is found
+pub record IsFound (holds : List ℕ → Option (List ℕ)) (asked : Asked) (found : Finding) : Type 0 where
   pub job : JobNames
-  pub said : asked ≡ Ok job
-  pub texts : Texts
-  pub held : AreHeld holds job texts
-  pub first : first_refusal job texts ≡ Some fault
-
--- a job is asked for, and the count of faults rose of the name that it gives for this file
-pub record HasRisen (asked : Asked) (before after : List ℕ → ℕ) (file : Input) : Type 0 where
-  pub job : JobNames
-  pub said : asked ≡ Ok job
-  pub name : List ℕ
-  pub named : name_for job file ≡ Some name
-  pub rose : before name < after name
-
--- a job is asked for, none of its files is refused, and the journal that it audits isn't right: it shows this fault
-pub record IsWrongJournal (holds : List ℕ → Option (List ℕ)) (asked : Asked) (fault : AuditFault) : Type 0 where
-  pub job : JobNames
-  pub said : asked ≡ Ok job
-  pub texts : Texts
-  pub held : AreHeld holds job texts
-  pub accepted : first_refusal job texts ≡ None
-  pub wrong : journal_fault job texts ≡ Some fault
-  pub layout : Layout
-  pub opening : Opening
-  pub says : Says texts layout opening
-  pub shows : Finds opening (texts input.Journal) (Err fault)
+  pub asked_for : asked ≡ Ok job
+  pub said : Said
+  pub accepted : HaveSaid holds (files_of job) said
+  pub wrong : IsWrong job said found
 
 -- a complaint has its cause in what is asked for and in the files
 abbrev pub IsCause : (List ℕ → Option (List ℕ)) → Asked → (List ℕ → ℕ) → (List ℕ → ℕ) → Complaint → Type 0
-IsCause holds asked before after (complaint.Words why) = asked ≡ Err why
-IsCause holds asked before after (complaint.Refused file why) = IsFirstFault holds asked (record { file = file; why = why })
-IsCause holds asked before after (complaint.Fault file) = HasRisen asked before after file
-IsCause holds asked before after (complaint.Journal fault) = IsWrongJournal holds asked fault
-
--- so has an ending
-abbrev pub IsEnding : (List ℕ → Option (List ℕ)) → Asked → (List ℕ → ℕ) → (List ℕ → ℕ) → Ending → Type 0
-IsEnding holds asked before after (ending.Done text) = IsOutput holds asked (string_bytes text)
-IsEnding holds asked before after (ending.Complaint why) = IsCause holds asked before after why
-
--- the text of an ending was taken, or the sink failed, or memory was wanting
-abbrev pub Finishes : Ending → Option (List ℕ) → Option (List ℕ) → ℕ → ℕ → ℕ → Type 0
-Finishes ending old new before after status =
-    ((status ≡ status_of ending) × Grows old new (text_of ending))
-    ⊎ ((status ≡ 4) × (before < after) × TookPrefix old new (text_of ending))
-    ⊎ ((status ≡ 5) × TookPrefix old new (text_of ending))
-
--- what status 0 says: the sink took the output
-abbrev pub IsDone : (List ℕ → Option (List ℕ)) → Asked → Option (List ℕ) → Option (List ℕ) → Type 0
-IsDone holds asked old new = (output : List ℕ) × IsOutput holds asked output × Grows old new output
-
--- what status 1 says: the words ask for no job, and the sink took the line that says why
-abbrev pub AreBadWords : Asked → Option (List ℕ) → Option (List ℕ) → Type 0
-AreBadWords asked old new = (why : WordsFault) × (asked ≡ Err why) × Grows old new (line (complaint_text (complaint.Words why)))
-
--- what status 2 says: a file is refused, the first that is, and the sink took its line
-abbrev pub IsRefused : (List ℕ → Option (List ℕ)) → Asked → Option (List ℕ) → Option (List ℕ) → Type 0
-IsRefused holds asked old new = (fault : Refused) × IsFirstFault holds asked fault × Grows old new (line (complaint_text (complaint.Refused fault.file fault.why)))
-
--- what status 3 says: the count of a file rose, and the sink took its line
-abbrev pub IsFault : Asked → (List ℕ → ℕ) → (List ℕ → ℕ) → Option (List ℕ) → Option (List ℕ) → Type 0
-IsFault asked before after old new = (file : Input) × HasRisen asked before after file × Grows old new (line (complaint_text (complaint.Fault file)))
-
--- what status 6 says: the journal isn't right, and the sink took the line that says where
-abbrev pub IsWrong : (List ℕ → Option (List ℕ)) → Asked → Option (List ℕ) → Option (List ℕ) → Type 0
-IsWrong holds asked old new = (fault : AuditFault) × IsWrongJournal holds asked fault × Grows old new (line (complaint_text (complaint.Journal fault)))
-
--- what statuses 4 and 5 say: the sink took nothing, or a beginning of the text of an ending
-abbrev pub IsPartial : (List ℕ → Option (List ℕ)) → Asked → (List ℕ → ℕ) → (List ℕ → ℕ) → Option (List ℕ) → Option (List ℕ) → Type 0
-IsPartial holds asked before after old new = Grows old new [] ⊎ ((ending : Ending) × IsEnding holds asked before after ending × TookPrefix old new (text_of ending))
-
--- no count of the files rose, nor that of the sink
-pub record Stand (before after : List ℕ → ℕ) (sink sink' : ℕ) : Type 0 where
-  pub files : (name : List ℕ) → after name ≡ before name
-  pub out : sink' ≡ sink
+IsCause holds asked counts counts' (complaint.Words why) = asked ≡ Err why
+IsCause holds asked counts counts' (complaint.Refused kind why) = (job : JobNames) × (asked ≡ Ok job) × IsFirstRefused holds (files_of job) kind why
+IsCause holds asked counts counts' (complaint.Fault kind) = (job : JobNames) × (asked ≡ Ok job) × HasRisen holds (files_of job) counts counts' kind
+IsCause holds asked counts counts' (complaint.Wrong found) = IsFound holds asked found

@@ -1,19 +1,19 @@
--- What came of the files, one after the other, and why a job stops.
-use Rattle.std.specs.Prelude.{◌≡◌, ℕ, ◌<◌, ⊤, ◌⊎◌, Bool, true, false, List, [], ◌∷◌, Option, Some, String, Result, Ok, Err, if◌then◌else◌}
+-- What comes of the files, one after the other, why a job stops, and how a run ends. The code is held against these; what they come to is in Promise.
+use Rattle.std.specs.Prelude.{◌≡◌, ◌⊎◌, ℕ, ◌<◌, ⊤, Bool, true, false, List, [], ◌∷◌, Option, String, Result, Ok, Err, if◌then◌else◌, string_bytes}
 use Rattle.std.specs.declared.alloc.Global.{Global}
-use Rattle.wp_journal.specs.Auditing.{audited}
-use Rattle.wp_journal.specs.declared.verdict.Audit.{Audit}
-use Rattle.wp_journal.specs.declared.verdict.AuditFault.{AuditFault}
+use Rattle.wp_journal.specs.Journals.{IsJournalOf, Shows}
 use Rattle.wp_layout.specs.declared.fault.LayoutFault.{LayoutFault}
 use Rattle.wp_layout.specs.declared.fault.LayoutFault.TheVariants as layout_fault
 use Rattle.wp_model.specs.Opening.{Opening}
 use Rattle.wp_model.specs.Warehouse.{Layout}
 use Rattle.wp_model.specs.declared.command.Command.{Command}
-use Rattle.wp_top.specs.Ends.{Asked, IsCause}
-use Rattle.wp_top.specs.Runs.{desk_history}
+use Rattle.wp_outside.specs.Outside.{Grows, TookPrefix}
+use Rattle.wp_top.specs.Ends.{Asked, HasRisen, IsCause, IsFirstRefused, IsOutput, complaint_line}
+use Rattle.wp_top.specs.Parts.{desk_history}
 use Rattle.wp_top.specs.Sections.{output_of}
-use Rattle.wp_top.specs.Texts.{IsHeld, layout_in, name_for, orders_in, scripts_in, stock_in, text_in}
+use Rattle.wp_top.specs.Texts.{File, IsHeld, Said, file_of, nothing_said, scripts_in, text_in}
 use Rattle.wp_top.specs.declared.complaint.Complaint.TheVariants as complaint
+use Rattle.wp_top.specs.declared.complaint.Finding.TheVariants as finding
 use Rattle.wp_top.specs.declared.complaint.Stop.{Stop}
 use Rattle.wp_top.specs.declared.complaint.Stop.TheVariants as stop
 use Rattle.wp_top.specs.declared.ending.Ending.{Ending}
@@ -21,7 +21,8 @@ use Rattle.wp_top.specs.declared.ending.Ending.TheVariants as ending
 use Rattle.wp_top.specs.declared.input.Input.{Input}
 use Rattle.wp_top.specs.declared.input.Input.TheVariants as input
 use Rattle.wp_top.specs.declared.input.Refusal.{Refusal}
-use Rattle.wp_words.specs.Words.{JobNames}
+use Rattle.wp_top.specs.declared.status.Status.{Status}
+use Rattle.wp_top.specs.declared.status.Status.TheVariants as status
 use Rattle.wp_words.specs.Reading.{wants_memory}
 use Rattle.wp_words.specs.declared.fault.WordsFault.{WordsFault}
 
@@ -39,7 +40,7 @@ abbrev pub IsUnsaid : {A : Type 0} → (List ℕ → Result A Refusal) → (List
 IsUnsaid says holds name before after file (stop.Complaint (complaint.Words why)) = ⊥
 IsUnsaid says holds name before after file (stop.Complaint (complaint.Refused f why)) = (f ≡ file) × (text : List ℕ) × IsHeld holds name text × (says text ≡ Err why)
 IsUnsaid says holds name before after file (stop.Complaint (complaint.Fault f)) = (f ≡ file) × (before < after)
-IsUnsaid says holds name before after file (stop.Complaint (complaint.Journal fault)) = ⊥
+IsUnsaid says holds name before after file (stop.Complaint (complaint.Wrong found)) = ⊥
 IsUnsaid says holds name before after file stop.Memory = ⊤
 
 -- there was no memory for what a layout file says
@@ -56,27 +57,26 @@ lacks_memory layout_fault.Memory = true
 abbrev pub stop_at_words : WordsFault → Stop
 stop_at_words why = if wants_memory why then stop.Memory else stop.Complaint (complaint.Words why)
 
--- the names that a job gives for the first three files
-pub record AreNamed (job : JobNames) (layout stock orders : List ℕ) : Type 0 where
-  pub layout_file : name_for job input.Layout ≡ Some layout
-  pub stock_file : name_for job input.Stock ≡ Some stock
-  pub order_file : name_for job input.Orders ≡ Some orders
+-- the files that say an opening
+abbrev pub opening_files : List ℕ → List ℕ → List ℕ → List File
+opening_files layout stock orders = file_of input.Layout layout ∷ file_of input.Stock stock ∷ file_of input.Orders orders ∷ []
 
--- what came of the first three files: the opening that their texts say
-pub record OpeningIsSaid (holds : List ℕ → Option (List ℕ)) (layout stock orders : List ℕ) (opening : Opening) : Type 0 where
-  pub space : Layout
-  pub layout_file : IsSaid layout_in holds layout space
-  pub stock_file : IsSaid (stock_in space) holds stock opening.stock
-  pub order_file : IsSaid (orders_in opening.stock) holds orders opening.orders
+-- what they say
+abbrev pub opening_said : Layout → Opening → Said
+opening_said layout opening = record nothing_said { layout = layout; opening = opening }
+
+-- why a job stops among files: one of them is refused, or the count of its name rose
+abbrev pub StopsAmong : (List ℕ → Option (List ℕ)) → List File → (List ℕ → ℕ) → (List ℕ → ℕ) → Stop → Type 0
+StopsAmong holds files before after (stop.Complaint (complaint.Words why)) = ⊥
+StopsAmong holds files before after (stop.Complaint (complaint.Refused kind why)) = IsFirstRefused holds files kind why
+StopsAmong holds files before after (stop.Complaint (complaint.Fault kind)) = HasRisen holds files before after kind
+StopsAmong holds files before after (stop.Complaint (complaint.Wrong found)) = ⊥
+StopsAmong holds files before after stop.Memory = ⊤
 
 -- a stop has its cause in what is asked for and in the files
 abbrev pub IsStop : (List ℕ → Option (List ℕ)) → Asked → (List ℕ → ℕ) → (List ℕ → ℕ) → Stop → Type 0
 IsStop holds asked before after (stop.Complaint why) = IsCause holds asked before after why
 IsStop holds asked before after stop.Memory = ⊤
-
--- so has a stop at the first three files, for each job that names them so
-abbrev pub OpeningIsUnsaid : (List ℕ → Option (List ℕ)) → List ℕ → List ℕ → List ℕ → (List ℕ → ℕ) → (List ℕ → ℕ) → Stop → Type 0
-OpeningIsUnsaid holds layout stock orders before after why = (job : JobNames) → AreNamed job layout stock orders → IsStop holds (Ok job) before after why
 
 -- the output of an opening and of the desk file of this name
 pub record IsDay (holds : List ℕ → Option (List ℕ)) (opening : Opening) (name output : List ℕ) : Type 0 where
@@ -85,25 +85,60 @@ pub record IsDay (holds : List ℕ → Option (List ℕ)) (opening : Opening) (n
   pub is : output ≡ output_of (desk_history opening script)
 
 -- a journal stops a run where it isn't right
-abbrev pub StopsAudit : Result Audit AuditFault → Stop → Type 0
-StopsAudit said (stop.Complaint (complaint.Words why)) = ⊥
-StopsAudit said (stop.Complaint (complaint.Refused file why)) = ⊥
-StopsAudit said (stop.Complaint (complaint.Fault file)) = ⊥
-StopsAudit said (stop.Complaint (complaint.Journal fault)) = said ≡ Err fault
-StopsAudit said stop.Memory = ⊤
+abbrev pub StopsAudit : Opening → List ℕ → Stop → Type 0
+StopsAudit opening text (stop.Complaint (complaint.Words why)) = ⊥
+StopsAudit opening text (stop.Complaint (complaint.Refused file why)) = ⊥
+StopsAudit opening text (stop.Complaint (complaint.Fault file)) = ⊥
+StopsAudit opening text (stop.Complaint (complaint.Wrong (finding.Journal fault))) = Shows opening text (Err fault)
+StopsAudit opening text stop.Memory = ⊤
 
--- the audit of the journal of this name finds that it is right
-pub record IsFound (holds : List ℕ → Option (List ℕ)) (opening : Opening) (name : List ℕ) (found : Audit) : Type 0 where
+-- the audit of the journal of this name finds that it is right, with so many entries
+pub record IsRightJournal (holds : List ℕ → Option (List ℕ)) (opening : Opening) (name : List ℕ) (entries : ℕ) : Type 0 where
   pub text : List ℕ
   pub read : IsRead holds name text
-  pub right : audited opening text ≡ Ok found
+  pub shows : IsJournalOf opening text entries
 
 -- it finds nothing: nothing came of the file, or the journal isn't right
 abbrev pub StopsFinding : (List ℕ → Option (List ℕ)) → Opening → List ℕ → ℕ → ℕ → Stop → Type 0
-StopsFinding holds opening name before after why = IsUnsaid text_in holds name before after input.Journal why ⊎ ((text : List ℕ) × IsRead holds name text × StopsAudit (audited opening text) why)
+StopsFinding holds opening name before after why = IsUnsaid text_in holds name before after input.Journal why ⊎ ((text : List ℕ) × IsRead holds name text × StopsAudit opening text why)
 
 -- the ending of an output, or of a stop
 abbrev pub IsEndOf : Result (String Global) Stop → Ending → Type 0
 IsEndOf (Ok text) end = end ≡ ending.Done text
 IsEndOf (Err (stop.Complaint why)) end = end ≡ ending.Complaint why
 IsEndOf (Err stop.Memory) end = ⊥
+
+-- the text of an ending
+abbrev pub text_of : Ending → List ℕ
+text_of (ending.Done text) = string_bytes text
+text_of (ending.Complaint why) = complaint_line why
+
+-- the status of an ending whose text was taken
+abbrev pub status_of : Ending → Status
+status_of (ending.Done text) = status.Done
+status_of (ending.Complaint (complaint.Words why)) = status.BadWords
+status_of (ending.Complaint (complaint.Refused file why)) = status.Refused
+status_of (ending.Complaint (complaint.Fault file)) = status.ReadFault
+status_of (ending.Complaint (complaint.Wrong found)) = status.Wrong
+
+-- the number of a status
+abbrev pub number_of : Status → ℕ
+number_of status.Done = 0
+number_of status.BadWords = 1
+number_of status.Refused = 2
+number_of status.ReadFault = 3
+number_of status.WriteFault = 4
+number_of status.OutOfMemory = 5
+number_of status.Wrong = 6
+
+-- an ending has its cause
+abbrev pub IsEnding : (List ℕ → Option (List ℕ)) → Asked → (List ℕ → ℕ) → (List ℕ → ℕ) → Ending → Type 0
+IsEnding holds asked before after (ending.Done text) = IsOutput holds asked (string_bytes text)
+IsEnding holds asked before after (ending.Complaint why) = IsCause holds asked before after why
+
+-- the text of an ending was taken, or the sink failed, or memory ran out
+abbrev pub Finishes : Ending → Option (List ℕ) → Option (List ℕ) → ℕ → ℕ → Status → Type 0
+Finishes ending old new before after ended =
+    ((ended ≡ status_of ending) × Grows old new (text_of ending))
+    ⊎ ((ended ≡ status.WriteFault) × (before < after) × TookPrefix old new (text_of ending))
+    ⊎ ((ended ≡ status.OutOfMemory) × TookPrefix old new (text_of ending))

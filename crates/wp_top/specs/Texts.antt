@@ -1,8 +1,6 @@
--- The files that a job reads: what they hold, what they say, and why one is refused.
-use Rattle.std.specs.Prelude.{◌≡◌, ℕ, nat_lt, List, codes, Option, Some, None, IfSome, length, if◌then◌else◌, Result, Ok, Err}
-use Rattle.std.specs.Result.{result_err}
-use Rattle.wp_journal.specs.Auditing.{audited}
-use Rattle.wp_journal.specs.declared.verdict.AuditFault.{AuditFault}
+-- The files that a job reads, what they say one after the other, and why one is refused.
+use Rattle.std.specs.Prelude.{◌≡◌, ℕ, nat_lt, List, [], ◌∷◌, codes, Option, Some, IfSome, length, if◌then◌else◌, Result, Ok, Err}
+use Rattle.std.specs.List.{All}
 use Rattle.wp_layout.specs.Keys.{fault_text}
 use Rattle.wp_layout.specs.LayoutFile.{layout_said}
 use Rattle.wp_model.specs.Opening.{Opening, Order, Stock}
@@ -20,39 +18,53 @@ use Rattle.wp_top.specs.declared.input.Refusal.TheVariants as refusal
 use Rattle.wp_words.specs.Words.{JobNames, audit, plan}
 use Rattle.wp_model.specs.Outcomes.{and_then}
 
--- what each file holds
-abbrev pub Texts : Type 0
-Texts = Input → List ℕ
+-- a file that a job reads: which it is, and its name
+pub record File : Type 0 where
+  pub kind : Input
+  pub name : List ℕ
 
--- the name of a file, where the job reads it
-abbrev pub name_for : JobNames → Input → Option (List ℕ)
-name_for (plan names) input.Layout = Some names.layout
-name_for (plan names) input.Stock = Some names.stock
-name_for (plan names) input.Orders = Some names.orders
-name_for (plan names) input.Desks = Some names.desks
-name_for (plan names) input.Journal = None
-name_for (audit names) input.Layout = Some names.layout
-name_for (audit names) input.Stock = Some names.stock
-name_for (audit names) input.Orders = Some names.orders
-name_for (audit names) input.Desks = None
-name_for (audit names) input.Journal = Some names.journal
+abbrev pub file_of : Input → List ℕ → File
+file_of kind name = record { kind = kind; name = name }
+
+-- the files that a job reads, one after the other
+abbrev pub files_of : JobNames → List File
+files_of (plan names) =
+    file_of input.Layout names.layout ∷ file_of input.Stock names.stock ∷ file_of input.Orders names.orders ∷ file_of input.Desks names.desks ∷ []
+files_of (audit names) =
+    file_of input.Layout names.layout ∷ file_of input.Stock names.stock ∷ file_of input.Orders names.orders ∷ file_of input.Journal names.journal ∷ []
+
+-- a file and its text
+pub record ReadFile : Type 0 where
+  pub file : File
+  pub text : List ℕ
 
 -- the text is what the name holds, where that is told
 abbrev pub IsHeld : (List ℕ → Option (List ℕ)) → List ℕ → List ℕ → Type 0
 IsHeld holds name text = IfSome (holds name) (λ told. text ≡ told)
 
--- the texts are what the files of a job hold, where that is told
-abbrev pub AreHeld : (List ℕ → Option (List ℕ)) → JobNames → Texts → Type 0
-AreHeld holds job texts = (file : Input) (name : List ℕ) → name_for job file ≡ Some name → IsHeld holds name (texts file)
+-- so it is of each file
+abbrev pub AreHeld : (List ℕ → Option (List ℕ)) → List ReadFile → Type 0
+AreHeld holds files = All (λ read. IsHeld holds read.file.name read.text) files
 
--- what the files of a job hold is told, and it is this
-abbrev pub AreTold : (List ℕ → Option (List ℕ)) → JobNames → Texts → Type 0
-AreTold holds job texts = (file : Input) (name : List ℕ) → name_for job file ≡ Some name → holds name ≡ Some (texts file)
+-- what the files hold is told, and it is this
+abbrev pub AreTold : (List ℕ → Option (List ℕ)) → List ReadFile → Type 0
+AreTold holds files = All (λ read. holds read.file.name ≡ Some read.text) files
 
--- which file is refused, and why
-pub record Refused : Type 0 where
-  pub file : Input
-  pub why : Refusal
+-- what was said so far: the layout, the stock and the orders, the scripts of the desks, and the text of a journal
+pub record Said : Type 0 where
+  pub layout : Layout
+  pub opening : Opening
+  pub scripts : List (List Command)
+  pub journal : List ℕ
+
+-- nothing yet
+abbrev pub nothing_said : Said
+nothing_said = record {
+  layout = record { aisles = 0; slots = 0; pitch = 0; clearance = 0; spacing = 0; depot = 0 };
+  opening = record { stock = record { rows = []; articles = [] }; orders = [] };
+  scripts = [];
+  journal = [];
+}
 
 -- what is said, or the refusal that comes of a fault
 abbrev pub refused_by : {A F E : Type 0} → (F → E) → Result A F → Result A E
@@ -83,40 +95,22 @@ orders_in stock = said_in refusal.Row (orders_said stock)
 abbrev pub scripts_in : List ℕ → Result (List (List Command)) Refusal
 scripts_in = said_in refusal.Row scripts_said
 
--- a refusal is that of a file
-abbrev pub of_file : {A : Type 0} → Input → Result A Refusal → Result A Refused
-of_file file = refused_by (λ why. record { file = file; why = why })
+-- what is said with a further file, or why that file is refused: the stock lies in the layout, and the orders want its articles
+abbrev pub said_with : Said → Input → List ℕ → Result Said Refusal
+said_with said input.Layout text = and_then (layout_in text) (λ layout. Ok (record said { layout = layout }))
+said_with said input.Stock text = and_then (stock_in said.layout text) (λ stock. Ok (record said { opening = record { stock = stock; orders = [] } }))
+said_with said input.Orders text = and_then (orders_in said.opening.stock text) (λ orders. Ok (record said { opening = record { stock = said.opening.stock; orders = orders } }))
+said_with said input.Desks text = and_then (scripts_in text) (λ scripts. Ok (record said { scripts = scripts }))
+said_with said input.Journal text = and_then (text_in text) (λ journal. Ok (record said { journal = journal }))
 
--- the opening that the first three files say, or the first of them that is refused
-abbrev pub opening_in : Texts → Result Opening Refused
-opening_in texts = and_then (of_file input.Layout (layout_in (texts input.Layout)))
-    (λ layout. and_then (of_file input.Stock (stock_in layout (texts input.Stock)))
-    (λ stock. and_then (of_file input.Orders (orders_in stock (texts input.Orders)))
-    (λ orders. Ok (record { stock = stock; orders = orders }))))
+-- what files say, one after the other, after what was said before them; or why the first is refused that is
+abbrev pub said_after : Said → List ReadFile → Result Said Refusal
+said_after said [] = Ok said
+said_after said (read ∷ more) = and_then (said_with said read.file.kind read.text) (λ said. said_after said more)
 
--- the refusal of the file that a job reads last
-abbrev pub last_refusal : JobNames → Texts → Option Refused
-last_refusal (plan names) texts = result_err (of_file input.Desks (scripts_in (texts input.Desks)))
-last_refusal (audit names) texts = result_err (of_file input.Journal (text_in (texts input.Journal)))
-
--- a refusal of the first three files, or else that of the last
-abbrev pub refusal_or : Result Opening Refused → Option Refused → Option Refused
-refusal_or (Ok opening) last = last
-refusal_or (Err first) last = Some first
-
--- the first file that is refused, in the order in which the job reads them
-abbrev pub first_refusal : JobNames → Texts → Option Refused
-first_refusal job texts = refusal_or (opening_in texts) (last_refusal job texts)
-
--- where a journal isn't right of an opening
-abbrev pub fault_of : Result Opening Refused → List ℕ → Option AuditFault
-fault_of (Ok opening) journal = result_err (audited opening journal)
-fault_of (Err first) journal = None
-
--- where the journal that a job audits isn't right
-abbrev pub journal_fault : JobNames → Texts → Option AuditFault
-journal_fault (plan names) texts = None
-journal_fault (audit names) texts = fault_of (opening_in texts) (texts input.Journal)
+-- the files say this
+abbrev pub Say : List ReadFile → Said → Type 0
+Say files said = said_after nothing_said files ≡ Ok said
 
 -- what a file is called
 abbrev pub input_text : Input → List ℕ

@@ -5,7 +5,7 @@ ghost use Rattle.wp_model.specs.Journal.{journal};
 ghost use Rattle.wp_model.specs.Plain.{is_plain};
 ghost use Rattle.wp_model.specs.Tables.{IsReadOpening, most_commands};
 ghost use Rattle.wp_top.specs.Refills.{refill_in, refills_of};
-ghost use Rattle.wp_top.specs.Runs.{desk_history};
+ghost use Rattle.wp_top.specs.Parts.{desk_history};
 ghost use Rattle.wp_top.specs.Sections.{output_of};
 
 use crate::print::{print_journal, print_refills, print_stock};

@@ -1,14 +1,14 @@
 //! The mode `audit`.
 ghost use Rattle.std.specs.Prelude.{◌≡◌, Ok, IfOk, IfErr, string_bytes};
-ghost use Rattle.wp_journal.specs.Auditing.{audited};
+ghost use Rattle.wp_journal.specs.Journals.{IsJournalOf};
 ghost use Rattle.wp_outside.specs.Outside.{NoneFalls, SameBytes};
 ghost use Rattle.wp_top.specs.Ends.{IsOutput, audit_job};
-ghost use Rattle.wp_top.specs.Stops.{IsFound, IsStop, StopsAudit, StopsFinding};
+ghost use Rattle.wp_top.specs.Stops.{IsRightJournal, IsStop, StopsAudit, StopsFinding};
 ghost use Rattle.wp_top.specs.Runs.{audit_line};
 
-use crate::complaint::{Complaint, Stop};
+use crate::complaint::{Complaint, Finding, Stop};
 use crate::input::Input;
-use crate::reading::{read_opening, read_text};
+use crate::reading::{read_text, read_warehouse};
 use std::alloc::Global;
 use std::fmt::Write;
 use wp_journal::{Audit, AuditFault, audit};
@@ -18,18 +18,18 @@ use wp_outside::Files;
 use wp_words::AuditWords;
 
 fn audit_text(alloc: Global, opening: &Opening, text: &Vec<u8>) -> Result<Audit, Stop>
-    ensures right { IfOk result (λ found. audited opening.now text.now.items ≡ Ok found) }
-    ensures wrong { IfErr result (StopsAudit (audited opening.now text.now.items)) }
+    ensures right { IfOk result (λ found. IsJournalOf opening.now text.now.items found.entries) }
+    ensures wrong { IfErr result (StopsAudit opening.now text.now.items) }
 {
     match audit(alloc, opening, text) {
         Ok(found) => Ok(found),
         Err(AuditFault::Memory) => Err(Stop::Memory),
-        Err(fault) => Err(Stop::Complaint(Complaint::Journal(fault))),
+        Err(fault) => Err(Stop::Complaint(Complaint::Wrong(Finding::Journal(fault)))),
     }
 }
 
 fn line_of(alloc: Global, found: Audit) -> Result<String, Memory>
-    ensures { IfOk result (λ text. string_bytes text ≡ audit_line found) }
+    ensures { IfOk result (λ text. string_bytes text ≡ audit_line found.entries) }
 {
     let entries = found.entries;
     let mut text = String::new(alloc);
@@ -44,7 +44,7 @@ fn found_in<F: Files>(
     opening: &Opening,
     name: &str,
 ) -> Result<Audit, Stop>
-    ensures found { IfOk result (IsFound (F.holds files.old) opening.now name.now) }
+    ensures found { IfOk result (λ found. IsRightJournal (F.holds files.old) opening.now name.now found.entries) }
     ensures stops { IfErr result (StopsFinding (F.holds files.old) opening.now name.now (F.faults files.old name.now) (F.faults files.new name.now)) }
     ensures same { SameBytes (F.holds files.old) (F.holds files.new) }
     ensures counts { NoneFalls (F.faults files.old) (F.faults files.new) }
@@ -64,14 +64,14 @@ pub fn audit_output<F: Files>(
     ensures same { SameBytes (F.holds files.old) (F.holds files.new) }
     ensures counts { NoneFalls (F.faults files.old) (F.faults files.new) }
 {
-    let opening = read_opening(
+    let warehouse = read_warehouse(
         alloc,
         files,
         words.layout.as_str(),
         words.stock.as_str(),
         words.orders.as_str(),
     )?;
-    let found = found_in(alloc, files, &opening, words.journal.as_str())?;
+    let found = found_in(alloc, files, &warehouse.opening, words.journal.as_str())?;
     let text = line_of(alloc, found)?;
     Ok(text)
 }

@@ -1,5 +1,5 @@
 ghost use Rattle.std.specs.Prelude.{◌≡◌, Some};
-ghost use Rattle.wp_top.specs.Ends.{complaint_text};
+ghost use Rattle.wp_top.specs.Ends.{complaint_text, finding_text};
 ghost use Rattle.wp_top.specs.Stops.{stop_at_words};
 ghost use Rattle.wp_top.specs.declared.complaint.Stop.TheVariants as stop;
 
@@ -18,7 +18,13 @@ pub enum Complaint {
     Refused(Input, Refusal),
     /// A file could not be read.
     Fault(Input),
-    /// The journal isn't right.
+    /// What is held against the files isn't right.
+    Wrong(Finding),
+}
+
+/// What isn't right.
+#[derive(Clone, Copy, Debug, PartialEq, Eq)]
+pub enum Finding {
     Journal(AuditFault),
 }
 
@@ -29,6 +35,16 @@ pub enum Stop {
     Memory,
 }
 
+impl fmt::Display for Finding {
+    ghost output = { λ found. Some (finding_text found) };
+
+    fn fmt<W: fmt::Write>(&self, f: &mut fmt::Formatter<W>) -> fmt::Result {
+        match self {
+            Finding::Journal(fault) => write!(f, "journal {fault}"),
+        }
+    }
+}
+
 impl fmt::Display for Complaint {
     ghost output = { λ complaint. Some (complaint_text complaint) };
 
@@ -37,7 +53,7 @@ impl fmt::Display for Complaint {
             Complaint::Words(why) => write!(f, "refused words {why}"),
             Complaint::Refused(file, why) => write!(f, "refused {file} {why}"),
             Complaint::Fault(file) => write!(f, "read fault {file}"),
-            Complaint::Journal(fault) => write!(f, "refused journal {fault}"),
+            Complaint::Wrong(found) => write!(f, "refused {found}"),
         }
     }
 }

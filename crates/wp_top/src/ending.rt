@@ -1,13 +1,14 @@
-ghost use Rattle.std.specs.Prelude.{◌≡◌, ◌<◌, ◌≤◌, Ok, IfOk, IfErr, OnOk, IsErrOf, map, string_bytes};
-ghost use Rattle.wp_model.specs.Journal.{line};
+ghost use Rattle.std.specs.Prelude.{◌≡◌, ◌<◌, ◌≤◌, Ok, IfOk, IfErr, OnOk, OnErr, IsErrOf, map, string_bytes};
 ghost use Rattle.wp_outside.specs.Outside.{Grows, NoneFalls, SameBytes, TookPrefix};
 ghost use Rattle.wp_outside.specs.declared.sink.SinkFault.TheVariants as sink_fault;
-ghost use Rattle.wp_top.specs.Ends.{Finishes, IsEnding, IsOutput, asked_by, audit_job, complaint_text, status_of, text_of};
-ghost use Rattle.wp_top.specs.Stops.{IsEndOf, IsStop};
+ghost use Rattle.wp_top.specs.Ends.{IsOutput, asked_by, audit_job, complaint_line};
+ghost use Rattle.wp_top.specs.declared.status.Status.TheVariants as status;
+ghost use Rattle.wp_top.specs.Stops.{Finishes, IsEndOf, IsEnding, IsStop, status_of, text_of};
 
 use crate::auditing::audit_output;
 use crate::complaint::{Complaint, Stop};
 use crate::planning::plan_output;
+use crate::status::Status;
 use std::alloc::Global;
 use std::fmt::Write;
 use wp_model::Memory;
@@ -24,15 +25,15 @@ pub enum Ending {
 }
 
 impl Ending {
-    fn status(&self) -> u8
+    fn status(&self) -> Status
         ensures { result ≡ status_of self.now }
     {
         match self {
-            Ending::Done(_) => 0,
-            Ending::Complaint(Complaint::Words(_)) => 1,
-            Ending::Complaint(Complaint::Refused(..)) => 2,
-            Ending::Complaint(Complaint::Fault(_)) => 3,
-            Ending::Complaint(Complaint::Journal(_)) => 6,
+            Ending::Done(_) => Status::Done,
+            Ending::Complaint(Complaint::Words(_)) => Status::BadWords,
+            Ending::Complaint(Complaint::Refused(..)) => Status::Refused,
+            Ending::Complaint(Complaint::Fault(_)) => Status::ReadFault,
+            Ending::Complaint(Complaint::Wrong(_)) => Status::Wrong,
         }
     }
 }
@@ -88,7 +89,7 @@ pub fn audit_ending<F: Files>(
 }
 
 fn line_of(alloc: Global, complaint: Complaint) -> Result<String, Memory>
-    ensures { IfOk result (λ text. string_bytes text ≡ line (complaint_text complaint)) }
+    ensures { IfOk result (λ text. string_bytes text ≡ complaint_line complaint) }
 {
     let mut text = String::new(alloc);
     writeln!(text, "{complaint}")?;
@@ -96,8 +97,8 @@ fn line_of(alloc: Global, complaint: Complaint) -> Result<String, Memory>
 }
 
 fn write_line<K: Sink>(alloc: Global, complaint: Complaint, out: &mut K) -> Result<(), SinkFault>
-    ensures whole { OnOk result (Grows (K.taken out.old) (K.taken out.new) (line (complaint_text complaint))) }
-    ensures prefix { TookPrefix (K.taken out.old) (K.taken out.new) (line (complaint_text complaint)) }
+    ensures whole { OnOk result (Grows (K.taken out.old) (K.taken out.new) (complaint_line complaint)) }
+    ensures prefix { TookPrefix (K.taken out.old) (K.taken out.new) (complaint_line complaint) }
     ensures counts { K.faults out.old ≤ K.faults out.new }
     ensures failed { IsErrOf result sink_fault.Failed → K.faults out.old < K.faults out.new }
 {
@@ -117,14 +118,26 @@ fn write_ending<K: Sink>(alloc: Global, ending: &Ending, out: &mut K) -> Result<
     }
 }
 
-/// Writes the text of an ending, and gives the status: the ending's, 4 where the sink failed, 5 for want of memory.
-pub fn finish<K: Sink>(alloc: Global, ending: &Ending, out: &mut K) -> u8
+// Writes the text of an ending, and gives the status: the ending's, or that the sink failed, or that memory ran out.
+fn end_with<K: Sink>(alloc: Global, ending: &Ending, out: &mut K) -> Status
     ensures finishes { Finishes ending.now (K.taken out.old) (K.taken out.new) (K.faults out.old) (K.faults out.new) result }
     ensures counts { K.faults out.old ≤ K.faults out.new }
 {
     match write_ending(alloc, ending, out) {
         Ok(()) => ending.status(),
-        Err(SinkFault::Failed) => 4,
-        Err(SinkFault::Memory) => 5,
+        Err(SinkFault::Failed) => Status::WriteFault,
+        Err(SinkFault::Memory) => Status::OutOfMemory,
+    }
+}
+
+/// Ends a run, whose ending may lack memory, and gives the status.
+pub fn finish<K: Sink>(alloc: Global, ending: Result<Ending, Memory>, out: &mut K) -> Status
+    ensures finishes { IfOk ending (λ ended. Finishes ended (K.taken out.old) (K.taken out.new) (K.faults out.old) (K.faults out.new) result) }
+    ensures nothing { OnErr ending ((result ≡ status.OutOfMemory) × (K.taken out.new ≡ K.taken out.old)) }
+    ensures counts { K.faults out.old ≤ K.faults out.new }
+{
+    match ending {
+        Ok(ending) => end_with(alloc, &ending, out),
+        Err(_) => Status::OutOfMemory,
     }
 }

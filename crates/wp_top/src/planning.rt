@@ -9,7 +9,7 @@ ghost use Rattle.wp_top.specs.declared.input.Input.TheVariants as input;
 
 use crate::answering::output_of_script;
 use crate::complaint::Stop;
-use crate::reading::{read_opening, scripts_from};
+use crate::reading::{read_warehouse, scripts_from};
 use std::alloc::Global;
 use wp_machine::Opening;
 use wp_outside::Files;
@@ -44,12 +44,12 @@ pub fn plan_output<F: Files>(
     ensures same { SameBytes (F.holds files.old) (F.holds files.new) }
     ensures counts { NoneFalls (F.faults files.old) (F.faults files.new) }
 {
-    let opening = read_opening(
+    let warehouse = read_warehouse(
         alloc,
         files,
         words.layout.as_str(),
         words.stock.as_str(),
         words.orders.as_str(),
     )?;
-    output_of_desks(alloc, files, &opening, words.desks.as_str())
+    output_of_desks(alloc, files, &warehouse.opening, words.desks.as_str())
 }

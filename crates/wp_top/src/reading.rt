@@ -2,7 +2,8 @@ ghost use Rattle.std.specs.Prelude.{◌≡◌, Err, IfOk, IfErr, if◌then◌els
 ghost use Rattle.wp_model.specs.Tables.{AreReadOrders, AreReadScripts, IsReadOpening, IsReadStock};
 ghost use Rattle.wp_outside.specs.Outside.{NoneFalls, SameBytes};
 ghost use Rattle.wp_tables.specs.Faults.{wants_memory};
-ghost use Rattle.wp_top.specs.Stops.{IsRead, IsSaid, IsUnsaid, OpeningIsSaid, OpeningIsUnsaid, lacks_memory};
+ghost use Rattle.wp_top.specs.Ends.{HaveSaid};
+ghost use Rattle.wp_top.specs.Stops.{IsRead, IsSaid, IsUnsaid, StopsAmong, lacks_memory, opening_files, opening_said};
 ghost use Rattle.wp_top.specs.Texts.{layout_in, orders_in, scripts_in, stock_in, text_in};
 ghost use Rattle.wp_top.specs.declared.complaint.Complaint.TheVariants as complaint;
 ghost use Rattle.wp_top.specs.declared.complaint.Stop.TheVariants as stop;
@@ -131,17 +132,24 @@ pub fn scripts_from<F: Files>(alloc: Global, files: &mut F, name: &str) -> Resul
     }
 }
 
+/// A layout, and the stock in it with the orders for it.
+#[derive(Drop)]
+pub struct Warehouse {
+    pub layout: Layout,
+    pub opening: Opening,
+}
+
 /// Reads the layout, the stock file and the order file, one after the other. The first that isn't read stops it.
-pub fn read_opening<F: Files>(
+pub fn read_warehouse<F: Files>(
     alloc: Global,
     files: &mut F,
     layout_name: &str,
     stock_name: &str,
     orders_name: &str,
-) -> Result<Opening, Stop>
-    ensures said { IfOk result (OpeningIsSaid (F.holds files.old) layout_name.now stock_name.now orders_name.now) }
-    ensures read { IfOk result IsReadOpening }
-    ensures stops { IfErr result (OpeningIsUnsaid (F.holds files.old) layout_name.now stock_name.now orders_name.now (F.faults files.old) (F.faults files.new)) }
+) -> Result<Warehouse, Stop>
+    ensures said { IfOk result (λ warehouse. HaveSaid (F.holds files.old) (opening_files layout_name.now stock_name.now orders_name.now) (opening_said warehouse.layout warehouse.opening)) }
+    ensures read { IfOk result (λ warehouse. IsReadOpening warehouse.opening) }
+    ensures stops { IfErr result (StopsAmong (F.holds files.old) (opening_files layout_name.now stock_name.now orders_name.now) (F.faults files.old) (F.faults files.new)) }
     ensures same { SameBytes (F.holds files.old) (F.holds files.new) }
     ensures counts { NoneFalls (F.faults files.old) (F.faults files.new) }
 {
@@ -149,5 +157,5 @@ pub fn read_opening<F: Files>(
     let stock = stock_from(alloc, files, stock_name, &layout)?;
     let orders = orders_from(alloc, files, orders_name, &stock)?;
     let opening = Opening::of(stock, orders);
-    Ok(opening)
+    Ok(Warehouse { layout, opening })
 }

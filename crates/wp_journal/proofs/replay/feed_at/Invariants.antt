@@ -1,6 +1,6 @@
 use Rattle.std.proofs.Common.{◌≡◌, ◌+◌, drop}
 use Rattle.std.specs.List.{position_or_len}
-use Rattle.wp_journal.specs.Auditing.{is_feed}
+use Rattle.wp_journal.specs.Journals.{is_feed}
 use Rattle.wp_journal.proofs.replay.feed_at.Given as goal
 
 -- no line feed is among the bytes so far

@@ -1,5 +1,5 @@
 use Rattle.std.proofs.Common.{◌∙◌, ap, refl, Err}
-use Rattle.wp_top.proofs.Held.{long_text}
+use Rattle.wp_top.proofs.LongTexts.{long_text}
 use Rattle.wp_top.proofs.reading.read_text.Goals as goal
 
 pub returns-in-Err-TooLong-clause-stops : goal.returns-in-Err-TooLong-clause-stops

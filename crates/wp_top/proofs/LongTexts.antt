@@ -1,0 +1,32 @@
+-- Files that are answered as too long.
+use Rattle.std.proofs.Common.{◌≡◌, refl, ℕ, ◌<◌, true, List, length, Option, Some, None, Err, arith}
+use Rattle.std.specs.Prelude.{IfSome, nat_lt, replicate}
+use Rattle.std.proofs.lemmas.Bool.Decides.{nat_tests}
+use Rattle.std.proofs.lemmas.List.{length-replicate}
+use Rattle.wp_outside.specs.Outside.{IsTooLong}
+use Rattle.wp_outside.specs.declared.files.TheConstants.{MAX_FILE_BYTES}
+use Rattle.wp_top.specs.Texts.{IsHeld, text_in}
+use Rattle.wp_top.specs.declared.input.Refusal.TheVariants as refusal
+
+above : (n m : ℕ) → n < m → nat_lt n m ≡ true
+above n m less = grind (arith, nat_tests)
+
+zeros : ℕ → List ℕ
+zeros n = replicate n 0
+
+length-zeros : (n : ℕ) → length (zeros n) ≡ n
+unfolding zeros
+length-zeros n = length-replicate n 0
+
+is_refused : (text : List ℕ) → MAX_FILE_BYTES < length text → text_in text ≡ Err refusal.TooLong
+is_refused text long = rw (above MAX_FILE_BYTES (length text) long) refl
+
+long_told : (holds : List ℕ → Option (List ℕ)) (name : List ℕ) (o : Option (List ℕ)) (P : List ℕ → Type 0) → holds name ≡ o → IfSome o (λ told. IsTooLong told × P told)
+    → (text : List ℕ) × IsHeld holds name text × (text_in text ≡ Err refusal.TooLong)
+long_told holds name None P e long = (zeros 16777217, rw e tt, is_refused (zeros 16777217) (omega (arith, length-zeros 16777217)))
+long_told holds name (Some told) P e long = (told, rw e refl, is_refused told long.0)
+
+-- such a file has some text that is too long
+pub long_text : (holds : List ℕ → Option (List ℕ)) (name : List ℕ) (P : List ℕ → Type 0) → IfSome (holds name) (λ told. IsTooLong told × P told)
+    → (text : List ℕ) × IsHeld holds name text × (text_in text ≡ Err refusal.TooLong)
+long_text holds name P long = long_told holds name (holds name) P refl long
