@@ -21,7 +21,7 @@ impl fmt::Display for CaseFault {
             CaseFault::Line => "a line that no case may have",
             CaseFault::File => "a file that could not be read",
             CaseFault::Output => "output that could not be written",
-            CaseFault::Memory => "want of memory",
+            CaseFault::Memory => "memory that ran out",
         })
     }
 }

@@ -6,7 +6,7 @@ use std::alloc::Global;
 use wp_model::Memory;
 
 /// How each line of a case begins, where it isn't empty.
-const BEGINNINGS: [&str; 8] = [
+const BEGINNINGS: [&str; 10] = [
     "#",
     "words ",
     "file ",
@@ -14,7 +14,9 @@ const BEGINNINGS: [&str; 8] = [
     "rows ",
     "failing read ",
     "failing write ",
+    "each write fails in turn",
     "one byte a write",
+    "audit by itself",
 ];
 
 fn is_known(line: &str) -> bool {
@@ -72,9 +74,21 @@ pub fn failing(alloc: Global, lines: &str, beginning: &str) -> Result<Vec<u64>, 
     Ok(numbers)
 }
 
-/// The sink of a case.
-pub fn sink_of(alloc: Global, lines: &str) -> Result<NarrowSink, CaseFault> {
-    let one_byte = lines.lines().any(|line| line == "one byte a write");
-    let fails = failing(alloc, lines, "failing write ")?;
-    Ok(NarrowSink::of(alloc, fails, one_byte))
+/// Whether one of the lines is this.
+pub fn has_line(lines: &str, wanted: &str) -> bool {
+    lines.lines().any(|line| line == wanted)
+}
+
+/// The sink of a case, whose write of this number fails too, where there is one.
+pub fn sink_of(alloc: Global, lines: &str, number: Option<u64>) -> Result<NarrowSink, CaseFault> {
+    let mut fails = failing(alloc, lines, "failing write ")?;
+    if let Some(number) = number {
+        add_fail(&mut fails, number)?;
+    }
+    Ok(NarrowSink::of(alloc, fails, has_line(lines, "one byte a write")))
+}
+
+fn add_fail(fails: &mut Vec<u64>, number: u64) -> Result<(), Memory> {
+    fails.push(number)?;
+    Ok(())
 }

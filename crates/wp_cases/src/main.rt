@@ -8,16 +8,26 @@ mod narrow;
 
 use crate::fault::CaseFault;
 use crate::given::files_of;
-use crate::lines::{sink_of, test_lines, words_of};
+use crate::lines::{has_line, sink_of, test_lines, words_of};
+use crate::narrow::NarrowSink;
 use std::alloc::Global;
 use std::process::ExitCode;
 use std::{fs, io};
 use wp_model::Memory;
 use wp_outside::{Files, MemFiles, RealFiles, Sink, StdSink, SystemFiles, write_text};
-use wp_top::run;
+use wp_top::{run, run_audit};
+use wp_words::{Job, read_words};
+
+/// How many writes of a case may fail in turn.
+const MOST_WRITES: u64 = 10_000;
 
 fn heading(alloc: Global, name: &str, status: u8) -> Result<String, Memory> {
     let text = format!(in alloc; "case {name}\nstatus {status}\n")?;
+    Ok(text)
+}
+
+fn heading_of_write(alloc: Global, name: &str, number: u64) -> Result<String, Memory> {
+    let text = format!(in alloc; "{name}, write {number}")?;
     Ok(text)
 }
 
@@ -36,6 +46,79 @@ fn print_end<K: Sink>(
     Ok(())
 }
 
+/// The status of an audit that is asked for by itself.
+fn audit_status<F: Files, K: Sink>(
+    alloc: Global,
+    words: &Vec<String>,
+    files: &mut F,
+    out: &mut K,
+) -> Result<u8, CaseFault> {
+    match read_words(alloc, words) {
+        Ok(Job::Audit(words)) => Ok(run_audit(alloc, &words, files, out)),
+        _ => Err(CaseFault::Line),
+    }
+}
+
+/// The status of the run that the lines of a case ask for.
+fn status_of<R: Sync, F: Files, K: Sink>(
+    rt: &R,
+    alloc: Global,
+    lines: &str,
+    files: &mut F,
+    out: &mut K,
+) -> Result<u8, CaseFault> {
+    let words = words_of(alloc, lines)?;
+    if has_line(lines, "audit by itself") {
+        audit_status(alloc, &words, files, out)
+    } else {
+        Ok(run(rt, alloc, &words, files, out))
+    }
+}
+
+/// Runs a case over its files and into a sink, prints how that ends, and gives the status.
+fn run_into<R: Sync, K: Sink>(
+    rt: &R,
+    alloc: Global,
+    (name, lines): (&str, &str),
+    files: &mut MemFiles,
+    mut sink: NarrowSink,
+    out: &mut K,
+) -> Result<u8, CaseFault> {
+    let status = status_of(rt, alloc, lines, files, &mut sink)?;
+    print_end(alloc, name, status, sink.taken(), out)?;
+    Ok(status)
+}
+
+/// Runs a case with its write of this number failing.
+fn run_up_to<R: Sync, K: Sink>(
+    rt: &R,
+    alloc: Global,
+    (name, lines): (&str, &str),
+    files: &mut MemFiles,
+    number: u64,
+    out: &mut K,
+) -> Result<u8, CaseFault> {
+    let sink = sink_of(alloc, lines, Some(number))?;
+    let name = heading_of_write(alloc, name, number)?;
+    run_into(rt, alloc, (name.as_str(), lines), files, sink, out)
+}
+
+/// Runs a case again and again, with the first write failing, the second, and so on, up to the run in which none fails.
+fn run_each<R: Sync, K: Sink>(
+    rt: &R,
+    alloc: Global,
+    case: (&str, &str),
+    files: &mut MemFiles,
+    out: &mut K,
+) -> Result<(), CaseFault> {
+    for number in 1..MOST_WRITES {
+        if run_up_to(rt, alloc, case, files, number, out)? != 4 {
+            return Ok(());
+        }
+    }
+    Err(CaseFault::Line)
+}
+
 /// Runs the words of a case over its files, and prints how that ends.
 fn run_over<R: Sync, K: Sink>(
     rt: &R,
@@ -44,10 +127,13 @@ fn run_over<R: Sync, K: Sink>(
     files: &mut MemFiles,
     out: &mut K,
 ) -> Result<(), CaseFault> {
-    let words = words_of(alloc, lines)?;
-    let mut sink = sink_of(alloc, lines)?;
-    let status = run(rt, alloc, &words, files, &mut sink);
-    print_end(alloc, name, status, sink.taken(), out)
+    if has_line(lines, "each write fails in turn") {
+        run_each(rt, alloc, (name, lines), files, out)
+    } else {
+        let sink = sink_of(alloc, lines, None)?;
+        let _status = run_into(rt, alloc, (name, lines), files, sink, out)?;
+        Ok(())
+    }
 }
 
 fn run_case<R: Sync, F: Files, K: Sink>(

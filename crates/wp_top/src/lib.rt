@@ -51,6 +51,3 @@ pub fn run_audit<F: Files, K: Sink>(
     let ending = audit_ending(alloc, words, files);
     finish(alloc, ending, out).number()
 }
-
-#[cfg(test)]
-mod tests;
