@@ -1,15 +1,24 @@
 //! `waveplan` plans the picking of waves in a warehouse.
 #![tactic(auto)]
 
-ghost use Rattle.std.specs.Prelude.{◌≡◌, ◌∷◌, [], map, codes, string_bytes, IfOk};
+ghost use Rattle.std.specs.Prelude.{◌≡◌, ◌≢◌, ◌∷◌, [], map, drop, codes, string_bytes, IfOk, IfErr, OnErr};
+ghost use Rattle.std.specs.IoError.{error_kind};
+ghost use Rattle.std.specs.Process.{exit_status};
+ghost use Rattle.std.specs.Vec.Iter.{into_iter_items};
+ghost use Rattle.std.specs.declared.io.ErrorKind.TheVariants.{InvalidData};
+ghost use Rattle.waveplan.specs.Given.{EndsFor, LacksWords};
+ghost use Rattle.wp_top.specs.Ends.{asked_by};
+ghost use Rattle.wp_top.specs.Promise.{Keeps, course};
+ghost use Rattle.wp_words.specs.Words.{job_said};
 
 use std::alloc::{AllocError, Global};
+use std::env::Args;
 use std::process::ExitCode;
 use std::{env, io};
-use wp_outside::{RealFiles, StdSink, SystemFiles};
+use wp_outside::{Files, RealFiles, Sink, StdSink, SystemFiles};
 use wp_top::run;
 
-// Words that stand for such as aren't UTF-8: a mode without its options, which is refused as bad words.
+// Words that stand for those of which one isn't UTF-8: a mode without its options, which is refused as bad words.
 fn bad_words(alloc: Global) -> Result<Vec<String>, AllocError>
     ensures { IfOk result (λ words. map string_bytes words.items ≡ codes "plan" ∷ []) }
 {
@@ -17,17 +26,73 @@ fn bad_words(alloc: Global) -> Result<Vec<String>, AllocError>
     Ok(words)
 }
 
-fn main(rt: HostRuntime) -> ExitCode {
-    let alloc = rt.alloc();
-    let words: Result<Vec<String>, AllocError> = match env::args(&rt) {
-        Ok(args) => args.skip(1).collect(alloc),
+fn all_of(alloc: Global, given: Args) -> Result<Vec<String>, AllocError>
+    ensures { IfOk result (λ words. words.items ≡ into_iter_items given) }
+{
+    let mut left = given;
+    let mut words = Vec::new(alloc);
+    while let Some(word) = left.next() {
+        words.push(word)?;
+    }
+    Ok(words)
+}
+
+// The words after the program's name.
+fn after_name(alloc: Global, given: Args) -> Result<Vec<String>, AllocError>
+    ensures { IfOk result (λ words. words.items ≡ drop 1 (into_iter_items given)) }
+{
+    let mut left = given;
+    let _name = left.next();
+    all_of(alloc, left)
+}
+
+// The words of the command line, by what the system gives: the program's name and the words after it, or a fault.
+fn words_given(alloc: Global, given: io::Result<Args>) -> Result<Vec<String>, AllocError>
+    ensures given { IfOk given (λ given. IfOk result (λ words. words.items ≡ drop 1 (into_iter_items given))) }
+    ensures fault { IfErr given (λ fault. IfOk result (λ words. (error_kind fault ≡ InvalidData) × (map string_bytes words.items ≡ codes "plan" ∷ []))) }
+{
+    match given {
+        Ok(given) => after_name(alloc, given),
         Err(fault) if fault.kind() == io::ErrorKind::InvalidData => bad_words(alloc),
         Err(_) => Err(AllocError),
-    };
-    let Ok(words) = words else {
-        return ExitCode::from(5);
-    };
+    }
+}
+
+// The end of a run of these words, where there was memory for them.
+fn end_of<R: Sync, F: Files, K: Sink>(
+    rt: &R,
+    alloc: Global,
+    words: Result<Vec<String>, AllocError>,
+    files: &mut F,
+    out: &mut K,
+) -> ExitCode
+    ensures runs { IfOk words (λ words. Keeps (asked_by words.items) (course (F.holds files.old) (F.holds files.new) (F.faults files.old) (F.faults files.new) (K.taken out.old) (K.taken out.new) (K.faults out.old) (K.faults out.new)) (exit_status result)) }
+    ensures lacks { OnErr words (LacksWords (course (F.holds files.old) (F.holds files.new) (F.faults files.old) (F.faults files.new) (K.taken out.old) (K.taken out.new) (K.faults out.old) (K.faults out.new)) (exit_status result)) }
+{
+    match words {
+        Ok(words) => ExitCode::from(run(rt, alloc, &words, files, out)),
+        Err(AllocError) => ExitCode::from(5),
+    }
+}
+
+// The end of the run that the system's words ask for: as `run` promises for the words after the program's name, or for
+// bad words where one isn't UTF-8; or 5, and nothing done, where there is no memory for the words.
+fn run_given<R: Sync, F: Files, K: Sink>(
+    rt: &R,
+    alloc: Global,
+    given: io::Result<Args>,
+    files: &mut F,
+    out: &mut K,
+) -> ExitCode
+    ensures given { IfOk given (λ given. EndsFor (asked_by (drop 1 (into_iter_items given))) (course (F.holds files.old) (F.holds files.new) (F.faults files.old) (F.faults files.new) (K.taken out.old) (K.taken out.new) (K.faults out.old) (K.faults out.new)) (exit_status result)) }
+    ensures bad { OnErr given (EndsFor (job_said (codes "plan" ∷ [])) (course (F.holds files.old) (F.holds files.new) (F.faults files.old) (F.faults files.new) (K.taken out.old) (K.taken out.new) (K.faults out.old) (K.faults out.new)) (exit_status result)) }
+    ensures lacks { IfErr given (λ fault. error_kind fault ≢ InvalidData → LacksWords (course (F.holds files.old) (F.holds files.new) (F.faults files.old) (F.faults files.new) (K.taken out.old) (K.taken out.new) (K.faults out.old) (K.faults out.new)) (exit_status result)) }
+{
+    end_of(rt, alloc, words_given(alloc, given), files, out)
+}
+
+fn main(rt: HostRuntime) -> ExitCode {
     let mut files = RealFiles::new(SystemFiles::of(&rt));
     let mut out = StdSink::new(io::writer(&rt));
-    ExitCode::from(run(&rt, alloc, &words, &mut files, &mut out))
+    run_given(&rt, rt.alloc(), env::args(&rt), &mut files, &mut out)
 }
