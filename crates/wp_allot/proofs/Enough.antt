@@ -9,7 +9,8 @@ use Rattle.wp_allot.specs.declared.want.Short.{Short}
 use Rattle.wp_allot.specs.declared.want.Want.{Want}
 
 enough_of : (rows : List Row) (wants : List Want) (except : Option ℕ) (article : ℕ)
-    → ((k : ℕ) (w : Want) → k < length wants → slice_get wants k ≡ Some w → w.article ≡ article → IsEnough rows wants except w.article) → IsEnough rows wants except article
+    → ((k : ℕ) (w : Want) → k < length wants → slice_get wants k ≡ Some w → w.article ≡ article → IsEnough rows wants except w.article)
+        → IsEnough rows wants except article
 enough_of rows wants except article each = elim (cases_eq (wanted_of wants article) 0) [
   | inl none ↦ omega (arith, none)
   | inr some ↦
@@ -18,7 +19,8 @@ enough_of rows wants except article each = elim (cases_eq (wanted_of wants artic
 ]
 
 -- among all wants
-pub short_from_all : (rows : List Row) (wants : List Want) (except : Option ℕ) (first : Option Short) → IsFirstAmong rows wants except (length wants) first → IsShort rows wants except first
+pub short_from_all : (rows : List Row) (wants : List Want) (except : Option ℕ) (first : Option Short) → IsFirstAmong rows wants except (length wants) first
+    → IsShort rows wants except first
 short_from_all rows wants except None each = λ article. enough_of rows wants except article (λ k w within there same. each k w within there)
 short_from_all rows wants except (Some short) less = record {
   wanted = less.0.wanted;

@@ -1,5 +1,6 @@
 -- What was dealt, put in order.
-use Rattle.std.proofs.Common.{◌≡◌, ◌≢◌, ◌∙◌, refl, sym, ap, subst, ℕ, suc, ◌<◌, ◌≤◌, ◌==◌, ◌&&◌, ◌⊎◌, Bool, true, false, inl, inr, List, [], ◌∷◌, length, Option, Some, slice_get, if◌then◌else◌, arith, eq-eqb}
+use Rattle.std.proofs.Common.{◌≡◌, ◌≢◌, ◌∙◌, refl, sym, ap, subst, ℕ, suc, ◌<◌, ◌≤◌, ◌==◌, ◌&&◌, ◌⊎◌, Bool, true, false, inl, inr, List, [], ◌∷◌, length}
+use Rattle.std.proofs.Common.{Option, Some, slice_get, if◌then◌else◌, arith, eq-eqb}
 use Rattle.std.proofs.lemmas.Bool.{and_from, cases_Bool, cases_eq, cond-false, cond-true, le-ltb, ltb-false}
 use Rattle.std.proofs.lemmas.List.{take_all}
 use Rattle.std.proofs.lemmas.List.Sorted.{All-permutation, sum_by-IsPermutation}
@@ -47,7 +48,8 @@ is_before h g first never = elim (cases_eq h.order g.order) [
 pub rises_from : (holds : List Hold) → AreInOrder holds → ((order row : ℕ) → count_by (is_hold order row) holds ≤ 1) → Rises holds
 rises_from [] order once = tt
 rises_from (h ∷ hs) order once = (
-  Each-from_at (IsBefore h) hs (λ k g there. is_before h g (order 0 (suc k) h g (omega arith) refl there) (λ o r. absurd (omega (arith, twice h g hs k there o r, once h.order h.row)))),
+  Each-from_at (IsBefore h) hs (λ k g there. is_before h g (order 0 (suc k) h g (omega arith) refl there)
+      (λ o r. absurd (omega (arith, twice h g hs k there o r, once h.order h.row)))),
   rises_from hs (λ i j f g upto at there. order (suc i) (suc j) f g (omega arith) at there) (λ o r. omega (arith, once o r, sum_by-cons (counts o r) h hs)),
 )
 
@@ -60,7 +62,8 @@ single_permuted rows old new same is = record {
 
 -- what is wanted for an order is within what is wanted
 wanted_for-le : (wants : List Want) (article order : ℕ) → wanted_for wants article order ≤ wanted_of wants article
-wanted_for-le wants article order = sum_by-le-sum_by (want_for article order) (units_of article) wants (λ want. pick (want.article == article) (want.order == order) want.quantity)
+wanted_for-le wants article order = sum_by-le-sum_by (want_for article order) (units_of article) wants
+    (λ want. pick (want.article == article) (want.order == order) want.quantity)
   where
     pick : (a b : Bool) (q : ℕ) → (if a && b then q else 0) ≤ (if a then q else 0)
     pick true true q = omega arith
@@ -68,7 +71,8 @@ wanted_for-le wants article order = sum_by-le-sum_by (want_for article order) (u
     pick false b q = omega arith
 
 -- what was dealt to all is what the orders take by overlap
-share_all : (rows : List Row) (wants : List Want) (except : Option ℕ) (count order k : ℕ) → length wants ≤ count → share_among rows wants except count order k ≡ share (wanted_for wants) rows except order k
+share_all : (rows : List Row) (wants : List Want) (except : Option ℕ) (count order k : ℕ) → length wants ≤ count
+    → share_among rows wants except count order k ≡ share (wanted_for wants) rows except order k
 share_all rows wants except count order k all = elim (slice_get_cases rows k).1 [
   | inl found ↦
       let r = found.0 in
@@ -79,7 +83,9 @@ share_all rows wants except count order k all = elim (slice_get_cases rows k).1 
         | inl wanted ↦ cond-true (is_wanted wants r.article) mine 0 wanted
         | inr unwanted ↦
             let none = ltb-false 0 (wanted_of wants r.article) unwanted in
-            cond-false (is_wanted wants r.article) mine 0 unwanted ∙ zero_within (wanted_for-le wants r.article order) none (overlap-le-demand (wanted_for wants r.article) (offer_at rows r.article except) order k)
+            cond-false (is_wanted wants r.article) mine 0 unwanted
+                ∙ zero_within (wanted_for-le wants r.article order) none
+                (overlap-le-demand (wanted_for wants r.article) (offer_at rows r.article except) order k)
       ] ∙ sym (share-at (wanted_for wants) rows except order k r found.2)))
   | inr past ↦
       share_past rows wants except count order k past.1
@@ -90,12 +96,14 @@ share_all rows wants except count order k all = elim (slice_get_cases rows k).1 
     zero_within p q r = omega arith
 
 -- nothing is taken for orders that want nothing, and at no place that is no row
-pub share_beyond : (rows : List Row) (wants : List Want) (except : Option ℕ) (orders order k : ℕ) → WantsBelow wants orders → (orders ≤ order) ⊎ (length rows ≤ k) → share (wanted_for wants) rows except order k ≡ 0
+pub share_beyond : (rows : List Row) (wants : List Want) (except : Option ℕ) (orders order k : ℕ) → WantsBelow wants orders → (orders ≤ order)
+    ⊎ (length rows ≤ k) → share (wanted_for wants) rows except order k ≡ 0
 share_beyond rows wants except orders order k below beyond = elim (slice_get_cases rows k).1 [
   | inl found ↦
       let r = found.0 in
       elim beyond [
-        | inl past ↦ share-at (wanted_for wants) rows except order k r found.2 ∙ le_zero (overlap-le-demand (wanted_for wants r.article) (offer_at rows r.article except) order k) (below r.article order past)
+        | inl past ↦ share-at (wanted_for wants) rows except order k r found.2
+            ∙ le_zero (overlap-le-demand (wanted_for wants r.article) (offer_at rows r.article except) order k) (below r.article order past)
         | inr past ↦ absurd (omega (arith, slice_get_within rows k r found.2))
       ]
   | inr past ↦ ap (λ found. option_map_or (λ (r : Row). overlap (wanted_for wants r.article) (offer_at rows r.article except) order k) found 0) past.1
@@ -107,7 +115,8 @@ share_beyond rows wants except orders order k below beyond = elim (slice_get_cas
 -- nothing was dealt at first
 pub nothing_dealt : (rows : List Row) (wants : List Want) (except : Option ℕ) (room : Content) → IsRoomFor rows wants room → AreDealt rows wants except 0 room
 nothing_dealt rows wants except room is = record {
-  single = subst (AreSingle rows) (sym is.empty) (record { some = λ k d within. absurd (omega arith); within = λ k d within. absurd (omega arith); once = λ order row. omega arith });
+  single = subst (AreSingle rows) (sym is.empty) (record { some = λ k d within. absurd (omega arith); within = λ k d within. absurd (omega arith);
+      once = λ order row. omega arith });
   size = is.size;
   space = omega (arith, ap length is.empty);
   units = λ order row. ap (λ holds. units_for holds order row) is.empty ∙ sym (none order row);
@@ -115,12 +124,15 @@ nothing_dealt rows wants except room is = record {
   where
     none : (order k : ℕ) → share_among rows wants except 0 order k ≡ 0
     none order k = elim (slice_get_cases rows k).1 [
-      | inl found ↦ share_at rows wants except 0 order k found.0 found.2 ∙ cond-false (is_wanted [] found.0.article) (overlap (wanted_for wants found.0.article) (offer_at rows found.0.article except) order k) 0 (le-ltb 0 0 (omega arith))
+      | inl found ↦ share_at rows wants except 0 order k found.0 found.2
+          ∙ cond-false (is_wanted [] found.0.article) (overlap (wanted_for wants found.0.article) (offer_at rows found.0.article except) order k) 0
+          (le-ltb 0 0 (omega arith))
       | inr past ↦ share_past rows wants except 0 order k past.1
     ]
 
 -- all that was dealt, in order, is what the orders take by overlap
-pub has_overlaps : (rows : List Row) (wants : List Want) (except : Option ℕ) (count : ℕ) (room room' room'' : Content) → length wants ≤ count → room'.size ≡ room.size → AreDealt rows wants except count room' → IsInOrder room' room''
+pub has_overlaps : (rows : List Row) (wants : List Want) (except : Option ℕ) (count : ℕ) (room room' room'' : Content) → length wants ≤ count
+    → room'.size ≡ room.size → AreDealt rows wants except count room' → IsInOrder room' room''
     → HasOverlaps rows wants except room room''
 has_overlaps rows wants except count room room' room'' all size is sorted = record {
   size = sorted.size ∙ size;
@@ -128,6 +140,7 @@ has_overlaps rows wants except count room room' room'' all size is sorted = reco
       let single = single_permuted rows room'.holds room''.holds sorted.same is.single in
       is_held_list room''.holds orders (length rows) (share (wanted_for wants) rows except) (rises_from room''.holds sorted.order single.once)
       (Each-from_at IsSome room''.holds (λ k h there. All-at (λ (h : Hold). 0 < h.quantity) room''.holds k h single.some there))
-      (λ order row. sum_by-IsPermutation (hold_for order row) room'.holds room''.holds sorted.same ∙ (is.units order row ∙ share_all rows wants except count order row all))
+      (λ order row. sum_by-IsPermutation (hold_for order row) room'.holds room''.holds sorted.same
+          ∙ (is.units order row ∙ share_all rows wants except count order row all))
       (λ order row beyond. share_beyond rows wants except orders order row below beyond);
 }

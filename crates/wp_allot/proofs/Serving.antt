@@ -1,5 +1,6 @@
 -- An order that is served row by row.
-use Rattle.std.proofs.Common.{◌≡◌, ◌≢◌, ◌∙◌, refl, sym, ap, subst, ℕ, suc, ◌+◌, ◌-◌, ◌<◌, ◌≤◌, ◌==◌, ◌&&◌, not, inl, inr, min, max, List, length, get_or, Option, Some, slice_get, if◌then◌else◌, arith, eq-eqb, ne_eqb}
+use Rattle.std.proofs.Common.{◌≡◌, ◌≢◌, ◌∙◌, refl, sym, ap, subst, ℕ, suc, ◌+◌, ◌-◌, ◌<◌, ◌≤◌, ◌==◌, ◌&&◌, not, inl, inr, min, max, List, length, get_or}
+use Rattle.std.proofs.Common.{Option, Some, slice_get, if◌then◌else◌, arith, eq-eqb, ne_eqb}
 use Rattle.std.proofs.lemmas.Bool.{and_from, and_left, and_right, cases_eq, cases_lt, cond-false, cond-true}
 use Rattle.std.proofs.lemmas.List.Sums.{sum_by-drop_more}
 use Rattle.std.proofs.lemmas.Option.{slice_get-get_or}
@@ -40,9 +41,11 @@ pub record IsNext (rows : List Row) (article units row : ℕ) : Type 0 where
   pub less : rows_from rows article (row + 1) ≤ rows_from rows article row
   pub one : 0 < units → rows_from rows article (row + 1) + 1 ≤ rows_from rows article row
 
-pub offer-none : (rows : List Row) (article : ℕ) (except : Option ℕ) (row : ℕ) (r : Row) → slice_get rows row ≡ Some r → r.article ≢ article → offer_at rows article except row ≡ 0
+pub offer-none : (rows : List Row) (article : ℕ) (except : Option ℕ) (row : ℕ) (r : Row) → slice_get rows row ≡ Some r → r.article ≢ article
+    → offer_at rows article except row ≡ 0
 offer-none rows article except row r there other =
-    ap (λ found. option_map_or (offer_of article except row) found 0) there ∙ cond-false ((r.article == article) && not (is_excepted except row)) r.free 0 (and_left _ _ (ne_eqb r.article article other))
+    ap (λ found. option_map_or (offer_of article except row) found 0) there
+        ∙ cond-false ((r.article == article) && not (is_excepted except row)) r.free 0 (and_left _ _ (ne_eqb r.article article other))
 
 pub is_next : (rows : List Row) (article : ℕ) (except : Option ℕ) (row : ℕ) → row < length rows → IsNext rows article (offer_at rows article except row) row
 is_next rows article except row within =
@@ -59,7 +62,8 @@ is_next rows article except row within =
 -- an order that still wants units comes to a row that has none of its holds
 pub record IsServing (rows : List Row) (want : Want) (except : Option ℕ) (wanted : ℕ) (mark mark' : Mark) (room room' : Content) : Type 0 where
   pub served : IsServed rows want except wanted mark mark' room room'
-  pub new_row : 0 < wanted → position (offer_at rows want.article except) mark' ≤ max (position (offer_at rows want.article except) mark) (sum_below mark'.row (offer_at rows want.article except))
+  pub new_row : 0 < wanted → position (offer_at rows want.article except) mark' ≤ max (position (offer_at rows want.article except) mark)
+      (sum_below mark'.row (offer_at rows want.article except))
 
 -- the row that comes next is a row of the book
 pub row_within : (rows : List Row) (want : Want) (except : Option ℕ) (wanted : ℕ) (mark mark' : Mark) (room room' : Content)
@@ -71,7 +75,8 @@ row_within rows want except wanted mark mark' room room' can is some = elim (cas
 
 -- and the order has no hold there
 pub none_there : (rows : List Row) (want : Want) (except : Option ℕ) (wanted : ℕ) (mark mark' : Mark) (room room' : Content)
-    → CanServe rows want except mark room → IsServing rows want except wanted mark mark' room room' → 0 < wanted → 0 < offer_at rows want.article except mark'.row
+    → CanServe rows want except mark room → IsServing rows want except wanted mark mark' room room' → 0 < wanted
+        → 0 < offer_at rows want.article except mark'.row
     → units_for room'.holds want.order mark'.row ≡ 0
 none_there rows want except wanted mark mark' room room' can is some offered =
     let offer = offer_at rows want.article except in
@@ -88,7 +93,8 @@ pub record HasPassed (offer : ℕ → ℕ) (mark mark' : Mark) (units wanted : �
   pub begins : 0 < wanted → position offer mark' ≡ sum_below mark'.row offer
   pub space : rows_from rows article mark'.row + min 1 units + min 1 wanted ≤ rows_from rows article mark.row + 1
 
-pub has_passed : (rows : List Row) (article : ℕ) (except : Option ℕ) (mark mark' : Mark) (wanted left units : ℕ) → mark.row < length rows → 0 < wanted → mark.taken + left ≡ offer_at rows article except mark.row
+pub has_passed : (rows : List Row) (article : ℕ) (except : Option ℕ) (mark mark' : Mark) (wanted left units : ℕ) → mark.row < length rows → 0 < wanted
+    → mark.taken + left ≡ offer_at rows article except mark.row
     → units ≡ min wanted left → mark' ≡ passed mark units left → HasPassed (offer_at rows article except) mark mark' units (wanted - units) rows article
 has_passed rows article except mark mark' wanted left units within some rest least e =
     let offer = offer_at rows article except in
@@ -96,7 +102,8 @@ has_passed rows article except mark mark' wanted left units within some rest lea
     elim (cases_eq units left) [
       | inl all ↦
           let is : mark' ≡ (record { row = mark.row + 1; taken = 0 }) = e ∙ cond-true (units == left) _ _ (eq-eqb units left all) in
-          let more : sum_below (mark.row + 1) offer ≡ sum_below mark.row offer + offer mark.row = ap (λ n. sum_below n offer) {x = mark.row + 1} {y = suc mark.row} (omega arith) in
+          let more : sum_below (mark.row + 1) offer ≡ sum_below mark.row offer + offer mark.row =
+                  ap (λ n. sum_below n offer) {x = mark.row + 1} {y = suc mark.row} (omega arith) in
           subst (λ (mark' : Mark). HasPassed offer mark mark' units (wanted - units) rows article) (sym is) (record {
             taken = omega arith;
             moved = omega (arith, more);
@@ -126,7 +133,8 @@ held_once order row hold same = elim (cases_eq row hold.row) [
 
 -- one row more
 pub serving_more : (rows : List Row) (want : Want) (except : Option ℕ) (wanted units : ℕ) (mark mark' mark'' : Mark) (room room' room'' : Content)
-    → CanServe rows want except mark room → IsServing rows want except wanted mark mark' room room' → 0 < wanted → units ≤ wanted → mark'.taken + units ≤ offer_at rows want.article except mark'.row
+    → CanServe rows want except mark room → IsServing rows want except wanted mark mark' room room' → 0 < wanted → units ≤ wanted
+        → mark'.taken + units ≤ offer_at rows want.article except mark'.row
     → HasPut rows room' room'' (record { order = want.order; row = mark'.row; quantity = units })
     → HasPassed (offer_at rows want.article except) mark' mark'' units (wanted - units) rows want.article
     → IsServing rows want except (wanted - units) mark mark'' room room''
@@ -144,7 +152,9 @@ serving_more rows want except wanted units mark mark' mark'' room room' room'' c
       new_row = λ some. omega (arith, pass.begins some);
     }
   where
-    units_more : (order row : ℕ) → units_for room''.holds order row ≡ units_for room.holds order row + (if order == want.order then part (offer_at rows want.article except) (position (offer_at rows want.article except) mark) (position (offer_at rows want.article except) mark'') row else 0)
+    units_more : (order row : ℕ) → units_for room''.holds order row ≡ units_for room.holds order row +
+        (if order == want.order then part (offer_at rows want.article except) (position (offer_at rows want.article except) mark)
+        (position (offer_at rows want.article except) mark'') row else 0)
     units_more order row =
         let offer = offer_at rows want.article except in
         let from = position offer mark in

@@ -1,5 +1,6 @@
 -- Holds of which an order has no two at one row.
-use Rattle.std.proofs.Common.{◌≡◌, ◌∙◌, refl, sym, ap, subst, ℕ, suc, ◌+◌, ◌<◌, ◌≤◌, ◌==◌, Bool, true, false, inl, inr, min, List, [], ◌∷◌, ◌++◌, length, slice_get, Some, All, if◌then◌else◌, arith, eq-eqb, ne_eqb, length-append}
+use Rattle.std.proofs.Common.{◌≡◌, ◌∙◌, refl, sym, ap, subst, ℕ, suc, ◌+◌, ◌<◌, ◌≤◌, ◌==◌, Bool, true, false, inl, inr, min, List, [], ◌∷◌, ◌++◌, length}
+use Rattle.std.proofs.Common.{slice_get, Some, All, if◌then◌else◌, arith, eq-eqb, ne_eqb, length-append}
 use Rattle.std.proofs.lemmas.Bool.{and_parts, cases_eq, cond-false, cond-true, cond_both, eqb-true}
 use Rattle.std.proofs.lemmas.List.Sums.{sum_by-cons, sum_by_push}
 use Rattle.std.specs.List.{count_by}
@@ -22,7 +23,8 @@ counts-le order row hold some = pick (is_hold order row hold) hold.quantity some
     pick false q some = omega arith
 
 -- an order that holds no unit at a row has no hold there
-count-none : (order row : ℕ) (holds : List Hold) → ((k : ℕ) (h : Hold) → slice_get holds k ≡ Some h → 0 < h.quantity) → units_for holds order row ≡ 0 → count_by (is_hold order row) holds ≡ 0
+count-none : (order row : ℕ) (holds : List Hold) → ((k : ℕ) (h : Hold) → slice_get holds k ≡ Some h → 0 < h.quantity) → units_for holds order row ≡ 0
+    → count_by (is_hold order row) holds ≡ 0
 count-none order row [] some none = refl
 count-none order row (h ∷ hs) some none =
     let units = sum_by-cons (hold_for order row) h hs in
@@ -38,7 +40,8 @@ All-pushed P holds hold all one =
     ])
 
 -- one hold more, of an order that had none at its row
-single_pushed : (rows : List Row) (holds : List Hold) (hold : Hold) → AreSingle rows holds → 0 < hold.quantity → hold.row < length rows → units_for holds hold.order hold.row ≡ 0
+single_pushed : (rows : List Row) (holds : List Hold) (hold : Hold) → AreSingle rows holds → 0 < hold.quantity → hold.row < length rows
+    → units_for holds hold.order hold.row ≡ 0
     → AreSingle rows (holds ++ hold ∷ [])
 single_pushed rows holds hold is some within none = record {
   some = All-pushed (λ (h : Hold). 0 < h.quantity) holds hold is.some some;
@@ -49,12 +52,14 @@ single_pushed rows holds hold is some within none = record {
       omega (arith, more, pick order row (is_hold order row hold) refl before (is.once order row));
 }
   where
-    pick : (order row : ℕ) (b : Bool) → is_hold order row hold ≡ b → count_by (is_hold hold.order hold.row) holds ≡ 0 → count_by (is_hold order row) holds ≤ 1 → count_by (is_hold order row) holds + counts order row hold ≤ 1
+    pick : (order row : ℕ) (b : Bool) → is_hold order row hold ≡ b → count_by (is_hold hold.order hold.row) holds ≡ 0 → count_by (is_hold order row) holds ≤ 1
+        → count_by (is_hold order row) holds + counts order row hold ≤ 1
     pick order row true e none most =
         let same = and_parts (hold.order == order) (hold.row == row) e in
         let o : hold.order ≡ order = eqb-true hold.order order same.0 in
         let r : hold.row ≡ row = eqb-true hold.row row same.1 in
-        omega (arith, ap (λ n. count_by (is_hold n row) holds) o, ap (λ n. count_by (is_hold hold.order n) holds) r, none, cond-true {A = ℕ} (is_hold order row hold) 1 0 e)
+        omega (arith, ap (λ n. count_by (is_hold n row) holds) o, ap (λ n. count_by (is_hold hold.order n) holds) r, none,
+            cond-true {A = ℕ} (is_hold order row hold) 1 0 e)
     pick order row false e none most = omega (arith, cond-false {A = ℕ} (is_hold order row hold) 1 0 e)
 
 -- what a hold that was put in adds
@@ -64,7 +69,8 @@ pub record HasPut (rows : List Row) (old new : Content) (hold : Hold) : Type 0 w
   pub single : AreSingle rows new.holds
   pub units : (order row : ℕ) → units_for new.holds order row ≡ units_for old.holds order row + hold_for order row hold
 
-pub has_put : (rows : List Row) (old new : Content) (hold : Hold) → AreSingle rows old.holds → (0 < hold.quantity → hold.row < length rows) → (0 < hold.quantity → units_for old.holds hold.order hold.row ≡ 0)
+pub has_put : (rows : List Row) (old new : Content) (hold : Hold) → AreSingle rows old.holds → (0 < hold.quantity → hold.row < length rows)
+    → (0 < hold.quantity → units_for old.holds hold.order hold.row ≡ 0)
     → new ≡ (if hold.quantity == 0 then old else record old { holds = old.holds ++ hold ∷ [] }) → HasPut rows old new hold
 has_put rows old new hold is within none e = elim (cases_eq hold.quantity 0) [
   | inl nothing ↦

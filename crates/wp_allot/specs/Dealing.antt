@@ -53,7 +53,8 @@ pub record IsServed (rows : List Row) (want : Want) (except : Option ℕ) (wante
   pub size : room'.size ≡ room.size
   pub space : length room'.holds + rows_from rows want.article mark'.row + min 1 wanted ≤ length room.holds + rows_from rows want.article mark.row + 1
   pub units : (order row : ℕ) → units_for room'.holds order row
-      ≡ units_for room.holds order row + (if order == want.order then part (offer_at rows want.article except) (position (offer_at rows want.article except) mark) (position (offer_at rows want.article except) mark') row else 0)
+      ≡ units_for room.holds order row + (if order == want.order then part (offer_at rows want.article except)
+          (position (offer_at rows want.article except) mark) (position (offer_at rows want.article except) mark') row else 0)
 
 -- how many rows, and how many wants, are of an article
 abbrev pub rows_of : List Row → ℕ → ℕ
@@ -76,12 +77,14 @@ pub record IsDealt (rows : List Row) (wants : List Want) (article : ℕ) (except
   pub single : AreSingle rows room'.holds
   pub size : room'.size ≡ room.size
   pub space : length room'.holds ≤ length room.holds + rows_of rows article + wants_of wants article
-  pub units : (order row : ℕ) → units_for room'.holds order row ≡ units_for room.holds order row + overlap (wanted_for wants article) (offer_at rows article except) order row
+  pub units : (order row : ℕ) → units_for room'.holds order row ≡ units_for room.holds order row + overlap (wanted_for wants article)
+      (offer_at rows article except) order row
 
 -- what an order takes from a row, where its article is wanted by one of the first wants
 abbrev pub share_among : List Row → List Want → Option ℕ → ℕ → ℕ → ℕ → ℕ
 share_among rows wants except count order row =
-    option_map_or (λ (r : Row). if is_wanted (take count wants) r.article then overlap (wanted_for wants r.article) (offer_at rows r.article except) order row else 0) (slice_get rows row) 0
+    option_map_or (λ (r : Row). if is_wanted (take count wants) r.article then overlap (wanted_for wants r.article)
+        (offer_at rows r.article except) order row else 0) (slice_get rows row) 0
 
 -- the articles of the first wants were dealt
 pub record AreDealt (rows : List Row) (wants : List Want) (except : Option ℕ) (count : ℕ) (room : Content) : Type 0 where

@@ -76,6 +76,7 @@ pub record HasOverlaps (rows : List Row) (wants : List Want) (except : Option �
 
 -- what the orders take from the rows by overlap went from free to held, for a wave
 pub record IsAllotted (wave : ℕ) (wants : List Want) (except : Option ℕ) (old new : Book) : Type 0 where
-  pub rows : (orders : ℕ) → WantsBelow wants orders → new.rows ≡ change_rows (λ row. hold_units (sum_below orders (λ order. share (wanted_for wants) old.rows except order row))) 0 old.rows
+  pub rows : (orders : ℕ) → WantsBelow wants orders → new.rows ≡ change_rows
+      (λ row. hold_units (sum_below orders (λ order. share (wanted_for wants) old.rows except order row))) 0 old.rows
   pub held : (order row : ℕ) → held_for new wave order row ≡ held_for old wave order row + share (wanted_for wants) old.rows except order row
   pub others : KeepsOthers wave old new

@@ -55,4 +55,5 @@ IsTourOfBatch state total = (picks : List Point) × ((p : Point) → Contains pi
 -- the sum of the lengths of shortest tours of so many batches, made from state 1 on
 abbrev pub IsSumOfTours : ℕ → ℕ → Type 0
 IsSumOfTours zero sum = sum ≡ 0
-IsSumOfTours (suc batches) sum = (before : ℕ) × (total : ℕ) × IsSumOfTours batches before × IsTourOfBatch (after_orders (3 * batches) 1) total × (sum ≡ before + total)
+IsSumOfTours (suc batches) sum = (before : ℕ) × (total : ℕ) × IsSumOfTours batches before × IsTourOfBatch (after_orders (3 * batches) 1) total
+    × (sum ≡ before + total)

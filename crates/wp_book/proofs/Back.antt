@@ -1,5 +1,6 @@
 -- Giving back all that is held for a wave.
-use Rattle.std.proofs.Common.{◌≡◌, ◌≢◌, ◌∙◌, refl, sym, ap, ℕ, ◌+◌, ◌≤◌, ◌%◌, ◌==◌, ◌&&◌, not, Bool, true, false, inl, inr, List, slice_get, Some, if◌then◌else◌, arith, eq-eqb, length-set, ne_eqb}
+use Rattle.std.proofs.Common.{◌≡◌, ◌≢◌, ◌∙◌, refl, sym, ap, ℕ, ◌+◌, ◌≤◌, ◌%◌, ◌==◌, ◌&&◌, not, Bool, true, false, inl, inr, List, slice_get, Some}
+use Rattle.std.proofs.Common.{if◌then◌else◌, arith, eq-eqb, length-set, ne_eqb}
 use Rattle.std.proofs.Math.ListN.{set}
 use Rattle.std.proofs.lemmas.Bool.{cases_eq}
 use Rattle.wp_model.specs.Book.{Where, but_of, hold_units_where, is_at, is_for, is_for_wave, is_of}
@@ -11,7 +12,8 @@ use Rattle.wp_book.specs.Kept.{IsKept, book_of, chain_count}
 use Rattle.wp_book.specs.declared.room.WaveHolds.{WaveHolds}
 use Rattle.wp_book.proofs.Books.{chain_at_row, row_has}
 use Rattle.wp_book.proofs.HoldSums.{freed_same, sum_by-none, sum_by-same, sum_by-within}
-use Rattle.wp_book.proofs.Totals.{IsOfWave, IsRow, book_moved, chain_for, chain_place, is_for-of, is_for_wave-of, nowhere_else, placed_moved, total_is, total_moved, wave_held, wave_total}
+use Rattle.wp_book.proofs.Totals.{IsOfWave, IsRow, book_moved, chain_for, chain_place, is_for-of, is_for_wave-of, nowhere_else, placed_moved, total_is}
+use Rattle.wp_book.proofs.Totals.{total_moved, wave_held, wave_total}
 
 but_most_if : (a b : Bool) (q : ℕ) → (if a && b then q else 0) ≤ (if a then q else 0)
 but_most_if true true q = omega arith
@@ -21,7 +23,8 @@ but_most_if false b q = omega arith
 but_most : (wave : ℕ) (passes : Where) (nodes : List WaveHolds) → chain_units (but_of wave passes) nodes ≤ chain_units passes nodes
 but_most wave passes nodes =
     sum_by-within (node_units (but_of wave passes)) (node_units passes) nodes (λ node.
-    sum_by-within (hold_units_where (but_of wave passes) node.wave) (hold_units_where passes node.wave) node.holds.items (λ hold. but_most_if (passes node.wave hold.order hold.row) (not (node.wave == wave)) hold.quantity))
+    sum_by-within (hold_units_where (but_of wave passes) node.wave) (hold_units_where passes node.wave) node.holds.items
+        (λ hold. but_most_if (passes node.wave hold.order hold.row) (not (node.wave == wave)) hold.quantity))
 
 but_none_if : (a b : Bool) (q : ℕ) → (a && b) ≡ false → (if a && b then q else 0) ≡ 0
 but_none_if a b q e = ap (λ t. if t then q else 0) e
@@ -45,7 +48,8 @@ but_none wave passes nodes of =
       | inr other ↦ left_false (passes w o r) (not (w == wave)) (of w o r other)
     ]
 
-but_same : (wave w : ℕ) (passes : Where) (nodes : List WaveHolds) → w ≢ wave → IsOfWave w passes → chain_units (but_of wave passes) nodes ≡ chain_units passes nodes
+but_same : (wave w : ℕ) (passes : Where) (nodes : List WaveHolds) → w ≢ wave → IsOfWave w passes
+    → chain_units (but_of wave passes) nodes ≡ chain_units passes nodes
 but_same wave w passes nodes other of =
     sum_by-same (node_units (but_of wave passes)) (node_units passes) nodes (λ node.
     sum_by-same (hold_units_where (but_of wave passes) node.wave) (hold_units_where passes node.wave) node.holds.items (λ hold.
@@ -79,11 +83,13 @@ abbrev pub with_chain : List (List WaveHolds) → ℕ → List WaveHolds → Lis
 with_chain chains wave new = set chains (wave % chain_count) new
 
 total_back : (rows : List Row) (chains : List (List WaveHolds)) (wave : ℕ) (new : List WaveHolds) (passes : Where) → IsBack rows chains wave new
-    → all_units passes (with_chain chains wave new) + chain_units passes (chain_for chains wave) ≡ all_units passes chains + chain_units (but_of wave passes) (chain_for chains wave)
+    → all_units passes (with_chain chains wave new) + chain_units passes (chain_for chains wave) ≡ all_units passes chains + chain_units (but_of wave passes)
+        (chain_for chains wave)
 total_back rows chains wave new passes back = omega (arith, total_moved rows chains wave new passes back.kept, back.others passes)
 
 back_row : (rows : List Row) (chains : List (List WaveHolds)) (wave : ℕ) (new : List WaveHolds) → IsBack rows chains wave new
-    → (k : ℕ) (r : Row) → slice_get rows k ≡ Some r → IsRow chains k r → IsRow (with_chain chains wave new) k (free_held_units (chain_units (is_for_wave wave k) (chain_for chains wave)) r)
+    → (k : ℕ) (r : Row) → slice_get rows k ≡ Some r → IsRow chains k r
+        → IsRow (with_chain chains wave new) k (free_held_units (chain_units (is_for_wave wave k) (chain_for chains wave)) r)
 back_row rows chains wave new back k r there is =
     let has = row_has rows chains wave k r back.kept there in
     record {
@@ -91,13 +97,16 @@ back_row rows chains wave new back k r there is =
       held = omega (arith, is.held, has.held, total_back rows chains wave new (is_at k) back, chain_at_row wave k (chain_for chains wave));
     }
 
-pub back_keeps : (rows : List Row) (chains : List (List WaveHolds)) (wave : ℕ) (new : List WaveHolds) → IsBack rows chains wave new → IsKept (rows_back rows chains wave) (with_chain chains wave new)
+pub back_keeps : (rows : List Row) (chains : List (List WaveHolds)) (wave : ℕ) (new : List WaveHolds) → IsBack rows chains wave new
+    → IsKept (rows_back rows chains wave) (with_chain chains wave new)
 back_keeps rows chains wave new back = record {
   book = book_moved _ rows chains (with_chain chains wave new) back.kept.book (back_row rows chains wave new back) (λ k past.
-      omega (arith, total_back rows chains wave new (is_at k) back, nowhere_else rows chains k back.kept.book past, but_most wave (is_at k) (chain_for chains wave)));
+      omega (arith, total_back rows chains wave new (is_at k) back, nowhere_else rows chains k back.kept.book past,
+          but_most wave (is_at k) (chain_for chains wave)));
   count = omega (arith, length-set chains (wave % chain_count) new, back.kept.count);
   placed = placed_moved rows chains wave new back.kept (λ other elsewhere.
-      omega (arith, back.others (is_of other), but_most wave (is_of other) (chain_for chains wave), back.kept.placed (wave % chain_count) other (chain_place wave) elsewhere));
+      omega (arith, back.others (is_of other), but_most wave (is_of other) (chain_for chains wave),
+          back.kept.placed (wave % chain_count) other (chain_place wave) elsewhere));
 }
 
 pub back_does : (rows : List Row) (chains : List (List WaveHolds)) (wave : ℕ) (new : List WaveHolds) → IsBack rows chains wave new

@@ -1,5 +1,6 @@
 -- What each call of a book keeps and does.
-use Rattle.std.proofs.Common.{◌≡◌, ◌∙◌, refl, sym, ap, subst, ℕ, suc, ◌+◌, ◌<◌, ◌≤◌, ◌^◌, ◌%◌, ◌==◌, ◌&&◌, not, Bool, true, false, inl, inr, List, [], ◌∷◌, ◌++◌, length, slice_get, Some, All, IsTrue, if◌then◌else◌, arith, rules, eq-eqb, length-set, ne_eqb}
+use Rattle.std.proofs.Common.{◌≡◌, ◌∙◌, refl, sym, ap, subst, ℕ, suc, ◌+◌, ◌<◌, ◌≤◌, ◌^◌, ◌%◌, ◌==◌, ◌&&◌, not, Bool, true, false, inl, inr, List, [], ◌∷◌}
+use Rattle.std.proofs.Common.{◌++◌, length, slice_get, Some, All, IsTrue, if◌then◌else◌, arith, rules, eq-eqb, length-set, ne_eqb}
 use Rattle.std.proofs.Math.ListN.{set}
 use Rattle.std.proofs.lemmas.Bool.{cases_eq, cases_lt, cond-false, cond-true, cond_both, false≢true}
 use Rattle.std.proofs.lemmas.List.Sums.{get_or-le-sum_by, sum_by_push, sum_by-cons}
@@ -14,10 +15,12 @@ use Rattle.wp_book.specs.Chains.{all_units, chain_units, node_units}
 use Rattle.wp_book.specs.Kept.{IsKept, book_of, chain_count}
 use Rattle.wp_book.specs.declared.room.WaveHolds.{WaveHolds}
 use Rattle.wp_book.proofs.HoldSums.{other_wave-for, other_wave-of, same_wave-for, sum_by-within}
-use Rattle.wp_book.proofs.Totals.{IsRow, book_moved, chain_for, chain_most, chain_place, is_for-of, nowhere_else, placed_moved, row_is, total_is, total_moved, wave_held}
+use Rattle.wp_book.proofs.Totals.{IsRow, book_moved, chain_for, chain_most, chain_place, is_for-of, nowhere_else, placed_moved, row_is, total_is, total_moved}
+use Rattle.wp_book.proofs.Totals.{wave_held}
 
 -- the units of a wave's chain are among those of all
-pub chain-le-all : (rows : List Row) (chains : List (List WaveHolds)) (wave : ℕ) (passes : Where) → IsKept rows chains → chain_units passes (chain_for chains wave) ≤ all_units passes chains
+pub chain-le-all : (rows : List Row) (chains : List (List WaveHolds)) (wave : ℕ) (passes : Where) → IsKept rows chains
+    → chain_units passes (chain_for chains wave) ≤ all_units passes chains
 chain-le-all rows chains wave passes kept = get_or-le-sum_by (chain_units passes) chains (wave % chain_count) [] (omega (arith, kept.count, chain_place wave))
 
 -- what is held for a wave at a row is within what is held at the row
@@ -26,7 +29,8 @@ wave-le-row wave row w hold = elim (cases_eq hold.row row) [
   | inl same ↦
       let all = cond-true (hold.row == row) hold.quantity 0 (eq-eqb hold.row row same) in
       cond_both ((w == wave) && (hold.row == row)) hold.quantity 0 (λ n. n ≤ hold_units_where (is_at row) w hold) (λ e. omega (arith, all)) (λ e. omega arith)
-  | inr other ↦ omega (arith, cond-false ((w == wave) && (hold.row == row)) hold.quantity 0 (both_false (w == wave) (hold.row == row) (ne_eqb hold.row row other)))
+  | inr other ↦ omega (arith, cond-false ((w == wave) && (hold.row == row)) hold.quantity 0
+      (both_false (w == wave) (hold.row == row) (ne_eqb hold.row row other)))
 ]
   where
     both_false : (a b : Bool) → b ≡ false → (a && b) ≡ false
@@ -36,7 +40,8 @@ wave-le-row wave row w hold = elim (cases_eq hold.row row) [
 pub chain_wave-le-row : (wave row : ℕ) (nodes : List WaveHolds) → chain_units (is_for_wave wave row) nodes ≤ chain_units (is_at row) nodes
 chain_wave-le-row wave row nodes =
     sum_by-within (node_units (is_for_wave wave row)) (node_units (is_at row)) nodes (λ node.
-    sum_by-within (hold_units_where (is_for_wave wave row) node.wave) (hold_units_where (is_at row) node.wave) node.holds.items (wave-le-row wave row node.wave))
+    sum_by-within (hold_units_where (is_for_wave wave row) node.wave) (hold_units_where (is_at row) node.wave) node.holds.items
+        (wave-le-row wave row node.wave))
 
 -- what is held for an order is within what is held for its wave
 order-le-wave : (wave order row w : ℕ) (hold : Hold) → hold_units_where (is_for wave order row) w hold ≤ hold_units_where (is_for_wave wave row) w hold
@@ -51,17 +56,20 @@ order-le-wave wave order row w hold = pick (w == wave) (hold.order == order) (ho
 pub chain_order-le-wave : (wave order row : ℕ) (nodes : List WaveHolds) → chain_units (is_for wave order row) nodes ≤ chain_units (is_for_wave wave row) nodes
 chain_order-le-wave wave order row nodes =
     sum_by-within (node_units (is_for wave order row)) (node_units (is_for_wave wave row)) nodes (λ node.
-    sum_by-within (hold_units_where (is_for wave order row) node.wave) (hold_units_where (is_for_wave wave row) node.wave) node.holds.items (order-le-wave wave order row node.wave))
+    sum_by-within (hold_units_where (is_for wave order row) node.wave) (hold_units_where (is_for_wave wave row) node.wave) node.holds.items
+        (order-le-wave wave order row node.wave))
 
 -- what is held at a row: for a wave, and for all others
 pub sum_by-plus : {X : Type 0} (f g h : X → ℕ) (xs : List X) → ((x : X) → f x ≡ g x + h x) → sum_by f xs ≡ sum_by g xs + sum_by h xs
 sum_by-plus f g h [] each = refl
 sum_by-plus f g h (x ∷ xs) each = omega (arith, sum_by-cons f x xs, sum_by-cons g x xs, sum_by-cons h x xs, each x, sum_by-plus f g h xs each)
 
-pub chain_at_row : (wave row : ℕ) (nodes : List WaveHolds) → chain_units (is_at row) nodes ≡ chain_units (but_of wave (is_at row)) nodes + chain_units (is_for_wave wave row) nodes
+pub chain_at_row : (wave row : ℕ) (nodes : List WaveHolds) → chain_units (is_at row) nodes ≡ chain_units (but_of wave (is_at row)) nodes + chain_units
+    (is_for_wave wave row) nodes
 chain_at_row wave row nodes =
     sum_by-plus (node_units (is_at row)) (node_units (but_of wave (is_at row))) (node_units (is_for_wave wave row)) nodes (λ node.
-    sum_by-plus (hold_units_where (is_at row) node.wave) (hold_units_where (but_of wave (is_at row)) node.wave) (hold_units_where (is_for_wave wave row) node.wave) node.holds.items
+    sum_by-plus (hold_units_where (is_at row) node.wave) (hold_units_where (but_of wave (is_at row)) node.wave)
+        (hold_units_where (is_for_wave wave row) node.wave) node.holds.items
     (λ hold. parts (node.wave == wave) (hold.row == row) hold.quantity))
   where
     parts : (a b : Bool) (q : ℕ) → (if b then q else 0) ≡ (if b && not a then q else 0) + (if a && b then q else 0)
@@ -71,10 +79,12 @@ chain_at_row wave row nodes =
     parts false false q = omega arith
 
 -- what a wave holds at a row is in the row, and at no place that is no row
-pub wave_in_row : (rows : List Row) (chains : List (List WaveHolds)) (wave row : ℕ) → IsKept rows chains → chain_units (is_for_wave wave row) (chain_for chains wave) ≤ all_units (is_at row) chains
+pub wave_in_row : (rows : List Row) (chains : List (List WaveHolds)) (wave row : ℕ) → IsKept rows chains
+    → chain_units (is_for_wave wave row) (chain_for chains wave) ≤ all_units (is_at row) chains
 wave_in_row rows chains wave row kept = omega (arith, chain_wave-le-row wave row (chain_for chains wave), chain-le-all rows chains wave (is_at row) kept)
 
-pub wave_nowhere : (rows : List Row) (chains : List (List WaveHolds)) (wave row : ℕ) → IsKept rows chains → length rows ≤ row → chain_units (is_for_wave wave row) (chain_for chains wave) ≡ 0
+pub wave_nowhere : (rows : List Row) (chains : List (List WaveHolds)) (wave row : ℕ) → IsKept rows chains → length rows ≤ row
+    → chain_units (is_for_wave wave row) (chain_for chains wave) ≡ 0
 wave_nowhere rows chains wave row kept past = omega (arith, wave_in_row rows chains wave row kept, nowhere_else rows chains row kept.book past)
 
 -- a row has what a wave holds there, and its units fit
@@ -83,14 +93,17 @@ pub record HasUnits (units : ℕ) (r : Row) : Type 0 where
   pub on_hand : units ≤ r.on_hand
   pub fits : r.free + r.held < 2 ^ 32
 
-pub row_has : (rows : List Row) (chains : List (List WaveHolds)) (wave row : ℕ) (r : Row) → IsKept rows chains → slice_get rows row ≡ Some r → HasUnits (chain_units (is_for_wave wave row) (chain_for chains wave)) r
+pub row_has : (rows : List Row) (chains : List (List WaveHolds)) (wave row : ℕ) (r : Row) → IsKept rows chains → slice_get rows row ≡ Some r
+    → HasUnits (chain_units (is_for_wave wave row) (chain_for chains wave)) r
 row_has rows chains wave row r kept there =
     let is = row_is rows chains row r kept.book there in
     let within = wave_in_row rows chains wave row kept in
-    record { held = omega (arith, is.held, within); on_hand = omega (arith, is.held, is.balance.sum, within); fits = omega (arith, is.balance.sum, is.balance.most) }
+    record { held = omega (arith, is.held, within); on_hand = omega (arith, is.held, is.balance.sum, within);
+        fits = omega (arith, is.balance.sum, is.balance.most) }
 
 -- what an order holds fits
-pub order_fits : (rows : List Row) (chains : List (List WaveHolds)) (wave order row : ℕ) → IsKept rows chains → chain_units (is_for wave order row) (chain_for chains wave) < 2 ^ 32
+pub order_fits : (rows : List Row) (chains : List (List WaveHolds)) (wave order row : ℕ) → IsKept rows chains
+    → chain_units (is_for wave order row) (chain_for chains wave) < 2 ^ 32
 order_fits rows chains wave order row kept = elim (cases_lt row (length rows)) [
   | inl within ↦
       let found = within_some rows row within in
@@ -113,7 +126,8 @@ with_node chains wave node = set chains (wave % chain_count) (chain_for chains w
 abbrev pub rows_held : List Row → List Hold → List Row
 rows_held rows holds = change_rows (λ row. hold_units (units_at holds row)) 0 rows
 
-pub no_units_past : (rows : List Row) (holds : List Hold) (row : ℕ) → All (λ (hold : Hold). hold.row < length rows) holds → length rows ≤ row → units_at holds row ≡ 0
+pub no_units_past : (rows : List Row) (holds : List Hold) (row : ℕ) → All (λ (hold : Hold). hold.row < length rows) holds → length rows ≤ row
+    → units_at holds row ≡ 0
 no_units_past rows holds row within past = none holds (λ k h at. All-at (λ (hold : Hold). hold.row < length rows) holds k h within at)
   where
     none : (hs : List Hold) → ((k : ℕ) (h : Hold) → slice_get hs k ≡ Some h → h.row < length rows) → units_at hs row ≡ 0
@@ -136,10 +150,12 @@ hold_row rows chains wave node add k r there is =
       held = omega (arith, is.held, total_added rows chains wave node (is_at k) add.kept);
     }
 
-pub hold_keeps : (rows : List Row) (chains : List (List WaveHolds)) (wave : ℕ) (node : WaveHolds) → CanAdd rows chains wave node → IsKept (rows_held rows node.holds.items) (with_node chains wave node)
+pub hold_keeps : (rows : List Row) (chains : List (List WaveHolds)) (wave : ℕ) (node : WaveHolds) → CanAdd rows chains wave node
+    → IsKept (rows_held rows node.holds.items) (with_node chains wave node)
 hold_keeps rows chains wave node add = record {
   book = book_moved _ rows chains (with_node chains wave node) add.kept.book (hold_row rows chains wave node add) (λ k past.
-      omega (arith, total_added rows chains wave node (is_at k) add.kept, nowhere_else rows chains k add.kept.book past, no_units_past rows node.holds.items k add.can.rows past));
+      omega (arith, total_added rows chains wave node (is_at k) add.kept, nowhere_else rows chains k add.kept.book past,
+          no_units_past rows node.holds.items k add.can.rows past));
   count = long;
   placed = placed_moved rows chains wave (chain_for chains wave ++ node ∷ []) add.kept (λ other elsewhere.
       omega (
@@ -176,11 +192,13 @@ hold_does rows chains wave node add = record {
 }
 
 -- a wave for no order of which anything is held at any row holds nothing
-holds_of_none : (wave w : ℕ) (holds : List Hold) → ((o r : ℕ) → sum_by (hold_units_where (is_for wave o r) w) holds ≡ 0) → sum_by (hold_units_where (is_of wave) w) holds ≡ 0
+holds_of_none : (wave w : ℕ) (holds : List Hold) → ((o r : ℕ) → sum_by (hold_units_where (is_for wave o r) w) holds ≡ 0)
+    → sum_by (hold_units_where (is_of wave) w) holds ≡ 0
 holds_of_none wave w [] none = refl
 holds_of_none wave w (h ∷ hs) none =
     let own = none h.order h.row in
-    let same : (w == wave) && ((h.order == h.order) && (h.row == h.row)) ≡ (w == wave) = both (w == wave) (h.order == h.order) (h.row == h.row) (eq-eqb h.order h.order refl) (eq-eqb h.row h.row refl) in
+    let same : (w == wave) && ((h.order == h.order) && (h.row == h.row)) ≡ (w == wave) =
+            both (w == wave) (h.order == h.order) (h.row == h.row) (eq-eqb h.order h.order refl) (eq-eqb h.row h.row refl) in
     let here : hold_units_where (is_for wave h.order h.row) w h ≡ hold_units_where (is_of wave) w h = ap (λ t. if t then h.quantity else 0) same in
     let rest = holds_of_none wave w hs (λ o r. omega (arith, none o r, sum_by-cons (hold_units_where (is_for wave o r) w) h hs)) in
     omega (arith, sum_by-cons (hold_units_where (is_of wave) w) h hs, sum_by-cons (hold_units_where (is_for wave h.order h.row) w) h hs, own, here, rest)
@@ -196,11 +214,13 @@ chain_of_none wave (node ∷ nodes) none =
     let rest = chain_of_none wave nodes (λ o r. omega (arith, none o r, sum_by-cons (node_units (is_for wave o r)) node nodes)) in
     omega (arith, sum_by-cons (node_units (is_of wave)) node nodes, here, rest)
 
-pub holds_none_from : (rows : List Row) (chains : List (List WaveHolds)) (wave : ℕ) → IsKept rows chains → HoldsNone (book_of rows chains) wave → chain_units (is_of wave) (chain_for chains wave) ≡ 0
+pub holds_none_from : (rows : List Row) (chains : List (List WaveHolds)) (wave : ℕ) → IsKept rows chains → HoldsNone (book_of rows chains) wave
+    → chain_units (is_of wave) (chain_for chains wave) ≡ 0
 holds_none_from rows chains wave kept none =
     chain_of_none wave (chain_for chains wave) (λ o r. sym (wave_held rows chains wave (is_for wave o r) kept (is_for-of wave o r)) ∙ none o r)
 
-pub holds_none_to : (rows : List Row) (chains : List (List WaveHolds)) (wave : ℕ) → IsKept rows chains → chain_units (is_of wave) (chain_for chains wave) ≡ 0 → HoldsNone (book_of rows chains) wave
+pub holds_none_to : (rows : List Row) (chains : List (List WaveHolds)) (wave : ℕ) → IsKept rows chains → chain_units (is_of wave) (chain_for chains wave) ≡ 0
+    → HoldsNone (book_of rows chains) wave
 holds_none_to rows chains wave kept none o r =
     let P = is_for wave o r in
     wave_held rows chains wave P kept (is_for-of wave o r) ∙ omega_zero (chain_most wave P (chain_for chains wave) (is_for-of wave o r)) none

@@ -1,5 +1,6 @@
 -- Keeping the count of the free units of each article.
-use Rattle.std.proofs.Common.{◌≡◌, ◌∙◌, refl, sym, ap, subst, ℕ, zero, suc, ◌+◌, ◌*◌, ◌<◌, ◌≤◌, ◌^◌, inl, inr, List, length, replicate, get_or, slice_get, slice_set, slice_index, Some, None, All, IfSome, arith, length-set, get_or-set_same, get_or-set_other}
+use Rattle.std.proofs.Common.{◌≡◌, ◌∙◌, refl, sym, ap, subst, ℕ, zero, suc, ◌+◌, ◌*◌, ◌<◌, ◌≤◌, ◌^◌, inl, inr, List, length, replicate, get_or, slice_get}
+use Rattle.std.proofs.Common.{slice_set, slice_index, Some, None, All, IfSome, arith, length-set, get_or-set_same, get_or-set_other}
 use Rattle.std.proofs.lemmas.Bool.{cases_eq}
 use Rattle.std.proofs.lemmas.List.{get_or_default, set-get_or}
 use Rattle.std.proofs.lemmas.Option.{slice_get-get_or, slice_get_within}
@@ -22,7 +23,8 @@ pub record IsRead (rows : List Row) (free : List ℕ) (i : ℕ) (r : Row) (count
 pub row_read : (rows : List Row) (i : ℕ) (r : Row) → i < length rows → r ≡ get_or rows i r → slice_get rows i ≡ Some r
 row_read rows i r within is = slice_get-get_or rows i r within ∙ ap Some (sym is)
 
-pub was_read : (rows : List Row) (free : List ℕ) (i : ℕ) (r : Row) (count : ℕ) → AreCounted rows free → i < length rows → r ≡ get_or rows i r → count ≡ get_or free r.article count
+pub was_read : (rows : List Row) (free : List ℕ) (i : ℕ) (r : Row) (count : ℕ) → AreCounted rows free → i < length rows → r ≡ get_or rows i r
+    → count ≡ get_or free r.article count
     → IsRead rows free i r count
 was_read rows free i r count counted within is-row is-count =
     let there = row_read rows i r within is-row in
@@ -44,19 +46,22 @@ read_bounded rows free i r count read =
     }
 
 -- a row is written over by one of its article, and the count of the article goes with what is free
-pub recounted : (rows : List Row) (free : List ℕ) (i : ℕ) (r s : Row) (count n : ℕ) → IsRead rows free i r count → s.article ≡ r.article → s.free < 2 ^ 32 → n + r.free ≡ count + s.free
+pub recounted : (rows : List Row) (free : List ℕ) (i : ℕ) (r s : Row) (count n : ℕ) → IsRead rows free i r count → s.article ≡ r.article → s.free < 2 ^ 32
+    → n + r.free ≡ count + s.free
     → AreCounted (slice_set rows i s) (slice_set free r.article n)
 recounted rows free i r s count n read same fits moved = record {
   few = omega (arith, length-set rows i s, read.counted.few);
   each = λ k. if_some (slice_get (slice_set rows i s) k) (IsCountable (length (slice_set free r.article n))) (λ t now. elim (slice_get-set rows i k t s now) [
-    | inl own ↦ subst (IsCountable (length (slice_set free r.article n))) (sym own.1) (record { article = omega (arith, same, length-set free r.article n, read.known.article); fits = fits })
+    | inl own ↦ subst (IsCountable (length (slice_set free r.article n))) (sym own.1)
+        (record { article = omega (arith, same, length-set free r.article n, read.known.article); fits = fits })
     | inr other ↦
         let was = at_some (slice_get rows k) (IsCountable (length free)) t other.1 (read.counted.each k) in
         record { article = omega (arith, length-set free r.article n, was.article); fits = was.fits }
   ]);
   counts = λ article. elim (cases_eq article r.article) [
     | inl own ↦
-        let now : slice_index (slice_set free r.article n) article ≡ n = ap (λ a. slice_index (slice_set free r.article n) a) own ∙ get_or-set_same free r.article n 0 read.known.article in
+        let now : slice_index (slice_set free r.article n) article ≡ n =
+                ap (λ a. slice_index (slice_set free r.article n) a) own ∙ get_or-set_same free r.article n 0 read.known.article in
         omega (
           arith,
           now,
@@ -81,7 +86,8 @@ recounted rows free i r s count n read same fits moved = record {
 }
 
 -- a row is written over by one of its article with as many free units
-pub count_kept : (rows : List Row) (free : List ℕ) (i : ℕ) (r s : Row) → AreCounted rows free → slice_get rows i ≡ Some r → s.article ≡ r.article → s.free ≡ r.free → AreCounted (slice_set rows i s) free
+pub count_kept : (rows : List Row) (free : List ℕ) (i : ℕ) (r s : Row) → AreCounted rows free → slice_get rows i ≡ Some r → s.article ≡ r.article
+    → s.free ≡ r.free → AreCounted (slice_set rows i s) free
 count_kept rows free i r s counted there same kept =
     let known = at_some (slice_get rows i) (IsCountable (length free)) r there (counted.each i) in
     let read : IsRead rows free i r (slice_index free r.article) = record { counted = counted; there = there; known = known; is = refl } in
@@ -99,7 +105,8 @@ abbrev pub CountsFirst : List Row → ℕ → List ℕ → Type 0
 CountsFirst rows i free = (article : ℕ) → slice_index free article ≡ sum_below i (offer_at rows article None)
 
 -- and one more
-pub counts_next : (rows : List Row) (i : ℕ) (free : List ℕ) (r : Row) (n : ℕ) → CountsFirst rows i free → slice_get rows i ≡ Some r → r.article < length free → n ≡ slice_index free r.article + r.free
+pub counts_next : (rows : List Row) (i : ℕ) (free : List ℕ) (r : Row) (n : ℕ) → CountsFirst rows i free → slice_get rows i ≡ Some r → r.article < length free
+    → n ≡ slice_index free r.article + r.free
     → CountsFirst rows (i + 1) (slice_set free r.article n)
 counts_next rows i free r n counts there known more = λ article.
     let e : i + 1 ≡ suc i = omega arith in
@@ -107,21 +114,25 @@ counts_next rows i free r n counts there known more = λ article.
     ap (λ m. sum_below m (offer_at rows article None)) e ∙ ap (λ m. sum_below i (offer_at rows article None) + m) (offer_is rows article None i r there) in
     elim (cases_eq article r.article) [
       | inl own ↦
-          let now : slice_index (slice_set free r.article n) article ≡ n = ap (λ a. slice_index (slice_set free r.article n) a) own ∙ get_or-set_same free r.article n 0 known in
+          let now : slice_index (slice_set free r.article n) article ≡ n =
+                  ap (λ a. slice_index (slice_set free r.article n) a) own ∙ get_or-set_same free r.article n 0 known in
           omega (arith, now, more, next, ap (slice_index free) own, counts article, offer_own article i r (sym own))
       | inr other ↦ omega (arith, get_or-set_other free r.article article n 0 other, next, counts article, offer_none article i r (λ e. other (sym e)))
     ]
 
 -- rows that balance, each of a known article, are countable
-pub countable : (rows : List Row) (articles : ℕ) → All IsBalanced rows → All (λ (row : Row). row.article < articles) rows → (k : ℕ) (r : Row) → slice_get rows k ≡ Some r → IsCountable articles r
+pub countable : (rows : List Row) (articles : ℕ) → All IsBalanced rows → All (λ (row : Row). row.article < articles) rows → (k : ℕ) (r : Row)
+    → slice_get rows k ≡ Some r → IsCountable articles r
 countable rows articles balanced known k r there =
     let is = All-at IsBalanced rows k r balanced there in
     record { article = All-at (λ (row : Row). row.article < articles) rows k r known there; fits = omega (arith, is.sum, is.most) }
 
-pub all_counted : (rows : List Row) (articles : ℕ) (free : List ℕ) → length rows < 2 ^ 32 → All IsBalanced rows → All (λ (row : Row). row.article < articles) rows → length free ≡ articles → CountsFirst rows (length rows) free
+pub all_counted : (rows : List Row) (articles : ℕ) (free : List ℕ) → length rows < 2 ^ 32 → All IsBalanced rows
+    → All (λ (row : Row). row.article < articles) rows → length free ≡ articles → CountsFirst rows (length rows) free
     → AreCounted rows free
 all_counted rows articles free few balanced known long counts = record {
   few = few;
-  each = λ k. subst (λ n. IfSome (slice_get rows k) (IsCountable n)) (sym long) (if_some (slice_get rows k) (IsCountable articles) (λ r there. countable rows articles balanced known k r there));
+  each = λ k. subst (λ n. IfSome (slice_get rows k) (IsCountable n)) (sym long)
+      (if_some (slice_get rows k) (IsCountable articles) (λ r there. countable rows articles balanced known k r there));
   counts = counts;
 }

@@ -1,5 +1,6 @@
 -- The free units of an article, row by row.
-use Rattle.std.proofs.Common.{◌≡◌, ◌≢◌, ◌∙◌, refl, sym, ap, ℕ, zero, suc, ◌+◌, ◌*◌, ◌≤◌, ◌&&◌, ◌==◌, not, false, inl, inr, List, length, slice_get, slice_set, Option, Some, None, IfSome, if◌then◌else◌, arith, eq-eqb, ne_eqb, length-set}
+use Rattle.std.proofs.Common.{◌≡◌, ◌≢◌, ◌∙◌, refl, sym, ap, ℕ, zero, suc, ◌+◌, ◌*◌, ◌≤◌, ◌&&◌, ◌==◌, not, false, inl, inr, List, length, slice_get, slice_set}
+use Rattle.std.proofs.Common.{Option, Some, None, IfSome, if◌then◌else◌, arith, eq-eqb, ne_eqb, length-set}
 use Rattle.std.proofs.lemmas.Bool.{and_right, cases_lt}
 use Rattle.std.proofs.lemmas.Option.{slice_get_cases, slice_get_within}
 use Rattle.std.specs.Option.{option_map_or}
@@ -12,7 +13,8 @@ use Rattle.wp_model.specs.declared.row.Row.{Row}
 use Rattle.wp_book.specs.Counted.{IsCountable}
 
 -- what a row offers that is there
-pub offer_is : (rows : List Row) (article : ℕ) (except : Option ℕ) (k : ℕ) (r : Row) → slice_get rows k ≡ Some r → offer_at rows article except k ≡ offer_of article except k r
+pub offer_is : (rows : List Row) (article : ℕ) (except : Option ℕ) (k : ℕ) (r : Row) → slice_get rows k ≡ Some r
+    → offer_at rows article except k ≡ offer_of article except k r
 offer_is rows article except k r there = ap (λ found. option_map_or (offer_of article except k) found 0) there
 
 pub offer_past : (rows : List Row) (article : ℕ) (except : Option ℕ) (k : ℕ) → length rows ≤ k → offer_at rows article except k ≡ 0
@@ -37,11 +39,13 @@ most_offered rows article articles k is = elim (slice_get_cases rows k).1 [
   | inr none ↦ omega (arith, offer_past rows article None k none.0)
 ]
 
-pub most_free : (n : ℕ) (rows : List Row) (article articles : ℕ) → ((k : ℕ) → IfSome (slice_get rows k) (IsCountable articles)) → sum_below n (offer_at rows article None) ≤ n * 4294967295
+pub most_free : (n : ℕ) (rows : List Row) (article articles : ℕ) → ((k : ℕ) → IfSome (slice_get rows k) (IsCountable articles))
+    → sum_below n (offer_at rows article None) ≤ n * 4294967295
 most_free zero rows article articles each = omega arith
 most_free (suc n) rows article articles each = omega (arith, most_free n rows article articles each, most_offered rows article articles n (each n))
 
-pub most_counted : (n : ℕ) (rows : List Row) (article articles : ℕ) → ((k : ℕ) (r : Row) → slice_get rows k ≡ Some r → IsCountable articles r) → sum_below n (offer_at rows article None) ≤ n * 4294967295
+pub most_counted : (n : ℕ) (rows : List Row) (article articles : ℕ) → ((k : ℕ) (r : Row) → slice_get rows k ≡ Some r → IsCountable articles r)
+    → sum_below n (offer_at rows article None) ≤ n * 4294967295
 most_counted n rows article articles each = most_free n rows article articles (λ k. if_some (slice_get rows k) (IsCountable articles) (each k))
 
 -- the excepted row offers nothing, and each other as much as ever
@@ -64,7 +68,8 @@ free_but rows article row = elim (cases_lt row (length rows)) [
   | inl within ↦
       omega (
         arith,
-        sum-one_changed (length rows) (offer_at rows article (Some row)) (offer_at rows article None) row within (λ k other. others_offer rows article row k other),
+        sum-one_changed (length rows) (offer_at rows article (Some row)) (offer_at rows article None) row within
+            (λ k other. others_offer rows article row k other),
         excepted_offers rows article row,
       )
   | inr past ↦
@@ -84,7 +89,8 @@ free_set rows article i r s there =
     omega (
       arith,
       ap (λ n. sum_below n (offer_at new article None)) (length-set rows i s),
-      sum-one_changed (length rows) (offer_at new article None) (offer_at rows article None) i within (λ k other. ap (λ found. option_map_or (offer_of article None k) found 0) (slice_get-set_other rows i k s other)),
+      sum-one_changed (length rows) (offer_at new article None) (offer_at rows article None) i within
+          (λ k other. ap (λ found. option_map_or (offer_of article None k) found 0) (slice_get-set_other rows i k s other)),
       offer_is new article None i s (slice_get-set_same rows i s within),
       offer_is rows article None i r there,
     )

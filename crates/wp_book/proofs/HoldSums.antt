@@ -1,5 +1,6 @@
 -- Sums of held units.
-use Rattle.std.proofs.Common.{◌≡◌, ◌≢◌, ◌∙◌, refl, sym, ap, ℕ, ◌+◌, ◌-◌, ◌<◌, ◌≤◌, ◌==◌, ◌&&◌, not, Bool, true, false, List, [], ◌∷◌, length, drop, get_or, if◌then◌else◌, arith, eq-eqb, ne_eqb}
+use Rattle.std.proofs.Common.{◌≡◌, ◌≢◌, ◌∙◌, refl, sym, ap, ℕ, ◌+◌, ◌-◌, ◌<◌, ◌≤◌, ◌==◌, ◌&&◌, not, Bool, true, false, List, [], ◌∷◌, length, drop, get_or}
+use Rattle.std.proofs.Common.{if◌then◌else◌, arith, eq-eqb, ne_eqb}
 use Rattle.std.proofs.Math.ListN.{set}
 use Rattle.std.proofs.lemmas.Bool.{and_left, and_right, cond-false, cond-true, cond_both}
 use Rattle.std.proofs.lemmas.List.{drop-set-lt}
@@ -51,7 +52,8 @@ sum_by-within f g [] within = omega arith
 sum_by-within f g (x ∷ xs) within = omega (arith, sum_by-cons f x xs, sum_by-cons g x xs, within x, sum_by-within f g xs within)
 
 -- what is taken in two steps
-pub taken_so_far : (b : Bool) (units left left' : ℕ) → left ≤ units → left' ≤ left → (if b then units - left' else 0) ≡ (if b then units - left else 0) + (if b then left - left' else 0)
+pub taken_so_far : (b : Bool) (units left left' : ℕ) → left ≤ units → left' ≤ left
+    → (if b then units - left' else 0) ≡ (if b then units - left else 0) + (if b then left - left' else 0)
 taken_so_far true units left left' most less = omega arith
 taken_so_far false units left left' most less = omega arith
 
@@ -66,20 +68,24 @@ hold_of_nothing passes wave hold none = cond_both (passes wave hold.order hold.r
 -- holds of another wave aren't for the wave, and those of the wave are for it by order and row
 pub other_wave-for : (w wave order row : ℕ) (holds : List Hold) → w ≢ wave → sum_by (hold_units_where (is_for wave order row) w) holds ≡ 0
 other_wave-for w wave order row holds other =
-    sum_by-none (hold_units_where (is_for wave order row) w) holds (λ hold. cond-false ((w == wave) && ((hold.order == order) && (hold.row == row))) hold.quantity 0 (and_left _ _ (ne_eqb w wave other)))
+    sum_by-none (hold_units_where (is_for wave order row) w) holds
+        (λ hold. cond-false ((w == wave) && ((hold.order == order) && (hold.row == row))) hold.quantity 0 (and_left _ _ (ne_eqb w wave other)))
 
-pub same_wave-for : (w wave order row : ℕ) (holds : List Hold) → w ≡ wave → sum_by (hold_units_where (is_for wave order row) w) holds ≡ units_for holds order row
+pub same_wave-for : (w wave order row : ℕ) (holds : List Hold) → w ≡ wave
+    → sum_by (hold_units_where (is_for wave order row) w) holds ≡ units_for holds order row
 same_wave-for w wave order row holds same =
     sum_by-same (hold_units_where (is_for wave order row) w) (hold_for order row) holds (λ hold.
     ap (λ b. if b && ((hold.order == order) && (hold.row == row)) then hold.quantity else 0) (eq-eqb w wave same))
 
 pub other_wave-at : (w wave row : ℕ) (holds : List Hold) → w ≢ wave → sum_by (hold_units_where (is_for_wave wave row) w) holds ≡ 0
 other_wave-at w wave row holds other =
-    sum_by-none (hold_units_where (is_for_wave wave row) w) holds (λ hold. cond-false ((w == wave) && (hold.row == row)) hold.quantity 0 (and_left _ _ (ne_eqb w wave other)))
+    sum_by-none (hold_units_where (is_for_wave wave row) w) holds
+        (λ hold. cond-false ((w == wave) && (hold.row == row)) hold.quantity 0 (and_left _ _ (ne_eqb w wave other)))
 
 pub same_wave-at : (w wave row : ℕ) (holds : List Hold) → w ≡ wave → sum_by (hold_units_where (is_for_wave wave row) w) holds ≡ units_at holds row
 same_wave-at w wave row holds same =
-    sum_by-same (hold_units_where (is_for_wave wave row) w) (hold_at row) holds (λ hold. ap (λ b. if b && (hold.row == row) then hold.quantity else 0) (eq-eqb w wave same))
+    sum_by-same (hold_units_where (is_for_wave wave row) w) (hold_at row) holds
+        (λ hold. ap (λ b. if b && (hold.row == row) then hold.quantity else 0) (eq-eqb w wave same))
 
 -- units that go from held to free, or from free to held, in two steps
 freed_twice : (u q : ℕ) (r : Row) → free_held_units q (free_held_units u r) ≡ free_held_units (u + q) r
@@ -120,7 +126,8 @@ held_none units rows none =
     rw (free, held) refl)
 
 -- what is left of another wave's holds, and nothing of the wave's own
-pub but_of-other : (w wave : ℕ) (passes : Where) (holds : List Hold) → w ≢ wave → sum_by (hold_units_where passes w) holds ≡ sum_by (hold_units_where (but_of wave passes) w) holds
+pub but_of-other : (w wave : ℕ) (passes : Where) (holds : List Hold) → w ≢ wave
+    → sum_by (hold_units_where passes w) holds ≡ sum_by (hold_units_where (but_of wave passes) w) holds
 but_of-other w wave passes holds other =
     sum_by-same (hold_units_where passes w) (hold_units_where (but_of wave passes) w) holds (λ hold.
     let b = passes w hold.order hold.row in
@@ -146,8 +153,10 @@ pub other_wave-of : (w wave : ℕ) (holds : List Hold) → w ≢ wave → sum_by
 other_wave-of w wave holds other = sum_by-none (hold_units_where (is_of wave) w) holds (λ hold. cond-false (w == wave) hold.quantity 0 (ne_eqb w wave other))
 
 -- the same units
-pub freed_same : (u v : ℕ → ℕ) (rows : List Row) → ((k : ℕ) → u k ≡ v k) → change_rows (λ k. free_held_units (u k)) 0 rows ≡ change_rows (λ k. free_held_units (v k)) 0 rows
+pub freed_same : (u v : ℕ → ℕ) (rows : List Row) → ((k : ℕ) → u k ≡ v k)
+    → change_rows (λ k. free_held_units (u k)) 0 rows ≡ change_rows (λ k. free_held_units (v k)) 0 rows
 freed_same u v rows same = changes_agree _ _ rows (λ k r there. ap (λ n. free_held_units n r) (same k))
 
-pub held_same : (u v : ℕ → ℕ) (rows : List Row) → ((k : ℕ) → u k ≡ v k) → change_rows (λ k. hold_units (u k)) 0 rows ≡ change_rows (λ k. hold_units (v k)) 0 rows
+pub held_same : (u v : ℕ → ℕ) (rows : List Row) → ((k : ℕ) → u k ≡ v k)
+    → change_rows (λ k. hold_units (u k)) 0 rows ≡ change_rows (λ k. hold_units (v k)) 0 rows
 held_same u v rows same = changes_agree _ _ rows (λ k r there. ap (λ n. hold_units n r) (same k))

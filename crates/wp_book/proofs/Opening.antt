@@ -25,7 +25,8 @@ no_units passes zero = refl
 no_units passes (suc n) = omega (arith, sum_by-cons (chain_units passes) [] (replicate n []), no_units passes n)
 
 -- the row of a file's row
-row_from : (rows : List StockRow) (k : ℕ) (r : Row) → slice_get (map opening_row rows) k ≡ Some r → (s : StockRow) × (slice_get rows k ≡ Some s) × (opening_row s ≡ r)
+row_from : (rows : List StockRow) (k : ℕ) (r : Row) → slice_get (map opening_row rows) k ≡ Some r → (s : StockRow) × (slice_get rows k ≡ Some s)
+    × (opening_row s ≡ r)
 row_from rows k r there = option_map_some (slice_get rows k) opening_row r (sym (slice_get-map opening_row rows k) ∙ there) (λ s found is. (s, found, is))
 
 pub balanced : (stock : Stock) → All (IsStockRow stock.articles) stock.rows → All IsBalanced (map opening_row stock.rows)

@@ -41,12 +41,14 @@ pub changes_agree : (change other : ℕ → Row → Row) (rows : List Row)
 changes_agree change other rows same =
     changes_agree_from change other rows 0 (λ k r at. let s : 0 + k ≡ k = omega arith in ap (λ n. change n r) s ∙ (same k r at ∙ ap (λ n. other n r) (sym s)))
 
-change_after_from : (first then' : ℕ → Row → Row) (rows : List Row) (from : ℕ) → change_rows then' from (change_rows first from rows) ≡ change_rows (λ k r. then' k (first k r)) from rows
+change_after_from : (first then' : ℕ → Row → Row) (rows : List Row) (from : ℕ)
+    → change_rows then' from (change_rows first from rows) ≡ change_rows (λ k r. then' k (first k r)) from rows
 change_after_from first then' [] from = refl
 change_after_from first then' (row ∷ rows) from = ap (λ rest. then' from (first from row) ∷ rest) (change_after_from first then' rows (from + 1))
 
 -- one change after another
-pub change_after : (first then' : ℕ → Row → Row) (rows : List Row) → change_rows then' 0 (change_rows first 0 rows) ≡ change_rows (λ k r. then' k (first k r)) 0 rows
+pub change_after : (first then' : ℕ → Row → Row) (rows : List Row)
+    → change_rows then' 0 (change_rows first 0 rows) ≡ change_rows (λ k r. then' k (first k r)) 0 rows
 change_after first then' rows = change_after_from first then' rows 0
 
 change_none_from : (change : ℕ → Row → Row) (rows : List Row) (from : ℕ) → ((k : ℕ) (r : Row) → change k r ≡ r) → change_rows change from rows ≡ rows
@@ -58,7 +60,8 @@ pub change_none : (change : ℕ → Row → Row) (rows : List Row) → ((k : ℕ
 change_none change rows none = change_none_from change rows 0 none
 
 -- a row of a list that was read and is written over is changed at its place
-pub write_is_change : (change : Row → Row) (rows all : List Row) (i : ℕ) (r : Row) → i < length all → r ≡ slice_index_or rows i r → rows ≡ all → slice_set rows i (change r) ≡ change_rows (at_place i change) 0 all
+pub write_is_change : (change : Row → Row) (rows all : List Row) (i : ℕ) (r : Row) → i < length all → r ≡ slice_index_or rows i r → rows ≡ all
+    → slice_set rows i (change r) ≡ change_rows (at_place i change) 0 all
 write_is_change change rows all i r within is same =
     ap (λ (t : Row). slice_set rows i (change t)) is
     ∙ (set_is_change change rows i r (omega (arith, ap length same)) ∙ ap (change_rows (at_place i change) 0) same)

@@ -1,5 +1,6 @@
 -- Taking units that are held, and receiving units.
-use Rattle.std.proofs.Common.{◌≡◌, ◌∙◌, refl, sym, ap, subst, ℕ, ◌+◌, ◌-◌, ◌≤◌, ◌%◌, ◌==◌, ◌&&◌, Bool, true, false, inl, inr, List, slice_get, Some, IfSome, if◌then◌else◌, arith, eq-eqb, length-set, ne_eqb}
+use Rattle.std.proofs.Common.{◌≡◌, ◌∙◌, refl, sym, ap, subst, ℕ, ◌+◌, ◌-◌, ◌≤◌, ◌%◌, ◌==◌, ◌&&◌, Bool, true, false, inl, inr, List, slice_get, Some, IfSome}
+use Rattle.std.proofs.Common.{if◌then◌else◌, arith, eq-eqb, length-set, ne_eqb}
 use Rattle.std.proofs.lemmas.Bool.{cases_eq, cond-false, cond-true}
 use Rattle.wp_model.proofs.Elements.{at_some}
 use Rattle.wp_model.proofs.Rows.{at_place-other, at_place-same}
@@ -26,7 +27,8 @@ pub record IsTaken (rows : List Row) (chains : List (List WaveHolds)) (wave orde
 abbrev pub rows_taken : List Row → ℕ → ℕ → List Row
 rows_taken rows row units = change_rows (at_place row (take_units units)) 0 rows
 
-total_taken : (rows : List Row) (chains : List (List WaveHolds)) (wave order row units : ℕ) (new : List WaveHolds) (passes : Where) → IsTaken rows chains wave order row units new
+total_taken : (rows : List Row) (chains : List (List WaveHolds)) (wave order row units : ℕ) (new : List WaveHolds) (passes : Where)
+    → IsTaken rows chains wave order row units new
     → all_units passes (with_chain chains wave new) + (if passes wave order row then units else 0) ≡ all_units passes chains
 total_taken rows chains wave order row units new passes take = omega (arith, total_moved rows chains wave new passes take.kept, take.taken passes)
 
@@ -36,7 +38,8 @@ units_passed b units e = cond-true b units 0 e
 units_stopped : (b : Bool) (units : ℕ) → b ≡ false → (if b then units else 0) ≡ 0
 units_stopped b units e = cond-false b units 0 e
 
-pub row_has_units : (rows : List Row) (chains : List (List WaveHolds)) (wave order row units : ℕ) (r : Row) → IsKept rows chains → units ≤ chain_units (is_for wave order row) (chain_for chains wave) → slice_get rows row ≡ Some r → HasUnits units r
+pub row_has_units : (rows : List Row) (chains : List (List WaveHolds)) (wave order row units : ℕ) (r : Row) → IsKept rows chains
+    → units ≤ chain_units (is_for wave order row) (chain_for chains wave) → slice_get rows row ≡ Some r → HasUnits units r
 row_has_units rows chains wave order row units r kept enough there =
     let has = row_has rows chains wave row r kept there in
     let within = chain_order-le-wave wave order row (chain_for chains wave) in
@@ -55,11 +58,13 @@ take_row rows chains wave order row units new take k r there is = elim (cases_eq
   | inr away ↦ subst (IsRow (with_chain chains wave new) k) (sym (at_place-other row k (take_units units) r away))
       (record {
         balance = is.balance;
-        held = omega (arith, is.held, total_taken rows chains wave order row units new (is_at k) take, units_stopped (row == k) units (ne_eqb row k (λ e. away (sym e))));
+        held = omega (arith, is.held, total_taken rows chains wave order row units new (is_at k) take,
+            units_stopped (row == k) units (ne_eqb row k (λ e. away (sym e))));
       })
 ]
 
-pub take_keeps : (rows : List Row) (chains : List (List WaveHolds)) (wave order row units : ℕ) (new : List WaveHolds) → IsTaken rows chains wave order row units new
+pub take_keeps : (rows : List Row) (chains : List (List WaveHolds)) (wave order row units : ℕ) (new : List WaveHolds)
+    → IsTaken rows chains wave order row units new
     → IsKept (rows_taken rows row units) (with_chain chains wave new)
 take_keeps rows chains wave order row units new take = record {
   book = book_moved _ rows chains (with_chain chains wave new) take.kept.book (take_row rows chains wave order row units new take) (λ k past.
@@ -75,15 +80,19 @@ flips a b = elim (cases_eq a b) [
   | inr other ↦ ne_eqb a b other ∙ sym (ne_eqb b a (λ e. other (sym e)))
 ]
 
-pub take_does : (rows : List Row) (chains : List (List WaveHolds)) (wave order row units : ℕ) (new : List WaveHolds) → IsTaken rows chains wave order row units new
+pub take_does : (rows : List Row) (chains : List (List WaveHolds)) (wave order row units : ℕ) (new : List WaveHolds)
+    → IsTaken rows chains wave order row units new
     → HasTaken wave order row units (book_of rows chains) (book_of (rows_taken rows row units) (with_chain chains wave new))
 take_does rows chains wave order row units new take = record {
   rows = refl;
   held = λ o r.
       let P = is_for wave o r in
-      let same : P wave order row ≡ ((o == order) && (r == row)) = ap (λ t. t && ((order == o) && (row == r))) (eq-eqb wave wave refl) ∙ (ap (λ t. t && (row == r)) (flips order o) ∙ ap (λ t. (o == order) && t) (flips row r)) in
+      let same : P wave order row ≡ ((o == order) && (r == row)) =
+              ap (λ t. t && ((order == o) && (row == r))) (eq-eqb wave wave refl)
+              ∙ (ap (λ t. t && (row == r)) (flips order o) ∙ ap (λ t. (o == order) && t) (flips row r)) in
       let moved = total_taken rows chains wave order row units new P take in
-      let now : all_units P (with_chain chains wave new) + (if (o == order) && (r == row) then units else 0) ≡ all_units P chains = ap (λ t. all_units P (with_chain chains wave new) + (if t then units else 0)) (sym same) ∙ moved in
+      let now : all_units P (with_chain chains wave new) + (if (o == order) && (r == row) then units else 0) ≡ all_units P chains =
+              ap (λ t. all_units P (with_chain chains wave new) + (if t then units else 0)) (sym same) ∙ moved in
       total_is P (rows_taken rows row units) (with_chain chains wave new)
       ∙ (left_is (o == order) (r == row) _ _ units now ∙ ap (λ n. if (o == order) && (r == row) then n - units else n) (sym (total_is P rows chains)));
   others = λ w o r other.
@@ -117,7 +126,8 @@ receive_row rows chains row units may k r there is = elim (cases_eq k row) [
   | inr away ↦ subst (IsRow chains k) (sym (at_place-other row k (receive_units units) r away)) is
 ]
 
-pub receive_keeps : (rows : List Row) (chains : List (List WaveHolds)) (row units : ℕ) → MayReceive rows chains row units → IsKept (change_rows (at_place row (receive_units units)) 0 rows) chains
+pub receive_keeps : (rows : List Row) (chains : List (List WaveHolds)) (row units : ℕ) → MayReceive rows chains row units
+    → IsKept (change_rows (at_place row (receive_units units)) 0 rows) chains
 receive_keeps rows chains row units may = record {
   book = book_moved _ rows chains chains may.kept.book (receive_row rows chains row units may) (λ k past. nowhere_else rows chains k may.kept.book past);
   count = may.kept.count;

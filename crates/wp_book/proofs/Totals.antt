@@ -1,5 +1,6 @@
 -- The units of all chains of a book.
-use Rattle.std.proofs.Common.{◌≡◌, ◌≢◌, ◌∙◌, refl, sym, ap, ℕ, zero, suc, ◌+◌, ◌<◌, ◌≤◌, ◌%◌, ◌==◌, false, inl, inr, List, [], ◌∷◌, length, map, get_or, slice_get, Some, arith, eq-eqb, ne_eqb, get_or-set_same, get_or-set_other}
+use Rattle.std.proofs.Common.{◌≡◌, ◌≢◌, ◌∙◌, refl, sym, ap, ℕ, zero, suc, ◌+◌, ◌<◌, ◌≤◌, ◌%◌, ◌==◌, false, inl, inr, List, [], ◌∷◌, length, map, get_or}
+use Rattle.std.proofs.Common.{slice_get, Some, arith, eq-eqb, ne_eqb, get_or-set_same, get_or-set_other}
 use Rattle.std.proofs.Math.ListN.{set}
 use Rattle.std.proofs.lemmas.Bool.{and_left, cases_eq, cond-false, cond-true, cond_both}
 use Rattle.std.proofs.lemmas.List.{get_or_default}
@@ -32,7 +33,8 @@ total_is passes rows chains =
     sum_by-flat (units_where passes) holdings_of (node_units passes) nodes (λ node. sum_by-map (units_where passes) (of_wave node.wave) node.holds.items))
 
 -- a sum of which all terms but one are 0
-pub sum_by-one : {X : Type 0} (f : X → ℕ) (xs : List X) (i : ℕ) (d : X) → i < length xs → ((k : ℕ) → k < length xs → k ≢ i → f (get_or xs k d) ≡ 0) → sum_by f xs ≡ f (get_or xs i d)
+pub sum_by-one : {X : Type 0} (f : X → ℕ) (xs : List X) (i : ℕ) (d : X) → i < length xs → ((k : ℕ) → k < length xs → k ≢ i → f (get_or xs k d) ≡ 0)
+    → sum_by f xs ≡ f (get_or xs i d)
 sum_by-one f [] i d within others = absurd (omega arith)
 sum_by-one f (x ∷ xs) zero d within others =
     let rest = sum_by-zeros f xs d (λ k below. others (suc k) (omega arith) (omega arith)) in
@@ -70,7 +72,8 @@ wave_most wave passes w hold of = elim (cases_eq w wave) [
 pub chain_most : (wave : ℕ) (passes : Where) (nodes : List WaveHolds) → IsOfWave wave passes → chain_units passes nodes ≤ chain_units (is_of wave) nodes
 chain_most wave passes nodes of =
     sum_by-within (node_units passes) (node_units (is_of wave)) nodes (λ node.
-    sum_by-within (hold_units_where passes node.wave) (hold_units_where (is_of wave) node.wave) node.holds.items (λ hold. wave_most wave passes node.wave hold of))
+    sum_by-within (hold_units_where passes node.wave) (hold_units_where (is_of wave) node.wave) node.holds.items
+        (λ hold. wave_most wave passes node.wave hold of))
 
 -- the chain of a wave
 abbrev pub chain_for : List (List WaveHolds) → ℕ → List WaveHolds
@@ -80,12 +83,14 @@ pub chain_place : (wave : ℕ) → wave % chain_count < chain_count
 chain_place wave = omega arith
 
 -- has all that is held for it
-pub wave_total : (rows : List Row) (chains : List (List WaveHolds)) (wave : ℕ) (passes : Where) → IsKept rows chains → IsOfWave wave passes → all_units passes chains ≡ chain_units passes (chain_for chains wave)
+pub wave_total : (rows : List Row) (chains : List (List WaveHolds)) (wave : ℕ) (passes : Where) → IsKept rows chains → IsOfWave wave passes
+    → all_units passes chains ≡ chain_units passes (chain_for chains wave)
 wave_total rows chains wave passes kept of =
     sum_by-one (chain_units passes) chains (wave % chain_count) [] (omega (arith, kept.count, chain_place wave)) (λ k below other.
     omega (arith, chain_most wave passes (get_or chains k []) of, kept.placed k wave (omega (arith, kept.count)) (λ e. other (sym e))))
 
-pub wave_held : (rows : List Row) (chains : List (List WaveHolds)) (wave : ℕ) (passes : Where) → IsKept rows chains → IsOfWave wave passes → held_where passes (book_of rows chains) ≡ chain_units passes (chain_for chains wave)
+pub wave_held : (rows : List Row) (chains : List (List WaveHolds)) (wave : ℕ) (passes : Where) → IsKept rows chains → IsOfWave wave passes
+    → held_where passes (book_of rows chains) ≡ chain_units passes (chain_for chains wave)
 wave_held rows chains wave passes kept of = total_is passes rows chains ∙ wave_total rows chains wave passes kept of
 
 -- after a chain has changed
@@ -126,11 +131,13 @@ pub book_moved : (change : ℕ → Row → Row) (rows : List Row) (chains new : 
     → IsBook (book_of (change_rows change 0 rows) new)
 book_moved change rows chains new book each nowhere = record {
   rows = All-change_rows change rows IsBalanced (λ k r there. (each k r there (row_is rows chains k r book there)).balance);
-  held = λ k. IfSome-change_rows change rows k _ (λ r there. (each k r there (row_is rows chains k r book there)).held ∙ sym (total_is (is_at k) (change_rows change 0 rows) new));
+  held = λ k. IfSome-change_rows change rows k _ (λ r there. (each k r there (row_is rows chains k r book there)).held
+      ∙ sym (total_is (is_at k) (change_rows change 0 rows) new));
   nowhere_else = λ k past. total_is (is_at k) (change_rows change 0 rows) new ∙ nowhere k (omega (arith, length-change_rows change rows));
 }
 
 -- the chain that was looked up is the wave's
-pub chain_found : (chains : List (List WaveHolds)) (wave i : ℕ) (found : List WaveHolds) → length chains ≡ chain_count → i ≡ wave % chain_count → found ≡ get_or chains i found → found ≡ chain_for chains wave
+pub chain_found : (chains : List (List WaveHolds)) (wave i : ℕ) (found : List WaveHolds) → length chains ≡ chain_count → i ≡ wave % chain_count
+    → found ≡ get_or chains i found → found ≡ chain_for chains wave
 chain_found chains wave i found count place at =
     at ∙ (get_or_default chains i found [] (omega (arith, count, place, chain_place wave)) ∙ ap (λ k. get_or chains k []) place)

@@ -39,7 +39,8 @@ on_to t zero j class all fits =
     let last : t.site.aisles ≡ j = omega (arith, all) in
     let behind = subst (λ a. t.copies.behind a ≡ 0) last t.are.even.last_behind in
     let front = subst (λ a. t.copies.front a ≡ 0) last t.are.even.last_front in
-    record { rest = 0; on = (done_whole t j class behind front (omega (arith, last, (t.within (depot_of t.site) (inl refl)).aisle.1)) fits, refl); least = omega arith }
+    record { rest = 0; on = (done_whole t j class behind front (omega (arith, last, (t.within (depot_of t.site) (inl refl)).aisle.1)) fits, refl);
+        least = omega arith }
 on_to t (suc left) j class all fits =
     let crossed = crosses_on t j class fits in
     let gone = goes_on t j crossed.next crossed.fits in
@@ -50,13 +51,15 @@ on_to t (suc left) j class all fits =
       rest = copies crossed.cross * spacing + (gone.through + far.rest);
       on = (
         crossed.cross,
-        (crossed.next, copies crossed.cross * spacing, gone.through + far.rest, record { allowed = crossed.takes; length_is = refl }, (gone.way, (gone.next, gone.through, far.rest, gone.takes, far.on, refl)), refl),
+        (crossed.next, copies crossed.cross * spacing, gone.through + far.rest, record { allowed = crossed.takes; length_is = refl },
+            (gone.way, (gone.next, gone.through, far.rest, gone.takes, far.on, refl)), refl),
       );
       least = omega (arith, across, gone.least, far.least);
     }
 
 walked_sum : (t : Toured) (left i : ℕ) →
-    sum_below i (λ a. aisle_walked t.site t.copies (suc a) + cross_walked t.site t.copies (suc a)) + (aisle_walked t.site t.copies (suc i) + rest_walked t left (suc i))
+    sum_below i (λ a. aisle_walked t.site t.copies (suc a) + cross_walked t.site t.copies (suc a)) +
+        (aisle_walked t.site t.copies (suc i) + rest_walked t left (suc i))
     ≤ sum_below (suc i + left) (λ a. aisle_walked t.site t.copies (suc a) + cross_walked t.site t.copies (suc a))
 walked_sum t zero i = let e : suc i + 0 ≡ suc i = omega arith in rw e (omega arith)
 walked_sum t (suc left) i = let e : suc i + suc left ≡ suc (suc i) + left = omega arith in let rest = walked_sum t left (suc i) in rw e (omega (arith, rest))
@@ -79,6 +82,8 @@ plan_within t =
     let plan : Plan = record { way = λ aisle. first.way; cross = λ aisle. C00 } in
     let whole = whole_from_onward block plan (t.site.aisles - 1) 0 (t.site.aisles - 1) first.next first.through far.rest (omega arith) first.takes far.on in
     let all : suc 0 + (t.site.aisles - 1) ≡ t.site.aisles = omega (arith, depot) in
-    let sum = subst (λ n. sum_below 0 (λ a. aisle_walked t.site t.copies (suc a) + cross_walked t.site t.copies (suc a)) + (aisle_walked t.site t.copies 1 + rest_walked t (t.site.aisles - 1) 1)
+    let sum = subst (λ n. sum_below 0 (λ a. aisle_walked t.site t.copies (suc a) + cross_walked t.site t.copies (suc a)) +
+            (aisle_walked t.site t.copies 1 + rest_walked t (t.site.aisles - 1) 1)
     ≤ sum_below n (λ a. aisle_walked t.site t.copies (suc a) + cross_walked t.site t.copies (suc a))) all (walked_sum t (t.site.aisles - 1) 0) in
-    record { plan = whole.0; class = whole.1; total = first.through + far.rest; comes = whole.2; whole = whole.3; least = omega (arith, first.least, far.least, sum) }
+    record { plan = whole.0; class = whole.1; total = first.through + far.rest; comes = whole.2; whole = whole.3;
+        least = omega (arith, first.least, far.least, sum) }

@@ -17,11 +17,13 @@ starts_with_none t = (
 )
 
 -- where there is no crossing any more, the class is that of a whole tour
-pub done_whole : (t : Toured) (j : ℕ) (class : Class) → t.copies.behind j ≡ 0 → t.copies.front j ≡ 0 → t.site.depot ≤ j → Fits t j class → IsTrue (is_whole class)
+pub done_whole : (t : Toured) (j : ℕ) (class : Class) → t.copies.behind j ≡ 0 → t.copies.front j ≡ 0 → t.site.depot ≤ j → Fits t j class
+    → IsTrue (is_whole class)
 done_whole t j UU1 b f near fits = absurd (omega (arith, f, fits))
 done_whole t j E01 b f near fits = refl
 done_whole t j ZE1 b f near fits = refl
 done_whole t j EE1 b f near fits = refl
-done_whole t j EE2 b f near (even, c, sides, two) = absurd (never_both t j c (beside j c (λ s. false)) two.one two.other (front_alone t j c b sides) (beside_agrees t j c false))
+done_whole t j EE2 b f near (even, c, sides, two) = absurd (never_both t j c (beside j c (λ s. false)) two.one two.other (front_alone t j c b sides)
+    (beside_agrees t j c false))
 done_whole t j Z00 b f near (even, c, sides, none) = absurd (none (depot_of t.site) (inl refl) near)
 done_whole t j Z01 b f near fits = refl

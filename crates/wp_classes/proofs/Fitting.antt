@@ -1,5 +1,6 @@
 -- When a class fits what a tour walks left of and with an aisle, seen by colourings that no walked piece changes.
-use Rattle.std.proofs.Common.{◌≡◌, ◌≢◌, ℕ, suc, ◌%◌, ◌<◌, ◌≤◌, nat_le, nat_lt, Bool, true, false, List, if◌then◌else◌, arith, refl, sym, ap, ◌∙◌, subst, ◌⊎◌, ⊎_elim}
+use Rattle.std.proofs.Common.{◌≡◌, ◌≢◌, ℕ, suc, ◌%◌, ◌<◌, ◌≤◌, nat_le, nat_lt, Bool, true, false, List, if◌then◌else◌, arith, refl, sym, ap, ◌∙◌, subst, ◌⊎◌}
+use Rattle.std.proofs.Common.{⊎_elim}
 use Rattle.std.proofs.lemmas.Bool.{le-leb}
 use Rattle.std.proofs.lemmas.Bool.Decides.{nat_tests}
 use Rattle.wp_model.specs.declared.point.Point.{Point}
@@ -109,23 +110,27 @@ pub split_three : (a j : ℕ) → (a < j) ⊎ (a ≡ j) ⊎ (j < a)
 split_three a j = grind arith
 
 -- one colour beyond an aisle, where nothing crosses from the other side
-pub kept_beside : (t : Toured) (j : ℕ) (c : ℕ → ℕ → Bool) (x : Bool) → IsLeft t j c → (0 < t.copies.behind j → c j (last_place t.site) ≡ x) → (0 < t.copies.front j → c j 0 ≡ x) → IsKept t.site t.copies (beside j c (λ s. x))
+pub kept_beside : (t : Toured) (j : ℕ) (c : ℕ → ℕ → Bool) (x : Bool) → IsLeft t j c → (0 < t.copies.behind j → c j (last_place t.site) ≡ x)
+    → (0 < t.copies.front j → c j 0 ≡ x) → IsKept t.site t.copies (beside j c (λ s. x))
 kept_beside t j c x left back front = record {
   deep = λ a s some. ⊎_elim
       (λ low. beside_left j c (λ s. x) a s low ∙ left.deep a s low some ∙ sym (beside_left j c (λ s. x) a (suc s) low))
       (λ high. beside_right j c (λ s. x) a s high ∙ sym (beside_right j c (λ s. x) a (suc s) high))
       (split_cases a j);
   behind = λ a some. ⊎_elim
-      (λ low. beside_left j c (λ s. x) a (last_place t.site) (omega (arith, low)) ∙ left.behind a low some ∙ sym (beside_left j c (λ s. x) (suc a) (last_place t.site) (omega (arith, low))))
+      (λ low. beside_left j c (λ s. x) a (last_place t.site) (omega (arith, low)) ∙ left.behind a low some
+          ∙ sym (beside_left j c (λ s. x) (suc a) (last_place t.site) (omega (arith, low))))
       (λ rest. ⊎_elim
-      (λ e. beside_left j c (λ s. x) a (last_place t.site) (omega (arith, e)) ∙ ap (λ b. c b (last_place t.site)) e ∙ back (subst (λ b. 0 < t.copies.behind b) e some) ∙ sym (beside_right j c (λ s. x) (suc a) (last_place t.site) (omega (arith, e))))
+      (λ e. beside_left j c (λ s. x) a (last_place t.site) (omega (arith, e)) ∙ ap (λ b. c b (last_place t.site)) e
+          ∙ back (subst (λ b. 0 < t.copies.behind b) e some) ∙ sym (beside_right j c (λ s. x) (suc a) (last_place t.site) (omega (arith, e))))
       (λ high. beside_right j c (λ s. x) a (last_place t.site) high ∙ sym (beside_right j c (λ s. x) (suc a) (last_place t.site) (omega (arith, high))))
       rest)
       (split_three a j);
   front = λ a some. ⊎_elim
       (λ low. beside_left j c (λ s. x) a 0 (omega (arith, low)) ∙ left.front a low some ∙ sym (beside_left j c (λ s. x) (suc a) 0 (omega (arith, low))))
       (λ rest. ⊎_elim
-      (λ e. beside_left j c (λ s. x) a 0 (omega (arith, e)) ∙ ap (λ b. c b 0) e ∙ front (subst (λ b. 0 < t.copies.front b) e some) ∙ sym (beside_right j c (λ s. x) (suc a) 0 (omega (arith, e))))
+      (λ e. beside_left j c (λ s. x) a 0 (omega (arith, e)) ∙ ap (λ b. c b 0) e ∙ front (subst (λ b. 0 < t.copies.front b) e some)
+          ∙ sym (beside_right j c (λ s. x) (suc a) 0 (omega (arith, e))))
       (λ high. beside_right j c (λ s. x) a 0 high ∙ sym (beside_right j c (λ s. x) (suc a) 0 (omega (arith, high))))
       rest)
       (split_three a j);
@@ -144,7 +149,8 @@ split_high z s high = grind (arith, nat_tests)
 pub split_low : (z s : ℕ) → s ≤ z → split_at z s ≡ false
 split_low z s low = grind (arith, nat_tests)
 
-pub next_left : (t : Toured) (j z : ℕ) (c : ℕ → ℕ → Bool) → Linked t j c → z < last_place t.site → t.copies.deep (suc j) z ≡ 0 → IsLeft t (suc j) (beside j c (split_at z))
+pub next_left : (t : Toured) (j z : ℕ) (c : ℕ → ℕ → Bool) → Linked t j c → z < last_place t.site → t.copies.deep (suc j) z ≡ 0
+    → IsLeft t (suc j) (beside j c (split_at z))
 next_left t j z c linked within none = record {
   deep = λ a s upto some. ⊎_elim
       (λ low. beside_left j c (split_at z) a s low ∙ linked.left.deep a s low some ∙ sym (beside_left j c (split_at z) a (suc s) low))
@@ -154,22 +160,28 @@ next_left t j z c linked within none = record {
       beside_right j c (split_at z) a s high ∙ split_same z s other ∙ sym (beside_right j c (split_at z) a (suc s) high))
       (split_cases a j);
   behind = λ a upto some. ⊎_elim
-      (λ low. beside_left j c (split_at z) a (last_place t.site) (omega (arith, low)) ∙ linked.left.behind a low some ∙ sym (beside_left j c (split_at z) (suc a) (last_place t.site) (omega (arith, low))))
+      (λ low. beside_left j c (split_at z) a (last_place t.site) (omega (arith, low)) ∙ linked.left.behind a low some
+          ∙ sym (beside_left j c (split_at z) (suc a) (last_place t.site) (omega (arith, low))))
       (λ rest. ⊎_elim
-      (λ e. beside_left j c (split_at z) a (last_place t.site) (omega (arith, e)) ∙ ap (λ b. c b (last_place t.site)) e ∙ linked.back (subst (λ b. 0 < t.copies.behind b) e some) ∙ sym (beside_right j c (split_at z) (suc a) (last_place t.site) (omega (arith, e)) ∙ split_high z (last_place t.site) within))
+      (λ e. beside_left j c (split_at z) a (last_place t.site) (omega (arith, e)) ∙ ap (λ b. c b (last_place t.site)) e
+          ∙ linked.back (subst (λ b. 0 < t.copies.behind b) e some)
+          ∙ sym (beside_right j c (split_at z) (suc a) (last_place t.site) (omega (arith, e)) ∙ split_high z (last_place t.site) within))
       (λ high. absurd (omega (arith, high, upto)))
       rest)
       (split_three a j);
   front = λ a upto some. ⊎_elim
-      (λ low. beside_left j c (split_at z) a 0 (omega (arith, low)) ∙ linked.left.front a low some ∙ sym (beside_left j c (split_at z) (suc a) 0 (omega (arith, low))))
+      (λ low. beside_left j c (split_at z) a 0 (omega (arith, low)) ∙ linked.left.front a low some
+          ∙ sym (beside_left j c (split_at z) (suc a) 0 (omega (arith, low))))
       (λ rest. ⊎_elim
-      (λ e. beside_left j c (split_at z) a 0 (omega (arith, e)) ∙ ap (λ b. c b 0) e ∙ linked.front (subst (λ b. 0 < t.copies.front b) e some) ∙ sym (beside_right j c (split_at z) (suc a) 0 (omega (arith, e)) ∙ split_low z 0 (omega arith)))
+      (λ e. beside_left j c (split_at z) a 0 (omega (arith, e)) ∙ ap (λ b. c b 0) e ∙ linked.front (subst (λ b. 0 < t.copies.front b) e some)
+          ∙ sym (beside_right j c (split_at z) (suc a) 0 (omega (arith, e)) ∙ split_low z 0 (omega arith)))
       (λ high. absurd (omega (arith, high, upto)))
       rest)
       (split_three a j);
 }
 
-pub next_sides : (t : Toured) (j z : ℕ) (c : ℕ → ℕ → Bool) → Linked t j c → z < last_place t.site → t.copies.deep (suc j) z ≡ 0 → Sides t (suc j) (beside j c (split_at z))
+pub next_sides : (t : Toured) (j z : ℕ) (c : ℕ → ℕ → Bool) → Linked t j c → z < last_place t.site → t.copies.deep (suc j) z ≡ 0
+    → Sides t (suc j) (beside j c (split_at z))
 next_sides t j z c linked within none = record {
   left = next_left t j z c linked within none;
   back = beside_right j c (split_at z) (suc j) (last_place t.site) (omega arith) ∙ split_high z (last_place t.site) within;

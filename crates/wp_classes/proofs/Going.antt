@@ -1,5 +1,6 @@
 -- The least lengths by one way and by one crossing.
-use Rattle.std.proofs.Common.{◌≡◌, ℕ, suc, ◌+◌, ◌*◌, Bool, true, false, IsTrue, if◌then◌else◌, Option, Some, None, option_map, option_and_then, arith, refl, inl, inr, ◌⊎◌, sym, ◌∙◌, subst}
+use Rattle.std.proofs.Common.{◌≡◌, ℕ, suc, ◌+◌, ◌*◌, Bool, true, false, IsTrue, if◌then◌else◌, Option, Some, None, option_map, option_and_then, arith, refl}
+use Rattle.std.proofs.Common.{inl, inr, ◌⊎◌, sym, ◌∙◌, subst}
 use Rattle.std.proofs.lemmas.Bool.{both_ways}
 use Rattle.std.proofs.lemmas.Option.{none-some, same_Some}
 use Rattle.wp_graph.specs.declared.ways.AisleWays.{AisleWays}
@@ -20,7 +21,8 @@ least_by : (onward : Class → ℕ → Type 0) (ways : AisleWays) (after : Lengt
     ((next : Class) → IsLeastOf (onward next) (length_at after next)) → IsLeastOf (ByWay onward ways class way) (by_way ways after class way)
 least_by onward ways after class way is = go (class_after_way class way) (way_length ways way) refl refl
   where
-    at : (next : Class) (through : ℕ) → class_after_way class way ≡ Some next → way_length ways way ≡ Some through → (known : Option ℕ) → length_at after next ≡ known →
+    at : (next : Class) (through : ℕ) → class_after_way class way ≡ Some next → way_length ways way ≡ Some through → (known : Option ℕ)
+        → length_at after next ≡ known →
         IsLeastOf (ByWay onward ways class way) (sum_of (Some through) known)
     at next through allowed applies None e = λ t h.
         let same = same_Some _ _ (sym allowed ∙ h.3.allowed) in
@@ -46,12 +48,15 @@ pub least_ways : (onward : Class → ℕ → Type 0) (ways : AisleWays) (after :
 least_ways onward ways after class is =
     let by = λ (way : Way). least_by onward ways after class way is in
     least_like _ (Through onward ways class) _ to back
-    (least_lesser _ _ _ _ (by Pass) (least_lesser _ _ _ _ (by Back) (least_lesser _ _ _ _ (by Front) (least_lesser _ _ _ _ (by Gap) (least_lesser _ _ _ _ (by Double) (by Skip))))))
+    (least_lesser _ _ _ _ (by Pass) (least_lesser _ _ _ _ (by Back)
+        (least_lesser _ _ _ _ (by Front) (least_lesser _ _ _ _ (by Gap) (least_lesser _ _ _ _ (by Double) (by Skip))))))
   where
     By : Way → ℕ → Type 0
     By way t = ByWay onward ways class way t
 
-    to : (t : ℕ) → ByWay onward ways class Pass t ⊎ (ByWay onward ways class Back t ⊎ (ByWay onward ways class Front t ⊎ (ByWay onward ways class Gap t ⊎ (ByWay onward ways class Double t ⊎ ByWay onward ways class Skip t)))) → Through onward ways class t
+    to : (t : ℕ) → ByWay onward ways class Pass t ⊎ (ByWay onward ways class Back t ⊎
+        (ByWay onward ways class Front t ⊎ (ByWay onward ways class Gap t ⊎ (ByWay onward ways class Double t ⊎ ByWay onward ways class Skip t))))
+        → Through onward ways class t
     to t (inl h) = (Pass, h)
     to t (inr (inl h)) = (Back, h)
     to t (inr (inr (inl h))) = (Front, h)
@@ -59,7 +64,9 @@ least_ways onward ways after class is =
     to t (inr (inr (inr (inr (inl h))))) = (Double, h)
     to t (inr (inr (inr (inr (inr h))))) = (Skip, h)
 
-    split : (t : ℕ) (way : Way) → ByWay onward ways class way t → ByWay onward ways class Pass t ⊎ (ByWay onward ways class Back t ⊎ (ByWay onward ways class Front t ⊎ (ByWay onward ways class Gap t ⊎ (ByWay onward ways class Double t ⊎ ByWay onward ways class Skip t))))
+    split : (t : ℕ) (way : Way) → ByWay onward ways class way t → ByWay onward ways class Pass t
+        ⊎ (ByWay onward ways class Back t ⊎ (ByWay onward ways class Front t ⊎
+        (ByWay onward ways class Gap t ⊎ (ByWay onward ways class Double t ⊎ ByWay onward ways class Skip t))))
     split t Pass h = inl h
     split t Back h = inr (inl h)
     split t Front h = inr (inr (inl h))
@@ -67,7 +74,9 @@ least_ways onward ways after class is =
     split t Double h = inr (inr (inr (inr (inl h))))
     split t Skip h = inr (inr (inr (inr (inr h))))
 
-    back : (t : ℕ) → Through onward ways class t → ByWay onward ways class Pass t ⊎ (ByWay onward ways class Back t ⊎ (ByWay onward ways class Front t ⊎ (ByWay onward ways class Gap t ⊎ (ByWay onward ways class Double t ⊎ ByWay onward ways class Skip t))))
+    back : (t : ℕ) → Through onward ways class t → ByWay onward ways class Pass t
+        ⊎ (ByWay onward ways class Back t ⊎ (ByWay onward ways class Front t ⊎
+        (ByWay onward ways class Gap t ⊎ (ByWay onward ways class Double t ⊎ ByWay onward ways class Skip t))))
     back t h = split t h.0 h.1
 
 -- the least length by one crossing
@@ -92,26 +101,33 @@ least_crosses onward spacing after class is =
     least_like _ (Across onward spacing class) _ to back
     (least_lesser _ _ _ _ (by C00) (least_lesser _ _ _ _ (by C11) (least_lesser _ _ _ _ (by C20) (least_lesser _ _ _ _ (by C02) (by C22)))))
   where
-    to : (t : ℕ) → ByCross onward spacing class C00 t ⊎ (ByCross onward spacing class C11 t ⊎ (ByCross onward spacing class C20 t ⊎ (ByCross onward spacing class C02 t ⊎ ByCross onward spacing class C22 t))) → Across onward spacing class t
+    to : (t : ℕ) → ByCross onward spacing class C00 t ⊎ (ByCross onward spacing class C11 t ⊎
+        (ByCross onward spacing class C20 t ⊎ (ByCross onward spacing class C02 t ⊎ ByCross onward spacing class C22 t))) → Across onward spacing class t
     to t (inl h) = (C00, h)
     to t (inr (inl h)) = (C11, h)
     to t (inr (inr (inl h))) = (C20, h)
     to t (inr (inr (inr (inl h)))) = (C02, h)
     to t (inr (inr (inr (inr h)))) = (C22, h)
 
-    split : (t : ℕ) (cross : Cross) → ByCross onward spacing class cross t → ByCross onward spacing class C00 t ⊎ (ByCross onward spacing class C11 t ⊎ (ByCross onward spacing class C20 t ⊎ (ByCross onward spacing class C02 t ⊎ ByCross onward spacing class C22 t)))
+    split : (t : ℕ) (cross : Cross) → ByCross onward spacing class cross t → ByCross onward spacing class C00 t
+        ⊎ (ByCross onward spacing class C11 t ⊎ (ByCross onward spacing class C20 t ⊎
+        (ByCross onward spacing class C02 t ⊎ ByCross onward spacing class C22 t)))
     split t C00 h = inl h
     split t C11 h = inr (inl h)
     split t C20 h = inr (inr (inl h))
     split t C02 h = inr (inr (inr (inl h)))
     split t C22 h = inr (inr (inr (inr h)))
 
-    back : (t : ℕ) → Across onward spacing class t → ByCross onward spacing class C00 t ⊎ (ByCross onward spacing class C11 t ⊎ (ByCross onward spacing class C20 t ⊎ (ByCross onward spacing class C02 t ⊎ ByCross onward spacing class C22 t)))
+    back : (t : ℕ) → Across onward spacing class t → ByCross onward spacing class C00 t
+        ⊎ (ByCross onward spacing class C11 t ⊎ (ByCross onward spacing class C20 t ⊎
+        (ByCross onward spacing class C02 t ⊎ ByCross onward spacing class C22 t)))
     back t h = split t h.0 h.1
 
 -- the least lengths at the end
-pub onward_at_end : (block : Block) (aisle : ℕ) (lengths : Lengths) → ((class : Class) → length_at lengths class ≡ (if is_whole class then Some 0 else None)) → AreOnward block 0 aisle lengths
-onward_at_end block aisle lengths are = record { least = λ class. subst (λ o. IsLeastOf (λ t. Onward block 0 aisle class t) o) (sym (are class)) (go class (is_whole class) refl) }
+pub onward_at_end : (block : Block) (aisle : ℕ) (lengths : Lengths) → ((class : Class) → length_at lengths class ≡ (if is_whole class then Some 0 else None))
+    → AreOnward block 0 aisle lengths
+onward_at_end block aisle lengths are = record { least = λ class. subst (λ o. IsLeastOf (λ t. Onward block 0 aisle class t) o) (sym (are class))
+    (go class (is_whole class) refl) }
   where
     go : (class : Class) (b : Bool) → is_whole class ≡ b → IsLeastOf (λ t. IsTrue (is_whole class) × (t ≡ 0)) (if b then Some 0 else None)
     go class true whole = ((whole, refl), λ t h. omega arith)
@@ -125,7 +141,8 @@ onward_left block left aisle after through before are by_ways by_crosses = recor
   least = λ class.
       let on : Class → ℕ → Type 0 = λ next rest. Onward block left (suc aisle) next rest in
       let between : (c : Class) → IsLeastOf (λ rest. Through on (block.ways (suc aisle)) c rest) (length_at through c) =
-      λ c. subst (λ o. IsLeastOf (λ rest. Through on (block.ways (suc aisle)) c rest) o) (sym (by_ways c)) (least_ways on (block.ways (suc aisle)) after c are.least) in
+      λ c. subst (λ o. IsLeastOf (λ rest. Through on (block.ways (suc aisle)) c rest) o) (sym (by_ways c))
+          (least_ways on (block.ways (suc aisle)) after c are.least) in
       subst (λ o. IsLeastOf (λ t. Onward block (suc left) aisle class t) o) (sym (by_crosses class))
       (least_crosses (λ c rest. Through on (block.ways (suc aisle)) c rest) (block.spacing aisle) through class between);
 }

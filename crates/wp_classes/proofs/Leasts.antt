@@ -41,7 +41,8 @@ least_more P a (Some m) is = ((m, is.0, refl), λ t h. let up = is.1 h.0 h.1 in 
 pub lesser_one : (a b : Option ℕ) → (lesser a b ≡ a) ⊎ (lesser a b ≡ b)
 lesser_one None b = inr refl
 lesser_one (Some m) None = inl refl
-lesser_one (Some m) (Some n) = ⊎_elim (λ (low : m ≤ n). let e : min m n ≡ m = omega arith in inl (ap (λ k. Some k) e)) (λ (low : n ≤ m). let e : min m n ≡ n = omega arith in inr (ap (λ k. Some k) e)) (cases_le m n)
+lesser_one (Some m) (Some n) = ⊎_elim (λ (low : m ≤ n). let e : min m n ≡ m = omega arith in inl (ap (λ k. Some k) e))
+    (λ (low : n ≤ m). let e : min m n ≡ n = omega arith in inr (ap (λ k. Some k) e)) (cases_le m n)
   where
     cases_le : (a b : ℕ) → (a ≤ b) ⊎ (b ≤ a)
     cases_le a b = grind arith

@@ -8,7 +8,8 @@ use Rattle.wp_graph.specs.Required.{distance}
 use Rattle.wp_classes.specs.Paths.{On, Path, ahead, at, behind}
 
 -- two paths that meet
-pub path_join : (layout : Layout) (from mid to : Point) (first second : List Point) (s t : ℕ) → Path layout from first mid s → Path layout mid second to t → Path layout from (first ++ second) to (s + t)
+pub path_join : (layout : Layout) (from mid to : Point) (first second : List Point) (s t : ℕ) → Path layout from first mid s → Path layout mid second to t
+    → Path layout from (first ++ second) to (s + t)
 path_join layout from mid to [] second s t one two =
     let sum : t ≡ s + t = omega (arith, one.1) in
     subst (λ (p : Point). Path layout p second to (s + t)) (sym one.0) (subst (λ (n : ℕ). Path layout mid second to n) sum two)
@@ -26,7 +27,8 @@ on_first from [] (q ∷ second) p h = inl h
 on_first from (next ∷ first) second p (inl e) = inl e
 on_first from (next ∷ first) second p (inr h) = inr (on_first next first second p h)
 
-pub on_second : (layout : Layout) (from mid : Point) (first second : List Point) (s : ℕ) (p : Point) → Path layout from first mid s → On mid second p → On from (first ++ second) p
+pub on_second : (layout : Layout) (from mid : Point) (first second : List Point) (s : ℕ) (p : Point) → Path layout from first mid s → On mid second p
+    → On from (first ++ second) p
 on_second layout from mid [] second s p path h = subst (λ (q : Point). On q second p) (sym path.0) h
 on_second layout from mid (next ∷ first) second s p (step, rest, move, path, total) h = inr (on_second layout next mid first second rest p path h)
 
@@ -36,7 +38,8 @@ on_end layout from to [] t path = path.0
 on_end layout from to (next ∷ points) t (step, rest, move, path, total) = inr (on_end layout next to points rest path)
 
 -- along an aisle
-pub path_ahead : (layout : Layout) (aisle place n : ℕ) → IsUpTo layout.aisles aisle → place + n ≤ back_end layout → (t : ℕ) × Path layout (at aisle place) (ahead aisle place n) (at aisle (place + n)) t × (distance layout place + t ≡ distance layout (place + n))
+pub path_ahead : (layout : Layout) (aisle place n : ℕ) → IsUpTo layout.aisles aisle → place + n ≤ back_end layout → (t : ℕ)
+    × Path layout (at aisle place) (ahead aisle place n) (at aisle (place + n)) t × (distance layout place + t ≡ distance layout (place + n))
 path_ahead layout aisle place zero within short =
     let same : place ≡ place + 0 = omega arith in
     (0, (ap (λ s. at aisle s) same, refl), omega (arith, ap (λ s. distance layout s) same))
@@ -50,11 +53,13 @@ path_ahead layout aisle place (suc n) within short =
     } in
     let far = ap (λ s. distance layout s) same in (
       step_length layout place + rest.0,
-      (step_length layout place, rest.0, move, subst (λ (s : ℕ). Path layout (at aisle (suc place)) (ahead aisle (suc place) n) (at aisle s) rest.0) same rest.1, refl),
+      (step_length layout place, rest.0, move, subst (λ (s : ℕ). Path layout (at aisle (suc place)) (ahead aisle (suc place) n) (at aisle s) rest.0) same
+          rest.1, refl),
       omega (arith, rest.2, far),
     )
 
-pub path_behind : (layout : Layout) (aisle place n : ℕ) → IsUpTo layout.aisles aisle → place + n ≤ back_end layout → (t : ℕ) × Path layout (at aisle (place + n)) (behind aisle place n) (at aisle place) t × (distance layout place + t ≡ distance layout (place + n))
+pub path_behind : (layout : Layout) (aisle place n : ℕ) → IsUpTo layout.aisles aisle → place + n ≤ back_end layout → (t : ℕ)
+    × Path layout (at aisle (place + n)) (behind aisle place n) (at aisle place) t × (distance layout place + t ≡ distance layout (place + n))
 path_behind layout aisle place zero within short =
     let same : place + 0 ≡ place = omega arith in
     (0, (ap (λ s. at aisle s) same, refl), omega (arith, ap (λ s. distance layout s) same))
@@ -92,10 +97,12 @@ pub record IsCrossway (layout : Layout) (aisle end : ℕ) : Type 0 where
 end_within : (layout : Layout) (end : ℕ) → (end ≡ 0) ⊎ (end ≡ back_end layout) → end ≤ back_end layout
 end_within layout end h = ⊎_elim (λ e. omega (arith, e)) (λ e. omega (arith, e)) h
 
-pub path_left : (layout : Layout) (aisle end : ℕ) → IsCrossway layout aisle end → Path layout (at (suc aisle) end) (at aisle end ∷ []) (at aisle end) (spacing_after layout aisle)
+pub path_left : (layout : Layout) (aisle end : ℕ) → IsCrossway layout aisle end
+    → Path layout (at (suc aisle) end) (at aisle end ∷ []) (at aisle end) (spacing_after layout aisle)
 path_left layout aisle end h =
     let within = end_within layout end h.is_end in
-    let across : IsFurther layout (at aisle end) (at (suc aisle) end) (spacing_after layout aisle) = record { end = h.is_end; aisle = omega arith; slot = refl; length_is = refl } in (
+    let across : IsFurther layout (at aisle end) (at (suc aisle) end) (spacing_after layout aisle) =
+            record { end = h.is_end; aisle = omega arith; slot = refl; length_is = refl } in (
       spacing_after layout aisle,
       0,
       record {
@@ -107,10 +114,12 @@ path_left layout aisle end h =
       omega arith,
     )
 
-pub path_right : (layout : Layout) (aisle end : ℕ) → IsCrossway layout aisle end → Path layout (at aisle end) (at (suc aisle) end ∷ []) (at (suc aisle) end) (spacing_after layout aisle)
+pub path_right : (layout : Layout) (aisle end : ℕ) → IsCrossway layout aisle end
+    → Path layout (at aisle end) (at (suc aisle) end ∷ []) (at (suc aisle) end) (spacing_after layout aisle)
 path_right layout aisle end h =
     let within = end_within layout end h.is_end in
-    let across : IsFurther layout (at aisle end) (at (suc aisle) end) (spacing_after layout aisle) = record { end = h.is_end; aisle = omega arith; slot = refl; length_is = refl } in (
+    let across : IsFurther layout (at aisle end) (at (suc aisle) end) (spacing_after layout aisle) =
+            record { end = h.is_end; aisle = omega arith; slot = refl; length_is = refl } in (
       spacing_after layout aisle,
       0,
       record {

@@ -1,5 +1,6 @@
 -- From how a tour goes on to a plan, and back.
-use Rattle.std.proofs.Common.{◌≡◌, ℕ, zero, suc, ◌+◌, ◌-◌, ◌*◌, ◌≤◌, ◌<◌, ◌==◌, true, IsTrue, List, Option, Some, is_some, if◌then◌else◌, arith, refl, sym, ◌∙◌, ap, subst}
+use Rattle.std.proofs.Common.{◌≡◌, ℕ, zero, suc, ◌+◌, ◌-◌, ◌*◌, ◌≤◌, ◌<◌, ◌==◌, true, IsTrue, List, Option, Some, is_some, if◌then◌else◌, arith, refl, sym}
+use Rattle.std.proofs.Common.{◌∙◌, ap, subst}
 use Rattle.std.proofs.lemmas.Bool.{cond-false, cond-true, eq-eqb, ne_eqb, some_since}
 use Rattle.std.proofs.lemmas.Option.{same_Some}
 use Rattle.wp_model.specs.declared.point.Point.{Point}
@@ -24,10 +25,13 @@ pub record AreAlike (one other : Plan) (more : ℕ) : Type 0 where
   pub crosses : (aisle : ℕ) → 1 ≤ aisle → aisle ≤ more → one.cross aisle ≡ other.cross aisle
 
 -- a plan comes where one that is alike comes
-pub comes_alike : (block : Block) (one other : Plan) (more : ℕ) (class : Class) (t : ℕ) → AreAlike one other more → ComesTo block one more class t → ComesTo block other more class t
-comes_alike block one other zero class t alike takes = subst (λ (w : Way). TakesWay (block.ways 1) w Z00 class t) (alike.ways 1 (omega arith) (omega arith)) takes
+pub comes_alike : (block : Block) (one other : Plan) (more : ℕ) (class : Class) (t : ℕ) → AreAlike one other more → ComesTo block one more class t
+    → ComesTo block other more class t
+comes_alike block one other zero class t alike takes = subst (λ (w : Way). TakesWay (block.ways 1) w Z00 class t)
+    (alike.ways 1 (omega arith) (omega arith)) takes
 comes_alike block one other (suc more) class t alike (before, between, so_far, across, through, comes, crosses, takes, total) =
-    let nearer : AreAlike one other more = record { ways = λ aisle some le. alike.ways aisle some (omega arith); crosses = λ aisle some le. alike.crosses aisle some (omega arith) } in (
+    let nearer : AreAlike one other more = record { ways = λ aisle some le. alike.ways aisle some (omega arith);
+            crosses = λ aisle some le. alike.crosses aisle some (omega arith) } in (
       before,
       between,
       so_far,
@@ -44,7 +48,8 @@ abbrev pub then_takes : Plan → ℕ → Cross → Way → Plan
 then_takes plan aisle cross way = record { way = λ a. if a == suc aisle then way else plan.way a; cross = λ a. if a == aisle then cross else plan.cross a }
 
 pub comes_further : (block : Block) (plan : Plan) (more : ℕ) (before between class : Class) (so_far across through : ℕ) (cross : Cross) (way : Way) →
-    ComesTo block plan more before so_far → TakesCross (block.spacing (suc more)) cross before between across → TakesWay (block.ways (suc (suc more))) way between class through →
+    ComesTo block plan more before so_far → TakesCross (block.spacing (suc more)) cross before between across
+        → TakesWay (block.ways (suc (suc more))) way between class through →
     ComesTo block (then_takes plan (suc more) cross way) (suc more) class (so_far + across + through)
 comes_further block plan more before between class so_far across through cross way comes crosses takes =
     let next = then_takes plan (suc more) cross way in
@@ -58,8 +63,10 @@ comes_further block plan more before between class so_far across through cross w
       across,
       through,
       comes_alike block plan next more before so_far alike comes,
-      subst (λ (c : Cross). TakesCross (block.spacing (suc more)) c before between across) (sym (cond-true (suc more == suc more) cross (plan.cross (suc more)) (eq-eqb _ _ refl))) crosses,
-      subst (λ (w : Way). TakesWay (block.ways (suc (suc more))) w between class through) (sym (cond-true (suc (suc more) == suc (suc more)) way (plan.way (suc (suc more))) (eq-eqb _ _ refl))) takes,
+      subst (λ (c : Cross). TakesCross (block.spacing (suc more)) c before between across)
+          (sym (cond-true (suc more == suc more) cross (plan.cross (suc more)) (eq-eqb _ _ refl))) crosses,
+      subst (λ (w : Way). TakesWay (block.ways (suc (suc more))) w between class through)
+          (sym (cond-true (suc (suc more) == suc (suc more)) way (plan.way (suc (suc more))) (eq-eqb _ _ refl))) takes,
       refl,
     )
 
@@ -74,7 +81,8 @@ whole_from_onward block plan zero more all class t r is comes on =
     let same : more ≡ all = omega arith in
     let total : t ≡ t + r = omega (arith, on.1) in
     (plan, class, subst (λ n. ComesTo block plan n class (t + r)) same (subst (λ s. ComesTo block plan more class s) total comes), on.0)
-whole_from_onward block plan (suc left) more all class t r is comes (cross, (between, across, rest, crosses, (way, (next, through, far, takes, on, total')), total)) =
+whole_from_onward block plan (suc left) more all class t r is comes
+    (cross, (between, across, rest, crosses, (way, (next, through, far, takes, on, total')), total)) =
     let further = comes_further block plan more class between next t across through cross way comes crosses takes in
     let whole = whole_from_onward block (then_takes plan (suc more) cross way) left (suc more) all next (t + across + through) far (omega arith) further on in
     let same : t + across + through + far ≡ t + r = omega (arith, total, total') in
@@ -100,7 +108,8 @@ onward_twice block (suc left) aisle =
     let rest = onward_twice block left (suc aisle) in
     let ways = block.ways (suc aisle) in (
       copies C22 * block.spacing aisle + (ways.double + rest.0),
-      (C22, (EE1, copies C22 * block.spacing aisle, ways.double + rest.0, record { allowed = refl; length_is = refl }, (Double, (EE1, ways.double, rest.0, record { allowed = refl; applies = refl }, rest.1, refl)), refl)),
+      (C22, (EE1, copies C22 * block.spacing aisle, ways.double + rest.0, record { allowed = refl; length_is = refl },
+          (Double, (EE1, ways.double, rest.0, record { allowed = refl; applies = refl }, rest.1, refl)), refl)),
     )
 
 -- the least length of all ways to go on from the first aisle
@@ -120,7 +129,8 @@ least_plan layout picks total is = record {
       (whole.0, subst (λ t. IsAllowed layout picks whole.0 t) (sym by.5) (record { class = whole.1; comes = whole.2; whole = whole.3 }));
   least = λ plan other allowed.
       let block = block_of layout picks in
-      let through = onward_from_plan block plan (layout.aisles - 1) 0 (layout.aisles - 1) allowed.class other 0 (omega arith) allowed.comes (allowed.whole, refl) in
+      let through = onward_from_plan block plan (layout.aisles - 1) 0 (layout.aisles - 1) allowed.class other 0 (omega arith) allowed.comes
+              (allowed.whole, refl) in
       let up = is.is.1 (other + 0) through in omega (arith, up);
 }
 
@@ -132,23 +142,29 @@ some_way_on block left least is =
     no_one ((block.ways 1).double + rest.0) (Double, (EE1, (block.ways 1).double, rest.0, record { allowed = refl; applies = refl }, rest.1, refl)))
 
 -- the least length by the first way is that of all ways to go on
-pub least_first : (block : Block) (left : ℕ) (ways : AisleWays) (lengths : Lengths) (least : Option ℕ) → AreOnward block left 1 lengths → ways ≡ block.ways 1 → least ≡ least_by_way ways lengths Z00 → IsLeastFirst block left least
+pub least_first : (block : Block) (left : ℕ) (ways : AisleWays) (lengths : Lengths) (least : Option ℕ) → AreOnward block left 1 lengths → ways ≡ block.ways 1
+    → least ≡ least_by_way ways lengths Z00 → IsLeastFirst block left least
 least_first block left ways lengths least are is by =
     let on : Class → ℕ → Type 0 = λ next rest. Onward block left 1 next rest in
-    record { is = subst (λ (o : Option ℕ). IsLeastOf (λ t. Through on (block.ways 1) Z00 t) o) (sym (by ∙ ap (λ (w : AisleWays). least_by_way w lengths Z00) is)) (least_ways on (block.ways 1) lengths Z00 are.least) }
+    record { is = subst (λ (o : Option ℕ). IsLeastOf (λ t. Through on (block.ways 1) Z00 t) o)
+        (sym (by ∙ ap (λ (w : AisleWays). least_by_way w lengths Z00) is)) (least_ways on (block.ways 1) lengths Z00 are.least) }
 
 -- after as many aisles as there are but one, the first is left
-pub at_first : (block : Block) (all done : ℕ) (lengths : Lengths) → 1 ≤ all → all ≤ done → done ≤ all → AreOnward block (all - (all + 1 - done)) (all + 1 - done) lengths → AreOnward block (all - 1) 1 lengths
+pub at_first : (block : Block) (all done : ℕ) (lengths : Lengths) → 1 ≤ all → all ≤ done → done ≤ all
+    → AreOnward block (all - (all + 1 - done)) (all + 1 - done) lengths → AreOnward block (all - 1) 1 lengths
 at_first block all done lengths some low high are =
     let first : all + 1 - done ≡ 1 = omega arith in subst (λ (a : ℕ). AreOnward block (all - a) a lengths) first are
 
 -- a plan comes to one class with one length
-pub comes_same : (block : Block) (plan : Plan) (more : ℕ) (c d : Class) (s t : ℕ) → ComesTo block plan more c s → ComesTo block plan more d t → (c ≡ d) × (s ≡ t)
+pub comes_same : (block : Block) (plan : Plan) (more : ℕ) (c d : Class) (s t : ℕ) → ComesTo block plan more c s → ComesTo block plan more d t → (c ≡ d)
+    × (s ≡ t)
 comes_same block plan zero c d s t one two = (same_Some _ _ (sym one.allowed ∙ two.allowed), same_Some _ _ (sym one.applies ∙ two.applies))
 comes_same block plan (suc more) c d s t (b, m, o, a, h, comes, crosses, takes, sum) (b', m', o', a', h', comes', crosses', takes', sum') =
     let before = comes_same block plan more b b' o o' comes comes' in
-    let between : m ≡ m' = same_Some _ _ (sym crosses.allowed ∙ subst (λ (x : Class). class_after_cross x (plan.cross (suc more)) ≡ Some m') (sym before.0) crosses'.allowed) in
-    let after : c ≡ d = same_Some _ _ (sym takes.allowed ∙ subst (λ (x : Class). class_after_way x (plan.way (suc (suc more))) ≡ Some d) (sym between) takes'.allowed) in
+    let between : m ≡ m' = same_Some _ _ (sym crosses.allowed
+            ∙ subst (λ (x : Class). class_after_cross x (plan.cross (suc more)) ≡ Some m') (sym before.0) crosses'.allowed) in
+    let after : c ≡ d = same_Some _ _ (sym takes.allowed ∙ subst (λ (x : Class). class_after_way x (plan.way (suc (suc more))) ≡ Some d)
+            (sym between) takes'.allowed) in
     let through : h ≡ h' = same_Some _ _ (sym takes.applies ∙ takes'.applies) in
     (after, omega (arith, before.1, crosses.length_is, crosses'.length_is, through, sum, sum'))
 
@@ -163,14 +179,17 @@ pub record ComesOn (block : Block) (plan : Plan) (more : ℕ) (class : Class) (s
   pub comes : ComesTo block plan (suc more) next (so_far + across + through)
 
 -- a plan that comes to a later aisle comes to each earlier one
-pub comes_earlier : (block : Block) (plan : Plan) (more further : ℕ) (class : Class) (t : ℕ) → ComesTo block plan (more + further) class t → (c : Class) × (s : ℕ) × ComesTo block plan more c s
-comes_earlier block plan more zero class t comes = let same : more + 0 ≡ more = omega arith in (class, t, subst (λ (n : ℕ). ComesTo block plan n class t) same comes)
+pub comes_earlier : (block : Block) (plan : Plan) (more further : ℕ) (class : Class) (t : ℕ) → ComesTo block plan (more + further) class t → (c : Class)
+    × (s : ℕ) × ComesTo block plan more c s
+comes_earlier block plan more zero class t comes = let same : more + 0 ≡ more = omega arith in
+    (class, t, subst (λ (n : ℕ). ComesTo block plan n class t) same comes)
 comes_earlier block plan more (suc further) class t comes =
     let same : more + suc further ≡ suc (more + further) = omega arith in
     let last = subst (λ (n : ℕ). ComesTo block plan n class t) same comes in
     comes_earlier block plan more further last.0 last.2 last.5
 
-pub comes_on : (block : Block) (plan : Plan) (more all : ℕ) (class end : Class) (so_far total : ℕ) → more < all → ComesTo block plan more class so_far → ComesTo block plan all end total → ComesOn block plan more class so_far
+pub comes_on : (block : Block) (plan : Plan) (more all : ℕ) (class end : Class) (so_far total : ℕ) → more < all → ComesTo block plan more class so_far
+    → ComesTo block plan all end total → ComesOn block plan more class so_far
 comes_on block plan more all class end so_far total early here whole =
     let same : all ≡ suc more + (all - suc more) = omega arith in
     let next = comes_earlier block plan (suc more) (all - suc more) end total (subst (λ (n : ℕ). ComesTo block plan n end total) same whole) in

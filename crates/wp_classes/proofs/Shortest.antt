@@ -37,17 +37,20 @@ pub record WithinTour (layout : Layout) (picks : List Point) (most : ℕ) : Type
   pub allowed : IsAllowed layout picks plan total
   pub least : total ≤ most
 
-pub plan_within_tour : (layout : Layout) (picks points : List Point) (total : ℕ) → AreSlots layout picks → IsTour layout picks points total → WithinTour layout picks total
+pub plan_within_tour : (layout : Layout) (picks points : List Point) (total : ℕ) → AreSlots layout picks → IsTour layout picks points total
+    → WithinTour layout picks total
 plan_within_tour layout picks points total slots tour =
     let walked = tour_is_its_copies layout picks points total tour in
     let fewer = all_go_down_to_two (site_of layout) picks (copies_of layout points) walked.0 in
     let ways = all_aisles_become_ways (site_of layout) picks fewer.copies (picks_within layout picks slots) fewer.are fewer.few in
-    let t : Toured = record { site = site_of layout; picks = picks; copies = ways.copies; are = ways.are; few = ways.few; within = picks_within layout picks slots } in
+    let t : Toured = record { site = site_of layout; picks = picks; copies = ways.copies; are = ways.are; few = ways.few;
+            within = picks_within layout picks slots } in
     let within = plan_within t in
     record {
       plan = within.plan;
       total = within.total;
-      allowed = record { class = within.class; comes = subst (λ block. ComesTo block within.plan (layout.aisles - 1) within.class within.total) (layout_block layout picks) within.comes; whole = within.whole };
+      allowed = record { class = within.class; comes = subst (λ block. ComesTo block within.plan (layout.aisles - 1) within.class within.total)
+          (layout_block layout picks) within.comes; whole = within.whole };
       least = omega (arith, within.least, ways.least, fewer.least, walked.1);
     }
 
@@ -55,5 +58,6 @@ plan_within_tour layout picks points total slots tour =
 pub shortest : (layout : Layout) (picks : List Point) (total : ℕ) → AreSlots layout picks → IsLeastPlan layout picks total → IsShortest layout picks total
 shortest layout picks total slots least = record {
   some = tour_of_plan layout picks least.some.0 total slots least.some.1;
-  least = λ points other tour. let within = plan_within_tour layout picks points other slots tour in let up = least.least within.plan within.total within.allowed in omega (arith, up, within.least);
+  least = λ points other tour. let within = plan_within_tour layout picks points other slots tour in let up =
+      least.least within.plan within.total within.allowed in omega (arith, up, within.least);
 }

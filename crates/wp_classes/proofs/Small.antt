@@ -66,36 +66,45 @@ onward_small block small (suc left) aisle class t h =
     let bound = λ (c : Class) (r : ℕ) (on : Onward block left (suc aisle) c r). onward_small block small left (suc aisle) c r on in
     let between = λ (c : Class) (r : ℕ) (on : Through (λ next more. Onward block left (suc aisle) next more) (block.ways (suc aisle)) c r).
     through_small (λ next more. Onward block left (suc aisle) next more) (block.ways (suc aisle)) (left * 4060000) (small.ways (suc aisle)) bound c r on in
-    let whole = across_small (λ c r. Through (λ next more. Onward block left (suc aisle) next more) (block.ways (suc aisle)) c r) (block.spacing aisle) (4020000 + left * 4060000) (small.spacing aisle) between class t h in
+    let whole = across_small (λ c r. Through (λ next more. Onward block left (suc aisle) next more) (block.ways (suc aisle)) c r) (block.spacing aisle)
+            (4020000 + left * 4060000) (small.spacing aisle) between class t h in
     omega (arith, whole)
 
 pub least_small : (P : ℕ → Type 0) (least : Option ℕ) (most : ℕ) → IsLeastOf P least → ((t : ℕ) → P t → t ≤ most) → IfSome least (λ t. t ≤ most)
 least_small P None most is bound = tt
 least_small P (Some m) most is bound = bound m is.0
 
-pub onward_fits : (block : Block) (left aisle : ℕ) (lengths : Lengths) → IsSmall block → left ≤ 64 → AreOnward block left aisle lengths → (class : Class) → IfSome (length_at lengths class) (λ t. t ≤ 300000000)
+pub onward_fits : (block : Block) (left aisle : ℕ) (lengths : Lengths) → IsSmall block → left ≤ 64 → AreOnward block left aisle lengths → (class : Class)
+    → IfSome (length_at lengths class) (λ t. t ≤ 300000000)
 onward_fits block left aisle lengths small near are class =
-    least_small (λ t. Onward block left aisle class t) (length_at lengths class) 300000000 (are.least class) (λ t on. let b = onward_small block small left aisle class t on in omega (arith, b, near))
+    least_small (λ t. Onward block left aisle class t) (length_at lengths class) 300000000 (are.least class)
+        (λ t on. let b = onward_small block small left aisle class t on in omega (arith, b, near))
 
 pub fits_wider : (found : Option ℕ) (most more : ℕ) → most ≤ more → IfSome found (λ t. t ≤ most) → IfSome found (λ t. t ≤ more)
 fits_wider None most more le fits = tt
 fits_wider (Some t) most more le fits = omega (arith, le, fits)
 
 -- the lengths on from an aisle of a layout fit
-pub lengths_within : (layout : Layout) (picks : List Point) (left aisle : ℕ) (lengths : Lengths) → IsLayout layout → left ≤ 64 → AreOnward (block_of layout picks) left aisle lengths →
+pub lengths_within : (layout : Layout) (picks : List Point) (left aisle : ℕ) (lengths : Lengths) → IsLayout layout → left ≤ 64
+    → AreOnward (block_of layout picks) left aisle lengths →
     (class : Class) → IfSome (length_at lengths class) (λ t. t ≤ 2 ^ 40)
 lengths_within layout picks left aisle lengths valid near are class =
-    fits_wider (length_at lengths class) 300000000 (2 ^ 40) (lit≤ tt) (onward_fits (block_of layout picks) left aisle lengths (block_small layout picks valid) near are class)
+    fits_wider (length_at lengths class) 300000000 (2 ^ 40) (lit≤ tt)
+        (onward_fits (block_of layout picks) left aisle lengths (block_small layout picks valid) near are class)
 
 -- so do the ways through an aisle of a layout
-pub ways_within : (layout : Layout) (picks : List Point) (aisle : ℕ) (ways : AisleWays) → IsLayout layout → ways ≡ ways_of layout picks aisle → (way : Way) → IfSome (way_length ways way) (λ t. t ≤ 2 ^ 40)
+pub ways_within : (layout : Layout) (picks : List Point) (aisle : ℕ) (ways : AisleWays) → IsLayout layout → ways ≡ ways_of layout picks aisle → (way : Way)
+    → IfSome (way_length ways way) (λ t. t ≤ 2 ^ 40)
 ways_within layout picks aisle ways valid is way =
     subst (λ (w : AisleWays). IfSome (way_length w way) (λ t. t ≤ 2 ^ 40)) (sym is)
-    (fits_wider (way_length (ways_of layout picks aisle) way) 4020000 (2 ^ 40) (lit≤ tt) (ways_fit 4020000 (ways_of layout picks aisle) (ways_small layout picks aisle valid) way))
+    (fits_wider (way_length (ways_of layout picks aisle) way) 4020000 (2 ^ 40) (lit≤ tt)
+        (ways_fit 4020000 (ways_of layout picks aisle) (ways_small layout picks aisle valid) way))
 
 -- and the least lengths before the way
-pub through_within : (layout : Layout) (picks : List Point) (left aisle : ℕ) (ways : AisleWays) (after through : Lengths) → IsLayout layout → left ≤ 64 → AreOnward (block_of layout picks) left aisle after →
-    ways ≡ ways_of layout picks aisle → ((class : Class) → length_at through class ≡ least_by_way ways after class) → (class : Class) → IfSome (length_at through class) (λ t. t ≤ 2 ^ 40)
+pub through_within : (layout : Layout) (picks : List Point) (left aisle : ℕ) (ways : AisleWays) (after through : Lengths) → IsLayout layout → left ≤ 64
+    → AreOnward (block_of layout picks) left aisle after →
+    ways ≡ ways_of layout picks aisle → ((class : Class) → length_at through class ≡ least_by_way ways after class) → (class : Class)
+        → IfSome (length_at through class) (λ t. t ≤ 2 ^ 40)
 through_within layout picks left aisle ways after through valid near are is by_ways class =
     let block = block_of layout picks in
     let on : Class → ℕ → Type 0 = λ next rest. Onward block left aisle next rest in
@@ -106,7 +115,8 @@ through_within layout picks left aisle ways after through valid near are is by_w
     (λ t h. let b = through_small on ways (left * 4060000) fits (λ c r o. onward_small block small left aisle c r o) class t h in omega (arith, b, near)))
 
 -- the least lengths on from an aisle, one aisle further left
-pub onward_one_left : (block : Block) (all aisle : ℕ) (ways : AisleWays) (spacing : ℕ) (after through before : Lengths) → 2 ≤ aisle → aisle ≤ all → AreOnward block (all - aisle) aisle after →
+pub onward_one_left : (block : Block) (all aisle : ℕ) (ways : AisleWays) (spacing : ℕ) (after through before : Lengths) → 2 ≤ aisle → aisle ≤ all
+    → AreOnward block (all - aisle) aisle after →
     ways ≡ block.ways aisle → spacing ≡ block.spacing (aisle - 1) → ((class : Class) → length_at through class ≡ least_by_way ways after class) →
     ((class : Class) → length_at before class ≡ least_by_cross spacing through class) → AreOnward block (all - (aisle - 1)) (aisle - 1) before
 onward_one_left block all zero ways spacing after through before low high are is at by_ways by_crosses = absurd (omega arith)

@@ -44,7 +44,8 @@ least_by_way ways after class =
 
 -- the length by a crossing, and on from the class to which it leads
 abbrev pub by_cross : ℕ → Lengths → Class → Cross → Option ℕ
-by_cross spacing after class cross = option_and_then (λ next. option_map (λ rest. copies cross * spacing + rest) (length_at after next)) (class_after_cross class cross)
+by_cross spacing after class cross = option_and_then (λ next. option_map (λ rest. copies cross * spacing + rest) (length_at after next))
+    (class_after_cross class cross)
 
 -- the least length by some crossing
 abbrev pub least_by_cross : ℕ → Lengths → Class → Option ℕ

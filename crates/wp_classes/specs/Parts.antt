@@ -99,7 +99,8 @@ with_cross layout aisle ZE1 C22 part = record part {
 }
 with_cross layout aisle EE1 C00 part = record { start = at aisle (back_end layout); first = part.first ++ part.second; second = [] }
 with_cross layout aisle EE1 C11 part = part
-with_cross layout aisle EE1 C20 part = record part { first = at aisle (back_end layout) ∷ (part.first ++ part.second) ++ at (suc aisle) (back_end layout) ∷ []; second = [] }
+with_cross layout aisle EE1 C20 part = record part { first = at aisle (back_end layout) ∷ (part.first ++ part.second) ++ at (suc aisle) (back_end layout)
+    ∷ []; second = [] }
 with_cross layout aisle EE1 C02 part = record part { first = at aisle 0 ∷ (part.second ++ part.first) ++ at (suc aisle) 0 ∷ []; second = [] }
 with_cross layout aisle EE1 C22 part = record part {
   first = at aisle (back_end layout) ∷ part.first ++ at (suc aisle) 0 ∷ [];
@@ -131,7 +132,8 @@ abbrev pub AreTurns : Layout → List Point → ℕ → Way → ℕ → ℕ → 
 AreTurns layout picks aisle Pass near far = Unit {0}
 AreTurns layout picks aisle Back near far = slice_get (required_places layout picks aisle) 0 ≡ Some far
 AreTurns layout picks aisle Front near far = slice_get (required_places layout picks aisle) (length (required_places layout picks aisle) - 1) ≡ Some near
-AreTurns layout picks aisle Gap near far = AreNeighbours (required_places layout picks aisle) near far × (distance layout far - distance layout near ≡ largest_gap (required_distances layout picks aisle))
+AreTurns layout picks aisle Gap near far = AreNeighbours (required_places layout picks aisle) near far
+    × (distance layout far - distance layout near ≡ largest_gap (required_distances layout picks aisle))
 AreTurns layout picks aisle Double near far = Unit {0}
 AreTurns layout picks aisle Skip near far = Unit {0}
 

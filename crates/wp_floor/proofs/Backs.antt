@@ -1,5 +1,6 @@
 -- A wave that gives back all that it holds, and commands that are refused.
-use Rattle.std.proofs.Common.{◌≡◌, ◌∙◌, refl, sym, ap, ℕ, ◌+◌, ◌≤◌, ◌==◌, ◌&&◌, Bool, true, false, inl, inr, List, [], ◌∷◌, length, slice_set, if◌then◌else◌, arith, eq-eqb, ne_eqb}
+use Rattle.std.proofs.Common.{◌≡◌, ◌∙◌, refl, sym, ap, ℕ, ◌+◌, ◌≤◌, ◌==◌, ◌&&◌, Bool, true, false, inl, inr, List, [], ◌∷◌, length, slice_set, if◌then◌else◌}
+use Rattle.std.proofs.Common.{arith, eq-eqb, ne_eqb}
 use Rattle.std.proofs.lemmas.Bool.{cases_eq, cases_lt, cond-false}
 use Rattle.std.proofs.lemmas.List.Sums.{sum_by-cons}
 use Rattle.std.specs.List.{sum_by}
@@ -21,17 +22,20 @@ use Rattle.wp_floor.specs.declared.waves.KeptWave.{KeptWave}
 use Rattle.wp_floor.proofs.Answering.{set_same, state_is, with_held_is}
 
 -- one holding, counted at its order
-one_holding : (h : Holding) (wave row bound : ℕ) → (bound ≤ h.order → units_where (is_for_wave wave row) h ≡ 0) → sum_below bound (λ order. units_where (is_for wave order row) h) ≡ units_where (is_for_wave wave row) h
+one_holding : (h : Holding) (wave row bound : ℕ) → (bound ≤ h.order → units_where (is_for_wave wave row) h ≡ 0)
+    → sum_below bound (λ order. units_where (is_for wave order row) h) ≡ units_where (is_for_wave wave row) h
 one_holding h wave row bound past = elim (cases_lt h.order bound) [
   | inl within ↦
       let others = sum-one_changed bound (λ order. units_where (is_for wave order row) h) (λ order. 0) h.order within (λ k other.
-      cond-false ((h.wave == wave) && ((h.order == k) && (h.row == row))) h.quantity 0 (middle (h.wave == wave) (h.order == k) (h.row == row) (ne_eqb h.order k (λ e. other (sym e))))) in
+      cond-false ((h.wave == wave) && ((h.order == k) && (h.row == row))) h.quantity 0
+          (middle (h.wave == wave) (h.order == k) (h.row == row) (ne_eqb h.order k (λ e. other (sym e))))) in
       let own = at_own (h.wave == wave) (h.order == h.order) (h.row == row) h.quantity (eq-eqb h.order h.order refl) in
       omega (arith, others, own, sum-zero bound (λ order. 0) (λ k below. refl))
   | inr beyond ↦
       let none = past beyond in
       sum-zero bound (λ order. units_where (is_for wave order row) h) (λ k below.
-      cond-false ((h.wave == wave) && ((h.order == k) && (h.row == row))) h.quantity 0 (middle (h.wave == wave) (h.order == k) (h.row == row) (ne_eqb h.order k (λ e. absurd (omega arith))))) ∙ sym none
+      cond-false ((h.wave == wave) && ((h.order == k) && (h.row == row))) h.quantity 0
+          (middle (h.wave == wave) (h.order == k) (h.row == row) (ne_eqb h.order k (λ e. absurd (omega arith))))) ∙ sym none
 ]
   where
     middle : (a b c : Bool) → b ≡ false → (a && (b && c)) ≡ false
@@ -47,13 +51,15 @@ all_orders : (holdings : List Holding) (wave row bound : ℕ) → ((order : ℕ)
     → sum_by (units_where (is_for_wave wave row)) holdings ≡ sum_below bound (λ order. sum_by (units_where (is_for wave order row)) holdings)
 all_orders [] wave row bound past = sym (sum-zero bound (λ order. 0) (λ k within. refl))
 all_orders (h ∷ hs) wave row bound past =
-    let parts : (o : ℕ) → sum_by (units_where (is_for wave o row)) (h ∷ hs) ≡ units_where (is_for wave o row) h + sum_by (units_where (is_for wave o row)) hs = λ o. sum_by-cons (units_where (is_for wave o row)) h hs in
+    let parts : (o : ℕ) → sum_by (units_where (is_for wave o row)) (h ∷ hs) ≡ units_where (is_for wave o row) h + sum_by
+            (units_where (is_for wave o row)) hs = λ o. sum_by-cons (units_where (is_for wave o row)) h hs in
     let rest = all_orders hs wave row bound (λ o beyond. omega (arith, past o beyond, parts o)) in
     let here = one_holding h wave row bound (λ beyond. own beyond) in
     omega (
       arith,
       sum_by-cons (units_where (is_for_wave wave row)) h hs,
-      sum-agree bound (λ o. sum_by (units_where (is_for wave o row)) (h ∷ hs)) (λ o. units_where (is_for wave o row) h + sum_by (units_where (is_for wave o row)) hs) (λ o within. parts o),
+      sum-agree bound (λ o. sum_by (units_where (is_for wave o row)) (h ∷ hs))
+          (λ o. units_where (is_for wave o row) h + sum_by (units_where (is_for wave o row)) hs) (λ o within. parts o),
       sum-add bound (λ o. units_where (is_for wave o row) h) (λ o. sum_by (units_where (is_for wave o row)) hs),
       here,
       rest,
@@ -68,21 +74,25 @@ all_orders (h ∷ hs) wave row bound past =
         own_if (h.wave == wave) (h.order == h.order) (h.row == row) h.quantity (eq-eqb h.order h.order refl)
         (omega (arith, past h.order beyond, sum_by-cons (units_where (is_for wave h.order row)) h hs))
 
-pub wave_total : (book : Book) (wave row bound : ℕ) → ((order : ℕ) → bound ≤ order → held_for book wave order row ≡ 0) → held_for_wave book wave row ≡ sum_below bound (λ order. held_for book wave order row)
+pub wave_total : (book : Book) (wave row bound : ℕ) → ((order : ℕ) → bound ≤ order → held_for book wave order row ≡ 0)
+    → held_for_wave book wave row ≡ sum_below bound (λ order. held_for book wave order row)
 wave_total book wave row bound past = all_orders book.holdings wave row bound past
 
 -- past its orders a wave of a sound state holds nothing
-pub none_past : (opening : Opening) (book : Book) (waves : List Wave) (number : ℕ) (kept : KeptWave) → IsAt opening book waves number kept → (order row : ℕ) → length kept.orders ≤ order → held_for book number order row ≡ 0
+pub none_past : (opening : Opening) (book : Book) (waves : List Wave) (number : ℕ) (kept : KeptWave) → IsAt opening book waves number kept → (order row : ℕ)
+    → length kept.orders ≤ order → held_for book number order row ≡ 0
 none_past opening book waves number kept at order row past = elim (cases_eq (held_for book number order row) 0) [
   | inl none ↦ none
   | inr some ↦ absurd (omega (arith, (at.sound.nowhere_else number order row some).0, orders_in-at (state_at book waves) number (wave_of kept) at.there))
 ]
 
 -- a command that is refused
-pub refused : (opening : Opening) (book : Book) (waves : List Wave) (number : ℕ) (kept : KeptWave) (stepped : Stepped) (answer : Reply) → IsAt opening book waves number kept
+pub refused : (opening : Opening) (book : Book) (waves : List Wave) (number : ℕ) (kept : KeptWave) (stepped : Stepped) (answer : Reply)
+    → IsAt opening book waves number kept
     → stepped ≡ record { reply = answer; state = state_at book waves } → HasAnswered opening stepped book book waves number kept kept answer
 refused opening book waves number kept stepped answer at is = record {
-  is = is ∙ ap (λ (ws : List Wave). let s : Stepped = record { reply = answer; state = state_at book ws } in s) (sym (set_same waves number (wave_of kept) at.there));
+  is = is ∙ ap (λ (ws : List Wave). let s : Stepped = record { reply = answer; state = state_at book ws } in s)
+      (sym (set_same waves number (wave_of kept) at.there));
   keeps = at.keeps;
   others = λ w o r other. refl;
   rows = refl;
@@ -91,11 +101,14 @@ refused opening book waves number kept stepped answer at is = record {
 }
 
 -- a wave that is given up
-pub given_up : (opening : Opening) (old new : Book) (waves : List Wave) (number : ℕ) (kept : KeptWave) → IsAt opening old waves number kept → HasGivenBack number old new
-    → HasAnswered opening (give_up (state_at old waves) number (wave_of kept)) old new waves number kept (record kept { state = wave.Cancelled }) reply.Cancelled
+pub given_up : (opening : Opening) (old new : Book) (waves : List Wave) (number : ℕ) (kept : KeptWave) → IsAt opening old waves number kept
+    → HasGivenBack number old new
+    → HasAnswered opening (give_up (state_at old waves) number (wave_of kept)) old new waves number kept
+        (record kept { state = wave.Cancelled }) reply.Cancelled
 given_up opening old new waves number kept at back =
     let w : Wave = record (wave_of kept) { state = wave.Cancelled } in
-    let rows = back.rows ∙ freed_same _ _ old.rows (λ row. wave_total old number row (length kept.orders) (λ order past. none_past opening old waves number kept at order row past)) in
+    let rows = back.rows ∙ freed_same _ _ old.rows (λ row. wave_total old number row (length kept.orders)
+            (λ order past. none_past opening old waves number kept at order row past)) in
     record {
       is = ap (λ (s : State). let t : Stepped = record { reply = reply.Cancelled; state = s } in t)
           (sym (state_is (slice_set waves number w) new.rows _ (held_for new) _ rows (with_held_is old new waves number (λ o r. 0) back.others back.held)));

@@ -1,5 +1,6 @@
 -- Claims on units that are held.
-use Rattle.std.proofs.Common.{◌≡◌, ◌∙◌, refl, sym, ap, subst, ℕ, ◌<◌, ◌==◌, nat_lt, true, false, List, length, Option, Some, None, Result, Ok, Err, IfOk, IfErr, slice_get, if◌then◌else◌, arith}
+use Rattle.std.proofs.Common.{◌≡◌, ◌∙◌, refl, sym, ap, subst, ℕ, ◌<◌, ◌==◌, nat_lt, true, false, List, length, Option, Some, None, Result, Ok, Err, IfOk}
+use Rattle.std.proofs.Common.{IfErr, slice_get, if◌then◌else◌, arith}
 use Rattle.std.proofs.lemmas.Bool.{cond_both}
 use Rattle.std.proofs.lemmas.Bool.Decides.{nat_tests}
 use Rattle.std.specs.Option.{option_map_or}
@@ -18,7 +19,8 @@ use Rattle.wp_floor.specs.Held.{IsClaimRefused, IsClaimed, IsEnoughHeld, held_of
 use Rattle.wp_floor.specs.declared.held.HeldUnits.{HeldUnits}
 use Rattle.wp_floor.specs.declared.waves.KeptWave.{KeptWave}
 
-wrong_by : (book : Book) (waves : List Wave) (number : ℕ) (kept : KeptWave) (order : List ℕ) (location : Location) (quantity : ℕ) (answer : Reply) (change : step.Held → step.Stepped) (s : WaveState) → unless_released s ≡ Some answer
+wrong_by : (book : Book) (waves : List Wave) (number : ℕ) (kept : KeptWave) (order : List ℕ) (location : Location) (quantity : ℕ) (answer : Reply)
+    (change : step.Held → step.Stepped) (s : WaveState) → unless_released s ≡ Some answer
     → step.at_released (state_at book waves) number (wave_of kept) order location quantity change s ≡ step.refuse (state_at book waves) answer
 wrong_by book waves number kept order location quantity answer change wave.Released is = absurd (cc)
 wrong_by book waves number kept order location quantity answer change wave.Submitted is = ap (step.refuse (state_at book waves)) (cc)
@@ -27,8 +29,10 @@ wrong_by book waves number kept order location quantity answer change wave.Cance
 wrong_by book waves number kept order location quantity answer change wave.Done is = ap (step.refuse (state_at book waves)) (cc)
 
 -- a wave that isn't released
-pub wrong_state : (book : Book) (number : ℕ) (kept : KeptWave) (order : List ℕ) (location : Location) (quantity : ℕ) (answer : Reply) → unless_released kept.state ≡ Some answer → IsClaimRefused book number kept order location quantity answer
-wrong_state book number kept order location quantity answer is waves change = wrong_by book waves number kept order location quantity answer change kept.state is
+pub wrong_state : (book : Book) (number : ℕ) (kept : KeptWave) (order : List ℕ) (location : Location) (quantity : ℕ) (answer : Reply)
+    → unless_released kept.state ≡ Some answer → IsClaimRefused book number kept order location quantity answer
+wrong_state book number kept order location quantity answer is waves change =
+    wrong_by book waves number kept order location quantity answer change kept.state is
 
 -- a wave that is
 pub is_released : (s : WaveState) → unless_released s ≡ None → s ≡ wave.Released
@@ -39,33 +43,41 @@ is_released wave.Cancelled is = absurd (cc)
 is_released wave.Done is = absurd (cc)
 
 -- a released wave does at its location what is done at what is held there
-at_held_by : (book : Book) (waves : List Wave) (number : ℕ) (kept : KeptWave) (order : List ℕ) (location : Location) (quantity : ℕ) (change : step.Held → step.Stepped) → kept.state ≡ wave.Released
-    → step.at_released (state_at book waves) number (wave_of kept) order location quantity change kept.state ≡ step.at_held (state_at book waves) number (wave_of kept) order location quantity change
+at_held_by : (book : Book) (waves : List Wave) (number : ℕ) (kept : KeptWave) (order : List ℕ) (location : Location) (quantity : ℕ)
+    (change : step.Held → step.Stepped) → kept.state ≡ wave.Released
+    → step.at_released (state_at book waves) number (wave_of kept) order location quantity change kept.state ≡ step.at_held (state_at book waves) number
+        (wave_of kept) order location quantity change
 at_held_by book waves number kept order location quantity change released =
     ap (step.at_released (state_at book waves) number (wave_of kept) order location quantity change) released
 
 -- units that are enough
-pub enough_by : (book : Book) (waves : List Wave) (number : ℕ) (kept : KeptWave) (order : List ℕ) (location : Location) (quantity : ℕ) (change : step.Held → step.Stepped) (found : HeldUnits) → IsClaimed book number kept order location quantity found
+pub enough_by : (book : Book) (waves : List Wave) (number : ℕ) (kept : KeptWave) (order : List ℕ) (location : Location) (quantity : ℕ)
+    (change : step.Held → step.Stepped) (found : HeldUnits) → IsClaimed book number kept order location quantity found
     → step.at_released (state_at book waves) number (wave_of kept) order location quantity change kept.state ≡ change (held_of found)
 enough_by book waves number kept order location quantity change found is =
     let state = state_at book waves in
     let less : nat_lt found.units quantity ≡ false = let e = is.enough in grind (arith, nat_tests) in
     at_held_by book waves number kept order location quantity change is.released
-    ∙ (ap (λ held. option_map_or (λ (h : step.Held). if nat_lt h.units quantity then step.refuse state (reply.TooMuch h.units) else change h) held (step.refuse state (reply.NotHeld location))) is.held
+    ∙ (ap (λ held. option_map_or (λ (h : step.Held). if nat_lt h.units quantity then step.refuse state (reply.TooMuch h.units) else change h) held
+        (step.refuse state (reply.NotHeld location))) is.held
     ∙ ap (λ b. if b then step.refuse state (reply.TooMuch found.units) else change (held_of found)) less)
 
-not_enough : (book : Book) (waves : List Wave) (quantity : ℕ) (location : Location) (answer : Reply) (change : step.Held → step.Stepped) (held : Option step.Held) → IsEnoughHeld held location quantity (Err answer)
-    → option_map_or (λ (h : step.Held). if nat_lt h.units quantity then step.refuse (state_at book waves) (reply.TooMuch h.units) else change h) held (step.refuse (state_at book waves) (reply.NotHeld location)) ≡ step.refuse (state_at book waves) answer
+not_enough : (book : Book) (waves : List Wave) (quantity : ℕ) (location : Location) (answer : Reply) (change : step.Held → step.Stepped)
+    (held : Option step.Held) → IsEnoughHeld held location quantity (Err answer)
+    → option_map_or (λ (h : step.Held). if nat_lt h.units quantity then step.refuse (state_at book waves) (reply.TooMuch h.units) else change h) held
+        (step.refuse (state_at book waves) (reply.NotHeld location)) ≡ step.refuse (state_at book waves) answer
 not_enough book waves quantity location answer change None is = ap (step.refuse (state_at book waves)) (sym is)
 not_enough book waves quantity location answer change (Some h) is =
     let less : nat_lt h.units quantity ≡ true = let e = is.1 in grind (arith, nat_tests) in
     ap (λ b. if b then step.refuse (state_at book waves) (reply.TooMuch h.units) else change h) less ∙ ap (step.refuse (state_at book waves)) (sym is.0)
 
 -- and units that aren't
-pub refused_by : (book : Book) (number : ℕ) (kept : KeptWave) (order : List ℕ) (location : Location) (quantity : ℕ) (answer : Reply) → kept.state ≡ wave.Released
+pub refused_by : (book : Book) (number : ℕ) (kept : KeptWave) (order : List ℕ) (location : Location) (quantity : ℕ) (answer : Reply)
+    → kept.state ≡ wave.Released
     → IsEnoughHeld (held_there book number kept order location) location quantity (Err answer) → IsClaimRefused book number kept order location quantity answer
 refused_by book number kept order location quantity answer released is waves change =
-    at_held_by book waves number kept order location quantity change released ∙ not_enough book waves quantity location answer change (held_there book number kept order location) is
+    at_held_by book waves number kept order location quantity change released
+        ∙ not_enough book waves quantity location answer change (held_there book number kept order location) is
 
 -- the order that holds units is one of the wave's, the units are those that are held, and they are of their row's article
 pub record IsHolder (book : Book) (number orders : ℕ) (held : step.Held) : Type 0 where
@@ -76,19 +88,26 @@ pub record IsHolder (book : Book) (number orders : ℕ) (held : step.Held) : Typ
   pub article : held.article ≡ row.article
 
 any_same : (a b : step.Held) → step.any_held a ≡ Some b → a ≡ b
-any_same a b is = cond_both (a.units == 0) None (Some a) (λ (found : Option step.Held). found ≡ Some b → a ≡ b) (λ none e. absurd (cc)) (λ some e. let same : Some a ≡ Some b = e in cc) is
+any_same a b is = cond_both (a.units == 0) None (Some a) (λ (found : Option step.Held). found ≡ Some b → a ≡ b) (λ none e. absurd (cc))
+    (λ some e. let same : Some a ≡ Some b = e in cc) is
 
-pub holder : (book : Book) (number : ℕ) (kept : KeptWave) (order : List ℕ) (location : Location) (held : step.Held) → held_there book number kept order location ≡ Some held → IsHolder book number (length kept.orders) held
+pub holder : (book : Book) (number : ℕ) (kept : KeptWave) (order : List ℕ) (location : Location) (held : step.Held)
+    → held_there book number kept order location ≡ Some held → IsHolder book number (length kept.orders) held
 holder book number kept order location held is =
-    option_map_or-both (λ (found : Option step.Held). found ≡ Some held → IsHolder book number (length kept.orders) held) _ (step.place_from 0 kept.orders order) None
-    (λ place at. option_map_or-both (λ (found : Option step.Held). found ≡ Some held → IsHolder book number (length kept.orders) held) _ (step.row_from 0 book.rows location) None
-    (λ found there same. subst (IsHolder book number (length kept.orders)) (any_same _ held same) (record { order = place_found kept.orders order place at; units = refl; row = found.1; there = row_found book.rows location found there; article = refl }))
+    option_map_or-both (λ (found : Option step.Held). found ≡ Some held → IsHolder book number (length kept.orders) held) _
+        (step.place_from 0 kept.orders order) None
+    (λ place at. option_map_or-both (λ (found : Option step.Held). found ≡ Some held → IsHolder book number (length kept.orders) held) _
+        (step.row_from 0 book.rows location) None
+    (λ found there same. subst (IsHolder book number (length kept.orders)) (any_same _ held same)
+        (record { order = place_found kept.orders order place at; units = refl; row = found.1; there = row_found book.rows location found there;
+        article = refl }))
     (λ none same. absurd (cc)))
     (λ none same. absurd (cc))
     is
 
 -- a claim at a released wave
-pub claimed_is : (book : Book) (number : ℕ) (kept : KeptWave) (order : List ℕ) (location : Location) (quantity : ℕ) (result : Result HeldUnits Reply) → kept.state ≡ wave.Released
+pub claimed_is : (book : Book) (number : ℕ) (kept : KeptWave) (order : List ℕ) (location : Location) (quantity : ℕ) (result : Result HeldUnits Reply)
+    → kept.state ≡ wave.Released
     → IsEnoughHeld (held_there book number kept order location) location quantity result
     → IfOk result (IsClaimed book number kept order location quantity) × IfErr result (IsClaimRefused book number kept order location quantity)
 claimed_is book number kept order location quantity (Ok found) released is = (record { released = released; held = is.0; enough = is.1 }, tt)

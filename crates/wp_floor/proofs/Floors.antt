@@ -1,5 +1,6 @@
 -- Commands on a wave, as the whole floor answers them.
-use Rattle.std.proofs.Common.{◌≡◌, ◌∙◌, refl, sym, ap, ap₂, subst, ℕ, zero, suc, ◌+◌, ◌&&◌, Bool, true, false, inl, inr, List, [], ◌∷◌, ◌++◌, length, map, reverse, Option, Some, None, IfSome, slice_get, slice_set, option_map, bytes_eq, if◌then◌else◌, arith, length-set}
+use Rattle.std.proofs.Common.{◌≡◌, ◌∙◌, refl, sym, ap, ap₂, subst, ℕ, zero, suc, ◌+◌, ◌&&◌, Bool, true, false, inl, inr, List, [], ◌∷◌, ◌++◌, length, map}
+use Rattle.std.proofs.Common.{reverse, Option, Some, None, IfSome, slice_get, slice_set, option_map, bytes_eq, if◌then◌else◌, arith, length-set}
 use Rattle.std.proofs.Math.Path.{fun_ext}
 use Rattle.std.proofs.lemmas.Bool.{or_cases, or_parts}
 use Rattle.std.proofs.lemmas.Option.{slice_get-map}
@@ -73,7 +74,8 @@ none_by (kept ∷ kepts) name n none =
     ap (λ b. if b then Some (n, wave_of kept) else wave_from (n + 1) (map wave_of kepts) name) parts.0 ∙ none_by kepts name (n + 1) parts.1
 
 -- a command on a wave that isn't there
-pub unknown_wave : (opening : Opening) (command : Command) (name : List ℕ) (change : ℕ → Wave → Stepped) (old : Floor) (ws : List KeptWave) → IsFloor opening old
+pub unknown_wave : (opening : Opening) (command : Command) (name : List ℕ) (change : ℕ → Wave → Stepped) (old : Floor) (ws : List KeptWave)
+    → IsFloor opening old
     → step opening (state_of old) command ≡ at_wave (state_of old) name change → ws ≡ old.waves → list_any (has_name name) old.waves ≡ false
     → HasStepped opening command old (record old { waves = ws }) reply.UnknownWave
 unknown_wave opening command name change old ws floor is same none =
@@ -84,7 +86,8 @@ unknown_wave opening command name change old ws floor is same none =
     }) in stays
 
 -- the wave that was taken out has its place
-pub found_at : (opening : Opening) (name : List ℕ) (old : Floor) (rest : List KeptWave) (found : Found) → IsFloor opening old → IsFound name old.waves rest found
+pub found_at : (opening : Opening) (name : List ℕ) (old : Floor) (rest : List KeptWave) (found : Found) → IsFloor opening old
+    → IsFound name old.waves rest found
     → IsAt opening old.book (map wave_of old.waves) found.number found.wave
 found_at opening name old rest found floor is =
     let there : slice_get old.waves found.number ≡ Some found.wave = ap₂ slice_get is.parts is.number ∙ at_seam rest (reverse found.after) found.wave in
@@ -96,7 +99,8 @@ found_at opening name old rest found floor is =
     }
 
 -- a wave that holds what it did is kept as it was
-papers_same : (old new : Book) (number : ℕ) (kept : KeptWave) (s : WaveState) → length new.rows ≡ length old.rows → held_for new number ≡ held_for old number → HasPapers s old number kept → HasPapers s new number kept
+papers_same : (old new : Book) (number : ℕ) (kept : KeptWave) (s : WaveState) → length new.rows ≡ length old.rows → held_for new number ≡ held_for old number
+    → HasPapers s old number kept → HasPapers s new number kept
 papers_same old new number kept wave.Submitted rows held papers = papers
 papers_same old new number kept wave.Allotted rows held papers =
     (papers.0, (papers.1.0, papers.1.1, papers.1.2 ∙ ap₂ (λ n h. held_list (length kept.orders) n h) (sym rows) (sym held)))
@@ -104,38 +108,47 @@ papers_same old new number kept wave.Released rows held papers = tt
 papers_same old new number kept wave.Cancelled rows held papers = tt
 papers_same old new number kept wave.Done rows held papers = tt
 
-pub kept_same : (opening : Opening) (old new : Book) (number : ℕ) (kept : KeptWave) → length new.rows ≡ length old.rows → ((order row : ℕ) → held_for new number order row ≡ held_for old number order row) → IsKeptWave opening old number kept → IsKeptWave opening new number kept
+pub kept_same : (opening : Opening) (old new : Book) (number : ℕ) (kept : KeptWave) → length new.rows ≡ length old.rows
+    → ((order row : ℕ) → held_for new number order row ≡ held_for old number order row) → IsKeptWave opening old number kept
+    → IsKeptWave opening new number kept
 kept_same opening old new number kept rows held keeps = record {
   wants = keeps.wants;
   papers = papers_same old new number kept kept.state rows (fun_ext (λ order. fun_ext (λ row. held order row))) keeps.papers;
 }
 
 -- what was answered at a wave, with who has the orders then
-pub record IsAnswered (opening : Opening) (name : List ℕ) (old : Floor) (rest : List KeptWave) (found : Found) (new : Floor) (left : KeptWave) (stepped : Stepped) (answer : Reply) : Type 0 where
+pub record IsAnswered (opening : Opening) (name : List ℕ) (old : Floor) (rest : List KeptWave) (found : Found) (new : Floor) (left : KeptWave)
+    (stepped : Stepped) (answer : Reply) : Type 0 where
   pub floor : IsFloor opening old
   pub is_found : IsFound name old.waves rest found
   pub answers : HasAnswered opening stepped old.book new.book (map wave_of old.waves) found.number found.wave left answer
   pub waves : new.waves ≡ rest ++ left ∷ reverse found.after
   pub takers : AreTakers opening (map wave_of new.waves) new.takers.items
 
-put_is : (name : List ℕ) (old : List KeptWave) (rest : List KeptWave) (found : Found) (left : KeptWave) → IsFound name old rest found → slice_set old found.number left ≡ rest ++ left ∷ reverse found.after
-put_is name old rest found left is = ap₂ (λ (ws : List KeptWave) (i : ℕ). slice_set ws i left) is.parts is.number ∙ set_seam rest (reverse found.after) found.wave left
+put_is : (name : List ℕ) (old : List KeptWave) (rest : List KeptWave) (found : Found) (left : KeptWave) → IsFound name old rest found
+    → slice_set old found.number left ≡ rest ++ left ∷ reverse found.after
+put_is name old rest found left is = ap₂ (λ (ws : List KeptWave) (i : ℕ). slice_set ws i left) is.parts is.number
+    ∙ set_seam rest (reverse found.after) found.wave left
 
-pub waves_put : (name : List ℕ) (old new rest : List KeptWave) (found : Found) (left : KeptWave) → IsFound name old rest found → new ≡ rest ++ left ∷ reverse found.after
+pub waves_put : (name : List ℕ) (old new rest : List KeptWave) (found : Found) (left : KeptWave) → IsFound name old rest found
+    → new ≡ rest ++ left ∷ reverse found.after
     → map wave_of new ≡ slice_set (map wave_of old) found.number (wave_of left)
 waves_put name old new rest found left is new_is =
     ap (map wave_of) (new_is ∙ sym (put_is name old rest found left is)) ∙ map-set wave_of old found.number left
 
 -- the floor answers as the wave does
-pub answered : (opening : Opening) (command : Command) (name : List ℕ) (change : ℕ → Wave → Stepped) (old : Floor) (rest : List KeptWave) (found : Found) (new : Floor) (left : KeptWave) (answer : Reply)
-    → step opening (state_of old) command ≡ at_wave (state_of old) name change → IsAnswered opening name old rest found new left (change found.number (wave_of found.wave)) answer
+pub answered : (opening : Opening) (command : Command) (name : List ℕ) (change : ℕ → Wave → Stepped) (old : Floor) (rest : List KeptWave) (found : Found)
+    (new : Floor) (left : KeptWave) (answer : Reply)
+    → step opening (state_of old) command ≡ at_wave (state_of old) name change
+        → IsAnswered opening name old rest found new left (change found.number (wave_of found.wave)) answer
     → HasStepped opening command old new answer
 answered opening command name change old rest found new left answer is done =
     let at = found_at opening name old rest found done.floor done.is_found in
     let by = wave_by (map wave_of old.waves) name 0 found.number (wave_of found.wave) at.there done.is_found.named done.floor.sound.names in
     let zero : 0 + found.number ≡ found.number = omega arith in
     let put = waves_put name old.waves new.waves rest found left done.is_found done.waves in
-    let all = is ∙ (ap (λ (f : Option (ℕ × Wave)). option_map_or (λ (f : ℕ × Wave). change f.0 f.1) f (refuse (state_of old) reply.UnknownWave)) (by ∙ ap (λ (n : ℕ). Some (n, wave_of found.wave)) zero)
+    let all = is ∙ (ap (λ (f : Option (ℕ × Wave)). option_map_or (λ (f : ℕ × Wave). change f.0 f.1) f (refuse (state_of old) reply.UnknownWave))
+            (by ∙ ap (λ (n : ℕ). Some (n, wave_of found.wave)) zero)
     ∙ (done.answers.is ∙ ap (λ (ws : List Wave). let s : Stepped = record { reply = answer; state = state_at new.book ws } in s) (sym put))) in
     let after : (step opening (state_of old) command).state ≡ state_of new = ap (λ (s : Stepped). s.state) all in
     let set = sym (put_is name old.waves rest found left done.is_found) in
@@ -146,8 +159,10 @@ answered opening command name change old rest found new left answer is done =
         sound = subst (IsSound opening) after (step_keeps_sound opening (state_of old) command (is_opening opening done.floor.read) done.floor.sound);
         rows = subst (λ (s : State). AreSameRows opening s.rows) after (step_keeps_rows opening (state_of old) command done.floor.rows);
         waves = λ n. subst (λ (ws : List KeptWave). IfSome (slice_get ws n) (IsKeptWave opening new.book n)) (sym (done.waves ∙ set))
-            (if_some (slice_get (slice_set old.waves found.number left) n) (IsKeptWave opening new.book n) (λ kept there. elim (slice_get-set old.waves found.number n kept left there) [
-              | inl here ↦ subst (λ (k : KeptWave). IsKeptWave opening new.book n k) (sym here.1) (subst (λ (m : ℕ). IsKeptWave opening new.book m left) (sym here.0) done.answers.keeps)
+            (if_some (slice_get (slice_set old.waves found.number left) n) (IsKeptWave opening new.book n)
+                (λ kept there. elim (slice_get-set old.waves found.number n kept left there) [
+              | inl here ↦ subst (λ (k : KeptWave). IsKeptWave opening new.book n k) (sym here.1)
+                  (subst (λ (m : ℕ). IsKeptWave opening new.book m left) (sym here.0) done.answers.keeps)
               | inr other ↦ kept_same opening old.book new.book n kept done.answers.rows (λ order row. done.answers.others n order row other.0)
                   (at_some (slice_get old.waves n) (IsKeptWave opening old.book n) kept other.1 (done.floor.waves n))
             ]));
@@ -157,17 +172,21 @@ answered opening command name change old rest found new left answer is done =
     }
 
 -- a wave that is still live, or still isn't, leaves its orders where they are
-taker-set : (waves : List Wave) (k : ℕ) (w v : Wave) (order : List ℕ) → slice_get waves k ≡ Some w → v.name ≡ w.name → v.orders ≡ w.orders → is_live v.state ≡ is_live w.state → taker_of (slice_set waves k v) order ≡ taker_of waves order
+taker-set : (waves : List Wave) (k : ℕ) (w v : Wave) (order : List ℕ) → slice_get waves k ≡ Some w → v.name ≡ w.name → v.orders ≡ w.orders
+    → is_live v.state ≡ is_live w.state → taker_of (slice_set waves k v) order ≡ taker_of waves order
 taker-set [] k w v order there name orders live = refl
 taker-set (x ∷ waves) zero w v order there name orders live =
     let same : x ≡ w = cc in
     ap (λ b. if b && is_among v.orders order then Some v.name else taker_of waves order) (live ∙ ap (λ (u : Wave). is_live u.state) (sym same))
-    ∙ ap₂ (λ (os : List (List ℕ)) (n : List ℕ). if is_live x.state && is_among os order then Some n else taker_of waves order) (orders ∙ ap (λ (u : Wave). u.orders) (sym same)) (name ∙ ap (λ (u : Wave). u.name) (sym same))
+    ∙ ap₂ (λ (os : List (List ℕ)) (n : List ℕ). if is_live x.state && is_among os order then Some n else taker_of waves order)
+        (orders ∙ ap (λ (u : Wave). u.orders) (sym same)) (name ∙ ap (λ (u : Wave). u.name) (sym same))
 taker-set (x ∷ waves) (suc k) w v order there name orders live =
     ap (λ rest. if is_live x.state && is_among x.orders order then Some x.name else rest) (taker-set waves k w v order there name orders live)
 
-pub takers_same : (opening : Opening) (name : List ℕ) (old : Floor) (new rest : List KeptWave) (found : Found) (left : KeptWave) → IsFloor opening old → IsFound name old.waves rest found → new ≡ rest ++ left ∷ reverse found.after
-    → left.name ≡ found.wave.name → left.orders ≡ found.wave.orders → is_live left.state ≡ is_live found.wave.state → AreTakers opening (map wave_of new) old.takers.items
+pub takers_same : (opening : Opening) (name : List ℕ) (old : Floor) (new rest : List KeptWave) (found : Found) (left : KeptWave) → IsFloor opening old
+    → IsFound name old.waves rest found → new ≡ rest ++ left ∷ reverse found.after
+    → left.name ≡ found.wave.name → left.orders ≡ found.wave.orders → is_live left.state ≡ is_live found.wave.state
+        → AreTakers opening (map wave_of new) old.takers.items
 takers_same opening name old new rest found left floor is new_is named orders live =
     let at = found_at opening name old rest found floor is in
     record {
@@ -191,7 +210,8 @@ both_fail true false f = refl
 both_fail false b f = refl
 
 -- an order that no live wave has is taken by none
-no_taker : (waves : List Wave) (order : List ℕ) → ((i k : ℕ) (v : Wave) → slice_get waves i ≡ Some v → is_live v.state ≡ true → slice_get v.orders k ≡ Some order → ⊥) → taker_of waves order ≡ None
+no_taker : (waves : List Wave) (order : List ℕ) → ((i k : ℕ) (v : Wave) → slice_get waves i ≡ Some v → is_live v.state ≡ true
+    → slice_get v.orders k ≡ Some order → ⊥) → taker_of waves order ≡ None
 no_taker [] order none = refl
 no_taker (w ∷ waves) order none =
     let rest = no_taker waves order (λ i k v there live has. none (suc i) k v there live has) in
@@ -199,19 +219,23 @@ no_taker (w ∷ waves) order none =
     ap (λ b. if b then Some w.name else taker_of waves order) here ∙ rest
 
 -- a wave that doesn't have an order leaves it where it is
-taker-without : (waves : List Wave) (k : ℕ) (w v : Wave) (order : List ℕ) → slice_get waves k ≡ Some w → v.orders ≡ w.orders → is_among w.orders order ≡ false → taker_of (slice_set waves k v) order ≡ taker_of waves order
+taker-without : (waves : List Wave) (k : ℕ) (w v : Wave) (order : List ℕ) → slice_get waves k ≡ Some w → v.orders ≡ w.orders → is_among w.orders order ≡ false
+    → taker_of (slice_set waves k v) order ≡ taker_of waves order
 taker-without [] k w v order there orders none = refl
 taker-without (x ∷ waves) zero w v order there orders none =
     let same : x ≡ w = cc in
-    let fails = λ (u : Wave) (e : is_among u.orders order ≡ false). both_fail (is_live u.state) (is_among u.orders order) (λ live has. let c : true ≡ false = sym has ∙ e in absurd (cc)) in
+    let fails = λ (u : Wave) (e : is_among u.orders order ≡ false). both_fail (is_live u.state) (is_among u.orders order)
+            (λ live has. let c : true ≡ false = sym has ∙ e in absurd (cc)) in
     ap (λ b. if b then Some v.name else taker_of waves order) (fails v (ap (λ (os : List (List ℕ)). is_among os order) orders ∙ none))
     ∙ sym (ap (λ b. if b then Some x.name else taker_of waves order) (fails x (ap (λ (u : Wave). is_among u.orders order) same ∙ none)))
 taker-without (x ∷ waves) (suc k) w v order there orders none =
     ap (λ rest. if is_live x.state && is_among x.orders order then Some x.name else rest) (taker-without waves k w v order there orders none)
 
 -- the orders of a wave that is given up are free
-pub takers_freed : (opening : Opening) (name : List ℕ) (old : Floor) (new rest : List KeptWave) (found : Found) (left : KeptWave) (takers : List (Option (List ℕ))) → IsFloor opening old → IsFound name old.waves rest found
-    → new ≡ rest ++ left ∷ reverse found.after → left.orders ≡ found.wave.orders → is_live found.wave.state ≡ true → is_live left.state ≡ false → HasPut opening found.wave.orders None old.takers.items takers
+pub takers_freed : (opening : Opening) (name : List ℕ) (old : Floor) (new rest : List KeptWave) (found : Found) (left : KeptWave)
+    (takers : List (Option (List ℕ))) → IsFloor opening old → IsFound name old.waves rest found
+    → new ≡ rest ++ left ∷ reverse found.after → left.orders ≡ found.wave.orders → is_live found.wave.state ≡ true → is_live left.state ≡ false
+        → HasPut opening found.wave.orders None old.takers.items takers
     → AreTakers opening (map wave_of new) takers
 takers_freed opening name old new rest found left takers floor is new_is orders live gone put =
     let at = found_at opening name old rest found floor is in
@@ -222,15 +246,20 @@ takers_freed opening name old new rest found left takers floor is new_is orders 
       each = λ i order there.
           let was = floor.takers.each i order there in
           put.each i order there ∙ (by_cases (is_among found.wave.orders order.name) (slice_get old.takers.items i) (taker_of (map wave_of new) order.name)
-          (λ has. ap (λ (ws : List Wave). taker_of ws order.name) set ∙ no_taker (slice_set waves found.number (wave_of left)) order.name (nobody order.name has))
-          (λ none. was ∙ ap Some (sym (ap (λ (ws : List Wave). taker_of ws order.name) set ∙ taker-without waves found.number (wave_of found.wave) (wave_of left) order.name at.there orders none))));
+          (λ has. ap (λ (ws : List Wave). taker_of ws order.name) set
+              ∙ no_taker (slice_set waves found.number (wave_of left)) order.name (nobody order.name has))
+          (λ none. was ∙ ap Some (sym (ap (λ (ws : List Wave). taker_of ws order.name) set
+              ∙ taker-without waves found.number (wave_of found.wave) (wave_of left) order.name at.there orders none))));
     }
   where
-    by_cases : (b : Bool) (before : Option (Option (List ℕ))) (now : Option (List ℕ)) → (b ≡ true → now ≡ None) → (b ≡ false → before ≡ Some now) → (if b then Some None else before) ≡ Some now
+    by_cases : (b : Bool) (before : Option (Option (List ℕ))) (now : Option (List ℕ)) → (b ≡ true → now ≡ None) → (b ≡ false → before ≡ Some now)
+        → (if b then Some None else before) ≡ Some now
     by_cases true before now freed kept = ap Some (sym (freed refl))
     by_cases false before now freed kept = kept refl
 
-    nobody : (order : List ℕ) → is_among found.wave.orders order ≡ true → (i k : ℕ) (v : Wave) → slice_get (slice_set (map wave_of old.waves) found.number (wave_of left)) i ≡ Some v → is_live v.state ≡ true → slice_get v.orders k ≡ Some order → ⊥
+    nobody : (order : List ℕ) → is_among found.wave.orders order ≡ true → (i k : ℕ) (v : Wave)
+        → slice_get (slice_set (map wave_of old.waves) found.number (wave_of left)) i ≡ Some v → is_live v.state ≡ true → slice_get v.orders k ≡ Some order
+        → ⊥
     nobody order has i k v there lives stands =
         let at = found_at opening name old rest found floor is in
         let mine = member found.wave.orders order has in
@@ -241,7 +270,8 @@ takers_freed opening name old new rest found left takers floor is new_is orders 
         ]
 
 -- who has the orders once a wave was asked to be given up
-pub takers_after_cancel : (opening : Opening) (name : List ℕ) (old : Floor) (new rest : List KeptWave) (found : Found) (left : KeptWave) (takers : List (Option (List ℕ))) (answer : Reply) → IsFloor opening old → IsFound name old.waves rest found
+pub takers_after_cancel : (opening : Opening) (name : List ℕ) (old : Floor) (new rest : List KeptWave) (found : Found) (left : KeptWave)
+    (takers : List (Option (List ℕ))) (answer : Reply) → IsFloor opening old → IsFound name old.waves rest found
     → new ≡ rest ++ left ∷ reverse found.after → left.orders ≡ found.wave.orders
     → (frees answer ≡ true → (is_live found.wave.state ≡ true) × (left.state ≡ wave.Cancelled)) → (frees answer ≡ false → left ≡ found.wave)
     → (frees answer ≡ true → HasPut opening left.orders None old.takers.items takers) → (frees answer ≡ false → takers ≡ old.takers.items)
@@ -255,4 +285,5 @@ takers_after_cancel opening name old new rest found left takers answer floor is 
     by false e =
         let was = kept e in
         subst (λ (ts : List (Option (List ℕ))). AreTakers opening (map wave_of new) ts) (sym (same e))
-        (takers_same opening name old new rest found left floor is new_is (ap (λ (k : KeptWave). k.name) was) orders (ap (λ (k : KeptWave). is_live k.state) was))
+        (takers_same opening name old new rest found left floor is new_is (ap (λ (k : KeptWave). k.name) was) orders
+            (ap (λ (k : KeptWave). is_live k.state) was))

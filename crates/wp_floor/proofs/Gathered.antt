@@ -1,5 +1,7 @@
 -- Wants gathered line by line.
-use Rattle.std.proofs.Common.{◌≡◌, ◌≢◌, ◌∙◌, refl, sym, ap, ap₂, ℕ, zero, suc, ◌+◌, ◌-◌, ◌*◌, ◌^◌, ◌<◌, ◌≤◌, ◌==◌, ◌&&◌, nat_lt, Bool, true, false, inl, inr, List, [], ◌∷◌, ◌++◌, length, take, drop, get_or, Option, Some, None, All, slice_get, slice_set, if◌then◌else◌, arith, eq-eqb, ne_eqb, length-append, length-drop, length-set}
+use Rattle.std.proofs.Common.{◌≡◌, ◌≢◌, ◌∙◌, refl, sym, ap, ap₂, ℕ, zero, suc, ◌+◌, ◌-◌, ◌*◌, ◌^◌, ◌<◌, ◌≤◌, ◌==◌, ◌&&◌, nat_lt, Bool, true, false, inl, inr}
+use Rattle.std.proofs.Common.{List, [], ◌∷◌, ◌++◌, length, take, drop, get_or, Option, Some, None, All, slice_get, slice_set, if◌then◌else◌, arith, eq-eqb}
+use Rattle.std.proofs.Common.{ne_eqb, length-append, length-drop, length-set}
 use Rattle.std.proofs.lemmas.Bool.{cases_eq, cases_lt, cond-false, cond-true, eqb-true}
 use Rattle.std.proofs.lemmas.Bool.Decides.{nat_tests}
 use Rattle.std.proofs.lemmas.List.{get_or-drop, length-take-le, take_all}
@@ -26,7 +28,8 @@ pub record IsFoundWant (wants : List Want) (start article at : ℕ) : Type 0 whe
   pub late : start ≤ at
   pub article_is : (d : Want) → (get_or wants at d).article ≡ article
 
-found_from : (wants : List Want) (start article offset : ℕ) → start ≤ length wants → position (is_of article) (drop start wants) ≡ Some offset → IsFoundWant wants start article (start + offset)
+found_from : (wants : List Want) (start article offset : ℕ) → start ≤ length wants → position (is_of article) (drop start wants) ≡ Some offset
+    → IsFoundWant wants start article (start + offset)
 found_from wants start article offset upto found =
     let rest = drop start wants in
     let parts = cond_some (nat_lt (position_or_len (is_of article) rest) (length rest)) (position_or_len (is_of article) rest) offset found in
@@ -36,19 +39,23 @@ found_from wants start article offset upto found =
       late = omega arith;
       article_is = λ d.
           let passes = passes_at_first (is_of article) rest d below in
-          let there : get_or rest (position_or_len (is_of article) rest) d ≡ get_or wants (start + offset) d = ap (λ k. get_or rest k d) parts.1 ∙ get_or-drop start wants offset d in
+          let there : get_or rest (position_or_len (is_of article) rest) d ≡ get_or wants (start + offset) d =
+                  ap (λ k. get_or rest k d) parts.1 ∙ get_or-drop start wants offset d in
           ap (λ (want : Want). want.article) (sym there) ∙ eqb-true _ article passes;
     }
 
 -- where none is found, none is there
-none_from : (wants : List Want) (start article k : ℕ) (want : Want) → position (is_of article) (drop start wants) ≡ None → slice_get wants k ≡ Some want → start ≤ k → want.article ≢ article
+none_from : (wants : List Want) (start article k : ℕ) (want : Want) → position (is_of article) (drop start wants) ≡ None → slice_get wants k ≡ Some want
+    → start ≤ k → want.article ≢ article
 none_from wants start article k want none there late same =
     let rest = drop start wants in
     let past = none_if (nat_lt (position_or_len (is_of article) rest) (length rest)) (position_or_len (is_of article) rest) none in
     let beyond : length rest ≤ position_or_len (is_of article) rest = grind (arith, nat_tests) in
-    let fails = fails_before_first (is_of article) rest (k - start) want (omega (arith, beyond, length-drop start wants, slice_get_within wants k want there)) in
+    let fails = fails_before_first (is_of article) rest (k - start) want
+            (omega (arith, beyond, length-drop start wants, slice_get_within wants k want there)) in
     let at : get_or rest (k - start) want ≡ want =
-    get_or-drop start wants (k - start) want ∙ (ap (λ n. get_or wants n want) (let e : start + (k - start) ≡ k = omega arith in e) ∙ get_or_from_slice_get wants k want want there) in
+    get_or-drop start wants (k - start) want ∙ (ap (λ n. get_or wants n want) (let e : start + (k - start) ≡ k = omega arith in e)
+        ∙ get_or_from_slice_get wants k want want there) in
     let is : is_of article want ≡ true = eq-eqb want.article article same in
     let isnt : is_of article want ≡ false = ap (is_of article) (sym at) ∙ fails in
     absurd (cc)
@@ -63,32 +70,37 @@ tail_is xs wants start same =
     let short : length (drop start xs) ≤ length xs - start = omega (arith, length-drop start xs) in
     take_all (length xs - start) (drop start xs) short ∙ ap (drop start) same
 
-pub found_in : (xs wants : List Want) (start article offset : ℕ) (found : Option ℕ) → xs ≡ wants → start ≤ length wants → found ≡ position (is_of article) (take (length xs - start) (drop start xs)) → found ≡ Some offset
+pub found_in : (xs wants : List Want) (start article offset : ℕ) (found : Option ℕ) → xs ≡ wants → start ≤ length wants
+    → found ≡ position (is_of article) (take (length xs - start) (drop start xs)) → found ≡ Some offset
     → IsFoundWant wants start article (start + offset)
 found_in xs wants start article offset found same upto is some =
     found_from wants start article offset upto (ap (position (is_of article)) (sym (tail_is xs wants start same)) ∙ (sym is ∙ some))
 
-pub none_in : (xs wants : List Want) (start article : ℕ) (found : Option ℕ) → xs ≡ wants → found ≡ position (is_of article) (take (length xs - start) (drop start xs)) → found ≡ None
+pub none_in : (xs wants : List Want) (start article : ℕ) (found : Option ℕ) → xs ≡ wants
+    → found ≡ position (is_of article) (take (length xs - start) (drop start xs)) → found ≡ None
     → (k : ℕ) (want : Want) → slice_get wants k ≡ Some want → start ≤ k → want.article ≢ article
 none_in xs wants start article found same is none k want there late =
     none_from wants start article k want (ap (position (is_of article)) (sym (tail_is xs wants start same)) ∙ (sym is ∙ none)) there late
 
 -- what a line adds to a want of its article for its order
-more_units : (ours here : Bool) (q n : ℕ) → (if ours && here then q + n else 0) ≡ (if ours && here then q else 0) + (if here then 0 + (if ours then n else 0) else 0)
+more_units : (ours here : Bool) (q n : ℕ) → (if ours && here then q + n else 0) ≡ (if ours && here then q else 0) +
+    (if here then 0 + (if ours then n else 0) else 0)
 more_units true true q n = omega arith
 more_units true false q n = refl
 more_units false true q n = refl
 more_units false false q n = refl
 
 want_more : (place : ℕ) (line : Line) (want : Want) (quantity article order : ℕ) → want.order ≡ place → want.article ≡ line.article → quantity ≡ line.quantity
-    → units_for article order (record want { quantity = want.quantity + quantity }) ≡ units_for article order want + (if place == order then sum_by (quantity_of article) (line ∷ []) else 0)
+    → units_for article order (record want { quantity = want.quantity + quantity }) ≡ units_for article order want +
+        (if place == order then sum_by (quantity_of article) (line ∷ []) else 0)
 want_more place line want quantity article order here same units =
     more_units (want.article == article) (want.order == order) want.quantity quantity
     ∙ (ap₂ (λ (o a : ℕ). units_for article order want + (if o == order then 0 + (if a == article then quantity else 0) else 0)) here same
     ∙ ap (λ (q : ℕ). units_for article order want + (if place == order then 0 + (if line.article == article then q else 0) else 0)) units)
 
 -- a line's units go to the want of its article
-pub added_to : (wants : List Want) (at place : ℕ) (line : Line) (want : Want) (quantity : ℕ) → slice_get wants at ≡ Some want → want.order ≡ place → want.article ≡ line.article → quantity ≡ line.quantity
+pub added_to : (wants : List Want) (at place : ℕ) (line : Line) (want : Want) (quantity : ℕ) → slice_get wants at ≡ Some want → want.order ≡ place
+    → want.article ≡ line.article → quantity ≡ line.quantity
     → HaveAdded place (line ∷ []) wants (slice_set wants at (record want { quantity = want.quantity + quantity }))
 added_to wants at place line want quantity there here same units =
     let new : Want = record want { quantity = want.quantity + quantity } in
@@ -112,20 +124,23 @@ new_units true false n = refl
 new_units false true n = refl
 new_units false false n = refl
 
-pub added_last : (wants : List Want) (place : ℕ) (line : Line) (quantity : ℕ) → quantity ≡ line.quantity → HaveAdded place (line ∷ []) wants (wants ++ record { order = place; article = line.article; quantity = quantity } ∷ [])
+pub added_last : (wants : List Want) (place : ℕ) (line : Line) (quantity : ℕ) → quantity ≡ line.quantity
+    → HaveAdded place (line ∷ []) wants (wants ++ record { order = place; article = line.article; quantity = quantity } ∷ [])
 added_last wants place line quantity units =
     let new : Want = record { order = place; article = line.article; quantity = quantity } in
     record {
       wanted = λ article order.
           let own : units_for article order new ≡ (if place == order then sum_by (quantity_of article) (line ∷ []) else 0) =
-          new_units (line.article == article) (place == order) quantity ∙ ap (λ (q : ℕ). if place == order then 0 + (if line.article == article then q else 0) else 0) units in
+          new_units (line.article == article) (place == order) quantity
+              ∙ ap (λ (q : ℕ). if place == order then 0 + (if line.article == article then q else 0) else 0) units in
           omega (arith, sum_by_push (units_for article order) wants new, own);
       units = omega (arith, sum_by_push (λ (w : Want). w.quantity) wants new, units);
       few = omega (arith, length-append wants (new ∷ []));
     }
 
 -- a want of a new article, the last of its order
-pub split_pushed : (wants : List Want) (start place : ℕ) (new : Want) → AreSplit start place wants → new.order ≡ place → 0 < new.quantity → ((k : ℕ) (w : Want) → slice_get wants k ≡ Some w → start ≤ k → w.article ≢ new.article)
+pub split_pushed : (wants : List Want) (start place : ℕ) (new : Want) → AreSplit start place wants → new.order ≡ place → 0 < new.quantity
+    → ((k : ℕ) (w : Want) → slice_get wants k ≡ Some w → start ≤ k → w.article ≢ new.article)
     → AreSplit start place (wants ++ new ∷ [])
 split_pushed wants start place new split here some other = record {
   orderly = record {
@@ -183,13 +198,15 @@ split_pushed wants start place new split here some other = record {
 
 -- the articles of the wants
 pub articles_to : (wants : List Want) (at : ℕ) (line : Line) (new : Want) → new.article ≡ line.article → KeepArticles (line ∷ []) wants (slice_set wants at new)
-articles_to wants at line new same articles lines old = All-from_at (λ (want : Want). want.article < articles) (slice_set wants at new) (λ k w there. elim (slice_get-set wants at k w new there) [
+articles_to wants at line new same articles lines old = All-from_at (λ (want : Want). want.article < articles) (slice_set wants at new)
+    (λ k w there. elim (slice_get-set wants at k w new there) [
   | inl here ↦ omega (arith, All-at (λ (line : Line). line.article < articles) (line ∷ []) 0 line lines refl, same, ap (λ (x : Want). x.article) here.1)
   | inr away ↦ All-at (λ (want : Want). want.article < articles) wants k w old away.1
 ])
 
 pub articles_last : (wants : List Want) (line : Line) (new : Want) → new.article ≡ line.article → KeepArticles (line ∷ []) wants (wants ++ new ∷ [])
-articles_last wants line new same articles lines old = All-from_at (λ (want : Want). want.article < articles) (wants ++ new ∷ []) (λ k w there. elim (slice_get-push wants k w new there) [
+articles_last wants line new same articles lines old = All-from_at (λ (want : Want). want.article < articles) (wants ++ new ∷ [])
+    (λ k w there. elim (slice_get-push wants k w new there) [
   | inl early ↦ All-at (λ (want : Want). want.article < articles) wants k w old early
   | inr last ↦ omega (arith, All-at (λ (line : Line). line.article < articles) (line ∷ []) 0 line lines refl, same, ap (λ (x : Want). x.article) last.1)
 ])
@@ -211,25 +228,30 @@ joined : (b : Bool) (first next all : ℕ) → all ≡ first + next → (if b th
 joined true first next all e = omega arith
 joined false first next all e = refl
 
-pub added_more : (place : ℕ) (lines : List Line) (i : ℕ) (d : Line) (old now new : List Want) → i < length lines → HaveAdded place (take i lines) old now → HaveAdded place (get_or lines i d ∷ []) now new
+pub added_more : (place : ℕ) (lines : List Line) (i : ℕ) (d : Line) (old now new : List Want) → i < length lines → HaveAdded place (take i lines) old now
+    → HaveAdded place (get_or lines i d ∷ []) now new
     → HaveAdded place (take (i + 1) lines) old new
 added_more place lines i d old now new within before one = record {
   wanted = λ article order.
-      let more = joined (place == order) (sum_by (quantity_of article) (take i lines)) (quantity_of article (get_or lines i d)) (sum_by (quantity_of article) (take (i + 1) lines))
+      let more = joined (place == order) (sum_by (quantity_of article) (take i lines)) (quantity_of article (get_or lines i d))
+              (sum_by (quantity_of article) (take (i + 1) lines))
       (sum_by_more (quantity_of article) lines i d within) in
       omega (arith, before.wanted article order, one.wanted article order, more);
   units = omega (arith, before.units, one.units, sum_by_more (λ (l : Line). l.quantity) lines i d within);
-  few = omega (arith, before.few, one.few, length-take-le i lines (let le : i ≤ length lines = omega arith in le), length-take-le (i + 1) lines (let le : i + 1 ≤ length lines = omega arith in le));
+  few = omega (arith, before.few, one.few, length-take-le i lines (let le : i ≤ length lines = omega arith in le),
+      length-take-le (i + 1) lines (let le : i + 1 ≤ length lines = omega arith in le));
 }
 
 -- there is room for its units
-pub fits_more : (place : ℕ) (lines : List Line) (i : ℕ) (d : Line) (old now : List Want) → i < length lines → all_units old + line_units lines < 2 ^ 64 → HaveAdded place (take i lines) old now
+pub fits_more : (place : ℕ) (lines : List Line) (i : ℕ) (d : Line) (old now : List Want) → i < length lines → all_units old + line_units lines < 2 ^ 64
+    → HaveAdded place (take i lines) old now
     → all_units now + (get_or lines i d).quantity < 2 ^ 64
 fits_more place lines i d old now within small before =
     omega (arith, before.units, sum_by_more (λ (l : Line). l.quantity) lines i d within, sum_by-take-le (λ (l : Line). l.quantity) lines (i + 1))
 
 -- the articles, after one line more
-pub articles_more : (lines : List Line) (i : ℕ) (d : Line) (old now new : List Want) → i < length lines → KeepArticles lines old now → KeepArticles (get_or lines i d ∷ []) now new → KeepArticles lines old new
+pub articles_more : (lines : List Line) (i : ℕ) (d : Line) (old now new : List Want) → i < length lines → KeepArticles lines old now
+    → KeepArticles (get_or lines i d ∷ []) now new → KeepArticles lines old new
 articles_more lines i d old now new within before one articles each all = one articles (λ k e below. only k e below) (before articles each all)
   where
     only : (k : ℕ) (e : Line) → k < 1 → (get_or (get_or lines i d ∷ []) k e).article < articles
@@ -252,7 +274,8 @@ before_next start place wants split = record {
 pub none_before : (opening : Opening) (orders : List (List ℕ)) → AreWantsBefore opening orders 0 []
 none_before opening orders = record {
   before = record {
-    orderly = record { ordered = λ i j v w earlier at_i at_j. absurd (cc); once = λ i j v w at_i at_j same_order same_article. absurd (cc); some = λ k d within. absurd (omega arith) };
+    orderly = record { ordered = λ i j v w earlier at_i at_j. absurd (cc); once = λ i j v w at_i at_j same_order same_article. absurd (cc);
+        some = λ k d within. absurd (omega arith) };
     within = omega arith;
     before = λ k w there early. absurd (cc);
     from = λ k w there late. absurd (cc);
@@ -265,16 +288,20 @@ none_before opening orders = record {
 }
 
 -- the units of an order's lines are few
-pub few_units : (articles : List (List ℕ)) (lines : List Line) → All (IsLine articles) lines → length lines ≤ most_lines → line_units lines ≤ most_lines * most_quantity
+pub few_units : (articles : List (List ℕ)) (lines : List Line) → All (IsLine articles) lines → length lines ≤ most_lines
+    → line_units lines ≤ most_lines * most_quantity
 few_units articles lines each few = omega (arith, sum_by-le (λ (line : Line). line.quantity) most_quantity lines (λ k d within. (each k d within).most))
 
-pub fits_order : (opening : Opening) (orders : List (List ℕ)) (place : ℕ) (lines : List Line) (wants : List Want) → place < length orders → length orders ≤ most_orders → All (IsLine opening.stock.articles) lines → length lines ≤ most_lines
+pub fits_order : (opening : Opening) (orders : List (List ℕ)) (place : ℕ) (lines : List Line) (wants : List Want) → place < length orders
+    → length orders ≤ most_orders → All (IsLine opening.stock.articles) lines → length lines ≤ most_lines
     → AreWantsBefore opening orders place wants → all_units wants + line_units lines < 2 ^ 64
 fits_order opening orders place lines wants within most each few are = omega (arith, are.units, few_units opening.stock.articles lines each few)
 
 -- the wants of one order more
-pub order_more : (opening : Opening) (orders : List (List ℕ)) (place : ℕ) (order : List ℕ) (lines : List Line) (old new : List Want) → slice_get orders place ≡ Some order → lines ≡ lines_of opening.orders order
-    → All (IsLine opening.stock.articles) lines → length lines ≤ most_lines → AreBefore (place + 1) new → HaveAdded place lines old new → KeepArticles lines old new → AreWantsBefore opening orders place old
+pub order_more : (opening : Opening) (orders : List (List ℕ)) (place : ℕ) (order : List ℕ) (lines : List Line) (old new : List Want)
+    → slice_get orders place ≡ Some order → lines ≡ lines_of opening.orders order
+    → All (IsLine opening.stock.articles) lines → length lines ≤ most_lines → AreBefore (place + 1) new → HaveAdded place lines old new
+        → KeepArticles lines old new → AreWantsBefore opening orders place old
     → AreWantsBefore opening orders (place + 1) new
 order_more opening orders place order lines old new there is each few before added articles was = record {
   before = before;
@@ -292,21 +319,25 @@ order_more opening orders place order lines old new there is each few before add
           ap (demand_at opening orders article) here,
         )
     | inr other ↦
-        omega (arith, added.wanted article at, was.demand article at (omega arith), cond-false (place == at) (sum_by (quantity_of article) lines) 0 (ne_eqb place at (λ e. other (sym e))))
+        omega (arith, added.wanted article at, was.demand article at (omega arith),
+            cond-false (place == at) (sum_by (quantity_of article) lines) 0 (ne_eqb place at (λ e. other (sym e))))
   ];
   rest = λ article at late.
-      omega (arith, added.wanted article at, was.rest article at (omega arith), cond-false (place == at) (sum_by (quantity_of article) lines) 0 (ne_eqb place at (λ e. absurd (omega arith))));
+      omega (arith, added.wanted article at, was.rest article at (omega arith),
+          cond-false (place == at) (sum_by (quantity_of article) lines) 0 (ne_eqb place at (λ e. absurd (omega arith))));
   within = articles (length opening.stock.articles) (λ k d within. (each k d within).article) was.within;
   units = omega (arith, added.units, was.units, few_units opening.stock.articles lines each few);
   few = omega (arith, added.few, was.few);
 }
 
 -- the wants of all orders
-pub are_wants : (opening : Opening) (orders : List (List ℕ)) (wants : List Want) → length orders ≤ most_orders → AreWantsBefore opening orders (length orders) wants → AreWantsOf opening orders wants
+pub are_wants : (opening : Opening) (orders : List (List ℕ)) (wants : List Want) → length orders ≤ most_orders
+    → AreWantsBefore opening orders (length orders) wants → AreWantsOf opening orders wants
 are_wants opening orders wants most are = record {
   demand = λ article place. elim (cases_lt place (length orders)) [
     | inl early ↦ are.demand article place early
-    | inr past ↦ are.rest article place past ∙ sym (ap (λ found. option_map_or (λ name. order_demand opening name article) found 0) (slice_get_past orders place past))
+    | inr past ↦ are.rest article place past ∙ sym (ap (λ found. option_map_or (λ name. order_demand opening name article) found 0)
+        (slice_get_past orders place past))
   ];
   regular = record {
     ordered = are.before.orderly.ordered;

@@ -17,7 +17,8 @@ pub record IsRowFound (rows : List Row) (location : Location) (number : ℕ) : T
   pub there : slice_get rows number ≡ Some row
   pub within : number < length rows
 
-found_of : (rows : List Row) (location : Location) (number : ℕ) (found : Option (ℕ × Row)) → step.row_from 0 rows location ≡ found → option_map (λ (f : ℕ × Row). f.0) found ≡ Some number → IsRowFound rows location number
+found_of : (rows : List Row) (location : Location) (number : ℕ) (found : Option (ℕ × Row)) → step.row_from 0 rows location ≡ found
+    → option_map (λ (f : ℕ × Row). f.0) found ≡ Some number → IsRowFound rows location number
 found_of rows location number None is e = absurd (cc)
 found_of rows location number (Some f) is e =
     let same : f.0 ≡ number = cc in
@@ -30,12 +31,18 @@ found_of rows location number (Some f) is e =
       within = slice_get_within rows number f.1 at;
     }
 
-pub row_is_found : (rows : List Row) (location : Location) (row : Option ℕ) (number : ℕ) → IsRowAt rows location row → row ≡ Some number → IsRowFound rows location number
+pub row_is_found : (rows : List Row) (location : Location) (row : Option ℕ) (number : ℕ) → IsRowAt rows location row → row ≡ Some number
+    → IsRowFound rows location number
 row_is_found rows location row number at is = found_of rows location number (step.row_from 0 rows location) refl (at ∙ is)
 
 -- what is held there
-pub held_there_is : (book : Book) (number : ℕ) (kept : KeptWave) (order : List ℕ) (location : Location) (place row : ℕ) (r : Row) → step.place_from 0 kept.orders order ≡ Some place → step.row_from 0 book.rows location ≡ Some (row, r)
-    → held_there book number kept order location ≡ step.any_held (record { order = place; row = row; article = r.article; units = held_for book number place row })
+pub held_there_is : (book : Book) (number : ℕ) (kept : KeptWave) (order : List ℕ) (location : Location) (place row : ℕ) (r : Row)
+    → step.place_from 0 kept.orders order ≡ Some place → step.row_from 0 book.rows location ≡ Some (row, r)
+    → held_there book number kept order location ≡ step.any_held
+        (record { order = place; row = row; article = r.article; units = held_for book number place row })
 held_there_is book number kept order location place row r placed found =
-    ap (λ (at : Option ℕ). option_map_or (λ p. option_map_or (λ (f : ℕ × Row). step.any_held (record { order = p; row = f.0; article = f.1.article; units = held_for book number p f.0 })) (step.row_from 0 book.rows location) None) at None) placed
-    ∙ ap (λ (at : Option (ℕ × Row)). option_map_or (λ (f : ℕ × Row). step.any_held (record { order = place; row = f.0; article = f.1.article; units = held_for book number place f.0 })) at None) found
+    ap (λ (at : Option ℕ). option_map_or (λ p. option_map_or
+        (λ (f : ℕ × Row). step.any_held (record { order = p; row = f.0; article = f.1.article; units = held_for book number p f.0 }))
+        (step.row_from 0 book.rows location) None) at None) placed
+    ∙ ap (λ (at : Option (ℕ × Row)). option_map_or (λ (f : ℕ × Row). step.any_held
+        (record { order = place; row = f.0; article = f.1.article; units = held_for book number place f.0 })) at None) found

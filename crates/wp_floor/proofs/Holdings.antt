@@ -1,5 +1,6 @@
 -- Stock that is held for a wave, and the list of it.
-use Rattle.std.proofs.Common.{◌≡◌, ◌∙◌, refl, sym, ap, ap₂, subst, ℕ, ◌+◌, ◌<◌, ◌≤◌, ◌==◌, suc, inl, inr, List, [], ◌∷◌, length, Option, Some, None, slice_get, slice_set, arith, ne_eqb}
+use Rattle.std.proofs.Common.{◌≡◌, ◌∙◌, refl, sym, ap, ap₂, subst, ℕ, ◌+◌, ◌<◌, ◌≤◌, ◌==◌, suc, inl, inr, List, [], ◌∷◌, length, Option, Some, None}
+use Rattle.std.proofs.Common.{slice_get, slice_set, arith, ne_eqb}
 use Rattle.std.proofs.Math.Path.{fun_ext}
 use Rattle.std.proofs.lemmas.Bool.{cases_eq, cond-false}
 use Rattle.std.proofs.lemmas.List.Sums.{sum_by-cons}
@@ -33,7 +34,8 @@ use Rattle.wp_floor.proofs.Picks.{none_held}
 use Rattle.wp_floor.proofs.Wanted.{wants_below}
 
 -- a wave that is allotted from another state than submitted
-pub allot_wrong : (opening : Opening) (state : State) (number : ℕ) (w : Wave) (s : WaveState) → (s ≡ wave.Submitted → ⊥) → allot opening state number w s ≡ refuse state (reply.WrongState s)
+pub allot_wrong : (opening : Opening) (state : State) (number : ℕ) (w : Wave) (s : WaveState) → (s ≡ wave.Submitted → ⊥)
+    → allot opening state number w s ≡ refuse state (reply.WrongState s)
 allot_wrong opening state number w wave.Submitted other = absurd (other refl)
 allot_wrong opening state number w wave.Allotted other = refl
 allot_wrong opening state number w wave.Released other = refl
@@ -41,33 +43,41 @@ allot_wrong opening state number w wave.Cancelled other = refl
 allot_wrong opening state number w wave.Done other = refl
 
 -- a wave that was submitted holds nothing
-pub holds_nothing : (opening : Opening) (book : Book) (waves : List Wave) (number : ℕ) (kept : KeptWave) → IsAt opening book waves number kept → kept.state ≡ wave.Submitted → HoldsNone book number
+pub holds_nothing : (opening : Opening) (book : Book) (waves : List Wave) (number : ℕ) (kept : KeptWave) → IsAt opening book waves number kept
+    → kept.state ≡ wave.Submitted → HoldsNone book number
 holds_nothing opening book waves number kept at submitted =
-    let sound : IsSoundWave opening (state_at book waves) number (wave_of kept) = at_some (slice_get waves number) (IsSoundWave opening (state_at book waves) number) (wave_of kept) at.there (at.sound.waves number) in
-    let none : wave_held (state_at book waves) number (length kept.orders) ≡ 0 = subst (λ (s : WaveState). HoldsAs s opening (state_at book waves) number (wave_of kept)) submitted sound.holds in
+    let sound : IsSoundWave opening (state_at book waves) number (wave_of kept) =
+            at_some (slice_get waves number) (IsSoundWave opening (state_at book waves) number) (wave_of kept) at.there (at.sound.waves number) in
+    let none : wave_held (state_at book waves) number (length kept.orders) ≡ 0 =
+            subst (λ (s : WaveState). HoldsAs s opening (state_at book waves) number (wave_of kept)) submitted sound.holds in
     none_held book waves number (length kept.orders) (λ order row some.
     let place = at.sound.nowhere_else number order row some in
     (omega (arith, place.0, orders_in-at (state_at book waves) number (wave_of kept) at.there), place.1)) none
 
 -- what it then holds is listed
-pub is_listed : (opening : Opening) (old new : Book) (waves : List Wave) (number : ℕ) (kept : KeptWave) (room sheet : Content) → IsAt opening old waves number kept → kept.state ≡ wave.Submitted → IsHeld number kept.wants.items old new room sheet
+pub is_listed : (opening : Opening) (old new : Book) (waves : List Wave) (number : ℕ) (kept : KeptWave) (room sheet : Content)
+    → IsAt opening old waves number kept → kept.state ≡ wave.Submitted → IsHeld number kept.wants.items old new room sheet
     → sheet.holds ≡ held_list (length kept.orders) (length new.rows) (held_for new number)
 is_listed opening old new waves number kept room sheet at submitted held =
     let orders = length kept.orders in
     let below = wants_below opening kept.orders kept.wants.items at.keeps.wants in
     let rows : length new.rows ≡ length old.rows = ap length (held.allotted.rows orders below) ∙ length-change_rows _ old.rows in
     let none = holds_nothing opening old waves number kept at submitted in
-    let each : (o r : ℕ) → share (wanted_for kept.wants.items) old.rows None o r ≡ held_for new number o r = λ o r. omega (arith, none o r, held.allotted.held o r) in
+    let each : (o r : ℕ) → share (wanted_for kept.wants.items) old.rows None o r ≡ held_for new number o r =
+            λ o r. omega (arith, none o r, held.allotted.held o r) in
     held.listed.holds orders below ∙ ap₂ (λ n h. held_list orders n h) (sym rows) (fun_ext (λ o. fun_ext (λ r. each o r)))
 
 -- stock was held for a wave that is allotted now
-pub allotted : (opening : Opening) (old new : Book) (waves : List Wave) (number : ℕ) (kept : KeptWave) (room sheet : Content) → IsAt opening old waves number kept → kept.state ≡ wave.Submitted → IsHeld number kept.wants.items old new room sheet
-    → HasAnswered opening (allot opening (state_at old waves) number (wave_of kept) kept.state) old new waves number kept (record kept { state = wave.Allotted; sheet = Some sheet }) reply.Allotted
+pub allotted : (opening : Opening) (old new : Book) (waves : List Wave) (number : ℕ) (kept : KeptWave) (room sheet : Content)
+    → IsAt opening old waves number kept → kept.state ≡ wave.Submitted → IsHeld number kept.wants.items old new room sheet
+    → HasAnswered opening (allot opening (state_at old waves) number (wave_of kept) kept.state) old new waves number kept
+        (record kept { state = wave.Allotted; sheet = Some sheet }) reply.Allotted
 allotted opening old new waves number kept room sheet at submitted held =
     let copy : kept.copy ≡ Some kept.orders = subst (λ (s : WaveState). HasPapers s old number kept) submitted at.keeps.papers in
     let below = wants_below opening kept.orders kept.wants.items at.keeps.wants in
     record {
-      is = ap (allot opening (state_at old waves) number (wave_of kept)) submitted ∙ hold_for_done opening old new waves number kept wave.Allotted reply.Allotted room sheet at.keeps.wants held;
+      is = ap (allot opening (state_at old waves) number (wave_of kept)) submitted
+          ∙ hold_for_done opening old new waves number kept wave.Allotted reply.Allotted room sheet at.keeps.wants held;
       keeps = record { wants = at.keeps.wants; papers = (copy, (sheet, refl, is_listed opening old new waves number kept room sheet at submitted held)) };
       others = held.allotted.others;
       rows = ap length (held.allotted.rows (length kept.orders) below) ∙ length-change_rows _ old.rows;
@@ -76,8 +86,10 @@ allotted opening old new waves number kept room sheet at submitted held =
     }
 
 -- it wasn't
-pub short : (opening : Opening) (old new : Book) (waves : List Wave) (number : ℕ) (kept : KeptWave) (next : WaveState) (done answer : Reply) (stepped : Stepped) → IsAt opening old waves number kept
-    → stepped ≡ hold_for opening (state_at old waves) next done number (wave_of kept) → IsRefusedShort opening kept.wants.items old new answer → HasAnswered opening stepped old new waves number kept kept answer
+pub short : (opening : Opening) (old new : Book) (waves : List Wave) (number : ℕ) (kept : KeptWave) (next : WaveState) (done answer : Reply)
+    (stepped : Stepped) → IsAt opening old waves number kept
+    → stepped ≡ hold_for opening (state_at old waves) next done number (wave_of kept) → IsRefusedShort opening kept.wants.items old new answer
+        → HasAnswered opening stepped old new waves number kept kept answer
 short opening old new waves number kept next done answer stepped at is refused = record {
   is = is ∙ hold_for_short opening old new waves number kept next done answer (is_opening opening at.read) at.keeps.wants at.there refused;
   keeps = subst (λ (b : Book). IsKeptWave opening b number kept) (sym refused.same) at.keeps;
@@ -88,7 +100,8 @@ short opening old new waves number kept next done answer stepped at is refused =
 }
 
 -- a wave that is released from another state than submitted or allotted
-pub release_wrong : (opening : Opening) (state : State) (number : ℕ) (w : Wave) (s : WaveState) → (s ≡ wave.Submitted → ⊥) → (s ≡ wave.Allotted → ⊥) → release opening state number w s ≡ refuse state (reply.WrongState s)
+pub release_wrong : (opening : Opening) (state : State) (number : ℕ) (w : Wave) (s : WaveState) → (s ≡ wave.Submitted → ⊥) → (s ≡ wave.Allotted → ⊥)
+    → release opening state number w s ≡ refuse state (reply.WrongState s)
 release_wrong opening state number w wave.Submitted submitted allotted = absurd (submitted refl)
 release_wrong opening state number w wave.Allotted submitted allotted = absurd (allotted refl)
 release_wrong opening state number w wave.Released submitted allotted = refl
@@ -96,12 +109,14 @@ release_wrong opening state number w wave.Cancelled submitted allotted = refl
 release_wrong opening state number w wave.Done submitted allotted = refl
 
 -- stock was held for a wave that goes out now
-pub held_and_listed : (opening : Opening) (old new : Book) (waves : List Wave) (number : ℕ) (kept : KeptWave) (room sheet : Content) → IsAt opening old waves number kept → kept.state ≡ wave.Submitted → IsHeld number kept.wants.items old new room sheet
+pub held_and_listed : (opening : Opening) (old new : Book) (waves : List Wave) (number : ℕ) (kept : KeptWave) (room sheet : Content)
+    → IsAt opening old waves number kept → kept.state ≡ wave.Submitted → IsHeld number kept.wants.items old new room sheet
     → HasListed opening old new waves number kept kept (Some sheet)
 held_and_listed opening old new waves number kept room sheet at submitted held =
     let below = wants_below opening kept.orders kept.wants.items at.keeps.wants in
     record {
-      is = ap (release opening (state_at old waves) number (wave_of kept)) submitted ∙ hold_for_done opening old new waves number kept wave.Released reply.Released room sheet at.keeps.wants held;
+      is = ap (release opening (state_at old waves) number (wave_of kept)) submitted
+          ∙ hold_for_done opening old new waves number kept wave.Released reply.Released room sheet at.keeps.wants held;
       list = (sheet, refl, is_listed opening old new waves number kept room sheet at submitted held);
       copy = subst (λ (s : WaveState). HasPapers s old number kept) submitted at.keeps.papers;
       others = held.allotted.others;
@@ -112,7 +127,8 @@ held_and_listed opening old new waves number kept room sheet at submitted held =
     }
 
 -- the first short article is one that is wanted
-pub short_is_wanted : (wants : List Want) (articles article : ℕ) → ((k : ℕ) (want : Want) → slice_get wants k ≡ Some want → want.article < articles) → 0 < wanted_of wants article → article < articles
+pub short_is_wanted : (wants : List Want) (articles article : ℕ) → ((k : ℕ) (want : Want) → slice_get wants k ≡ Some want → want.article < articles)
+    → 0 < wanted_of wants article → article < articles
 short_is_wanted [] articles article within some = let none : wanted_of [] article ≡ 0 = refl in absurd (omega (arith, some, none))
 short_is_wanted (want ∷ wants) articles article within some = elim (cases_eq want.article article) [
   | inl here ↦ omega (arith, here, within 0 want refl)
@@ -122,14 +138,17 @@ short_is_wanted (want ∷ wants) articles article within some = elim (cases_eq w
 ]
 
 -- room for what a wave may hold is room for what it wants
-pub fits : (opening : Opening) (orders : List (List ℕ)) (rows : List Row) (wants : List Want) (room : Content) → AreWantsOf opening orders wants → IsFreshRoom (length rows + most_wants) room → IsRoomFor rows wants room
+pub fits : (opening : Opening) (orders : List (List ℕ)) (rows : List Row) (wants : List Want) (room : Content) → AreWantsOf opening orders wants
+    → IsFreshRoom (length rows + most_wants) room → IsRoomFor rows wants room
 fits opening orders rows wants room are fresh = record {
   empty = fresh.0;
-  size = let some : wanted_rows rows wants ≤ length rows = count_by-le-length (λ (row : Row). is_wanted wants row.article) rows in omega (arith, some, are.few, fresh.1);
+  size = let some : wanted_rows rows wants ≤ length rows = count_by-le-length (λ (row : Row). is_wanted wants row.article) rows in
+      omega (arith, some, are.few, fresh.1);
 }
 
 -- a wave that may go out and holds what is listed goes out
-pub released : (opening : Opening) (old new : Book) (waves : List Wave) (number : ℕ) (was middle kept : KeptWave) (room : Option Content) (orders : Option (List (List ℕ))) (sheet : Option Sheet)
+pub released : (opening : Opening) (old new : Book) (waves : List Wave) (number : ℕ) (was middle kept : KeptWave) (room : Option Content)
+    (orders : Option (List (List ℕ))) (sheet : Option Sheet)
     → IsAt opening old waves number was → HasListed opening old new waves number was middle room
     → wave_of kept ≡ record (wave_of middle) { state = wave.Released } → kept.wants ≡ middle.wants → orders ≡ middle.copy
     → ((names : List (List ℕ)) (holds : Content) → orders ≡ Some names → room ≡ Some holds → sheet ≡ Some (record { orders = names; room = holds }))
@@ -140,7 +159,8 @@ released opening old new waves number was middle kept room orders sheet at liste
     let names : orders ≡ Some was.orders = taken ∙ (listed.kept_copy ∙ listed.copy) in
     record {
       answers = record {
-        is = listed.is ∙ ap (λ (v : Wave). let s : Stepped = record { reply = reply.Released; state = state_at new (slice_set waves number v) } in s) (sym left);
+        is = listed.is ∙ ap (λ (v : Wave). let s : Stepped = record { reply = reply.Released; state = state_at new (slice_set waves number v) } in s)
+            (sym left);
         keeps = record {
           wants = subst (λ (os : List (List ℕ)). AreWantsOf opening os kept.wants.items) (sym (ap (λ (v : Wave). v.orders) left))
               (subst (λ (ws : List Want). AreWantsOf opening was.orders ws) (sym (ap (λ v. v.items) (wants ∙ listed.wants))) at.keeps.wants);

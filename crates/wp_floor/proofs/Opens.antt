@@ -26,7 +26,8 @@ no_takers opening = record {
 }
 
 -- what is kept of an opening
-pub floor_opens : (opening : Opening) (floor : Floor) → IsReadOpening opening → floor.book ≡ free_book opening.stock → floor.waves ≡ [] → floor.takers.items ≡ replicate (length opening.orders) None
+pub floor_opens : (opening : Opening) (floor : Floor) → IsReadOpening opening → floor.book ≡ free_book opening.stock → floor.waves ≡ []
+    → floor.takers.items ≡ replicate (length opening.orders) None
     → IsFloor opening floor
 floor_opens opening floor read book waves takers =
     let state : state_of floor ≡ opening_state opening = rw (book, waves) refl in

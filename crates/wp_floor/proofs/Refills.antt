@@ -1,5 +1,6 @@
 -- Units that are held in place of missing ones.
-use Rattle.std.proofs.Common.{◌≡◌, ◌≢◌, ◌∙◌, refl, ap, ℕ, ◌+◌, ◌<◌, ◌==◌, ◌&&◌, false, inl, inr, List, [], ◌∷◌, length, Option, Some, None, slice_get, arith, eq-eqb, ne_eqb}
+use Rattle.std.proofs.Common.{◌≡◌, ◌≢◌, ◌∙◌, refl, ap, ℕ, ◌+◌, ◌<◌, ◌==◌, ◌&&◌, false, inl, inr, List, [], ◌∷◌, length, Option, Some, None, slice_get, arith}
+use Rattle.std.proofs.Common.{eq-eqb, ne_eqb}
 use Rattle.std.proofs.Math.Path.{fun_ext}
 use Rattle.std.proofs.lemmas.Bool.{and_right, cases_eq, cond-false, cond-true}
 use Rattle.std.proofs.lemmas.Bool.Decides.{nat_tests}
@@ -25,7 +26,8 @@ abbrev pub want_again : HeldUnits → ℕ → Want
 want_again lost quantity = record { order = lost.order; article = lost.article; quantity = quantity }
 
 -- what one want wants
-wanted_for_one : (lost : HeldUnits) (quantity article place : ℕ) → wanted_for (want_again lost quantity ∷ []) article place ≡ one_demand lost.order lost.article quantity article place
+wanted_for_one : (lost : HeldUnits) (quantity article place : ℕ)
+    → wanted_for (want_again lost quantity ∷ []) article place ≡ one_demand lost.order lost.article quantity article place
 wanted_for_one lost quantity article place =
     let same : units_for article place (want_again lost quantity) ≡ one_demand lost.order lost.article quantity article place = grind (arith, nat_tests) in
     omega (arith, sum_by-cons (units_for article place) (want_again lost quantity) [], same)
@@ -52,16 +54,19 @@ below_again lost quantity orders below article place past =
     ∙ cond-false ((article == lost.article) && (place == lost.order)) quantity 0 (and_right _ _ (ne_eqb place lost.order (λ e. absurd (omega arith))))
 
 -- nothing is short where no article is named
-pub none_is_short : (rows : List Row) (wants : List Want) (except : Option ℕ) (found : Option Short) → IsShort rows wants except found → false ≡ is_some found → IsShort rows wants except None
+pub none_is_short : (rows : List Row) (wants : List Want) (except : Option ℕ) (found : Option Short) → IsShort rows wants except found → false ≡ is_some found
+    → IsShort rows wants except None
 none_is_short rows wants except None is none = is
 none_is_short rows wants except (Some short) is none = absurd (cc)
 
 -- what was held for the one want and listed is held elsewhere
-pub held_elsewhere : (number quantity units : ℕ) (lost : HeldUnits) (old new : Book) (room sheet : Content) → units ≡ quantity → IsShort old.rows (want_again lost units ∷ []) (Some lost.row) None
+pub held_elsewhere : (number quantity units : ℕ) (lost : HeldUnits) (old new : Book) (room sheet : Content) → units ≡ quantity
+    → IsShort old.rows (want_again lost units ∷ []) (Some lost.row) None
     → IsAllotted number (want_again lost units ∷ []) (Some lost.row) old new → HasOverlaps old.rows (want_again lost units ∷ []) (Some lost.row) room sheet
     → IsHeldElsewhere number lost quantity old new sheet
 held_elsewhere number quantity units lost old new room sheet same enough allotted overlaps =
-    let demand : wanted_for (want_again lost units ∷ []) ≡ one_demand lost.order lost.article quantity = demand_again lost units ∙ ap (one_demand lost.order lost.article) same in
+    let demand : wanted_for (want_again lost units ∷ []) ≡ one_demand lost.order lost.article quantity =
+            demand_again lost units ∙ ap (one_demand lost.order lost.article) same in
     record {
       covered = omega (arith, enough lost.article, wanted_of_own (want_again lost units));
       rows = λ orders below. allotted.rows orders (below_again lost units orders below)

@@ -1,5 +1,6 @@
 -- Waves that go out, as the whole floor answers them.
-use Rattle.std.proofs.Common.{◌≡◌, ◌∙◌, refl, sym, ap, ap₂, subst, ℕ, ◌+◌, List, ◌∷◌, ◌++◌, length, map, reverse, Option, Some, Result, Ok, Err, IfOk, IfErr, option_map, slice_get, arith}
+use Rattle.std.proofs.Common.{◌≡◌, ◌∙◌, refl, sym, ap, ap₂, subst, ℕ, ◌+◌, List, ◌∷◌, ◌++◌, length, map, reverse, Option, Some, Result, Ok, Err, IfOk, IfErr}
+use Rattle.std.proofs.Common.{option_map, slice_get, arith}
 use Rattle.std.proofs.lemmas.Option.{slice_get-map}
 use Rattle.wp_model.specs.Book.{held_for, held_list}
 use Rattle.wp_model.specs.Opening.{Opening}
@@ -27,7 +28,8 @@ pub record IsPutBack (opening : Opening) (name : List ℕ) (old : Floor) (rest :
   pub live : is_live left.state ≡ is_live found.wave.state
 
 -- the floor has stepped as the wave has answered
-pub stepped_at : (opening : Opening) (command : Command) (name : List ℕ) (change : ℕ → Wave → Stepped) (old : Floor) (rest : List KeptWave) (found : Found) (new : Floor) (left : KeptWave) (answer : Reply)
+pub stepped_at : (opening : Opening) (command : Command) (name : List ℕ) (change : ℕ → Wave → Stepped) (old : Floor) (rest : List KeptWave) (found : Found)
+    (new : Floor) (left : KeptWave) (answer : Reply)
     → step opening (state_of old) command ≡ at_wave (state_of old) name change → IsPutBack opening name old rest found new left
     → HasAnswered opening (change found.number (wave_of found.wave)) old.book new.book (map wave_of old.waves) found.number found.wave left answer
     → HasStepped opening command old new answer
@@ -44,10 +46,12 @@ stepped_at opening command name change old rest found new left answer is put ans
 
 -- the wave that was put back is the one of its name
 pub found_after : (opening : Opening) (name : List ℕ) (old : Floor) (rest : List KeptWave) (found : Found) (new : Floor) (left : KeptWave)
-    → IsPutBack opening name old rest found new left → IsFloor opening new → left.name ≡ found.wave.name → wave_from 0 (state_of new).waves name ≡ Some (found.number, wave_of left)
+    → IsPutBack opening name old rest found new left → IsFloor opening new → left.name ≡ found.wave.name
+        → wave_from 0 (state_of new).waves name ≡ Some (found.number, wave_of left)
 found_after opening name old rest found new left put floor named =
     let there : slice_get (map wave_of new.waves) found.number ≡ Some (wave_of left) =
-    slice_get-map wave_of new.waves found.number ∙ ap (option_map wave_of) (ap₂ slice_get put.waves put.is_found.number ∙ at_seam rest (reverse found.after) left) in
+    slice_get-map wave_of new.waves found.number ∙ ap (option_map wave_of)
+        (ap₂ slice_get put.waves put.is_found.number ∙ at_seam rest (reverse found.after) left) in
     let zero : 0 + found.number ≡ found.number = omega arith in
     wave_by (map wave_of new.waves) name 0 found.number (wave_of left) there (named ∙ put.is_found.named) floor.sound.names
     ∙ ap (λ (n : ℕ). Some (n, wave_of left)) zero
@@ -58,38 +62,46 @@ pub went_out : (opening : Opening) (name : List ℕ) (old : Floor) (rest : List 
     → HasReleased opening old.book new.book (map wave_of old.waves) found.number found.wave left sheet
     → HasStepped opening (command.Release name) old new reply.Released × TellsHolds (state_of new) name sheet
 went_out opening name old rest found new left sheet put out =
-    let stepped = stepped_at opening (command.Release name) name (λ number w. release opening (state_of old) number w w.state) old rest found new left reply.Released refl put out.answers in
+    let stepped = stepped_at opening (command.Release name) name
+            (λ number w. release opening (state_of old) number w w.state) old rest found new left reply.Released refl put out.answers in
     let s = out.sheet_is in
     let orders : left.orders ≡ found.wave.orders = out.answers.orders in (
       stepped,
       (
         (found.number, wave_of left),
         found_after opening name old rest found new left put stepped.floor out.answers.name,
-        (s.0, s.1, s.2 ∙ sym orders, s.3 ∙ ap (λ (os : List (List ℕ)). held_list (length os) (length new.book.rows) (held_for new.book found.number)) (sym orders)),
+        (s.0, s.1, s.2 ∙ sym orders, s.3 ∙ ap (λ (os : List (List ℕ)). held_list (length os) (length new.book.rows) (held_for new.book found.number))
+            (sym orders)),
       ),
     )
 
 -- what the floor answers to a release, by what the wave answered
-pub release_out : (opening : Opening) (name : List ℕ) (old : Floor) (rest : List KeptWave) (found : Found) (new : Floor) (left : KeptWave) (done : Result (Option Sheet) Reply)
+pub release_out : (opening : Opening) (name : List ℕ) (old : Floor) (rest : List KeptWave) (found : Found) (new : Floor) (left : KeptWave)
+    (done : Result (Option Sheet) Reply)
     → IsPutBack opening name old rest found new left
-    → IfOk done (λ sheet. (waves : List Wave) → IsAt opening old.book waves found.number found.wave → HasReleased opening old.book new.book waves found.number found.wave left sheet)
+    → IfOk done (λ sheet. (waves : List Wave) → IsAt opening old.book waves found.number found.wave
+        → HasReleased opening old.book new.book waves found.number found.wave left sheet)
     → IfOk done (λ sheet. HasStepped opening (command.Release name) old new reply.Released)
 release_out opening name old rest found new left (Ok sheet) put out =
     (went_out opening name old rest found new left sheet put (out (map wave_of old.waves) (found_at opening name old rest found put.floor put.is_found))).0
 release_out opening name old rest found new left (Err why) put out = tt
 
-pub release_told : (opening : Opening) (name : List ℕ) (old : Floor) (rest : List KeptWave) (found : Found) (new : Floor) (left : KeptWave) (done : Result (Option Sheet) Reply)
+pub release_told : (opening : Opening) (name : List ℕ) (old : Floor) (rest : List KeptWave) (found : Found) (new : Floor) (left : KeptWave)
+    (done : Result (Option Sheet) Reply)
     → IsPutBack opening name old rest found new left
-    → IfOk done (λ sheet. (waves : List Wave) → IsAt opening old.book waves found.number found.wave → HasReleased opening old.book new.book waves found.number found.wave left sheet)
+    → IfOk done (λ sheet. (waves : List Wave) → IsAt opening old.book waves found.number found.wave
+        → HasReleased opening old.book new.book waves found.number found.wave left sheet)
     → IfOk done (λ sheet. TellsHolds (state_of new) name sheet)
 release_told opening name old rest found new left (Ok sheet) put out =
     (went_out opening name old rest found new left sheet put (out (map wave_of old.waves) (found_at opening name old rest found put.floor put.is_found))).1
 release_told opening name old rest found new left (Err why) put out = tt
 
-pub release_refused : (opening : Opening) (name : List ℕ) (old : Floor) (rest : List KeptWave) (found : Found) (new : Floor) (left : KeptWave) (done : Result (Option Sheet) Reply)
+pub release_refused : (opening : Opening) (name : List ℕ) (old : Floor) (rest : List KeptWave) (found : Found) (new : Floor) (left : KeptWave)
+    (done : Result (Option Sheet) Reply)
     → IsPutBack opening name old rest found new left
     → IfErr done (λ why. (waves : List Wave) → IsAt opening old.book waves found.number found.wave
-    → HasAnswered opening (release opening (state_at old.book waves) found.number (wave_of found.wave) found.wave.state) old.book new.book waves found.number found.wave left why)
+    → HasAnswered opening (release opening (state_at old.book waves) found.number (wave_of found.wave) found.wave.state) old.book new.book waves found.number
+        found.wave left why)
     → IfErr done (λ why. HasStepped opening (command.Release name) old new why)
 release_refused opening name old rest found new left (Ok sheet) put refused = tt
 release_refused opening name old rest found new left (Err why) put refused =

@@ -19,8 +19,10 @@ same_numbers number (row ∷ rows) [] location same = absurd (cc)
 same_numbers number (row ∷ rows) (other ∷ others) location same =
     let place : row_place row ≡ stock_row_place other = cc in
     let rest : map row_place rows ≡ map stock_row_place others = cc in
-    by (same_location row.location location) (row_from (number + 1) rows location) (row_number_from (number + 1) others location) (same_numbers (number + 1) rows others location rest)
-    ∙ ap (λ (there : Location). if same_location there location then Some number else row_number_from (number + 1) others location) (ap (λ (p : Location × ℕ). p.0) place)
+    by (same_location row.location location) (row_from (number + 1) rows location) (row_number_from (number + 1) others location)
+        (same_numbers (number + 1) rows others location rest)
+    ∙ ap (λ (there : Location). if same_location there location then Some number else row_number_from (number + 1) others location)
+        (ap (λ (p : Location × ℕ). p.0) place)
   where
     by : (b : Bool) (found : Option (ℕ × Row)) (later : Option ℕ) → option_map (λ (found : ℕ × Row). found.0) found ≡ later
         → option_map (λ (found : ℕ × Row). found.0) (if b then Some (number, row) else found) ≡ (if b then Some number else later)
@@ -28,7 +30,8 @@ same_numbers number (row ∷ rows) (other ∷ others) location same =
     by false found later same = same
 
 -- the row that lies at a location lay there in the opening
-pub row_there : (opening : Opening) (rows : List Row) (location : Location) (row : Option ℕ) → AreSameRows opening rows → row_number_from 0 opening.stock.rows location ≡ row → IsRowAt rows location row
+pub row_there : (opening : Opening) (rows : List Row) (location : Location) (row : Option ℕ) → AreSameRows opening rows
+    → row_number_from 0 opening.stock.rows location ≡ row → IsRowAt rows location row
 row_there opening rows location row same is = same_numbers 0 rows opening.stock.rows location same ∙ is
 
 -- there are as many rows as in the opening

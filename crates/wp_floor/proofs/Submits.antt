@@ -1,5 +1,6 @@
 -- Orders that can't join a wave.
-use Rattle.std.proofs.Common.{◌≡◌, ◌≢◌, ◌∙◌, refl, sym, ap, ap₂, ℕ, zero, suc, ◌<◌, ◌||◌, Bool, true, false, not, List, [], ◌∷◌, length, map, Option, Some, None, slice_get, option_map, bytes_eq, if◌then◌else◌, arith}
+use Rattle.std.proofs.Common.{◌≡◌, ◌≢◌, ◌∙◌, refl, sym, ap, ap₂, ℕ, zero, suc, ◌<◌, ◌||◌, Bool, true, false, not, List, [], ◌∷◌, length, map, Option, Some}
+use Rattle.std.proofs.Common.{None, slice_get, option_map, bytes_eq, if◌then◌else◌, arith}
 use Rattle.std.proofs.lemmas.Slice.Eq.{bytes_eq-Decides}
 use Rattle.std.proofs.lemmas.List.{length-map}
 use Rattle.wp_model.proofs.NameEq.{found_there}
@@ -13,7 +14,8 @@ use Rattle.wp_floor.specs.Floor.{AreTakers}
 use Rattle.wp_floor.proofs.OrderNames.{no_order, order_at}
 
 -- an order of a name is known
-known_at : (orders : List Order) (name : List ℕ) (i : ℕ) (order : Order) → slice_get orders i ≡ Some order → order.name ≡ name → is_known_order orders name ≡ true
+known_at : (orders : List Order) (name : List ℕ) (i : ℕ) (order : Order) → slice_get orders i ≡ Some order → order.name ≡ name
+    → is_known_order orders name ≡ true
 known_at [] name i order there named = absurd (cc)
 known_at (o ∷ orders) name zero order there named =
     let same : o ≡ order = cc in
@@ -26,10 +28,12 @@ known_at (o ∷ orders) name (suc i) order there named =
     or_right false b e = e
 
 -- a name that no order has isn't
-unknown : (orders : List Order) (name : List ℕ) → ((i : ℕ) (order : Order) → slice_get orders i ≡ Some order → order.name ≢ name) → is_known_order orders name ≡ false
+unknown : (orders : List Order) (name : List ℕ) → ((i : ℕ) (order : Order) → slice_get orders i ≡ Some order → order.name ≢ name)
+    → is_known_order orders name ≡ false
 unknown [] name none = refl
 unknown (o ∷ orders) name none =
-    ap₂ (λ a b. a || b) (is_false (bytes_eq o.name name) (λ e. none 0 o refl ((bytes_eq-Decides o.name name).0 e))) (unknown orders name (λ i order there. none (suc i) order there))
+    ap₂ (λ a b. a || b) (is_false (bytes_eq o.name name) (λ e. none 0 o refl ((bytes_eq-Decides o.name name).0 e)))
+        (unknown orders name (λ i order there. none (suc i) order there))
   where
     is_false : (b : Bool) → (b ≡ true → ⊥) → b ≡ false
     is_false true to = absurd (to refl)
@@ -39,20 +43,24 @@ unknown (o ∷ orders) name none =
 pub not_found : (opening : Opening) (waves : List Wave) (before : List (List ℕ)) (order : List ℕ) → article_in (map name_of opening.orders) order ≡ None
     → Some (reply.UnknownOrder order) ≡ order_fault opening waves before order
 not_found opening waves before order none =
-    ap (λ b. if not b then Some (reply.UnknownOrder order) else if is_among before order then Some (reply.OrderTwice order) else option_map (reply.OrderTaken order) (taker_of waves order))
+    ap (λ b. if not b then Some (reply.UnknownOrder order) else if is_among before order then Some (reply.OrderTwice order) else option_map
+        (reply.OrderTaken order) (taker_of waves order))
     (sym (unknown opening.orders order (no_order opening.orders order none)))
 
 is_known : (opening : Opening) (order : List ℕ) (i : ℕ) → article_in (map name_of opening.orders) order ≡ Some i → is_known_order opening.orders order ≡ true
 is_known opening order i found = let at = order_at opening.orders order i found in known_at opening.orders order i at.order at.there at.named
 
 -- an order that was named before
-pub twice : (opening : Opening) (waves : List Wave) (before : List (List ℕ)) (order : List ℕ) (i : ℕ) → article_in (map name_of opening.orders) order ≡ Some i → is_among before order ≡ true
+pub twice : (opening : Opening) (waves : List Wave) (before : List (List ℕ)) (order : List ℕ) (i : ℕ) → article_in (map name_of opening.orders) order ≡ Some i
+    → is_among before order ≡ true
     → Some (reply.OrderTwice order) ≡ order_fault opening waves before order
 twice opening waves before order i found among =
-    sym (ap₂ (λ a b. if not a then Some (reply.UnknownOrder order) else if b then Some (reply.OrderTwice order) else option_map (reply.OrderTaken order) (taker_of waves order)) (is_known opening order i found) among)
+    sym (ap₂ (λ a b. if not a then Some (reply.UnknownOrder order) else if b then Some (reply.OrderTwice order) else option_map (reply.OrderTaken order)
+        (taker_of waves order)) (is_known opening order i found) among)
 
 -- an order that wasn't, by who has it
-pub by_taker : (opening : Opening) (waves : List Wave) (takers : List (Option (List ℕ))) (before : List (List ℕ)) (order : List ℕ) (i : ℕ) (taker : Option (List ℕ)) → AreTakers opening waves takers
+pub by_taker : (opening : Opening) (waves : List Wave) (takers : List (Option (List ℕ))) (before : List (List ℕ)) (order : List ℕ) (i : ℕ)
+    (taker : Option (List ℕ)) → AreTakers opening waves takers
     → article_in (map name_of opening.orders) order ≡ Some i → is_among before order ≡ false → slice_get takers i ≡ Some taker
     → option_map (reply.OrderTaken order) taker ≡ order_fault opening waves before order
 by_taker opening waves takers before order i taker are found among has =
@@ -60,13 +68,15 @@ by_taker opening waves takers before order i taker are found among has =
     let both : Some taker ≡ Some (taker_of waves at.order.name) = sym has ∙ are.each i at.order at.there in
     let is : taker ≡ taker_of waves order = same_of taker (taker_of waves at.order.name) both ∙ ap (taker_of waves) at.named in
     ap (option_map (reply.OrderTaken order)) is
-    ∙ sym (ap₂ (λ a b. if not a then Some (reply.UnknownOrder order) else if b then Some (reply.OrderTwice order) else option_map (reply.OrderTaken order) (taker_of waves order)) (is_known opening order i found) among)
+    ∙ sym (ap₂ (λ a b. if not a then Some (reply.UnknownOrder order) else if b then Some (reply.OrderTwice order) else option_map (reply.OrderTaken order)
+        (taker_of waves order)) (is_known opening order i found) among)
   where
     same_of : (a b : Option (List ℕ)) → Some a ≡ Some b → a ≡ b
     same_of a b e = cc
 
 -- the order that is found is one of the opening's
-pub found_in : (opening : Opening) (orders : List Order) (name : List ℕ) (found : Option ℕ) (i : ℕ) → orders ≡ opening.orders → found ≡ article_in (map name_of orders) name → found ≡ Some i
+pub found_in : (opening : Opening) (orders : List Order) (name : List ℕ) (found : Option ℕ) (i : ℕ) → orders ≡ opening.orders
+    → found ≡ article_in (map name_of orders) name → found ≡ Some i
     → article_in (map name_of opening.orders) name ≡ Some i
 found_in opening orders name found i same is some = ap (λ os. article_in (map name_of os) name) (sym same) ∙ (sym is ∙ some)
 

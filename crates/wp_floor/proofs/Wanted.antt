@@ -1,5 +1,6 @@
 -- What a wave wants, by its wants and by its orders.
-use Rattle.std.proofs.Common.{◌≡◌, ◌∙◌, refl, sym, ap, ℕ, ◌+◌, ◌≤◌, ◌==◌, ◌&&◌, Bool, true, false, inl, inr, List, [], ◌∷◌, length, Option, Some, None, MatchOption, if◌then◌else◌, arith, eq-eqb, ne_eqb}
+use Rattle.std.proofs.Common.{◌≡◌, ◌∙◌, refl, sym, ap, ℕ, ◌+◌, ◌≤◌, ◌==◌, ◌&&◌, Bool, true, false, inl, inr, List, [], ◌∷◌, length, Option, Some, None}
+use Rattle.std.proofs.Common.{MatchOption, if◌then◌else◌, arith, eq-eqb, ne_eqb}
 use Rattle.std.proofs.Math.Path.{fun_ext}
 use Rattle.std.proofs.lemmas.Bool.{and_right, cases_lt, cond-false}
 use Rattle.std.proofs.lemmas.List.Sums.{sum_by-cons}
@@ -18,7 +19,8 @@ use Rattle.wp_model.specs.declared.row.Row.{Row}
 use Rattle.wp_floor.specs.Floor.{AreWantsOf}
 
 -- one want, counted at its order
-one_want : (want : Want) (article bound : ℕ) → (bound ≤ want.order → units_of article want ≡ 0) → sum_below bound (λ order. units_for article order want) ≡ units_of article want
+one_want : (want : Want) (article bound : ℕ) → (bound ≤ want.order → units_of article want ≡ 0)
+    → sum_below bound (λ order. units_for article order want) ≡ units_of article want
 one_want want article bound past = elim (cases_lt want.order bound) [
   | inl within ↦
       let others = sum-one_changed bound (λ order. units_for article order want) (λ order. 0) want.order within (λ k other.
@@ -68,7 +70,8 @@ pub wants_below : (opening : Opening) (orders : List (List ℕ)) (wants : List W
 wants_below opening orders wants are article place past =
     are.demand article place ∙ ap (λ found. option_map_or (λ order. order_demand opening order article) found 0) (slice_get_past orders place past)
 
-pub wanted_is : (opening : Opening) (orders : List (List ℕ)) (wants : List Want) (article : ℕ) → AreWantsOf opening orders wants → wanted_of wants article ≡ wave_demand opening orders article
+pub wanted_is : (opening : Opening) (orders : List (List ℕ)) (wants : List Want) (article : ℕ) → AreWantsOf opening orders wants
+    → wanted_of wants article ≡ wave_demand opening orders article
 wanted_is opening orders wants article are =
     wanted_total wants article (length orders) (wants_below opening orders wants are) ∙ sum-agree (length orders) _ _ (λ place within. are.demand article place)
 
@@ -76,17 +79,21 @@ wanted_is opening orders wants article are =
 abbrev pub NothingPast : Opening → List Want → Type 0
 NothingPast opening wants = (article : ℕ) → length opening.stock.articles ≤ article → wanted_of wants article ≡ 0
 
-pub nothing_past : (opening : Opening) (orders : List (List ℕ)) (wants : List Want) → IsOpening opening → AreWantsOf opening orders wants → NothingPast opening wants
+pub nothing_past : (opening : Opening) (orders : List (List ℕ)) (wants : List Want) → IsOpening opening → AreWantsOf opening orders wants
+    → NothingPast opening wants
 nothing_past opening orders wants is are article past = wanted_is opening orders wants article are ∙ wave_demand-other opening orders article is past
 
 -- there is enough for the wants where there is for the orders
-pub enough_for : (opening : Opening) (rows : List Row) (orders : List (List ℕ)) (wants : List Want) → AreWantsOf opening orders wants → IsShort rows wants None None → short_article opening rows orders None ≡ None
+pub enough_for : (opening : Opening) (rows : List Row) (orders : List (List ℕ)) (wants : List Want) → AreWantsOf opening orders wants
+    → IsShort rows wants None None → short_article opening rows orders None ≡ None
 enough_for opening rows orders wants are enough =
     none_from_covered opening rows orders None (λ article. omega (arith, wanted_is opening orders wants article are, enough article))
 
 -- and the first article of which there isn't is the same
-short_for : (opening : Opening) (rows : List Row) (orders : List (List ℕ)) (wants : List Want) (short : Short) (found : Option ℕ) → IsOpening opening → AreWantsOf opening orders wants → IsFirstShort rows wants None short
-    → MatchOption found (AreCovered (wave_demand opening orders) (λ article. free_units rows article None) 0 (length opening.stock.articles)) (model.IsFirstShort (wave_demand opening orders) (λ article. free_units rows article None) 0 (length opening.stock.articles))
+short_for : (opening : Opening) (rows : List Row) (orders : List (List ℕ)) (wants : List Want) (short : Short) (found : Option ℕ) → IsOpening opening
+    → AreWantsOf opening orders wants → IsFirstShort rows wants None short
+    → MatchOption found (AreCovered (wave_demand opening orders) (λ article. free_units rows article None) 0 (length opening.stock.articles))
+        (model.IsFirstShort (wave_demand opening orders) (λ article. free_units rows article None) 0 (length opening.stock.articles))
     → found ≡ Some short.article
 short_for opening rows orders wants short None is are first covered =
     let wanted = wanted_is opening orders wants short.article are in
@@ -105,6 +112,8 @@ short_for opening rows orders wants short (Some article) is are first found =
       ]
     ]
 
-pub short_is : (opening : Opening) (rows : List Row) (orders : List (List ℕ)) (wants : List Want) (short : Short) → IsOpening opening → AreWantsOf opening orders wants → IsFirstShort rows wants None short
+pub short_is : (opening : Opening) (rows : List Row) (orders : List (List ℕ)) (wants : List Want) (short : Short) → IsOpening opening
+    → AreWantsOf opening orders wants → IsFirstShort rows wants None short
     → short_article opening rows orders None ≡ Some short.article
-short_is opening rows orders wants short is are first = short_for opening rows orders wants short (short_article opening rows orders None) is are first (short_article_is opening rows orders None)
+short_is opening rows orders wants short is are first = short_for opening rows orders wants short (short_article opening rows orders None) is are first
+    (short_article_is opening rows orders None)

@@ -12,7 +12,8 @@ use Rattle.wp_floor.specs.declared.waves.KeptWave.{KeptWave}
 use Rattle.wp_floor.proofs.Floors.{none_by, wave_by}
 
 -- a wave of the name that stands among them is the first
-pub state_known : (opening : Opening) (floor : Floor) (name : List ℕ) (kept : KeptWave) (number : ℕ) → IsFloor opening floor → kept.name ≡ name → slice_get floor.waves number ≡ Some kept
+pub state_known : (opening : Opening) (floor : Floor) (name : List ℕ) (kept : KeptWave) (number : ℕ) → IsFloor opening floor → kept.name ≡ name
+    → slice_get floor.waves number ≡ Some kept
     → Some kept.state ≡ option_map (λ (found : ℕ × Wave). found.1.state) (wave_from 0 (state_of floor).waves name)
 state_known opening floor name kept number is named there =
     let stands : slice_get (map wave_of floor.waves) number ≡ Some (wave_of kept) = slice_get-map wave_of floor.waves number ∙ ap (option_map wave_of) there in

@@ -49,7 +49,8 @@ IsFreshRoom size room = (room.holds ≡ []) × (size ≤ room.size)
 abbrev pub HasPapers : WaveState → Book → ℕ → KeptWave → Type 0
 HasPapers wave.Submitted book number kept = kept.copy ≡ Some kept.orders
 HasPapers wave.Allotted book number kept =
-    (kept.copy ≡ Some kept.orders) × ((sheet : Content) × (kept.sheet ≡ Some sheet) × (sheet.holds ≡ held_list (length kept.orders) (length book.rows) (held_for book number)))
+    (kept.copy ≡ Some kept.orders) × ((sheet : Content) × (kept.sheet ≡ Some sheet) ×
+        (sheet.holds ≡ held_list (length kept.orders) (length book.rows) (held_for book number)))
 HasPapers wave.Released book number kept = ⊤
 HasPapers wave.Cancelled book number kept = ⊤
 HasPapers wave.Done book number kept = ⊤
@@ -80,7 +81,8 @@ AreSameRows opening rows = map row_place rows ≡ map stock_row_place opening.st
 
 -- a wave's command was answered: the step of the wave gives this reply, and the state of the book and of the wave as they
 -- are now; and all else is as it was
-pub record HasAnswered (opening : Opening) (stepped : Stepped) (old new : Book) (waves : List Wave) (number : ℕ) (was kept : KeptWave) (answer : Reply) : Type 0 where
+pub record HasAnswered (opening : Opening) (stepped : Stepped) (old new : Book) (waves : List Wave) (number : ℕ) (was kept : KeptWave)
+    (answer : Reply) : Type 0 where
   pub is : stepped ≡ record { reply = answer; state = state_at new (slice_set waves number (wave_of kept)) }
   pub keeps : IsKeptWave opening new number kept
   pub others : KeepsOthers number old new

@@ -53,4 +53,5 @@ pub record IsClaimed (book : Book) (number : ℕ) (kept : KeptWave) (order : Lis
 -- why a pick or a loss is refused, whatever would be done
 abbrev pub IsClaimRefused : Book → ℕ → KeptWave → List ℕ → Location → ℕ → Reply → Type 0
 IsClaimRefused book number kept order location quantity answer =
-    (waves : List Wave) (change : step.Held → step.Stepped) → step.at_released (state_at book waves) number (wave_of kept) order location quantity change kept.state ≡ step.refuse (state_at book waves) answer
+    (waves : List Wave) (change : step.Held → step.Stepped) → step.at_released (state_at book waves) number
+        (wave_of kept) order location quantity change kept.state ≡ step.refuse (state_at book waves) answer

@@ -35,18 +35,21 @@ share_elsewhere rows lost quantity = share (one_demand lost.order lost.article q
 -- list of them
 pub record IsHeldElsewhere (number : ℕ) (lost : HeldUnits) (quantity : ℕ) (old new : Book) (room : Content) : Type 0 where
   pub covered : quantity ≤ free_units old.rows lost.article (Some lost.row)
-  pub rows : (orders : ℕ) → lost.order < orders → new.rows ≡ change_rows (λ row. hold_units (sum_below orders (λ order. share_elsewhere old.rows lost quantity order row))) 0 old.rows
+  pub rows : (orders : ℕ) → lost.order < orders → new.rows ≡ change_rows
+      (λ row. hold_units (sum_below orders (λ order. share_elsewhere old.rows lost quantity order row))) 0 old.rows
   pub held : (order row : ℕ) → held_for new number order row ≡ held_for old number order row + share_elsewhere old.rows lost quantity order row
   pub others : KeepsOthers number old new
   pub listed : (orders : ℕ) → lost.order < orders → room.holds ≡ held_list orders (length old.rows) (share_elsewhere old.rows lost quantity)
 
 -- room has all that a wave of so many orders holds beyond what it held before
 abbrev pub ListsMore : Book → Book → ℕ → ℕ → Content → Type 0
-ListsMore old new number orders room = room.holds ≡ held_list orders (length new.rows) (λ order row. held_for new number order row - held_for old number order row)
+ListsMore old new number orders room = room.holds ≡ held_list orders (length new.rows)
+    (λ order row. held_for new number order row - held_for old number order row)
 
 -- the step of a wave writes so many units off and holds as many elsewhere, and room has the list of what is held in
 -- their place
-pub record HasRefilled (opening : Opening) (stepped : Stepped) (old new : Book) (waves : List Wave) (number : ℕ) (was kept : KeptWave) (quantity : ℕ) (room : Content) : Type 0 where
+pub record HasRefilled (opening : Opening) (stepped : Stepped) (old new : Book) (waves : List Wave) (number : ℕ) (was kept : KeptWave) (quantity : ℕ)
+    (room : Content) : Type 0 where
   pub answers : HasAnswered opening stepped old new waves number was kept (reply.Refilled quantity)
   pub listed : ListsMore old new number (length was.orders) room
 

@@ -19,7 +19,8 @@ ListsHolds book number orders room = room.holds ≡ held_list orders (length boo
 
 -- a wave may go out, and holds what is listed
 pub record HasListed (opening : Opening) (old new : Book) (waves : List Wave) (number : ℕ) (was kept : KeptWave) (room : Option Content) : Type 0 where
-  pub is : release opening (state_at old waves) number (wave_of was) was.state ≡ record { reply = reply.Released; state = state_at new (slice_set waves number (record (wave_of was) { state = wave.Released })) }
+  pub is : release opening (state_at old waves) number (wave_of was) was.state ≡ record
+      { reply = reply.Released; state = state_at new (slice_set waves number (record (wave_of was) { state = wave.Released })) }
   pub list : (holds : Content) × (room ≡ Some holds) × ListsHolds new number (length was.orders) holds
   pub copy : was.copy ≡ Some was.orders
   pub others : KeepsOthers number old new

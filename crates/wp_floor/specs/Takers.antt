@@ -11,7 +11,8 @@ use Rattle.wp_model.specs.declared.reply.Reply.TheVariants as reply
 -- some orders now have this taker, or none, and all others the one that they had
 pub record HasPut (opening : Opening) (orders : List (List ℕ)) (taker : Option (List ℕ)) (old new : List (Option (List ℕ))) : Type 0 where
   pub count : length new ≡ length old
-  pub each : (i : ℕ) (order : Order) → slice_get opening.orders i ≡ Some order → slice_get new i ≡ (if is_among orders order.name then Some taker else slice_get old i)
+  pub each : (i : ℕ) (order : Order) → slice_get opening.orders i ≡ Some order
+      → slice_get new i ≡ (if is_among orders order.name then Some taker else slice_get old i)
 
 -- the order that is found by a name now has this taker, or none
 abbrev pub IsPutAt : Opening → List ℕ → Option (List ℕ) → List (Option (List ℕ)) → List (Option (List ℕ)) → Type 0

@@ -38,7 +38,8 @@ AreBefore place wants = AreSplit (length wants) place wants
 
 -- lines were added to what the order at a place wants
 pub record HaveAdded (place : ℕ) (lines : List Line) (old new : List Want) : Type 0 where
-  pub wanted : (article order : ℕ) → wanted_for new article order ≡ wanted_for old article order + (if place == order then sum_by (quantity_of article) lines else 0)
+  pub wanted : (article order : ℕ) → wanted_for new article order ≡ wanted_for old article order +
+      (if place == order then sum_by (quantity_of article) lines else 0)
   pub units : all_units new ≡ all_units old + line_units lines
   pub few : length new ≤ length old + length lines
 

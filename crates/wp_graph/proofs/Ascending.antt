@@ -1,5 +1,6 @@
 -- The first, the last and neighbours of ascending numbers.
-use Rattle.std.proofs.Common.{◌≡◌, Bool, ℕ, suc, ◌+◌, ◌-◌, ◌≤◌, ◌<◌, true, false, cond, List, [], ◌∷◌, ◌++◌, Some, length, filter, slice_get, arith, refl, sym, ◌∙◌, subst, inl, inr, ◌⊎◌}
+use Rattle.std.proofs.Common.{◌≡◌, Bool, ℕ, suc, ◌+◌, ◌-◌, ◌≤◌, ◌<◌, true, false, cond, List, [], ◌∷◌, ◌++◌, Some, length, filter, slice_get, arith, refl}
+use Rattle.std.proofs.Common.{sym, ◌∙◌, subst, inl, inr, ◌⊎◌}
 use Rattle.std.specs.List.{range_with_len}
 use Rattle.std.proofs.lemmas.List.{map-id}
 use Rattle.std.proofs.lemmas.Option.{same_Some}
@@ -36,7 +37,8 @@ pub neighbours_ascend : (before after : List ℕ) (near far : ℕ) → IsAscendi
 neighbours_ascend [] after near far up = up.0
 neighbours_ascend (b ∷ before) after near far up = neighbours_ascend before after near far (tail_ascending b (before ++ near ∷ far ∷ after) up)
 
-pub neighbours_part : (before after : List ℕ) (near far x : ℕ) → IsAscending (before ++ near ∷ far ∷ after) → Among (before ++ near ∷ far ∷ after) x → (x ≤ near) ⊎ (far ≤ x)
+pub neighbours_part : (before after : List ℕ) (near far x : ℕ) → IsAscending (before ++ near ∷ far ∷ after) → Among (before ++ near ∷ far ∷ after) x
+    → (x ≤ near) ⊎ (far ≤ x)
 neighbours_part [] after near far x up (inl e) = inl (omega (arith, e))
 neighbours_part [] after near far x up (inr (inl e)) = inr (omega (arith, e))
 neighbours_part [] after near far x up (inr (inr h)) = let below = head_below far after x up.1 h in inr (omega (arith, below))
@@ -54,7 +56,8 @@ passed_ascend test slots =
     let two : slots + 2 ≡ suc (slots + 1) = omega arith in
     let rest = ascending_after test (λ k. k) 1 (slots + 1) 0 (λ k low high. low) (λ k low high. omega arith) in
     let rest' = subst (λ xs. IsAscending (0 ∷ xs)) (map-id (filter test (range_with_len 1 (slots + 1)))) rest in
-    rw two (elim (test 0) as (λ b. IsAscending (cond b (0 ∷ filter test (range_with_len 1 (slots + 1))) (filter test (range_with_len 1 (slots + 1))))) [ true ↦ rest' | false ↦ tail_ascending 0 _ rest' ])
+    rw two (elim (test 0) as (λ b. IsAscending (cond b (0 ∷ filter test (range_with_len 1 (slots + 1))) (filter test (range_with_len 1 (slots + 1)))))
+        [ true ↦ rest' | false ↦ tail_ascending 0 _ rest' ])
 
 -- required places ascend
 pub places_ascend : (layout : Layout) (picks : List Point) (aisle : ℕ) → IsAscending (required_places layout picks aisle)

@@ -23,16 +23,19 @@ abbrev at : ℕ → ℕ → Point
 at aisle slot = record { aisle = aisle; slot = slot }
 
 -- with a pick at its first slot, the depot's aisle is served from the back, or by the gap between them
-pub first_slot_with_depot : site_ways example (at 1 1 ∷ []) 1 ≡ (let ways : AisleWays = record { pass = 8; back = Some 14; front = None; gap = Some 2; double = 16; skip = None } in ways)
+pub first_slot_with_depot : site_ways example (at 1 1 ∷ []) 1 ≡
+    (let ways : AisleWays = record { pass = 8; back = Some 14; front = None; gap = Some 2; double = 16; skip = None } in ways)
 unfolding site_ways site_places has_point
 first_slot_with_depot = refl
 
 -- with no pick, the depot at the back end is served from the back at no length
-pub depot_alone : site_ways example [] 1 ≡ (let ways : AisleWays = record { pass = 8; back = Some 0; front = None; gap = None; double = 16; skip = None } in ways)
+pub depot_alone : site_ways example [] 1 ≡ (let ways : AisleWays = record { pass = 8; back = Some 0; front = None; gap = None; double = 16; skip = None } in
+    ways)
 unfolding site_ways site_places has_point
 depot_alone = refl
 
 -- in another aisle the picks at both ends count as any others
-pub picks_at_both_ends : site_ways example (at 2 0 ∷ at 2 5 ∷ at 2 2 ∷ []) 2 ≡ (let ways : AisleWays = record { pass = 8; back = Some 16; front = Some 16; gap = Some 6; double = 16; skip = None } in ways)
+pub picks_at_both_ends : site_ways example (at 2 0 ∷ at 2 5 ∷ at 2 2 ∷ []) 2 ≡
+    (let ways : AisleWays = record { pass = 8; back = Some 16; front = Some 16; gap = Some 6; double = 16; skip = None } in ways)
 unfolding site_ways site_places has_point
 picks_at_both_ends = refl

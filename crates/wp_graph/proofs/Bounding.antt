@@ -1,5 +1,6 @@
 -- Bounds of the lengths of the ways through an aisle.
-use Rattle.std.proofs.Common.{◌≡◌, ℕ, ◌+◌, ◌-◌, ◌*◌, ◌≤◌, ◌==◌, true, false, List, Option, Some, None, option_map, IfSome, length, slice_get, nat_le, if◌then◌else◌, arith, refl, subst}
+use Rattle.std.proofs.Common.{◌≡◌, ℕ, ◌+◌, ◌-◌, ◌*◌, ◌≤◌, ◌==◌, true, false, List, Option, Some, None, option_map, IfSome, length, slice_get, nat_le}
+use Rattle.std.proofs.Common.{if◌then◌else◌, arith, refl, subst}
 use Rattle.std.proofs.lemmas.Nat.{mul-le}
 use Rattle.std.proofs.lemmas.Option.{get_or_from_slice_get, slice_get_within}
 use Rattle.wp_model.proofs.Sums.{sum-grows}
@@ -48,7 +49,8 @@ ways_small layout picks aisle valid = record {
   back = elim (aisle == layout.depot) as (λ b. IfSome (if b then None else option_map (λ r. 2 * (whole - r)) (slice_get ds 0)) (λ t. t ≤ 4020000))
       [ true ↦ tt | false ↦ mapped (slice_get ds 0) (λ r. omega (arith, small)) ];
   front = ends (slice_get ds (length ds - 1)) refl;
-  gap = elim (nat_le 2 (length ds)) as (λ b. IfSome (if b then Some (2 * (whole - largest)) else None) (λ t. t ≤ 4020000)) [ true ↦ omega (arith, small) | false ↦ tt ];
+  gap = elim (nat_le 2 (length ds)) as (λ b. IfSome (if b then Some (2 * (whole - largest)) else None) (λ t. t ≤ 4020000))
+      [ true ↦ omega (arith, small) | false ↦ tt ];
   double = omega (arith, small);
   skip = elim (length ds == 0) as (λ b. IfSome (if b then Some 0 else None) (λ t. t ≤ 4020000)) [ true ↦ omega arith | false ↦ tt ];
 }
@@ -65,11 +67,13 @@ ways_small layout picks aisle valid = record {
     small : aisle_length layout ≤ 2010000
     small = aisle_length_small layout valid
 
-    mapped : (o : Option ℕ) → ((r : ℕ) → 2 * (aisle_length layout - r) ≤ 4020000) → IfSome (option_map (λ r. 2 * (aisle_length layout - r)) o) (λ t. t ≤ 4020000)
+    mapped : (o : Option ℕ) → ((r : ℕ) → 2 * (aisle_length layout - r) ≤ 4020000)
+        → IfSome (option_map (λ r. 2 * (aisle_length layout - r)) o) (λ t. t ≤ 4020000)
     mapped None h = tt
     mapped (Some r) h = h r
 
-    ends : (o : Option ℕ) → slice_get (required_distances layout picks aisle) (length (required_distances layout picks aisle) - 1) ≡ o → IfSome (option_map (λ r. 2 * r) o) (λ t. t ≤ 4020000)
+    ends : (o : Option ℕ) → slice_get (required_distances layout picks aisle) (length (required_distances layout picks aisle) - 1) ≡ o
+        → IfSome (option_map (λ r. 2 * r) o) (λ t. t ≤ 4020000)
     ends None e = tt
     ends (Some r) e =
         let all = required_distances layout picks aisle in

@@ -1,5 +1,6 @@
 -- Three or more copies of a piece can go down by two: what is walked stays a tour, and gets no longer.
-use Rattle.std.proofs.Common.{◌≡◌, ◌≢◌, ℕ, zero, suc, ◌+◌, ◌-◌, ◌*◌, ◌%◌, ◌<◌, ◌≤◌, ◌==◌, ◌&&◌, Bool, true, false, List, if◌then◌else◌, arith, refl, sym, ap, ◌∙◌}
+use Rattle.std.proofs.Common.{◌≡◌, ◌≢◌, ℕ, zero, suc, ◌+◌, ◌-◌, ◌*◌, ◌%◌, ◌<◌, ◌≤◌, ◌==◌, ◌&&◌, Bool, true, false, List, if◌then◌else◌, arith, refl, sym, ap}
+use Rattle.std.proofs.Common.{◌∙◌}
 use Rattle.std.proofs.lemmas.Bool.{and_parts, eqb-true}
 use Rattle.std.proofs.lemmas.Bool.Decides.{nat_tests}
 use Rattle.std.proofs.lemmas.Nat.{mul-le}
@@ -27,7 +28,8 @@ same_number : (number : ℕ) → IsLowered number number
 same_number number = record { least = omega arith; same = refl; used = λ some. some }
 
 then_lowered : (low middle number : ℕ) → IsLowered low middle → IsLowered middle number → IsLowered low number
-then_lowered low middle number first next = record { least = omega (arith, first.least, next.least); same = first.same ∙ next.same; used = λ some. first.used (next.used some) }
+then_lowered low middle number first next = record { least = omega (arith, first.least, next.least); same = first.same ∙ next.same;
+    used = λ some. first.used (next.used some) }
 
 -- each number of copies made smaller by twos
 pub record AreLowered (lower copies : Copies) : Type 0 where
@@ -67,9 +69,12 @@ lowered_tour site picks lower copies less are = record {
 -- and gets no longer
 pub lowered_walked : (site : Site) (lower copies : Copies) → AreLowered lower copies → all_walked site lower ≤ all_walked site copies
 lowered_walked site lower copies less = sum-le site.aisles _ _ (λ a within.
-    let inner = sum-le (last_place site) (λ s. lower.deep (suc a) s * site.step s) (λ s. copies.deep (suc a) s * site.step s) (λ s low. mul-le (lower.deep (suc a) s) (site.step s) (copies.deep (suc a) s) (site.step s) (less.deep (suc a) s).least (omega arith)) in
-    let sum : lower.behind (suc a) + lower.front (suc a) ≤ copies.behind (suc a) + copies.front (suc a) = omega (arith, (less.behind (suc a)).least, (less.front (suc a)).least) in
-    let crossing = mul-le (lower.behind (suc a) + lower.front (suc a)) (site.spacing (suc a)) (copies.behind (suc a) + copies.front (suc a)) (site.spacing (suc a)) sum (omega arith) in
+    let inner = sum-le (last_place site) (λ s. lower.deep (suc a) s * site.step s) (λ s. copies.deep (suc a) s * site.step s)
+            (λ s low. mul-le (lower.deep (suc a) s) (site.step s) (copies.deep (suc a) s) (site.step s) (less.deep (suc a) s).least (omega arith)) in
+    let sum : lower.behind (suc a) + lower.front (suc a) ≤ copies.behind (suc a) + copies.front (suc a) =
+            omega (arith, (less.behind (suc a)).least, (less.front (suc a)).least) in
+    let crossing = mul-le (lower.behind (suc a) + lower.front (suc a)) (site.spacing (suc a)) (copies.behind (suc a) + copies.front (suc a))
+            (site.spacing (suc a)) sum (omega arith) in
     omega (arith, inner, crossing))
 
 -- one piece: of an aisle from a place to the next, or from an aisle to the next at the back or at the front
@@ -97,7 +102,9 @@ lowered_where false number most = same_number number
 -- that makes the copies smaller by twos
 less_lowered : (copies : Copies) (piece : Piece) → 3 ≤ copies_at copies piece → AreLowered (less_two copies piece) copies
 less_lowered copies (deep_piece a s) most = record {
-  deep = λ a' s'. lowered_where ((a' == a) && (s' == s)) (copies.deep a' s') (λ e. let parts = and_parts (a' == a) (s' == s) e in let at = ap (λ x. copies.deep x s') (eqb-true _ _ parts.0) ∙ ap (copies.deep a) (eqb-true _ _ parts.1) in omega (arith, at, most));
+  deep = λ a' s'. lowered_where ((a' == a) && (s' == s)) (copies.deep a' s')
+      (λ e. let parts = and_parts (a' == a) (s' == s) e in let at = ap (λ x. copies.deep x s') (eqb-true _ _ parts.0)
+      ∙ ap (copies.deep a) (eqb-true _ _ parts.1) in omega (arith, at, most));
   behind = λ a'. same_number (copies.behind a');
   front = λ a'. same_number (copies.front a');
 }
@@ -155,37 +162,51 @@ less_sum : (n : ℕ) (f g : ℕ → ℕ) (at less : ℕ) → at < n → ((k : �
 less_sum n f g at less within same there = omega (arith, sum-one_changed n f g at within same, there)
 
 -- the walked length of an aisle and of the crossing behind it, at one aisle less by so much
-less_walked : (site : Site) (lower copies : Copies) (a less : ℕ) → IsUpTo site.aisles a → ((a' : ℕ) → a' ≢ a → aisle_walked site lower a' + cross_walked site lower a' ≡ aisle_walked site copies a' + cross_walked site copies a') →
-    aisle_walked site lower a + cross_walked site lower a + less ≡ aisle_walked site copies a + cross_walked site copies a → all_walked site lower + less ≡ all_walked site copies
+less_walked : (site : Site) (lower copies : Copies) (a less : ℕ) → IsUpTo site.aisles a
+    → ((a' : ℕ) → a' ≢ a → aisle_walked site lower a' + cross_walked site lower a' ≡ aisle_walked site copies a' + cross_walked site copies a') →
+    aisle_walked site lower a + cross_walked site lower a + less ≡ aisle_walked site copies a + cross_walked site copies a
+        → all_walked site lower + less ≡ all_walked site copies
 less_walked site lower copies zero less within same there = absurd (omega arith)
 less_walked site lower copies (suc a) less within same there =
-    less_sum site.aisles (λ k. aisle_walked site lower (suc k) + cross_walked site lower (suc k)) (λ k. aisle_walked site copies (suc k) + cross_walked site copies (suc k)) a less (omega arith) (λ k other. same (suc k) (λ e. other (omega (arith, e)))) there
+    less_sum site.aisles (λ k. aisle_walked site lower (suc k) + cross_walked site lower (suc k))
+        (λ k. aisle_walked site copies (suc k) + cross_walked site copies (suc k)) a less (omega arith)
+        (λ k other. same (suc k) (λ e. other (omega (arith, e)))) there
 
 -- what is walked gets shorter by the piece, two times
-less_falls : (site : Site) (copies : Copies) (piece : Piece) → IsPiece site piece → 3 ≤ copies_at copies piece → all_walked site (less_two copies piece) + 2 * piece_length site piece ≡ all_walked site copies
+less_falls : (site : Site) (copies : Copies) (piece : Piece) → IsPiece site piece → 3 ≤ copies_at copies piece
+    → all_walked site (less_two copies piece) + 2 * piece_length site piece ≡ all_walked site copies
 less_falls site copies (deep_piece a s) is most =
     let lower = less_two copies (deep_piece a s) in
-    let there : lower.deep a s * site.step s + 2 * site.step s ≡ copies.deep a s * site.step s = ap (λ x. x * site.step s + 2 * site.step s) (deep_there copies a s) ∙ two_less (copies.deep a s) (site.step s) (omega arith) in
-    let inner = less_sum (last_place site) (λ k. lower.deep a k * site.step k) (λ k. copies.deep a k * site.step k) s (2 * site.step s) is.1 (λ k other. ap (λ x. x * site.step k) (place_else copies a s a k other)) there in
+    let there : lower.deep a s * site.step s + 2 * site.step s ≡ copies.deep a s * site.step s =
+            ap (λ x. x * site.step s + 2 * site.step s) (deep_there copies a s) ∙ two_less (copies.deep a s) (site.step s) (omega arith) in
+    let inner = less_sum (last_place site) (λ k. lower.deep a k * site.step k) (λ k. copies.deep a k * site.step k) s (2 * site.step s) is.1
+            (λ k other. ap (λ x. x * site.step k) (place_else copies a s a k other)) there in
     less_walked site lower copies a (2 * site.step s) is.0
-    (λ a' other. let same = sum-agree (last_place site) (λ k. lower.deep a' k * site.step k) (λ k. copies.deep a' k * site.step k) (λ k low. ap (λ x. x * site.step k) (deep_else copies a s a' k other)) in omega (arith, same))
+    (λ a' other. let same = sum-agree (last_place site) (λ k. lower.deep a' k * site.step k) (λ k. copies.deep a' k * site.step k)
+        (λ k low. ap (λ x. x * site.step k) (deep_else copies a s a' k other)) in omega (arith, same))
     (omega (arith, inner))
 less_falls site copies (behind_piece a) is most =
     let lower = less_two copies (behind_piece a) in
     let sum : lower.behind a + lower.front a ≡ (copies.behind a + copies.front a) - 2 = omega (arith, behind_there copies a, most) in
-    let there : cross_walked site lower a + 2 * site.spacing a ≡ cross_walked site copies a = ap (λ x. x * site.spacing a + 2 * site.spacing a) sum ∙ two_less (copies.behind a + copies.front a) (site.spacing a) (omega arith) in
-    less_walked site lower copies a (2 * site.spacing a) is (λ a' other. ap (λ x. aisle_walked site copies a' + (x + copies.front a') * site.spacing a') (behind_else copies a a' other)) (omega (arith, there))
+    let there : cross_walked site lower a + 2 * site.spacing a ≡ cross_walked site copies a =
+            ap (λ x. x * site.spacing a + 2 * site.spacing a) sum ∙ two_less (copies.behind a + copies.front a) (site.spacing a) (omega arith) in
+    less_walked site lower copies a (2 * site.spacing a) is (λ a' other. ap (λ x. aisle_walked site copies a' + (x + copies.front a') * site.spacing a')
+        (behind_else copies a a' other)) (omega (arith, there))
 less_falls site copies (front_piece a) is most =
     let lower = less_two copies (front_piece a) in
     let sum : lower.behind a + lower.front a ≡ (copies.behind a + copies.front a) - 2 = omega (arith, front_there copies a, most) in
-    let there : cross_walked site lower a + 2 * site.spacing a ≡ cross_walked site copies a = ap (λ x. x * site.spacing a + 2 * site.spacing a) sum ∙ two_less (copies.behind a + copies.front a) (site.spacing a) (omega arith) in
-    less_walked site lower copies a (2 * site.spacing a) is (λ a' other. ap (λ x. aisle_walked site copies a' + (copies.behind a' + x) * site.spacing a') (front_else copies a a' other)) (omega (arith, there))
+    let there : cross_walked site lower a + 2 * site.spacing a ≡ cross_walked site copies a =
+            ap (λ x. x * site.spacing a + 2 * site.spacing a) sum ∙ two_less (copies.behind a + copies.front a) (site.spacing a) (omega arith) in
+    less_walked site lower copies a (2 * site.spacing a) is (λ a' other. ap (λ x. aisle_walked site copies a' + (copies.behind a' + x) * site.spacing a')
+        (front_else copies a a' other)) (omega (arith, there))
 
 -- Three or more copies of a piece go down by two: all degrees are even still, and all that is walked hangs together with
 -- the depot and passes the picks. It is shorter by twice the piece.
-pub three_or_more_go_down_by_two : (site : Site) (picks : List Point) (copies : Copies) (piece : Piece) → AreTour site picks copies → IsPiece site piece → 3 ≤ copies_at copies piece →
+pub three_or_more_go_down_by_two : (site : Site) (picks : List Point) (copies : Copies) (piece : Piece) → AreTour site picks copies → IsPiece site piece
+    → 3 ≤ copies_at copies piece →
     AreTour site picks (less_two copies piece) × (all_walked site (less_two copies piece) + 2 * piece_length site piece ≡ all_walked site copies)
-three_or_more_go_down_by_two site picks copies piece are is most = (lowered_tour site picks (less_two copies piece) copies (less_lowered copies piece most) are, less_falls site copies piece is most)
+three_or_more_go_down_by_two site picks copies piece are is most =
+    (lowered_tour site picks (less_two copies piece) copies (less_lowered copies piece most) are, less_falls site copies piece is most)
 
 -- a number of copies made smaller by twos as far as that goes
 lowered_to_two : (number : ℕ) → (lower : ℕ) × IsLowered lower number × (lower ≤ 2)
@@ -214,11 +235,14 @@ pub record FewerCopies (site : Site) (picks : List Point) (most : ℕ) : Type 1 
 -- all pieces together: each number goes down by two, again and again, to 0, 1 or 2
 pub all_go_down_to_two : (site : Site) (picks : List Point) (copies : Copies) → AreTour site picks copies → FewerCopies site picks (all_walked site copies)
 all_go_down_to_two site picks copies are =
-    let lower : Copies = record { deep = λ a s. (lowered_to_two (copies.deep a s)).0; behind = λ a. (lowered_to_two (copies.behind a)).0; front = λ a. (lowered_to_two (copies.front a)).0 } in
-    let less : AreLowered lower copies = record { deep = λ a s. (lowered_to_two (copies.deep a s)).1; behind = λ a. (lowered_to_two (copies.behind a)).1; front = λ a. (lowered_to_two (copies.front a)).1 } in
+    let lower : Copies = record { deep = λ a s. (lowered_to_two (copies.deep a s)).0; behind = λ a. (lowered_to_two (copies.behind a)).0;
+            front = λ a. (lowered_to_two (copies.front a)).0 } in
+    let less : AreLowered lower copies = record { deep = λ a s. (lowered_to_two (copies.deep a s)).1; behind = λ a. (lowered_to_two (copies.behind a)).1;
+            front = λ a. (lowered_to_two (copies.front a)).1 } in
     record {
       copies = lower;
       are = lowered_tour site picks lower copies less are;
-      few = record { deep = λ a s. (lowered_to_two (copies.deep a s)).2; behind = λ a. (lowered_to_two (copies.behind a)).2; front = λ a. (lowered_to_two (copies.front a)).2 };
+      few = record { deep = λ a s. (lowered_to_two (copies.deep a s)).2; behind = λ a. (lowered_to_two (copies.behind a)).2;
+          front = λ a. (lowered_to_two (copies.front a)).2 };
       least = lowered_walked site lower copies less;
     }

@@ -19,7 +19,8 @@ unfolding has_point
 has_among [] aisle place h = absurd (cc)
 has_among (p ∷ points) aisle place h =
     ⊎_elim
-    (λ here. let parts = and_parts (p.aisle == aisle) (p.slot == place) here in inl (same_point p (record { aisle = aisle; slot = place }) (eqb-true _ _ parts.0) (eqb-true _ _ parts.1)))
+    (λ here. let parts = and_parts (p.aisle == aisle) (p.slot == place) here in
+        inl (same_point p (record { aisle = aisle; slot = place }) (eqb-true _ _ parts.0) (eqb-true _ _ parts.1)))
     (λ there. inr (has_among points aisle place there))
     (or_cases (is_at aisle place p) (has_point points aisle place) h)
 
@@ -43,5 +44,6 @@ word_tells layout words aisle index k marks within low small =
     let point : Point = record { aisle = aisle; slot = place } in
     let inside : aisle ≤ 64 = omega (arith, marks.ranges.aisles) in
     same_tests _ _
-    (λ set. among_has _ point (among_from_Contains _ point (marked_contained layout words point (marks.slots aisle place inside (omega arith) (marked ∙ set)) (marked ∙ set))))
+    (λ set. among_has _ point (among_from_Contains _ point (marked_contained layout words point (marks.slots aisle place inside (omega arith) (marked ∙ set))
+        (marked ∙ set))))
     (λ has. sym marked ∙ (contained_marked layout words point (Contains-from_among _ point (has_among _ aisle place has))).1)

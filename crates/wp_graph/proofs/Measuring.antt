@@ -24,16 +24,20 @@ both_times x y c = grind arith
 four_times : (x y z w c : ℕ) → (x + y + (z + w)) * c ≡ (x + z) * c + (y + w) * c
 four_times x y z w c = grind arith
 
-pub walked_both : (layout : Layout) (f g : Copies) → all_walked (site_of layout) (both_copies f g) ≡ all_walked (site_of layout) f + all_walked (site_of layout) g
+pub walked_both : (layout : Layout) (f g : Copies) → all_walked (site_of layout) (both_copies f g) ≡ all_walked (site_of layout) f + all_walked
+    (site_of layout) g
 walked_both layout f g =
-    sum-agree layout.aisles _ (λ a. (aisle_walked (site_of layout) f (suc a) + cross_walked (site_of layout) f (suc a)) + (aisle_walked (site_of layout) g (suc a) + cross_walked (site_of layout) g (suc a)))
+    sum-agree layout.aisles _ (λ a. (aisle_walked (site_of layout) f (suc a) + cross_walked (site_of layout) f (suc a)) +
+        (aisle_walked (site_of layout) g (suc a) + cross_walked (site_of layout) g (suc a)))
     (λ a within.
-    let inner = sum-agree (back_end layout) (λ s. (f.deep (suc a) s + g.deep (suc a) s) * step_length layout s) (λ s. f.deep (suc a) s * step_length layout s + g.deep (suc a) s * step_length layout s)
+    let inner = sum-agree (back_end layout) (λ s. (f.deep (suc a) s + g.deep (suc a) s) * step_length layout s)
+            (λ s. f.deep (suc a) s * step_length layout s + g.deep (suc a) s * step_length layout s)
     (λ s low. both_times (f.deep (suc a) s) (g.deep (suc a) s) (step_length layout s)) in
     let apart = sum-add (back_end layout) (λ s. f.deep (suc a) s * step_length layout s) (λ s. g.deep (suc a) s * step_length layout s) in
     let crossing = four_times (f.behind (suc a)) (g.behind (suc a)) (f.front (suc a)) (g.front (suc a)) (spacing_after layout (suc a)) in
     omega (arith, inner, apart, crossing))
-    ∙ sum-add layout.aisles (λ a. aisle_walked (site_of layout) f (suc a) + cross_walked (site_of layout) f (suc a)) (λ a. aisle_walked (site_of layout) g (suc a) + cross_walked (site_of layout) g (suc a))
+    ∙ sum-add layout.aisles (λ a. aisle_walked (site_of layout) f (suc a) + cross_walked (site_of layout) f (suc a))
+        (λ a. aisle_walked (site_of layout) g (suc a) + cross_walked (site_of layout) g (suc a))
 
 sum-only : (n : ℕ) (f : ℕ → ℕ) (at : ℕ) → at < n → ((k : ℕ) → k ≢ at → f k ≡ 0) → sum_below n f ≡ f at
 sum-only n f at within none = omega (arith, sum-one_changed n f (λ k. 0) at within none, sum-zero n (λ k. 0) (λ k low. refl))
@@ -70,8 +74,11 @@ cross_turned e a p q = grind (arith, nat_tests)
 
 move_turned : (layout : Layout) (p q : Point) → all_walked (site_of layout) (move_copies layout p q) ≡ all_walked (site_of layout) (move_copies layout q p)
 move_turned layout p q = sum-agree layout.aisles _ _ (λ a within.
-    let inner = sum-agree (back_end layout) (λ s. along_aisle (suc a) s p q * step_length layout s) (λ s. along_aisle (suc a) s q p * step_length layout s) (λ s low. ap (λ x. x * step_length layout s) (aisle_turned (suc a) s p q)) in
-    let crossing = ap (λ x. x * spacing_after layout (suc a)) (ap (λ y. y + along_cross 0 (suc a) p q) (cross_turned (back_end layout) (suc a) p q) ∙ ap (λ y. along_cross (back_end layout) (suc a) q p + y) (cross_turned 0 (suc a) p q)) in
+    let inner = sum-agree (back_end layout) (λ s. along_aisle (suc a) s p q * step_length layout s) (λ s. along_aisle (suc a) s q p * step_length layout s)
+            (λ s low. ap (λ x. x * step_length layout s) (aisle_turned (suc a) s p q)) in
+    let crossing = ap (λ x. x * spacing_after layout (suc a))
+            (ap (λ y. y + along_cross 0 (suc a) p q) (cross_turned (back_end layout) (suc a) p q)
+            ∙ ap (λ y. along_cross (back_end layout) (suc a) q p + y) (cross_turned 0 (suc a) p q)) in
     omega (arith, inner, crossing))
 
 times_none : (x c : ℕ) → x ≡ 0 → x * c ≡ 0
@@ -87,28 +94,41 @@ deeper_walked layout p q t move is =
     let at = p.aisle - 1 in
     let here : suc at ≡ p.aisle = omega (arith, move.from_point.aisle.0) in
     let low : p.slot < back_end layout = omega (arith, is.slot, move.to_point.slot) in
-    let crossing : (a : ℕ) → cross_walked (site_of layout) (move_copies layout p q) a ≡ 0 = λ a. zero_times (along_cross (back_end layout) a p q) (along_cross 0 a p q) (spacing_after layout a) (deep_none (back_end layout) a p q is.slot) (deep_none 0 a p q is.slot) in
+    let crossing : (a : ℕ) → cross_walked (site_of layout) (move_copies layout p q) a ≡ 0 =
+            λ a. zero_times (along_cross (back_end layout) a p q) (along_cross 0 a p q) (spacing_after layout a) (deep_none (back_end layout) a p q is.slot)
+            (deep_none 0 a p q is.slot) in
     let one = sum-only layout.aisles each at (omega (arith, here, move.from_point.aisle.1)) (λ a other.
-    let none = sum-zero (back_end layout) (λ s. along_aisle (suc a) s p q * step_length layout s) (λ s within. times_none _ _ (aisle_else (suc a) s p q (λ e. other (omega (arith, e, here))))) in
+    let none = sum-zero (back_end layout) (λ s. along_aisle (suc a) s p q * step_length layout s)
+            (λ s within. times_none _ _ (aisle_else (suc a) s p q (λ e. other (omega (arith, e, here))))) in
     omega (arith, none, crossing (suc a))) in
-    let inner = sum-only (back_end layout) (λ s. along_aisle p.aisle s p q * step_length layout s) p.slot low (λ s other. times_none _ _ (place_else p.aisle s p q is.slot other)) in
-    let unit : along_aisle p.aisle p.slot p q * step_length layout p.slot ≡ step_length layout p.slot = ap (λ x. x * step_length layout p.slot) (deep_one p q is.aisle is.slot) ∙ omega arith in
-    one ∙ ap (λ a. aisle_walked (site_of layout) (move_copies layout p q) a + cross_walked (site_of layout) (move_copies layout p q) a) here ∙ omega (arith, inner, unit, crossing p.aisle, is.length_is)
+    let inner = sum-only (back_end layout) (λ s. along_aisle p.aisle s p q * step_length layout s) p.slot low
+            (λ s other. times_none _ _ (place_else p.aisle s p q is.slot other)) in
+    let unit : along_aisle p.aisle p.slot p q * step_length layout p.slot ≡ step_length layout p.slot =
+            ap (λ x. x * step_length layout p.slot) (deep_one p q is.aisle is.slot) ∙ omega arith in
+    one ∙ ap (λ a. aisle_walked (site_of layout) (move_copies layout p q) a + cross_walked (site_of layout) (move_copies layout p q) a) here
+        ∙ omega (arith, inner, unit, crossing p.aisle, is.length_is)
 
 -- one move further along a cross aisle
-further_walked : (layout : Layout) (p q : Point) (t : ℕ) → IsMove layout p q t → IsFurther layout p q t → all_walked (site_of layout) (move_copies layout p q) ≡ t
+further_walked : (layout : Layout) (p q : Point) (t : ℕ) → IsMove layout p q t → IsFurther layout p q t
+    → all_walked (site_of layout) (move_copies layout p q) ≡ t
 further_walked layout p q t move is =
     let each = λ (a : ℕ). aisle_walked (site_of layout) (move_copies layout p q) (suc a) + cross_walked (site_of layout) (move_copies layout p q) (suc a) in
     let at = p.aisle - 1 in
     let here : suc at ≡ p.aisle = omega (arith, move.from_point.aisle.0) in
-    let inner : (a : ℕ) → aisle_walked (site_of layout) (move_copies layout p q) a ≡ 0 = λ a. sum-zero (back_end layout) (λ s. along_aisle a s p q * step_length layout s) (λ s within. times_none _ _ (further_none a s p q is.aisle)) in
+    let inner : (a : ℕ) → aisle_walked (site_of layout) (move_copies layout p q) a ≡ 0 =
+            λ a. sum-zero (back_end layout) (λ s. along_aisle a s p q * step_length layout s) (λ s within. times_none _ _ (further_none a s p q is.aisle)) in
     let one = sum-only layout.aisles each at (omega (arith, here, move.from_point.aisle.1)) (λ a other.
     let apart : suc a ≡ p.aisle → ⊥ = λ e. other (omega (arith, e, here)) in
-    let none = zero_times (along_cross (back_end layout) (suc a) p q) (along_cross 0 (suc a) p q) (spacing_after layout (suc a)) (cross_else (back_end layout) (suc a) p q is.aisle apart) (cross_else 0 (suc a) p q is.aisle apart) in
+    let none = zero_times (along_cross (back_end layout) (suc a) p q) (along_cross 0 (suc a) p q) (spacing_after layout (suc a))
+            (cross_else (back_end layout) (suc a) p q is.aisle apart) (cross_else 0 (suc a) p q is.aisle apart) in
     omega (arith, none, inner (suc a))) in
-    let count : along_cross (back_end layout) p.aisle p q + along_cross 0 p.aisle p q ≡ 1 = ⊎_elim (λ e. front_one (back_end layout) p q (omega arith) e is.aisle is.slot) (λ e. behind_one (back_end layout) p q (omega arith) e is.aisle is.slot) is.end in
-    let unit : cross_walked (site_of layout) (move_copies layout p q) p.aisle ≡ spacing_after layout p.aisle = ap (λ x. x * spacing_after layout p.aisle) count ∙ omega arith in
-    one ∙ ap (λ a. aisle_walked (site_of layout) (move_copies layout p q) a + cross_walked (site_of layout) (move_copies layout p q) a) here ∙ omega (arith, inner p.aisle, unit, is.length_is)
+    let count : along_cross (back_end layout) p.aisle p q + along_cross 0 p.aisle p q ≡ 1 =
+            ⊎_elim (λ e. front_one (back_end layout) p q (omega arith) e is.aisle is.slot)
+            (λ e. behind_one (back_end layout) p q (omega arith) e is.aisle is.slot) is.end in
+    let unit : cross_walked (site_of layout) (move_copies layout p q) p.aisle ≡ spacing_after layout p.aisle =
+            ap (λ x. x * spacing_after layout p.aisle) count ∙ omega arith in
+    one ∙ ap (λ a. aisle_walked (site_of layout) (move_copies layout p q) a + cross_walked (site_of layout) (move_copies layout p q) a) here
+        ∙ omega (arith, inner p.aisle, unit, is.length_is)
 
 turned_point : (layout : Layout) (p q : Point) (t : ℕ) → IsMove layout p q t → Step layout q p t → IsMove layout q p t
 turned_point layout p q t move step = record { from_point = move.to_point; to_point = move.from_point; step = step }
@@ -119,14 +139,18 @@ step_walked layout p q t move (nearer is) = move_turned layout p q ∙ deeper_wa
 step_walked layout p q t move (further is) = further_walked layout p q t move is
 step_walked layout p q t move (back is) = move_turned layout p q ∙ further_walked layout q p t (turned_point layout p q t move (further is)) is
 
-no_copies : (layout : Layout) (points : List Point) → ((a s : ℕ) → (copies_of layout points).deep a s ≡ 0) → ((a : ℕ) → (copies_of layout points).behind a ≡ 0) → ((a : ℕ) → (copies_of layout points).front a ≡ 0) → all_walked (site_of layout) (copies_of layout points) ≡ 0
+no_copies : (layout : Layout) (points : List Point) → ((a s : ℕ) → (copies_of layout points).deep a s ≡ 0)
+    → ((a : ℕ) → (copies_of layout points).behind a ≡ 0) → ((a : ℕ) → (copies_of layout points).front a ≡ 0)
+    → all_walked (site_of layout) (copies_of layout points) ≡ 0
 no_copies layout points deep behind front = sum-zero layout.aisles _ (λ a within.
     let none = sum-zero (back_end layout) (λ s. (copies_of layout points).deep (suc a) s * step_length layout s) (λ s low. times_none _ _ (deep (suc a) s)) in
     omega (arith, none, zero_times _ _ (spacing_after layout (suc a)) (behind (suc a)) (front (suc a))))
 
 -- a walk is as long as the copies of its pieces
-pub walk_walked : (layout : Layout) (points : List Point) (total : ℕ) → IsWalk layout points total → all_walked (site_of layout) (copies_of layout points) ≡ total
+pub walk_walked : (layout : Layout) (points : List Point) (total : ℕ) → IsWalk layout points total
+    → all_walked (site_of layout) (copies_of layout points) ≡ total
 walk_walked layout [] total walk = no_copies layout [] (λ a s. refl) (λ a. refl) (λ a. refl) ∙ sym walk
 walk_walked layout (p ∷ []) total walk = no_copies layout (p ∷ []) (λ a s. refl) (λ a. refl) (λ a. refl) ∙ sym walk
 walk_walked layout (p ∷ q ∷ points) total (step, rest, move, walk, sum) =
-    walked_both layout (move_copies layout p q) (copies_of layout (q ∷ points)) ∙ omega (arith, step_walked layout p q step move move.step, walk_walked layout (q ∷ points) rest walk, sum)
+    walked_both layout (move_copies layout p q) (copies_of layout (q ∷ points))
+        ∙ omega (arith, step_walked layout p q step move move.step, walk_walked layout (q ∷ points) rest walk, sum)

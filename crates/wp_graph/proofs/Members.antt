@@ -1,5 +1,6 @@
 -- Membership in a list by recursion, and what filters, maps and ranges have.
-use Rattle.std.proofs.Common.{◌≡◌, ℕ, zero, suc, ◌+◌, ◌<◌, ◌≤◌, Bool, true, false, cond, List, [], ◌∷◌, ◌++◌, length, get_or, filter, map, arith, refl, inl, inr, ap, sym, ◌∙◌, subst, ◌⊎◌, ⊎_elim, Contains}
+use Rattle.std.proofs.Common.{◌≡◌, ℕ, zero, suc, ◌+◌, ◌<◌, ◌≤◌, Bool, true, false, cond, List, [], ◌∷◌, ◌++◌, length, get_or, filter, map, arith, refl, inl}
+use Rattle.std.proofs.Common.{inr, ap, sym, ◌∙◌, subst, ◌⊎◌, ⊎_elim, Contains}
 use Rattle.std.specs.List.{flat_map, range_with_len}
 use Rattle.std.proofs.lemmas.Bool.{cases_eq}
 
@@ -47,7 +48,8 @@ pub filter_passed : {X : Type 0} (p : X → Bool) (xs : List X) (x : X) → Amon
 filter_passed p [] x h = absurd h
 filter_passed {X} p (y ∷ ys) x h = go (λ there. filter_passed p ys x there) (p y) refl h
   where
-    go : (Among (filter p ys) x → Among ys x × (p x ≡ true)) → (b : Bool) → p y ≡ b → Among (cond b (y ∷ filter p ys) (filter p ys)) x → Among (y ∷ ys) x × (p x ≡ true)
+    go : (Among (filter p ys) x → Among ys x × (p x ≡ true)) → (b : Bool) → p y ≡ b → Among (cond b (y ∷ filter p ys) (filter p ys)) x → Among (y ∷ ys) x
+        × (p x ≡ true)
     go rest true at (inl e) = (inl e, sym (ap p e) ∙ at)
     go rest true at (inr there) = (inr (rest there).0, (rest there).1)
     go rest false at there = (inr (rest there).0, (rest there).1)

@@ -1,5 +1,6 @@
 -- Places by the bits of words, one after another.
-use Rattle.std.proofs.Common.{◌≡◌, ℕ, zero, suc, ◌+◌, ◌-◌, ◌*◌, ◌%◌, ◌^◌, ◌<◌, ◌≤◌, ◌==◌, Bool, true, false, [], ◌∷◌, ◌++◌, filter, bit_and, arith, refl, ap, sym, ◌∙◌, ⊎_elim}
+use Rattle.std.proofs.Common.{◌≡◌, ℕ, zero, suc, ◌+◌, ◌-◌, ◌*◌, ◌%◌, ◌^◌, ◌<◌, ◌≤◌, ◌==◌, Bool, true, false, [], ◌∷◌, ◌++◌, filter, bit_and, arith, refl, ap}
+use Rattle.std.proofs.Common.{sym, ◌∙◌, ⊎_elim}
 use Rattle.std.specs.Int.{bit_at, bit_not, trailing_zeros, w64}
 use Rattle.std.specs.List.{range_with_len}
 use Rattle.std.proofs.lemmas.Bool.{cases_eq, eq-eqb, ne_eqb}
@@ -54,14 +55,16 @@ first_passing p q a (suc n) (suc t) within before at cleared same =
 
 -- a bit of a word, as a test
 bit_test_off : (bits place first k : ℕ) → place - first ≡ k → bit_at bits k ≡ 0 → (bit_at bits (place - first) == 1) ≡ false
-bit_test_off bits place first k at off = ne_eqb _ _ (λ e. let same : bit_at bits (place - first) ≡ bit_at bits k = ap (λ i. bit_at bits i) at in omega (arith, e, off, same))
+bit_test_off bits place first k at off = ne_eqb _ _ (λ e. let same : bit_at bits (place - first) ≡ bit_at bits k = ap (λ i. bit_at bits i) at in
+    omega (arith, e, off, same))
 
 -- a word without its lowest bit
 abbrev pub without_lowest : ℕ → ℕ
 without_lowest bits = bit_and bits (bit_not w64 (1 * 2 ^ trailing_zeros w64 bits % 2 ^ 64))
 
 -- a word's places are that of its lowest bit and then those of the others
-pub lowest_place : (first bits : ℕ) → 0 < bits → bits < 2 ^ 64 → bit_places first bits ≡ (first + trailing_zeros w64 bits) ∷ bit_places first (without_lowest bits)
+pub lowest_place : (first bits : ℕ) → 0 < bits → bits < 2 ^ 64
+    → bit_places first bits ≡ (first + trailing_zeros w64 bits) ∷ bit_places first (without_lowest bits)
 unfolding bit_places
 lowest_place first bits some fits =
     let low = bit_at-trailing_zeros w64 bits some fits in
@@ -71,17 +74,21 @@ lowest_place first bits some fits =
     (λ k before. bit_test_off bits (first + k) first k (off k) (low.2 k before))
     (eq-eqb _ _ (ap (λ i. bit_at bits i) (off t) ∙ low.1))
     (λ k upto. ⊎_elim
-    (λ (e : k ≡ t). bit_test_off (without_lowest bits) (first + k) first k (off k) (ap (λ i. bit_at (without_lowest bits) i) e ∙ bit_at_clear_same w64 bits t low.0))
-    (λ (ne : k ≡ t → ⊥). bit_test_off (without_lowest bits) (first + k) first k (off k) (bit_at_clear_other w64 bits t low.0 k (omega arith) ne ∙ low.2 k (omega arith)))
+    (λ (e : k ≡ t). bit_test_off (without_lowest bits) (first + k) first k (off k)
+        (ap (λ i. bit_at (without_lowest bits) i) e ∙ bit_at_clear_same w64 bits t low.0))
+    (λ (ne : k ≡ t → ⊥). bit_test_off (without_lowest bits) (first + k) first k (off k)
+        (bit_at_clear_other w64 bits t low.0 k (omega arith) ne ∙ low.2 k (omega arith)))
     (cases_eq k t))
-    (λ k after small. ap (λ b. b == 1) (ap (λ i. bit_at (without_lowest bits) i) (off k) ∙ bit_at_clear_other w64 bits t low.0 k (omega arith) (λ e. omega arith) ∙ sym (ap (λ i. bit_at bits i) (off k))))
+    (λ k after small. ap (λ b. b == 1) (ap (λ i. bit_at (without_lowest bits) i) (off k)
+        ∙ bit_at_clear_other w64 bits t low.0 k (omega arith) (λ e. omega arith) ∙ sym (ap (λ i. bit_at bits i) (off k))))
 
 -- what is left has no further bits
 pub lowest_cleared : (bits k : ℕ) → 0 < bits → bits < 2 ^ 64 → k < 64 → bit_at (without_lowest bits) k ≡ 1 → bit_at bits k ≡ 1
 lowest_cleared bits k some fits small set =
     let low = bit_at-trailing_zeros w64 bits some fits in
     ⊎_elim
-    (λ (e : k ≡ trailing_zeros w64 bits). let clear = ap (λ i. bit_at (without_lowest bits) i) e ∙ bit_at_clear_same w64 bits _ low.0 in omega (arith, clear, set))
+    (λ (e : k ≡ trailing_zeros w64 bits). let clear = ap (λ i. bit_at (without_lowest bits) i) e ∙ bit_at_clear_same w64 bits _ low.0 in
+        omega (arith, clear, set))
     (λ ne. sym (bit_at_clear_other w64 bits _ low.0 k small ne) ∙ set)
     (cases_eq k (trailing_zeros w64 bits))
 

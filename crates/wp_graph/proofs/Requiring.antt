@@ -1,5 +1,6 @@
 -- The required places of an aisle: the depot's, and those of the words' bits.
-use Rattle.std.proofs.Common.{◌≡◌, ℕ, zero, suc, ◌+◌, ◌-◌, ◌*◌, ◌<◌, ◌≤◌, ◌==◌, ◌&&◌, ◌||◌, Bool, true, false, cond, List, [], ◌∷◌, ◌++◌, filter, fold, map, if◌then◌else◌, arith, refl, ap, sym, ◌∙◌, inl, inr, ◌⊎◌, ⊎_elim}
+use Rattle.std.proofs.Common.{◌≡◌, ℕ, zero, suc, ◌+◌, ◌-◌, ◌*◌, ◌<◌, ◌≤◌, ◌==◌, ◌&&◌, ◌||◌, Bool, true, false, cond, List, [], ◌∷◌, ◌++◌, filter, fold, map}
+use Rattle.std.proofs.Common.{if◌then◌else◌, arith, refl, ap, sym, ◌∙◌, inl, inr, ◌⊎◌, ⊎_elim}
 use Rattle.std.specs.Int.{bit_at}
 use Rattle.std.specs.List.{range_with_len}
 use Rattle.std.proofs.lemmas.Bool.{and_right, cases_eq, eq-eqb, false_from_ne_true, ne_eqb}
@@ -15,7 +16,8 @@ use Rattle.wp_graph.proofs.Having.{has_among}
 use Rattle.wp_graph.proofs.Members.{Contains-from_among}
 use Rattle.wp_graph.proofs.Places.{agreeing, none_passes, range_parts}
 
-pub slot_had : (layout : Layout) (points : List Point) (aisle place : ℕ) → AreSlots layout points → has_point points aisle place ≡ true → IsSlot layout (record { aisle = aisle; slot = place })
+pub slot_had : (layout : Layout) (points : List Point) (aisle place : ℕ) → AreSlots layout points → has_point points aisle place ≡ true
+    → IsSlot layout (record { aisle = aisle; slot = place })
 slot_had layout points aisle place are has = are.slots (record { aisle = aisle; slot = place }) (Contains-from_among _ _ (has_among points aisle place has))
 
 -- the distance 0, where the depot lies in the aisle
@@ -40,13 +42,15 @@ required_behind layout points aisle place behind =
     rw front refl
 
 -- places that pass lie behind the front and within a bound
-pub places_within : (has : ℕ → Bool) (m n : ℕ) → m < n → has 0 ≡ false → ((k : ℕ) → m < k → has k ≡ false) → filter has (range_with_len 0 n) ≡ filter has (range_with_len 1 m)
+pub places_within : (has : ℕ → Bool) (m n : ℕ) → m < n → has 0 ≡ false → ((k : ℕ) → m < k → has k ≡ false)
+    → filter has (range_with_len 0 n) ≡ filter has (range_with_len 1 m)
 places_within has m zero within none past = absurd (omega arith)
 places_within has m (suc n) within none past =
     let all : n ≡ m + (n - m) = omega arith in
     let gone = none_passes has (1 + m) (n - m) (λ k low high. past k (omega arith)) in
     let split : filter has (range_with_len 1 n) ≡ filter has (range_with_len 1 m) =
-    ap (λ n'. filter has (range_with_len 1 n')) all ∙ ap (filter has) (range_parts 1 m (n - m)) ∙ filter-append has (range_with_len 1 m) (range_with_len (1 + m) (n - m))
+    ap (λ n'. filter has (range_with_len 1 n')) all ∙ ap (filter has) (range_parts 1 m (n - m))
+        ∙ filter-append has (range_with_len 1 m) (range_with_len (1 + m) (n - m))
     ∙ ap (λ xs. filter has (range_with_len 1 m) ++ xs) gone ∙ append-nil _ in
     rw none split
 
@@ -57,14 +61,16 @@ required_parts layout points aisle n are within =
     let has = has_point points aisle in
     let m = layout.slots in
     let outside : (k : ℕ) → (k ≡ 0) ⊎ (m < k) → has k ≡ false =
-    λ k out. false_from_ne_true _ (λ h. let s = (slot_had layout points aisle k are h).slot in ⊎_elim (λ e. omega (arith, s, e)) (λ far. omega (arith, s, far)) out) in
+    λ k out. false_from_ne_true _ (λ h. let s = (slot_had layout points aisle k are h).slot in
+        ⊎_elim (λ e. omega (arith, s, e)) (λ far. omega (arith, s, far)) out) in
     let same = agreeing (is_required layout points aisle) has 1 (m + 1) (λ k low high. required_behind layout points aisle k (omega arith)) in
     let whole = places_within has (m + 1) n within (outside 0 (inl refl)) (λ k past. outside k (inr (omega arith))) in
     let front = required_front layout points aisle are in
     let two : m + 2 ≡ suc (m + 1) = omega arith in
     rw (two, whole, front, same)
     (elim (aisle == layout.depot) as
-    (λ b. map (distance layout) (cond b (0 ∷ filter has (range_with_len 1 (m + 1))) (filter has (range_with_len 1 (m + 1)))) ≡ (if b then 0 ∷ [] else []) ++ map (distance layout) (filter has (range_with_len 1 (m + 1))))
+    (λ b. map (distance layout) (cond b (0 ∷ filter has (range_with_len 1 (m + 1))) (filter has (range_with_len 1 (m + 1)))) ≡ (if b then 0 ∷ [] else [])
+        ++ map (distance layout) (filter has (range_with_len 1 (m + 1))))
     [ true ↦ refl | false ↦ refl ])
 
 -- distances of places from the front on ascend
@@ -73,7 +79,8 @@ pub ascending_after : (p : ℕ → Bool) (f : ℕ → ℕ) (a n x : ℕ) → ((k
 ascending_after p f a zero x above up = tt
 ascending_after p f a (suc n) x above up =
     let later = ascending_after p f (a + 1) n x (λ k low high. above k (omega arith) (omega arith)) (λ k low high. up k (omega arith) (omega arith)) in
-    let next = ascending_after p f (a + 1) n (f a) (λ k low high. far k (k - (a + 1)) (omega arith) (omega arith)) (λ k low high. up k (omega arith) (omega arith)) in
+    let next = ascending_after p f (a + 1) n (f a) (λ k low high. far k (k - (a + 1)) (omega arith) (omega arith))
+            (λ k low high. up k (omega arith) (omega arith)) in
     elim (p a) as (λ b. IsAscending (x ∷ map f (cond b (a ∷ filter p (range_with_len (a + 1) n)) (filter p (range_with_len (a + 1) n)))))
     [ true ↦ (above a (omega arith) (omega arith), next) | false ↦ later ]
   where
@@ -88,7 +95,8 @@ ascending_after p f a (suc n) x above up =
 pub steps_up : (layout : Layout) → IsLayout layout → (k : ℕ) → distance layout k < distance layout (k + 1)
 steps_up layout valid k =
     let s : k + 1 ≡ suc k = omega arith in
-    let step : 0 < step_length layout k = elim (k == 0 || k == layout.slots) as (λ b. 0 < (if b then layout.clearance else layout.pitch)) [ true ↦ valid.clearance.0 | false ↦ valid.pitch.0 ] in
+    let step : 0 < step_length layout k = elim (k == 0 || k == layout.slots) as
+            (λ b. 0 < (if b then layout.clearance else layout.pitch)) [ true ↦ valid.clearance.0 | false ↦ valid.pitch.0 ] in
     rw s (omega (arith, step))
 
 pub tail_ascending : (x : ℕ) (xs : List ℕ) → IsAscending (x ∷ xs) → IsAscending xs
@@ -99,8 +107,11 @@ pub required_ascending : (layout : Layout) (points : List Point) (aisle : ℕ) �
 unfolding required_distances required_places
 required_ascending layout points aisle valid =
     let two : layout.slots + 2 ≡ suc (layout.slots + 1) = omega arith in
-    let rest = ascending_after (is_required layout points aisle) (distance layout) 1 (layout.slots + 1) 0 (λ k low high. some k low) (λ k low high. steps_up layout valid k) in
-    rw two (elim (is_required layout points aisle 0) as (λ b. IsAscending (map (distance layout) (cond b (0 ∷ filter (is_required layout points aisle) (range_with_len 1 (layout.slots + 1))) (filter (is_required layout points aisle) (range_with_len 1 (layout.slots + 1))))))
+    let rest = ascending_after (is_required layout points aisle) (distance layout) 1 (layout.slots + 1) 0 (λ k low high. some k low)
+            (λ k low high. steps_up layout valid k) in
+    rw two (elim (is_required layout points aisle 0) as (λ b. IsAscending
+        (map (distance layout) (cond b (0 ∷ filter (is_required layout points aisle) (range_with_len 1 (layout.slots + 1)))
+        (filter (is_required layout points aisle) (range_with_len 1 (layout.slots + 1))))))
     [ true ↦ rest | false ↦ tail_ascending 0 _ rest ])
   where
     some : (k : ℕ) → 1 ≤ k → 0 < distance layout k
@@ -120,7 +131,9 @@ words_more f d has before now next index word so_far reached tells =
     let front = filter has (range_with_len 0 (64 * index)) in
     let behind = filter has (range_with_len (64 * index) 64) in
     let split : filter has (range_with_len 0 (64 * (index + 1))) ≡ front ++ behind =
-    ap (λ n. filter has (range_with_len 0 n)) more ∙ ap (filter has) (range_parts 0 (64 * index) 64) ∙ filter-append has (range_with_len 0 (64 * index)) (range_with_len (0 + 64 * index) 64)
+    ap (λ n. filter has (range_with_len 0 n)) more ∙ ap (filter has) (range_parts 0 (64 * index) 64)
+        ∙ filter-append has (range_with_len 0 (64 * index)) (range_with_len (0 + 64 * index) 64)
     ∙ ap (λ a. front ++ filter has (range_with_len a 64)) zero_add in
     reached ∙ ap (λ ps. fold f now (map d ps)) places ∙ ap (λ s. fold f s (map d behind)) so_far
-    ∙ sym (fold-append f before (map d front) (map d behind)) ∙ ap (fold f before) (sym (map-append d front behind)) ∙ ap (λ ps. fold f before (map d ps)) (sym split)
+    ∙ sym (fold-append f before (map d front) (map d behind)) ∙ ap (fold f before) (sym (map-append d front behind))
+        ∙ ap (λ ps. fold f before (map d ps)) (sym split)

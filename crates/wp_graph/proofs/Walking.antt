@@ -21,7 +21,8 @@ move_to layout points total (suc i) default walk some within =
 
 -- a walk goes on by a move
 pub walk_next : (layout : Layout) (points : List Point) (total step i : ℕ) (default : Point) → suc i < length points →
-    IsWalk layout (take (suc i) points) total → IsMove layout (get_or points i default) (get_or points (suc i) default) step → IsWalk layout (take (suc (suc i)) points) (total + step)
+    IsWalk layout (take (suc i) points) total → IsMove layout (get_or points i default) (get_or points (suc i) default) step
+        → IsWalk layout (take (suc (suc i)) points) (total + step)
 walk_next layout [] total step i default within walk move = absurd (omega arith)
 walk_next layout (a ∷ []) total step i default within walk move = absurd (omega arith)
 walk_next layout (a ∷ b ∷ points) total step zero default within walk move = (step, 0, move, refl, omega arith)
@@ -30,7 +31,8 @@ walk_next layout (a ∷ b ∷ points) total step (suc i) default within walk mov
 
 -- the same at the place where the move ends
 pub walk_more : (layout : Layout) (points : List Point) (total step i : ℕ) (default : Point) → 0 < i → i < length points →
-    IsWalk layout (take i points) total → IsMove layout (get_or points (i - 1) default) (get_or points i default) step → IsWalk layout (take (i + 1) points) (total + step)
+    IsWalk layout (take i points) total → IsMove layout (get_or points (i - 1) default) (get_or points i default) step
+        → IsWalk layout (take (i + 1) points) (total + step)
 walk_more layout points total step zero default some within walk move = absurd (omega arith)
 walk_more layout points total step (suc i) default some within walk move =
     let before : suc i - 1 ≡ i = omega arith in rw add-one (walk_next layout points total step i default within walk (rw before at move))

@@ -18,6 +18,8 @@ widest d a b (c ∷ rest) = go (widest d b c rest) (cases_le (largest_gap (map d
     cases_le : (m n : ℕ) → (m ≤ n) ⊎ (n ≤ m)
     cases_le m n = grind arith
 
-    go : WidestGap d (b ∷ c ∷ rest) → (largest_gap (map d (b ∷ c ∷ rest)) ≤ d b - d a) ⊎ (d b - d a ≤ largest_gap (map d (b ∷ c ∷ rest))) → WidestGap d (a ∷ b ∷ c ∷ rest)
+    go : WidestGap d (b ∷ c ∷ rest) → (largest_gap (map d (b ∷ c ∷ rest)) ≤ d b - d a) ⊎ (d b - d a ≤ largest_gap (map d (b ∷ c ∷ rest)))
+        → WidestGap d (a ∷ b ∷ c ∷ rest)
     go found (inl low) = record { near = a; far = b; before = []; after = c ∷ rest; places_are = refl; gap_is = omega (arith, low) }
-    go found (inr high) = record { near = found.near; far = found.far; before = a ∷ found.before; after = found.after; places_are = ap (λ xs. a ∷ xs) found.places_are; gap_is = omega (arith, found.gap_is, high) }
+    go found (inr high) = record { near = found.near; far = found.far; before = a ∷ found.before; after = found.after;
+        places_are = ap (λ xs. a ∷ xs) found.places_are; gap_is = omega (arith, found.gap_is, high) }

@@ -1,5 +1,6 @@
 -- The line of an entry is read as this entry, so a line is of one entry.
-use Rattle.std.proofs.Common.{◌≡◌, ◌∙◌, refl, sym, ap, ℕ, ◌-◌, ◌<◌, ◌^◌, true, false, List, [], ◌∷◌, ◌++◌, ◌⊎◌, inl, inr, length, take, arith, leb-true, ltb-true, length-append, lit<}
+use Rattle.std.proofs.Common.{◌≡◌, ◌∙◌, refl, sym, ap, ℕ, ◌-◌, ◌<◌, ◌^◌, true, false, List, [], ◌∷◌, ◌++◌, ◌⊎◌, inl, inr, length, take, arith, leb-true}
+use Rattle.std.proofs.Common.{ltb-true, length-append, lit<}
 use Rattle.std.specs.Prelude.{◌&&◌, codes, nat_le, nat_lt, Some, None, IfOk, Result, Ok, Err}
 use Rattle.std.specs.Fmt.{decimal}
 use Rattle.std.specs.List.{list_all}
@@ -32,7 +33,8 @@ pub record Within (e : Entry) : Type 0 where
 
 pub within : (e : Entry) → is_line_entry e ≡ true → Within e
 within e h =
-    let halves = both (nat_lt e.number 10000 && (nat_le 1 e.desk && nat_le e.desk 8)) ((is_plain e.command && has_names e.command) && is_line_reply e.reply) h in
+    let halves = both (nat_lt e.number 10000 && (nat_le 1 e.desk && nat_le e.desk 8))
+            ((is_plain e.command && has_names e.command) && is_line_reply e.reply) h in
     let numbers = both (nat_lt e.number 10000) (nat_le 1 e.desk && nat_le e.desk 8) halves.0 in
     let desks = both (nat_le 1 e.desk) (nat_le e.desk 8) numbers.1 in
     let words = both (is_plain e.command && has_names e.command) (is_line_reply e.reply) halves.1 in
@@ -54,7 +56,8 @@ last_off text =
     let count : length (text ++ 10 ∷ []) - 1 ≡ length text = omega (arith, length-append text (10 ∷ [])) in
     ap (λ n. take n (text ++ 10 ∷ [])) count ∙ take-append_seam text (10 ∷ [])
 
-spaces_in : (c : Command) (r : Reply) → list_all is_plain_word (command_word c ∷ command_arguments c) ≡ true → list_all is_plain_word (reply_word r ∷ reply_told r) ≡ true
+spaces_in : (c : Command) (r : Reply) → list_all is_plain_word (command_word c ∷ command_arguments c) ≡ true
+    → list_all is_plain_word (reply_word r ∷ reply_told r) ≡ true
     → list_all has_no_space (sentence_words c r) ≡ true
 spaces_in c r p q =
     list_all-append has_no_space (command_word c ∷ command_arguments c) (codes "->" ∷ (reply_word r ∷ reply_told r))
@@ -128,11 +131,13 @@ same_why : (a b : EntryFault) → ◌≡◌ {A = Result Entry EntryFault} (Err a
 same_why a b e = cc e
 
 -- so a reader that answers so is right
-pub refusal : (line : List ℕ) (result : Result Entry EntryFault) (why : EntryFault) → result ≡ Err why → (wants_memory why ≡ false → candidate_of line ≡ None) → result ≡ Err fault.NotEntry → IsNoLine line
+pub refusal : (line : List ℕ) (result : Result Entry EntryFault) (why : EntryFault) → result ≡ Err why → (wants_memory why ≡ false → candidate_of line ≡ None)
+    → result ≡ Err fault.NotEntry → IsNoLine line
 refusal line result why is told said = no_line_read line (told (ap wants_memory (same_why why fault.NotEntry (sym is ∙ said))))
 
 -- the line of an entry is read as it, where there is memory
-pub one_reading : (line : List ℕ) (result : Result Entry EntryFault) → IfOk result (IsOnlyLineOf line) → (result ≡ Err fault.NotEntry → IsNoLine line) → (entry : Entry) → IsLineOf line entry
+pub one_reading : (line : List ℕ) (result : Result Entry EntryFault) → IfOk result (IsOnlyLineOf line) → (result ≡ Err fault.NotEntry → IsNoLine line)
+    → (entry : Entry) → IsLineOf line entry
     → (result ≡ Ok entry) ⊎ (result ≡ Err fault.Memory)
 one_reading line (Ok read) only refuses entry is = inl (ap Ok (sym (only entry is)))
 one_reading line (Err fault.NotEntry) only refuses entry is = absurd (refuses refl entry is)

@@ -46,12 +46,15 @@ phrase first rest = first ++ flat_map after_space rest
 alone : (first : Word) → first ≡ phrase first []
 alone first = sym (append-nil first)
 
-more_words : {text : List ℕ} (first : Word) (rest : List Word) (word : Word) (words : List Word) → text ≡ phrase first rest → text ++ after_space (phrase word words) ≡ phrase first (rest ++ word ∷ words)
+more_words : {text : List ℕ} (first : Word) (rest : List Word) (word : Word) (words : List Word) → text ≡ phrase first rest
+    → text ++ after_space (phrase word words) ≡ phrase first (rest ++ word ∷ words)
 more_words first rest word words so =
     ap (λ t. t ++ after_space (phrase word words)) so
-    ∙ (append_assoc first (flat_map after_space rest) (after_space (phrase word words)) ∙ ap (λ t. first ++ t) (sym (flat_map-append after_space rest (word ∷ words))))
+    ∙ (append_assoc first (flat_map after_space rest) (after_space (phrase word words))
+        ∙ ap (λ t. first ++ t) (sym (flat_map-append after_space rest (word ∷ words))))
 
-one_more : {text : List ℕ} (first : Word) (rest : List Word) (word : Word) → text ≡ phrase first rest → text ++ after_space word ≡ phrase first (rest ++ word ∷ [])
+one_more : {text : List ℕ} (first : Word) (rest : List Word) (word : Word) → text ≡ phrase first rest
+    → text ++ after_space word ≡ phrase first (rest ++ word ∷ [])
 one_more {text} first rest word so = ap (λ t. text ++ after_space t) (alone word) ∙ more_words first rest word [] so
 
 pub command_phrase : (c : Command) → command_text c ≡ phrase (command_word c) (command_arguments c)
@@ -61,10 +64,12 @@ command_phrase (command.Release w) = one_more (codes "release") [] w (alone (cod
 command_phrase (command.Cancel w) = one_more (codes "cancel") [] w (alone (codes "cancel"))
 command_phrase (command.Pick w order location quantity) =
     one_more (codes "pick") (w ∷ order ∷ location_text location ∷ []) (decimal quantity)
-    (one_more (codes "pick") (w ∷ order ∷ []) (location_text location) (one_more (codes "pick") (w ∷ []) order (one_more (codes "pick") [] w (alone (codes "pick")))))
+    (one_more (codes "pick") (w ∷ order ∷ []) (location_text location)
+        (one_more (codes "pick") (w ∷ []) order (one_more (codes "pick") [] w (alone (codes "pick")))))
 command_phrase (command.Missing w order location quantity) =
     one_more (codes "missing") (w ∷ order ∷ location_text location ∷ []) (decimal quantity)
-    (one_more (codes "missing") (w ∷ order ∷ []) (location_text location) (one_more (codes "missing") (w ∷ []) order (one_more (codes "missing") [] w (alone (codes "missing")))))
+    (one_more (codes "missing") (w ∷ order ∷ []) (location_text location)
+        (one_more (codes "missing") (w ∷ []) order (one_more (codes "missing") [] w (alone (codes "missing")))))
 command_phrase (command.Receive location article quantity) =
     one_more (codes "receive") (location_text location ∷ article ∷ []) (decimal quantity)
     (one_more (codes "receive") (location_text location ∷ []) article (one_more (codes "receive") [] (location_text location) (alone (codes "receive"))))
@@ -134,7 +139,8 @@ reply_phrase (reply.WaveFull orders) = one_more (codes "refused") (codes "wave-f
 reply_phrase reply.KnownWave = refl
 reply_phrase (reply.UnknownOrder order) = one_more (codes "refused") (codes "unknown-order" ∷ []) order refl
 reply_phrase (reply.OrderTwice order) = one_more (codes "refused") (codes "order-twice" ∷ []) order refl
-reply_phrase (reply.OrderTaken order w) = one_more (codes "refused") (codes "order-taken" ∷ order ∷ []) w (one_more (codes "refused") (codes "order-taken" ∷ []) order refl)
+reply_phrase (reply.OrderTaken order w) = one_more (codes "refused") (codes "order-taken" ∷ order ∷ []) w
+    (one_more (codes "refused") (codes "order-taken" ∷ []) order refl)
 reply_phrase reply.UnknownWave = refl
 reply_phrase (reply.WrongState state) = one_more (codes "refused") (codes "wrong-state" ∷ []) (wave_state_text state) refl
 reply_phrase (reply.Short article wanted free) =
@@ -186,7 +192,8 @@ two_plain a b e f = and_true _ _ e (one_plain b f)
 three_plain : (a b c : Word) → is_plain_word a ≡ true → is_plain_word b ≡ true → is_plain_word c ≡ true → list_all is_plain_word (a ∷ b ∷ c ∷ []) ≡ true
 three_plain a b c e f g = and_true _ _ e (two_plain b c f g)
 
-four_plain : (a b c d : Word) → is_plain_word a ≡ true → is_plain_word b ≡ true → is_plain_word c ≡ true → is_plain_word d ≡ true → list_all is_plain_word (a ∷ b ∷ c ∷ d ∷ []) ≡ true
+four_plain : (a b c d : Word) → is_plain_word a ≡ true → is_plain_word b ≡ true → is_plain_word c ≡ true → is_plain_word d ≡ true
+    → list_all is_plain_word (a ∷ b ∷ c ∷ d ∷ []) ≡ true
 four_plain a b c d e f g h = and_true _ _ e (three_plain b c d f g h)
 
 -- the words of a command have the bytes of names
@@ -198,11 +205,13 @@ command_plain (command.Cancel w) p n = one_plain w (name_plain w n)
 command_plain (command.Pick w order location quantity) p n =
     let names = both _ _ n in
     let bounds = both _ _ p in
-    four_plain w order (location_text location) (decimal quantity) (name_plain w names.0) (name_plain order names.1) (location_plain location bounds.0) (quantity_plain quantity bounds.1)
+    four_plain w order (location_text location) (decimal quantity) (name_plain w names.0) (name_plain order names.1) (location_plain location bounds.0)
+        (quantity_plain quantity bounds.1)
 command_plain (command.Missing w order location quantity) p n =
     let names = both _ _ n in
     let bounds = both _ _ p in
-    four_plain w order (location_text location) (decimal quantity) (name_plain w names.0) (name_plain order names.1) (location_plain location bounds.0) (quantity_plain quantity bounds.1)
+    four_plain w order (location_text location) (decimal quantity) (name_plain w names.0) (name_plain order names.1) (location_plain location bounds.0)
+        (quantity_plain quantity bounds.1)
 command_plain (command.Receive location article quantity) p n =
     let bounds = both _ _ p in
     three_plain (location_text location) article (decimal quantity) (location_plain location bounds.0) (name_plain article n) (quantity_plain quantity bounds.1)
@@ -223,7 +232,8 @@ reply_plain reply.Cancelled h = refl
 reply_plain reply.Picked h = refl
 reply_plain reply.Received h = refl
 reply_plain (reply.Refilled units) h = one_plain (decimal units) (quantity_plain units h)
-reply_plain (reply.Lost article units) h = let parts = both _ _ h in two_plain article (decimal units) (name_plain article parts.0) (quantity_plain units parts.1)
+reply_plain (reply.Lost article units) h = let parts = both _ _ h in
+    two_plain article (decimal units) (name_plain article parts.0) (quantity_plain units parts.1)
 reply_plain reply.NoOrders h = refl
 reply_plain (reply.WaveFull orders) h = one_plain (decimal orders) (u32_plain orders h)
 reply_plain reply.KnownWave h = refl

@@ -22,54 +22,67 @@ with_parts : (e : Entry) (n : ℕ) (r : Reply) → e.number ≡ n → e.reply �
 with_parts e n r p q = ap₂ {C = Entry} (λ n r. record { number = n; desk = e.desk; command = e.command; reply = r }) p q
 
 -- the entry of the next number with the machine's reply is the next entry
-pub line_of_next : (history : History) (text : List ℕ) (e : Entry) → IsLineOf text e → e.number ≡ length history.entries → e.reply ≡ (next_entry history e.desk e.command).reply → IsLineOf text (next_entry history e.desk e.command)
-line_of_next history text e is number reply = subst (IsLineOf text) (with_parts e (length history.entries) (next_entry history e.desk e.command).reply number reply) is
+pub line_of_next : (history : History) (text : List ℕ) (e : Entry) → IsLineOf text e → e.number ≡ length history.entries
+    → e.reply ≡ (next_entry history e.desk e.command).reply → IsLineOf text (next_entry history e.desk e.command)
+line_of_next history text e is number reply = subst (IsLineOf text)
+    (with_parts e (length history.entries) (next_entry history e.desk e.command).reply number reply) is
 
 -- an entry that is the only one of its line, and has another number, isn't the next
-pub another_number : (history : History) (text : List ℕ) (e : Entry) → IsOnlyLineOf text e → e.number ≢ length history.entries → (other : Entry) → IsLineOf text other → other.number ≢ length history.entries
+pub another_number : (history : History) (text : List ℕ) (e : Entry) → IsOnlyLineOf text e → e.number ≢ length history.entries → (other : Entry)
+    → IsLineOf text other → other.number ≢ length history.entries
 another_number history text e only another other is number = another (sym (ap (λ (x : Entry). x.number) (only other is)) ∙ number)
 
-longer : (history : History) (right : Entry) (others : List (List ℕ)) → map entry_line history.entries ++ entry_line right ∷ others ≡ map entry_line (history.entries ++ right ∷ []) ++ others
+longer : (history : History) (right : Entry) (others : List (List ℕ))
+    → map entry_line history.entries ++ entry_line right ∷ others ≡ map entry_line (history.entries ++ right ∷ []) ++ others
 longer history right others =
     sym (append_assoc (map entry_line history.entries) (entry_line right ∷ []) others)
     ∙ ap (λ lines. lines ++ others) (sym (map-append entry_line history.entries (right ∷ [])))
 
 -- what begins with the line of the next entry begins with the longer history
-begins_longer : (opening : Opening) (text : List ℕ) (history : History) (next : List ℕ) (others : List (List ℕ)) (desk : ℕ) (command : Command) → Begins opening text history (next ∷ others)
+begins_longer : (opening : Opening) (text : List ℕ) (history : History) (next : List ℕ) (others : List (List ℕ)) (desk : ℕ) (command : Command)
+    → Begins opening text history (next ∷ others)
     → IsLineOf next (next_entry history desk command) → Begins opening text (answered history desk command) others
 begins_longer opening text history next others desk command begins is = record {
   starts = begins.starts;
   legal = answered_is_legal history desk command begins.legal;
   within = All-push (λ entry. IsTrue (is_line_entry entry)) history.entries (next_entry history desk command) begins.within is.within;
-  lines = begins.lines ∙ ap (λ lines. line (codes "journal") ∷ lines) (ap (λ l. map entry_line history.entries ++ l ∷ others) is.written ∙ longer history (next_entry history desk command) others);
+  lines = begins.lines ∙ ap (λ lines. line (codes "journal") ∷ lines)
+      (ap (λ l. map entry_line history.entries ++ l ∷ others) is.written ∙ longer history (next_entry history desk command) others);
 }
 
 -- a line that is taken in leads on
-pub leads_on : (opening : Opening) (text : List ℕ) (before after : History) (next : List ℕ) (others : List (List ℕ)) → Begins opening text before (next ∷ others)
+pub leads_on : (opening : Opening) (text : List ℕ) (before after : History) (next : List ℕ) (others : List (List ℕ))
+    → Begins opening text before (next ∷ others)
     → (desk : ℕ) (command : Command) → IsLineOf next (next_entry before desk command) → after ≡ answered before desk command → Begins opening text after others
 leads_on opening text before after next others begins desk command is grown =
     subst (λ (history : History). Begins opening text history others) (sym grown) (begins_longer opening text before next others desk command begins is)
 
 -- and another is what the audit tells
-pub stops : (U : Type 0) (opening : Opening) (text : List ℕ) (before after : History) (next : List ℕ) (others : List (List ℕ)) (why : AuditFault) → Begins opening text before (next ∷ others) → is_end next ≡ false
+pub stops : (U : Type 0) (opening : Opening) (text : List ℕ) (before after : History) (next : List ℕ) (others : List (List ℕ)) (why : AuditFault)
+    → Begins opening text before (next ∷ others) → is_end next ≡ false
     → Judges {U = U} before next after (Err why) → Tells opening text (Err why)
 stops U opening text before after next others (fault.BadLine number) begins goes judges =
     inr (record { history = before; left = next ∷ others; begins = begins; bad = (goes, judges.1); numbered = judges.0 })
-stops U opening text before after next others (fault.WrongReply number printed right) begins goes judges = record { history = before; next = next; others = others; begins = begins; misanswered = judges }
+stops U opening text before after next others (fault.WrongReply number printed right) begins goes judges =
+    record { history = before; next = next; others = others; begins = begins; misanswered = judges }
 stops U opening text before after next others fault.Memory begins goes judges = tt
 
 -- after the head nothing was answered yet
-pub begins_opened : (opening : Opening) (text : List ℕ) (left : List (List ℕ)) → lines_of text ≡ line (codes "journal") ∷ left → Begins opening text (opened opening) left
+pub begins_opened : (opening : Opening) (text : List ℕ) (left : List (List ℕ)) → lines_of text ≡ line (codes "journal") ∷ left
+    → Begins opening text (opened opening) left
 begins_opened opening text left lines = record { starts = refl; legal = tt; within = All-nil (λ entry. IsTrue (is_line_entry entry)); lines = lines }
 
 -- the lines end before the journal does
-pub ends_early : (opening : Opening) (text : List ℕ) (history : History) → Begins opening text history [] → Shows opening text (Err (fault.BadLine (line_number_after history)))
+pub ends_early : (opening : Opening) (text : List ℕ) (history : History) → Begins opening text history []
+    → Shows opening text (Err (fault.BadLine (line_number_after history)))
 ends_early opening text history begins = inr (record { history = history; left = []; begins = begins; bad = tt; numbered = refl })
 
 -- the journal ends
-pub ends_well : (opening : Opening) (text : List ℕ) (history : History) (next : List ℕ) (others : List (List ℕ)) → Begins opening text history (next ∷ others) → is_end next ≡ true
+pub ends_well : (opening : Opening) (text : List ℕ) (history : History) (next : List ℕ) (others : List (List ℕ)) → Begins opening text history (next ∷ others)
+    → is_end next ≡ true
     → Shows opening text (Ok (record { entries = length history.entries }))
-ends_well opening text history next others begins ends = record { history = history; last = next; others = others; begins = begins; ends = ends; counted = refl }
+ends_well opening text history next others begins ends = record
+    { history = history; last = next; others = others; begins = begins; ends = ends; counted = refl }
 
 clash : true ≡ false → ⊥
 clash e = cc e
@@ -84,19 +97,23 @@ same_first a b xs ys e = cc e
 pub empty_shows : (opening : Opening) → Shows opening [] (Err (fault.BadLine 1))
 empty_shows opening = inl (refl, λ left same. no_lines (line (codes "journal")) left same)
 
-pub no_head_shows : (opening : Opening) (text first : List ℕ) (others : List (List ℕ)) → lines_of text ≡ first ∷ others → is_head first ≡ false → Shows opening text (Err (fault.BadLine 1))
+pub no_head_shows : (opening : Opening) (text first : List ℕ) (others : List (List ℕ)) → lines_of text ≡ first ∷ others → is_head first ≡ false
+    → Shows opening text (Err (fault.BadLine 1))
 no_head_shows opening text first others lines is =
-    inl (refl, λ left same. clash (sym ((bytes_eq-Decides first (line (codes "journal"))).1 (same_first first (line (codes "journal")) others left (sym lines ∙ same))) ∙ is))
+    inl (refl, λ left same. clash (sym ((bytes_eq-Decides first (line (codes "journal"))).1
+        (same_first first (line (codes "journal")) others left (sym lines ∙ same))) ∙ is))
 
 -- the head
 pub head_is : (first : List ℕ) → is_head first ≡ true → first ≡ line (codes "journal")
 head_is first is = (bytes_eq-Decides first (line (codes "journal"))).0 is
 
 -- the first line that is left, and those after it
-pub begins_at : (opening : Opening) (text : List ℕ) (history : History) (rest : List ℕ) → 0 < length rest → Begins opening text history (lines_of rest) → Begins opening text history (first_line rest ∷ lines_of (after_line rest))
+pub begins_at : (opening : Opening) (text : List ℕ) (history : History) (rest : List ℕ) → 0 < length rest → Begins opening text history (lines_of rest)
+    → Begins opening text history (first_line rest ∷ lines_of (after_line rest))
 begins_at opening text history rest some begins = subst (Begins opening text history) (first_of_lines rest some) begins
 
 -- an audit's count is that of the entries
-pub audit_of : (opening : Opening) (text : List ℕ) (history : History) (count : ℕ) → count ≡ length history.entries → Shows opening text (Ok (record { entries = length history.entries }))
+pub audit_of : (opening : Opening) (text : List ℕ) (history : History) (count : ℕ) → count ≡ length history.entries
+    → Shows opening text (Ok (record { entries = length history.entries }))
     → Shows opening text (Ok (record { entries = count }))
 audit_of opening text history count same shows = subst (λ (n : ℕ). Shows opening text (Ok (record { entries = n }))) (sym same) shows

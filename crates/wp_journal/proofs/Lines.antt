@@ -14,7 +14,8 @@ shift n = omega arith
 abbrev pub Parts : List ℕ → Type 0
 Parts text = lines_of text ≡ first_line text ∷ lines_of (after_line text)
 
-first_with : (b : ℕ) (text : List ℕ) (feed : Bool) → is_feed b ≡ feed → (feed ≡ false → lines_of text ≡ first_line text ∷ lines_of (after_line text)) → Parts (b ∷ text)
+first_with : (b : ℕ) (text : List ℕ) (feed : Bool) → is_feed b ≡ feed → (feed ≡ false → lines_of text ≡ first_line text ∷ lines_of (after_line text))
+    → Parts (b ∷ text)
 first_with b text true is so = rw is refl
 first_with b text false is so =
     let place : position_or_len is_feed (b ∷ text) + 1 ≡ suc (position_or_len is_feed text + 1) = rw is (shift (position_or_len is_feed text)) in

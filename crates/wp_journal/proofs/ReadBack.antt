@@ -1,5 +1,6 @@
 -- What a word was written for is read from it again.
-use Rattle.std.proofs.Common.{◌≡◌, ◌∙◌, refl, sym, ap, ap₂, subst, ℕ, ◌+◌, ◌-◌, ◌*◌, ◌<◌, ◌≤◌, ◌^◌, true, List, [], ◌∷◌, ◌++◌, length, append_assoc, arith, leb-true, ltb-true, le-leb, lt-ltb, lit<}
+use Rattle.std.proofs.Common.{◌≡◌, ◌∙◌, refl, sym, ap, ap₂, subst, ℕ, ◌+◌, ◌-◌, ◌*◌, ◌<◌, ◌≤◌, ◌^◌, true, List, [], ◌∷◌, ◌++◌, length, append_assoc, arith}
+use Rattle.std.proofs.Common.{leb-true, ltb-true, le-leb, lt-ltb, lit<}
 use Rattle.std.specs.Prelude.{nat_le, nat_lt, Some, None, if◌then◌else◌}
 use Rattle.std.specs.Char.{digit_value, is_ascii_digit}
 use Rattle.std.specs.Fmt.{decimal}
@@ -43,12 +44,14 @@ next_digit n c digit fits =
     let range = digit_from_value c digit in
     let same : c - 48 ≡ digit_value c = omega (arith, digit_value_digit c range) in
     let small : n * 10 + (c - 48) < 2 ^ 64 = omega arith in
-    ap (λ b. if b then Some (n * 10 + (c - 48)) else None) (and_true _ _ (digit_is c range.0 range.1) (lt-ltb (n * 10 + (c - 48)) (2 ^ 64) small)) ∙ ap (λ d. Some (n * 10 + d)) same
+    ap (λ b. if b then Some (n * 10 + (c - 48)) else None) (and_true _ _ (digit_is c range.0 range.1) (lt-ltb (n * 10 + (c - 48)) (2 ^ 64) small))
+        ∙ ap (λ d. Some (n * 10 + d)) same
 
 digits_read : (n : ℕ) (ds : List ℕ) → AllDigits 10 ds → digits_value_after 10 n ds < 2 ^ 64 → whole_after n ds ≡ Some (digits_value_after 10 n ds)
 digits_read n [] d fits = refl
 digits_read n (c ∷ cs) d fits =
-    ap (option_and_then (λ m. whole_after m cs)) (next_digit n c d.0 (omega (arith, grows (n * 10 + digit_value c) cs, fits))) ∙ digits_read (n * 10 + digit_value c) cs d.1 fits
+    ap (option_and_then (λ m. whole_after m cs)) (next_digit n c d.0 (omega (arith, grows (n * 10 + digit_value c) cs, fits)))
+        ∙ digits_read (n * 10 + digit_value c) cs d.1 fits
 
 -- a number of 64 bits
 pub whole_read : (n : ℕ) → n < 2 ^ 64 → whole_of (decimal n) ≡ Some n
@@ -85,17 +88,20 @@ side_read : (s : Side) → side_of (side_text s) ≡ Some s
 side_read side.L = refl
 side_read side.R = refl
 
-parts_read : (a s : ℕ) (d : Side) → nat_le a 99999 ≡ true → nat_le s 99999 ≡ true → location_from (decimal a) (decimal s) (side_text d) ≡ Some (record { aisle = a; slot = s; side = d })
+parts_read : (a s : ℕ) (d : Side) → nat_le a 99999 ≡ true → nat_le s 99999 ≡ true
+    → location_from (decimal a) (decimal s) (side_text d) ≡ Some (record { aisle = a; slot = s; side = d })
 parts_read a s d p q = rw (place_read a p, place_read s q, side_read d) refl
 
-parts_found : (a s : ℕ) (d : Side) → a < 2 ^ 64 → s < 2 ^ 64 → location_of (decimal a ++ 45 ∷ decimal s ++ 45 ∷ side_text d) ≡ location_from (decimal a) (decimal s) (side_text d)
+parts_found : (a s : ℕ) (d : Side) → a < 2 ^ 64 → s < 2 ^ 64
+    → location_of (decimal a ++ 45 ∷ decimal s ++ 45 ∷ side_text d) ≡ location_from (decimal a) (decimal s) (side_text d)
 parts_found a s d p q =
     let rest = decimal s ++ 45 ∷ side_text d in
     let after = after_at is_dash (decimal a) 45 rest (decimal_no_dash a p) refl in
     let before = before_at is_dash (decimal a) 45 rest (decimal_no_dash a p) refl in
     ap location_of (append_assoc (decimal a) (45 ∷ decimal s) (45 ∷ side_text d))
     ∙ ap₂ (λ b r. location_from b (before_first is_dash r) (after_first is_dash r)) before after
-    ∙ ap₂ (λ b r. location_from (decimal a) b r) (before_at is_dash (decimal s) 45 (side_text d) (decimal_no_dash s q) refl) (after_at is_dash (decimal s) 45 (side_text d) (decimal_no_dash s q) refl)
+    ∙ ap₂ (λ b r. location_from (decimal a) b r) (before_at is_dash (decimal s) 45 (side_text d) (decimal_no_dash s q) refl)
+        (after_at is_dash (decimal s) 45 (side_text d) (decimal_no_dash s q) refl)
 
 -- a location
 pub location_read : (l : Location) → is_plain_location l ≡ true → location_of (location_text l) ≡ Some l

@@ -113,5 +113,6 @@ pub location_plain : (l : Location) → is_plain_location l ≡ true → is_plai
 location_plain l e =
     let parts = both (nat_le l.aisle 99999) (nat_le l.slot 99999) e in
     all_append (decimal l.aisle ++ 45 ∷ decimal l.slot) (45 ∷ side_text l.side)
-    (all_append (decimal l.aisle) (45 ∷ decimal l.slot) (decimal_plain l.aisle (small_is_whole l.aisle (place_small l.aisle parts.0))) (decimal_plain l.slot (small_is_whole l.slot (place_small l.slot parts.1))))
+    (all_append (decimal l.aisle) (45 ∷ decimal l.slot) (decimal_plain l.aisle (small_is_whole l.aisle (place_small l.aisle parts.0)))
+        (decimal_plain l.slot (small_is_whole l.slot (place_small l.slot parts.1))))
     (side_plain l.side)

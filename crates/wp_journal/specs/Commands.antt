@@ -36,12 +36,14 @@ receipt_in location article quantity =
 -- Pick: a wave, an order, a location and a quantity
 abbrev pub pick_in : Word → Word → Word → Word → Option Command
 pick_in wave order location quantity =
-    option_and_then (λ w. option_and_then (λ o. option_and_then (λ l. option_map (command.Pick w o l) (small_of quantity)) (location_of location)) (name_in order)) (name_in wave)
+    option_and_then (λ w. option_and_then (λ o. option_and_then (λ l. option_map (command.Pick w o l) (small_of quantity)) (location_of location))
+        (name_in order)) (name_in wave)
 
 -- Missing: the same
 abbrev pub missing_in : Word → Word → Word → Word → Option Command
 missing_in wave order location quantity =
-    option_and_then (λ w. option_and_then (λ o. option_and_then (λ l. option_map (command.Missing w o l) (small_of quantity)) (location_of location)) (name_in order)) (name_in wave)
+    option_and_then (λ w. option_and_then (λ o. option_and_then (λ l. option_map (command.Missing w o l) (small_of quantity)) (location_of location))
+        (name_in order)) (name_in wave)
 
 -- a command that takes no memory, by its word and its arguments
 abbrev pub other_command : Word → List Word → Option Command

@@ -15,5 +15,6 @@ entry_fault_text fault.Memory = codes "memory"
 -- where a journal isn't right
 abbrev pub audit_fault_text : AuditFault → List ℕ
 audit_fault_text (audit.BadLine line) = codes "line " ++ decimal line
-audit_fault_text (audit.WrongReply number printed right) = codes "entry " ++ decimal number ++ codes " printed " ++ reply_text printed ++ codes " right " ++ reply_text right
+audit_fault_text (audit.WrongReply number printed right) = codes "entry " ++ decimal number ++ codes " printed " ++ reply_text printed ++ codes " right "
+    ++ reply_text right
 audit_fault_text audit.Memory = codes "memory"

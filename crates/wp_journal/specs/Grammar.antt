@@ -56,7 +56,8 @@ is_line_reply (reply.TooMany on_hand) = is_u32 on_hand
 -- an entry of the journal: its number is below 10,000, the desk is 1 to 8, its command is plain, and its reply is one
 abbrev pub is_line_entry : Entry → Bool
 is_line_entry entry =
-    (nat_lt entry.number 10000 && (nat_le 1 entry.desk && nat_le entry.desk 8)) && ((is_plain entry.command && has_names entry.command) && is_line_reply entry.reply)
+    (nat_lt entry.number 10000 && (nat_le 1 entry.desk && nat_le entry.desk 8)) &&
+        ((is_plain entry.command && has_names entry.command) && is_line_reply entry.reply)
 
 -- the line of an entry of the journal
 pub record IsLineOf (line : List ℕ) (entry : Entry) : Type 0 where

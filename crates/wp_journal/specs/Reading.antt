@@ -26,7 +26,8 @@ Gives = GivesBy (λ x. x)
 -- an entry of these parts
 abbrev pub entry_from : ℕ → ℕ → List Word → Option Entry
 entry_from number desk sentence =
-    option_and_then (λ c. option_map (λ r. record { number = number; desk = desk; command = c; reply = r }) (reply_in (after_arrow sentence))) (command_in (before_arrow sentence))
+    option_and_then (λ c. option_map (λ r. record { number = number; desk = desk; command = c; reply = r }) (reply_in (after_arrow sentence)))
+        (command_in (before_arrow sentence))
 
 -- the entry that words write: a number, a desk, a command, an arrow and a reply
 abbrev pub entry_in : List Word → Option Entry

@@ -6,6 +6,7 @@ use Rattle.serde_json.specs.View.{members_view}
 use Rattle.serde_json.specs.declared.value.Value.{Value}
 use Rattle.wp_layout.specs.LayoutFile.{is_key, names_of}
 
-pub names_known : (entries : List (String Global × Value)) → list_all is_key (names_of (members_view entries)) ≡ list_all (λ name. is_key (string_bytes name)) (keys_of entries)
+pub names_known : (entries : List (String Global × Value)) → list_all is_key (names_of (members_view entries)) ≡ list_all (λ name. is_key (string_bytes name))
+    (keys_of entries)
 names_known [] = refl
 names_known (entry ∷ entries) = ap (λ known. is_key (string_bytes entry.0) && known) (names_known entries)

@@ -1,5 +1,6 @@
 -- What desks ask is answered one after the other.
-use Rattle.std.proofs.Common.{◌≡◌, ◌∙◌, refl, sym, ap, ℕ, zero, suc, ◌+◌, List, [], ◌∷◌, ◌++◌, length, map, take, Some, slice_get, append_assoc, Result, Ok, Err, IfOk, subst, arith}
+use Rattle.std.proofs.Common.{◌≡◌, ◌∙◌, refl, sym, ap, ℕ, zero, suc, ◌+◌, List, [], ◌∷◌, ◌++◌, length, map, take, Some, slice_get, append_assoc, Result, Ok}
+use Rattle.std.proofs.Common.{Err, IfOk, subst, arith}
 use Rattle.std.proofs.lemmas.List.{append-nil, map-append}
 use Rattle.wp_model.proofs.Histories.{answered_is_legal}
 use Rattle.wp_model.proofs.Sound.{entries_keep_sound, opening_is_sound}
@@ -38,7 +39,8 @@ all_asked history (asking ∷ askings) =
 -- there is an entry for each
 pub as_many_entries : (history : History) (askings : List Asking) → length (asked_all history askings).entries ≡ length history.entries + length askings
 as_many_entries history [] = omega arith
-as_many_entries history (asking ∷ askings) = omega (arith, as_many_entries (answered history asking.desk asking.command) askings, pushed history.entries (next_entry history asking.desk asking.command))
+as_many_entries history (asking ∷ askings) = omega (arith, as_many_entries (answered history asking.desk asking.command) askings,
+    pushed history.entries (next_entry history asking.desk asking.command))
   where
     pushed : (entries : List Entry) (entry : Entry) → length (entries ++ entry ∷ []) ≡ length entries + 1
     pushed [] entry = refl
@@ -47,7 +49,8 @@ as_many_entries history (asking ∷ askings) = omega (arith, as_many_entries (an
 -- a history that goes on legally is legal
 pub all_legal : (history : History) (askings : List Asking) → IsLegal history → IsLegal (asked_all history askings)
 all_legal history [] legal = legal
-all_legal history (asking ∷ askings) legal = all_legal (answered history asking.desk asking.command) askings (answered_is_legal history asking.desk asking.command legal)
+all_legal history (asking ∷ askings) legal = all_legal (answered history asking.desk asking.command) askings
+    (answered_is_legal history asking.desk asking.command legal)
 
 -- the opening stays
 pub opening_stays : (history : History) (askings : List Asking) → (asked_all history askings).opening ≡ history.opening
@@ -64,20 +67,25 @@ told (Ok es) right P is same = subst P (sym same) is
 told (Err why) right P is same = tt
 
 -- the entries of what was asked
-pub asked_told : (opening : Opening) (askings : List Asking) (entries : Result (List Entry) Memory) → IfOk entries (λ es. es ≡ (asked_all (opened opening) askings).entries)
+pub asked_told : (opening : Opening) (askings : List Asking) (entries : Result (List Entry) Memory)
+    → IfOk entries (λ es. es ≡ (asked_all (opened opening) askings).entries)
     → IfOk entries (λ es. map asking_of es ≡ askings)
-asked_told opening askings entries same = told entries (asked_all (opened opening) askings).entries (λ es. map asking_of es ≡ askings) (all_asked (opened opening) askings) same
+asked_told opening askings entries same = told entries (asked_all (opened opening) askings).entries (λ es. map asking_of es ≡ askings)
+    (all_asked (opened opening) askings) same
 
 -- they make a legal history
-pub legal_told : (opening : Opening) (askings : List Asking) (entries : Result (List Entry) Memory) → IfOk entries (λ es. es ≡ (asked_all (opened opening) askings).entries)
+pub legal_told : (opening : Opening) (askings : List Asking) (entries : Result (List Entry) Memory)
+    → IfOk entries (λ es. es ≡ (asked_all (opened opening) askings).entries)
     → IfOk entries (λ es. IsLegal (record { opening = opening; entries = es }))
 legal_told opening askings entries same =
     let history = asked_all (opened opening) askings in
     told entries history.entries (λ es. IsLegal (record { opening = opening; entries = es }))
-    (subst (λ (o : Opening). IsLegal (record { opening = o; entries = history.entries })) (opening_stays (opened opening) askings) (all_legal (opened opening) askings tt)) same
+    (subst (λ (o : Opening). IsLegal (record { opening = o; entries = history.entries })) (opening_stays (opened opening) askings)
+        (all_legal (opened opening) askings tt)) same
 
 -- every state of which is sound
-pub sound_told : (opening : Opening) (askings : List Asking) (entries : Result (List Entry) Memory) → IsReadOpening opening → IfOk entries (λ es. es ≡ (asked_all (opened opening) askings).entries)
+pub sound_told : (opening : Opening) (askings : List Asking) (entries : Result (List Entry) Memory) → IsReadOpening opening
+    → IfOk entries (λ es. es ≡ (asked_all (opened opening) askings).entries)
     → IfOk entries (λ es. EachStateIsSound (record { opening = opening; entries = es }))
 sound_told opening askings entries read same =
     told entries (asked_all (opened opening) askings).entries (λ es. EachStateIsSound (record { opening = opening; entries = es }))

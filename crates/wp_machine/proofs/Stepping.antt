@@ -14,7 +14,8 @@ use Rattle.wp_floor.specs.declared.floor.Floor.{Floor}
 use Rattle.wp_machine.specs.declared.outcome.Answer.{Answer}
 
 -- a machine that was opened
-pub machine_opens : (opening : Opening) (floor : Floor) → IsFloor opening floor → state_of floor ≡ opening_state opening → wave_count floor ≡ 0 → IsMachine (opened opening) floor
+pub machine_opens : (opening : Opening) (floor : Floor) → IsFloor opening floor → state_of floor ≡ opening_state opening → wave_count floor ≡ 0
+    → IsMachine (opened opening) floor
 machine_opens opening floor is state none = record {
   legal = tt;
   floor = is;
@@ -42,7 +43,8 @@ outcome_is h desk command old new answer asked =
     asked.answers.outcome ∙ ap (λ (s : State). outcome_of (length h.entries) s command (step h.opening s command)) asked.machine.state
 
 -- a machine that has answered one more command
-pub machine_steps : (h : History) (desk : ℕ) (command : Command) (old new : Floor) (answer : Answer) → IsAsked h desk command old new answer → IsMachine (answered h desk command) new
+pub machine_steps : (h : History) (desk : ℕ) (command : Command) (old new : Floor) (answer : Answer) → IsAsked h desk command old new answer
+    → IsMachine (answered h desk command) new
 machine_steps h desk command old new answer asked =
     let more = length-append h.entries (next_entry h desk command ∷ []) in
     record {

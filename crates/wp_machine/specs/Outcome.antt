@@ -14,13 +14,15 @@ use Rattle.wp_machine.specs.declared.outcome.Outcome.TheVariants as outcome
 -- all that the wave of a name holds in a state, by order and then by row
 abbrev pub wave_holds : ℕ → State → List ℕ → Outcome
 wave_holds number state name =
-    option_map_or (λ found. outcome.Released (record { number = number; wave = name; orders = found.1.orders; holds = held_list (length found.1.orders) (length state.rows) (state.held found.0) }))
+    option_map_or (λ found. outcome.Released (record { number = number; wave = name; orders = found.1.orders;
+        holds = held_list (length found.1.orders) (length state.rows) (state.held found.0) }))
     (wave_from 0 state.waves name) outcome.Plain
 
 -- what the wave of a name holds in a state beyond what it held in one before
 abbrev pub refilled_holds : ℕ → State → State → List ℕ → List ℕ → Outcome
 refilled_holds number before after name order =
-    option_map_or (λ found. outcome.Refilled (record { number = number; wave = name; order = order; holds = held_list (length found.1.orders) (length after.rows) (λ o r. after.held found.0 o r - before.held found.0 o r) }))
+    option_map_or (λ found. outcome.Refilled (record { number = number; wave = name; order = order;
+        holds = held_list (length found.1.orders) (length after.rows) (λ o r. after.held found.0 o r - before.held found.0 o r) }))
     (wave_from 0 after.waves name) outcome.Plain
 
 -- a release that is done tells all that the wave holds

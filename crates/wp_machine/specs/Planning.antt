@@ -17,7 +17,8 @@ KnowsRow opening claim = row_number_from 0 opening.stock.rows claim.location ≡
 
 -- what is prepared for a command
 abbrev pub IsPlanOf : Opening → Command → Plan → Type 0
-IsPlanOf opening asked (plan.Refuse answer) = (name : List ℕ) × (orders : List (List ℕ)) × (asked ≡ command.Submit name orders) × (size_fault orders ≡ Some answer)
+IsPlanOf opening asked (plan.Refuse answer) = (name : List ℕ) × (orders : List (List ℕ)) × (asked ≡ command.Submit name orders)
+    × (size_fault orders ≡ Some answer)
 IsPlanOf opening asked (plan.Submit new) = (asked ≡ submit_of new) × IsPrepared opening new
 IsPlanOf opening asked (plan.Allot name rooms) = (asked ≡ command.Allot name) × AreFreshRooms opening most_wants rooms
 IsPlanOf opening asked (plan.Release name rooms) = (asked ≡ command.Release name) × AreFreshRooms opening most_wants rooms

@@ -1,5 +1,6 @@
 -- What a wave holds once stock is held for it.
-use Rattle.std.proofs.Common.{◌≡◌, ◌≢◌, ℕ, ◌+◌, ◌<◌, ◌≤◌, inl, inr, List, length, slice_get, None, IsTrue, All, refl, ap, ◌∙◌, arith, zero-add, if◌then◌else◌, ◌==◌}
+use Rattle.std.proofs.Common.{◌≡◌, ◌≢◌, ℕ, ◌+◌, ◌<◌, ◌≤◌, inl, inr, List, length, slice_get, None, IsTrue, All, refl, ap, ◌∙◌, arith, zero-add, if◌then◌else◌}
+use Rattle.std.proofs.Common.{◌==◌}
 use Rattle.std.proofs.lemmas.Bool.{cases_eq, cond_both}
 use Rattle.std.specs.Option.{option_map_or}
 use Rattle.wp_model.proofs.Demand.{wants_something}
@@ -20,7 +21,8 @@ use Rattle.wp_model.specs.declared.reply.WaveState.TheVariants as wave
 use Rattle.wp_model.specs.declared.row.Row.{Row}
 
 -- a wave that holds nothing in all holds nothing anywhere
-pub nothing_held : (state : State) (number orders : ℕ) → IsSoundStock state → orders_in state number ≡ orders → wave_held state number orders ≡ 0 → (order row : ℕ) → state.held number order row ≡ 0
+pub nothing_held : (state : State) (number orders : ℕ) → IsSoundStock state → orders_in state number ≡ orders → wave_held state number orders ≡ 0
+    → (order row : ℕ) → state.held number order row ≡ 0
 nothing_held state number orders sound e none order row = elim (cases_eq (state.held number order row) 0) [
   | inl nothing ↦ nothing
   | inr some ↦
@@ -36,8 +38,10 @@ pub holds_demand : (demand : ℕ → ℕ → ℕ) (number orders : ℕ) (state :
     → order_held (hold demand None number orders state) number article place ≡ demand article place
 holds_demand demand number orders state place article none covered wanted =
     let takes = λ (order row : ℕ). share demand state.rows None order row in
-    order_held-same (with_stock state state.rows (λ w. takes)) (hold demand None number orders state) number article place (alike_changed _ state.rows (λ k r. refl))
-    (λ order k. with_held-same state number (λ order row. state.held number order row + takes order row) order k ∙ ap (λ n. n + takes order k) (none order k) ∙ zero-add (takes order k))
+    order_held-same (with_stock state state.rows (λ w. takes)) (hold demand None number orders state) number article place
+        (alike_changed _ state.rows (λ k r. refl))
+    (λ order k. with_held-same state number (λ order row. state.held number order row + takes order row) order k ∙ ap (λ n. n + takes order k) (none order k)
+        ∙ zero-add (takes order k))
     ∙ shares_are_demand demand state.rows None orders place article covered wanted
 
 -- a wave that holds what its orders want holds something
@@ -49,9 +53,11 @@ units_of-le rows article units k =
 
 order_held-le : (state : State) (number article place orders : ℕ) → place < orders → order_held state number article place ≤ wave_held state number orders
 order_held-le state number article place orders within =
-    sum-le (length state.rows) _ _ (λ k below. omega (arith, units_of-le state.rows article (state.held number place) k, term-le-sum orders (λ order. state.held number order k) place within))
+    sum-le (length state.rows) _ _ (λ k below. omega (arith, units_of-le state.rows article (state.held number place) k,
+        term-le-sum orders (λ order. state.held number order k) place within))
 
-pub holds_something : (opening : Opening) (state : State) (number : ℕ) (w : Wave) → IsOpening opening → 0 < length w.orders → All (λ order. IsTrue (is_known_order opening.orders order)) w.orders
+pub holds_something : (opening : Opening) (state : State) (number : ℕ) (w : Wave) → IsOpening opening → 0 < length w.orders
+    → All (λ order. IsTrue (is_known_order opening.orders order)) w.orders
     → HoldsAs wave.Allotted opening state number w → 0 < wave_held state number (length w.orders)
 holds_something opening state number w is some known holds =
     let first = within_some w.orders 0 some in

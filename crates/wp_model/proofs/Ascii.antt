@@ -22,6 +22,7 @@ pub name_ascii : (text : List ℕ) → is_name text ≡ true → IsAscii text
 name_ascii text e = name_bytes_small text (both _ _ (both _ _ e).1).1
 
 -- text that is UTF-8 is taken
-pub takes_utf8 : {A E : Type 0} (r : Result A E) (text : List ℕ) (P : A → Type 0) (Q : E → Type 0) → MatchResult r P (λ e. ¬ (IsUtf8 text) × Q e) → IsUtf8 text → IsOk r
+pub takes_utf8 : {A E : Type 0} (r : Result A E) (text : List ℕ) (P : A → Type 0) (Q : E → Type 0) → MatchResult r P (λ e. ¬ (IsUtf8 text) × Q e)
+    → IsUtf8 text → IsOk r
 takes_utf8 (Ok a) text P Q cases utf8 = search rules
 takes_utf8 (Err e) text P Q cases utf8 = absurd (cases.0 utf8)

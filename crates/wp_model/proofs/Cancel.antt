@@ -21,21 +21,27 @@ gives_all_back : (number orders : ℕ) (state : State) → wave_held (give_back 
 gives_all_back number orders state =
     sum-zero _ _ (λ row within. sum-zero orders _ (λ order below. with_held-same state number (λ order row. 0) order row))
 
-give_up_keeps_sound : (opening : Opening) (state : State) (number : ℕ) (w : Wave) → IsSound opening state → slice_get state.waves number ≡ Some w → is_live w.state ≡ true → IsSound opening (give_up state number w).state
+give_up_keeps_sound : (opening : Opening) (state : State) (number : ℕ) (w : Wave) → IsSound opening state → slice_get state.waves number ≡ Some w
+    → is_live w.state ≡ true → IsSound opening (give_up state number w).state
 give_up_keeps_sound opening state number w sound there live =
     let orders = length w.orders in
-    let moved = give_back_moves number orders state (slice_get_within state.waves number w there) (orders_in-at state number w there) (stock_of opening state sound) in
-    put_wave_keeps_sound opening state (give_back number orders state) number w wave.Cancelled w.picked there sound moved (λ cancelled. live) (gives_all_back number orders state) tt
+    let moved = give_back_moves number orders state (slice_get_within state.waves number w there) (orders_in-at state number w there)
+            (stock_of opening state sound) in
+    put_wave_keeps_sound opening state (give_back number orders state) number w wave.Cancelled w.picked there sound moved (λ cancelled. live)
+        (gives_all_back number orders state) tt
 
-cancel_wave_keeps_sound : (opening : Opening) (state : State) (number : ℕ) (w : Wave) (s : WaveState) → IsSound opening state → slice_get state.waves number ≡ Some w → w.state ≡ s
+cancel_wave_keeps_sound : (opening : Opening) (state : State) (number : ℕ) (w : Wave) (s : WaveState) → IsSound opening state
+    → slice_get state.waves number ≡ Some w → w.state ≡ s
     → IsSound opening (cancel state number w s).state
 cancel_wave_keeps_sound opening state number w wave.Submitted sound there e = give_up_keeps_sound opening state number w sound there (ap is_live e)
 cancel_wave_keeps_sound opening state number w wave.Allotted sound there e = give_up_keeps_sound opening state number w sound there (ap is_live e)
 cancel_wave_keeps_sound opening state number w wave.Released sound there e =
-    cond_both w.picked (refuse state reply.Picking) (give_up state number w) (λ (stepped : Stepped). IsSound opening stepped.state) (λ picked. sound) (λ unpicked. give_up_keeps_sound opening state number w sound there (ap is_live e))
+    cond_both w.picked (refuse state reply.Picking) (give_up state number w) (λ (stepped : Stepped). IsSound opening stepped.state) (λ picked. sound)
+        (λ unpicked. give_up_keeps_sound opening state number w sound there (ap is_live e))
 cancel_wave_keeps_sound opening state number w wave.Cancelled sound there e = sound
 cancel_wave_keeps_sound opening state number w wave.Done sound there e = sound
 
-pub cancel_keeps_sound : (opening : Opening) (state : State) (name : List ℕ) → IsSound opening state → IsSound opening (at_wave state name (λ number w. cancel state number w w.state)).state
+pub cancel_keeps_sound : (opening : Opening) (state : State) (name : List ℕ) → IsSound opening state
+    → IsSound opening (at_wave state name (λ number w. cancel state number w w.state)).state
 cancel_keeps_sound opening state name sound =
     at_wave_keeps_sound opening state name _ sound (λ number w there. cancel_wave_keeps_sound opening state number w w.state sound there refl)

@@ -1,5 +1,6 @@
 -- What orders want, and the first article that is short.
-use Rattle.std.proofs.Common.{◌≡◌, ℕ, zero, suc, ◌+◌, ◌<◌, ◌≤◌, List, [], ◌∷◌, length, slice_get, Option, Some, None, MatchOption, All, nat_lt, bytes_eq, inl, inr, refl, ap, arith, true, ◌==◌, ◌≢◌, eq-eqb}
+use Rattle.std.proofs.Common.{◌≡◌, ℕ, zero, suc, ◌+◌, ◌<◌, ◌≤◌, List, [], ◌∷◌, length, slice_get, Option, Some, None, MatchOption, All, nat_lt, bytes_eq, inl}
+use Rattle.std.proofs.Common.{inr, refl, ap, arith, true, ◌==◌, ◌≢◌, eq-eqb}
 use Rattle.std.proofs.lemmas.Bool.{both_ways, cases_eq, cases_lt, cond-true, cond_both, or_cases, ltb-true, ltb-false}
 use Rattle.std.proofs.lemmas.Bool.Decides.{nat_tests}
 use Rattle.std.proofs.lemmas.List.Elements.{All-nil, All-head, All-tail, All-weaker}
@@ -66,21 +67,25 @@ lines_are articles (order ∷ orders) name all =
 quantity_of-other : (articles : List (List ℕ)) (article : ℕ) (line : Line) → length articles ≤ article → IsLine articles line → quantity_of article line ≤ 0
 quantity_of-other articles article line past is = let within = is.article in grind (arith, nat_tests)
 
-order_demand-other : (opening : Opening) (order : List ℕ) (article : ℕ) → IsOpening opening → length opening.stock.articles ≤ article → order_demand opening order article ≡ 0
+order_demand-other : (opening : Opening) (order : List ℕ) (article : ℕ) → IsOpening opening → length opening.stock.articles ≤ article
+    → order_demand opening order article ≡ 0
 order_demand-other opening order article is past =
     let articles = opening.stock.articles in
     let lines = lines_of opening.orders order in
-    let none = All-weaker (IsLine articles) (λ line. quantity_of article line ≤ 0) (λ line. quantity_of-other articles article line past) lines (lines_are articles opening.orders order is.orders) in
+    let none = All-weaker (IsLine articles) (λ line. quantity_of article line ≤ 0) (λ line. quantity_of-other articles article line past) lines
+            (lines_are articles opening.orders order is.orders) in
     omega (arith, sum_by-le (quantity_of article) 0 lines none)
 
 option_map_or-zero : {X : Type 0} (f : X → ℕ) (found : Option X) → ((x : X) → f x ≡ 0) → option_map_or f found 0 ≡ 0
 option_map_or-zero f None none = refl
 option_map_or-zero f (Some x) none = none x
 
-pub wave_demand-other : (opening : Opening) (orders : List (List ℕ)) (article : ℕ) → IsOpening opening → length opening.stock.articles ≤ article → wave_demand opening orders article ≡ 0
+pub wave_demand-other : (opening : Opening) (orders : List (List ℕ)) (article : ℕ) → IsOpening opening → length opening.stock.articles ≤ article
+    → wave_demand opening orders article ≡ 0
 wave_demand-other opening orders article is past =
     sum-zero (length orders) (demand_at opening orders article)
-    (λ place within. option_map_or-zero (λ order. order_demand opening order article) (slice_get orders place) (λ order. order_demand-other opening order article is past))
+    (λ place within. option_map_or-zero (λ order. order_demand opening order article) (slice_get orders place)
+        (λ order. order_demand-other opening order article is past))
 
 -- what the short article is
 pub short_article_is : (opening : Opening) (rows : List Row) (orders : List (List ℕ)) (except : Option ℕ)
@@ -100,20 +105,24 @@ covered_from_listed opening rows orders except is listed article = elim (cases_l
 ]
 
 -- where all is covered, none is short
-none_short : (wanted free : ℕ → ℕ) (until : ℕ) (found : Option ℕ) → ((k : ℕ) → wanted k ≤ free k) → MatchOption found (AreCovered wanted free 0 until) (IsFirstShort wanted free 0 until) → found ≡ None
+none_short : (wanted free : ℕ → ℕ) (until : ℕ) (found : Option ℕ) → ((k : ℕ) → wanted k ≤ free k)
+    → MatchOption found (AreCovered wanted free 0 until) (IsFirstShort wanted free 0 until) → found ≡ None
 none_short wanted free until None covered is = refl
 none_short wanted free until (Some article) covered is = absurd (omega (arith, covered article, is.short))
 
 -- no article is short exactly where all is covered
-pub covered_from_none : (opening : Opening) (rows : List Row) (orders : List (List ℕ)) (except : Option ℕ) → IsOpening opening → short_article opening rows orders except ≡ None → IsCovered opening rows orders except
+pub covered_from_none : (opening : Opening) (rows : List Row) (orders : List (List ℕ)) (except : Option ℕ) → IsOpening opening
+    → short_article opening rows orders except ≡ None → IsCovered opening rows orders except
 covered_from_none opening rows orders except is none =
     covered_from_listed opening rows orders except is (MatchOption-at_none _ _ none (short_article_is opening rows orders except))
 
-pub none_from_covered : (opening : Opening) (rows : List Row) (orders : List (List ℕ)) (except : Option ℕ) → IsCovered opening rows orders except → short_article opening rows orders except ≡ None
+pub none_from_covered : (opening : Opening) (rows : List Row) (orders : List (List ℕ)) (except : Option ℕ) → IsCovered opening rows orders except
+    → short_article opening rows orders except ≡ None
 none_from_covered opening rows orders except covered = none_short _ _ _ _ covered (short_article_is opening rows orders except)
 
 -- a known order has a line
-has_line : (articles : List (List ℕ)) (orders : List Order) (name : List ℕ) → All (IsOrder articles) orders → is_known_order orders name ≡ true → 0 < length (lines_of orders name)
+has_line : (articles : List (List ℕ)) (orders : List Order) (name : List ℕ) → All (IsOrder articles) orders → is_known_order orders name ≡ true
+    → 0 < length (lines_of orders name)
 has_line articles [] name all known = absurd (cc)
 has_line articles (order ∷ orders) name all known =
     let first : IsOrder articles order = All-head (IsOrder articles) order orders all in
@@ -125,7 +134,8 @@ has_line articles (order ∷ orders) name all known =
     ]))
 
 -- a known order wants something
-pub wants_something : (opening : Opening) (name : List ℕ) → IsOpening opening → is_known_order opening.orders name ≡ true → (article : ℕ) × (0 < order_demand opening name article)
+pub wants_something : (opening : Opening) (name : List ℕ) → IsOpening opening → is_known_order opening.orders name ≡ true → (article : ℕ)
+    × (0 < order_demand opening name article)
 wants_something opening name is known =
     let articles = opening.stock.articles in
     let lines = lines_of opening.orders name in

@@ -1,5 +1,6 @@
 -- What stands at the places of lists.
-use Rattle.std.proofs.Common.{◌≡◌, ◌≢◌, ℕ, zero, suc, ◌<◌, ◌⊎◌, inl, inr, List, [], ◌∷◌, ◌++◌, length, slice_get, slice_set, Option, Some, None, IfSome, All, option_map, refl, sym, ap, ◌∙◌, subst, arith, length-set}
+use Rattle.std.proofs.Common.{◌≡◌, ◌≢◌, ℕ, zero, suc, ◌<◌, ◌⊎◌, inl, inr, List, [], ◌∷◌, ◌++◌, length, slice_get, slice_set, Option, Some, None, IfSome, All}
+use Rattle.std.proofs.Common.{option_map, refl, sym, ap, ◌∙◌, subst, arith, length-set}
 use Rattle.std.specs.Prelude.{⊤}
 use Rattle.std.proofs.lemmas.Bool.{cases_eq}
 use Rattle.std.proofs.lemmas.Option.{MatchOption-at_some, get_or_from_slice_get, same_Some, slice_get-get_or, slice_get_cases, slice_get_within}
@@ -43,7 +44,8 @@ slice_get-set_other (x ∷ xs) zero (suc k) y other = refl
 slice_get-set_other (x ∷ xs) (suc i) zero y other = refl
 slice_get-set_other (x ∷ xs) (suc i) (suc k) y other = slice_get-set_other xs i k y (omega arith)
 
-pub slice_get-set : {X : Type 0} (xs : List X) (i k : ℕ) (x y : X) → slice_get (slice_set xs i y) k ≡ Some x → ((k ≡ i) × (x ≡ y)) ⊎ ((k ≢ i) × (slice_get xs k ≡ Some x))
+pub slice_get-set : {X : Type 0} (xs : List X) (i k : ℕ) (x y : X) → slice_get (slice_set xs i y) k ≡ Some x → ((k ≡ i) × (x ≡ y))
+    ⊎ ((k ≢ i) × (slice_get xs k ≡ Some x))
 slice_get-set xs i k x y is = elim (cases_eq k i) [
   | inl here ↦
       let within = slice_get_within (slice_set xs i y) k x is in
@@ -58,7 +60,8 @@ slice_get-push_before [] k y within = absurd (omega arith)
 slice_get-push_before (x ∷ xs) zero y within = refl
 slice_get-push_before (x ∷ xs) (suc k) y within = slice_get-push_before xs k y (omega arith)
 
-pub slice_get-push : {X : Type 0} (xs : List X) (k : ℕ) (x y : X) → slice_get (xs ++ y ∷ []) k ≡ Some x → (slice_get xs k ≡ Some x) ⊎ ((k ≡ length xs) × (x ≡ y))
+pub slice_get-push : {X : Type 0} (xs : List X) (k : ℕ) (x y : X) → slice_get (xs ++ y ∷ []) k ≡ Some x → (slice_get xs k ≡ Some x)
+    ⊎ ((k ≡ length xs) × (x ≡ y))
 slice_get-push [] zero x y is = inr (refl, cc)
 slice_get-push [] (suc k) x y is = absurd (cc)
 slice_get-push (z ∷ xs) zero x y is = inl is

@@ -1,5 +1,6 @@
 -- Orders that join a wave without a fault.
-use Rattle.std.proofs.Common.{◌≡◌, ◌≢◌, ℕ, zero, suc, ◌+◌, ◌&&◌, Bool, true, false, not, List, [], ◌∷◌, ◌++◌, slice_get, Option, Some, None, option_map, bytes_eq, if◌then◌else◌, refl, sym, ap, ◌∙◌, subst}
+use Rattle.std.proofs.Common.{◌≡◌, ◌≢◌, ℕ, zero, suc, ◌+◌, ◌&&◌, Bool, true, false, not, List, [], ◌∷◌, ◌++◌, slice_get, Option, Some, None, option_map}
+use Rattle.std.proofs.Common.{bytes_eq, if◌then◌else◌, refl, sym, ap, ◌∙◌, subst}
 use Rattle.std.proofs.lemmas.Bool.{and_from, both_ways, not-false, or_parts}
 use Rattle.std.proofs.lemmas.List.Folds.{list_any-append, list_any_at}
 use Rattle.std.proofs.lemmas.Option.{get_or_from_slice_get, same_Some, slice_get_within}
@@ -31,7 +32,8 @@ among names k name is =
     ((bytes_eq-Decides _ name).1 (get_or_from_slice_get names k name name is))
 
 -- no wave has a name under which none is found
-pub unnamed : (number : ℕ) (waves : List Wave) (name : List ℕ) → wave_from number waves name ≡ None → (i : ℕ) (v : Wave) → slice_get waves i ≡ Some v → v.name ≢ name
+pub unnamed : (number : ℕ) (waves : List Wave) (name : List ℕ) → wave_from number waves name ≡ None → (i : ℕ) (v : Wave) → slice_get waves i ≡ Some v
+    → v.name ≢ name
 unnamed number [] name none i v is same = absurd (cc)
 unnamed number (w ∷ waves) name none zero v is same =
     let here = if-none (bytes_eq w.name name) (number, w) (wave_from (number + 1) waves name) none in
@@ -41,7 +43,8 @@ unnamed number (w ∷ waves) name none (suc i) v is same =
     unnamed (number + 1) waves name here.1 i v is same
 
 -- no wave that isn't cancelled has an order that none has taken
-pub untaken : (waves : List Wave) (order : List ℕ) → taker_of waves order ≡ None → (i : ℕ) (v : Wave) (k : ℕ) → slice_get waves i ≡ Some v → is_live v.state ≡ true → slice_get v.orders k ≡ Some order → ⊥
+pub untaken : (waves : List Wave) (order : List ℕ) → taker_of waves order ≡ None → (i : ℕ) (v : Wave) (k : ℕ) → slice_get waves i ≡ Some v
+    → is_live v.state ≡ true → slice_get v.orders k ≡ Some order → ⊥
 untaken [] order none i v k is live has = absurd (cc)
 untaken (w ∷ waves) order none zero v k is live has =
     let here = if-none (is_live w.state && is_among w.orders order) w.name (taker_of waves order) none in
@@ -60,18 +63,21 @@ pub record AreFree (opening : Opening) (waves : List Wave) (before orders : List
   pub different : AreDifferent orders
 
 -- what holds of the first and of each other holds of each
-each : (P : List ℕ → Type 0) (first : List ℕ) (rest : List (List ℕ)) → P first → ((k : ℕ) (x : List ℕ) → slice_get rest k ≡ Some x → P x) → (k : ℕ) (x : List ℕ) → slice_get (first ∷ rest) k ≡ Some x → P x
+each : (P : List ℕ → Type 0) (first : List ℕ) (rest : List (List ℕ)) → P first → ((k : ℕ) (x : List ℕ) → slice_get rest k ≡ Some x → P x)
+    → (k : ℕ) (x : List ℕ) → slice_get (first ∷ rest) k ≡ Some x → P x
 each P first rest here there zero x is = subst P (same_Some first x is) here
 each P first rest here there (suc k) x is = there k x is
 
 -- the first differs from each other
-apart : (first : List ℕ) (rest : List (List ℕ)) → AreDifferent rest → ((k : ℕ) (x : List ℕ) → slice_get rest k ≡ Some x → first ≢ x) → AreDifferent (first ∷ rest)
+apart : (first : List ℕ) (rest : List (List ℕ)) → AreDifferent rest → ((k : ℕ) (x : List ℕ) → slice_get rest k ≡ Some x → first ≢ x)
+    → AreDifferent (first ∷ rest)
 apart first rest different other zero zero x at_i at_j = refl
 apart first rest different other zero (suc j) x at_i at_j = absurd (other j x at_j (same_Some first x at_i))
 apart first rest different other (suc i) zero x at_i at_j = absurd (other i x at_i (same_Some first x at_j))
 apart first rest different other (suc i) (suc j) x at_i at_j = ap suc (different i j x at_i at_j)
 
-pub free_from_no_fault : (opening : Opening) (waves : List Wave) (before orders : List (List ℕ)) → first_order_fault opening waves before orders ≡ None → AreFree opening waves before orders
+pub free_from_no_fault : (opening : Opening) (waves : List Wave) (before orders : List (List ℕ)) → first_order_fault opening waves before orders ≡ None
+    → AreFree opening waves before orders
 free_from_no_fault opening waves before [] none = record {
   known = λ k order is. absurd (cc);
   others = λ k order is. absurd (cc);
@@ -83,10 +89,12 @@ free_from_no_fault opening waves before (order ∷ orders) none =
     let known = if-none (not (is_known_order opening.orders order)) (reply.UnknownOrder order) _ faults.0 in
     let other = if-none (is_among before order) (reply.OrderTwice order) _ known.1 in
     let rest = free_from_no_fault opening waves (before ++ order ∷ []) orders faults.1 in
-    let apart_from = λ (k : ℕ) (x : List ℕ) (is : slice_get orders k ≡ Some x). or_parts (is_among before x) _ (sym (list_any-append (λ other. bytes_eq other x) before (order ∷ [])) ∙ rest.others k x is) in
+    let apart_from = λ (k : ℕ) (x : List ℕ) (is : slice_get orders k ≡ Some x). or_parts (is_among before x) _
+            (sym (list_any-append (λ other. bytes_eq other x) before (order ∷ [])) ∙ rest.others k x is) in
     record {
       known = each (λ x. is_known_order opening.orders x ≡ true) order orders (not-false _ known.0) rest.known;
       others = each (λ x. is_among before x ≡ false) order orders other.0 (λ k x is. (apart_from k x is).0);
       free = each (λ x. taker_of waves x ≡ None) order orders (option_map-none _ _ other.1) rest.free;
-      different = apart order orders rest.different (λ k x is same. both_ways _ (or_parts (bytes_eq order x) false (apart_from k x is).1).0 ((bytes_eq-Decides order x).1 same));
+      different = apart order orders rest.different (λ k x is same. both_ways _ (or_parts (bytes_eq order x) false (apart_from k x is).1).0
+          ((bytes_eq-Decides order x).1 same));
     }

@@ -1,5 +1,6 @@
 -- What is found in lists.
-use Rattle.std.proofs.Common.{◌≡◌, ℕ, suc, ◌+◌, ◌<◌, List, [], ◌∷◌, length, slice_get, Option, Some, None, Bool, true, false, bytes_eq, if◌then◌else◌, refl, ap, inl, inr, ◌⊎◌, ◌∙◌, arith}
+use Rattle.std.proofs.Common.{◌≡◌, ℕ, suc, ◌+◌, ◌<◌, List, [], ◌∷◌, length, slice_get, Option, Some, None, Bool, true, false, bytes_eq, if◌then◌else◌, refl}
+use Rattle.std.proofs.Common.{ap, inl, inr, ◌⊎◌, ◌∙◌, arith}
 use Rattle.std.specs.Option.{option_map_or}
 use Rattle.wp_model.specs.Sound.{IsSound}
 use Rattle.wp_model.specs.State.{State, Wave}
@@ -9,7 +10,8 @@ use Rattle.wp_model.specs.declared.location.Location.{Location}
 use Rattle.wp_model.specs.declared.row.Row.{Row}
 
 -- what holds of a choice by what was found, where it holds either way
-pub option_map_or-both : {X Y : Type 0} (P : Y → Type 0) (f : X → Y) (found : Option X) (other : Y) → ((x : X) → found ≡ Some x → P (f x)) → (found ≡ None → P other) → P (option_map_or f found other)
+pub option_map_or-both : {X Y : Type 0} (P : Y → Type 0) (f : X → Y) (found : Option X) (other : Y) → ((x : X) → found ≡ Some x → P (f x))
+    → (found ≡ None → P other) → P (option_map_or f found other)
 option_map_or-both P f None other some none = none refl
 option_map_or-both P f (Some x) other some none = some x refl
 
@@ -39,7 +41,8 @@ wave_from-at number (w ∷ waves) name found is = elim (if-some (bytes_eq w.name
 
 row_from-at : (number : ℕ) (rows : List Row) (location : Location) (found : ℕ × Row) → row_from number rows location ≡ Some found → IsAt rows number found
 row_from-at number [] location found is = absurd (cc)
-row_from-at number (r ∷ rows) location found is = elim (if-some (same_location r.location location) (number, r) found (row_from (number + 1) rows location) is) [
+row_from-at number (r ∷ rows) location found is = elim (if-some (same_location r.location location) (number, r) found
+    (row_from (number + 1) rows location) is) [
   | inl here ↦ at_first rows number r found here
   | inr later ↦ at_rest rows number r found (row_from-at (number + 1) rows location found later)
 ]
@@ -66,7 +69,8 @@ place_found names name found is = omega (arith, place_from-within 0 names name f
 
 -- a command on a wave keeps a state sound where it does at the wave with a number
 pub at_wave_keeps_sound : (opening : Opening) (state : State) (name : List ℕ) (change : ℕ → Wave → Stepped) → IsSound opening state
-    → ((number : ℕ) (w : Wave) → slice_get state.waves number ≡ Some w → IsSound opening (change number w).state) → IsSound opening (at_wave state name change).state
+    → ((number : ℕ) (w : Wave) → slice_get state.waves number ≡ Some w → IsSound opening (change number w).state)
+        → IsSound opening (at_wave state name change).state
 at_wave_keeps_sound opening state name change sound each =
     option_map_or-both (λ (stepped : Stepped). IsSound opening stepped.state) (λ (found : ℕ × Wave). change found.0 found.1) (wave_from 0 state.waves name) _
     (λ found is. each found.0 found.1 (wave_found state.waves name found is))

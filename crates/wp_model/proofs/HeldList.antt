@@ -1,5 +1,6 @@
 -- Lists of holds by order and row.
-use Rattle.std.proofs.Common.{◌≡◌, ◌≢◌, ◌∙◌, refl, sym, ap, subst, ℕ, zero, suc, ◌<◌, ◌≤◌, ◌==◌, ◌&&◌, ◌⊎◌, inl, inr, List, [], ◌∷◌, ◌++◌, Some, slice_get, arith, eq-eqb, ne_eqb}
+use Rattle.std.proofs.Common.{◌≡◌, ◌≢◌, ◌∙◌, refl, sym, ap, subst, ℕ, zero, suc, ◌<◌, ◌≤◌, ◌==◌, ◌&&◌, ◌⊎◌, inl, inr, List, [], ◌∷◌, ◌++◌, Some, slice_get}
+use Rattle.std.proofs.Common.{arith, eq-eqb, ne_eqb}
 use Rattle.std.specs.Prelude.{⊤}
 use Rattle.std.proofs.lemmas.Bool.{and_from, and_left, and_right, cases_eq, cases_lt, cond-false, cond-true}
 use Rattle.std.proofs.lemmas.List.Sums.{sum_by-append, sum_by-cons}
@@ -46,10 +47,12 @@ abbrev pub IsSome : Hold → Type 0
 IsSome hold = 0 < hold.quantity
 
 hold_for-own : (order row : ℕ) (hold : Hold) → hold.order ≡ order → hold.row ≡ row → hold_for order row hold ≡ hold.quantity
-hold_for-own order row hold o r = cond-true ((hold.order == order) && (hold.row == row)) hold.quantity 0 (and_from _ _ (eq-eqb hold.order order o) (eq-eqb hold.row row r))
+hold_for-own order row hold o r = cond-true ((hold.order == order) && (hold.row == row)) hold.quantity 0
+    (and_from _ _ (eq-eqb hold.order order o) (eq-eqb hold.row row r))
 
 hold_for-other_order : (order row : ℕ) (hold : Hold) → hold.order ≢ order → hold_for order row hold ≡ 0
-hold_for-other_order order row hold other = cond-false ((hold.order == order) && (hold.row == row)) hold.quantity 0 (and_left _ _ (ne_eqb hold.order order other))
+hold_for-other_order order row hold other = cond-false ((hold.order == order) && (hold.row == row)) hold.quantity 0
+    (and_left _ _ (ne_eqb hold.order order other))
 
 hold_for-other_row : (order row : ℕ) (hold : Hold) → hold.row ≢ row → hold_for order row hold ≡ 0
 hold_for-other_row order row hold other = cond-false ((hold.order == order) && (hold.row == row)) hold.quantity 0 (and_right _ _ (ne_eqb hold.row row other))
@@ -75,7 +78,8 @@ found P order row (h ∷ hs) each some = elim (cases_for order row h) [
   | inr none ↦ found P order row hs each.1 (λ e. some (omega (arith, sum_by-cons (hold_for order row) h hs, none, e)))
 ]
 
-none_for : (P : Hold → Type 0) (order row : ℕ) (hs : List Hold) → Each P hs → ((h : Hold) → P h → h.order ≡ order → h.row ≡ row → ⊥) → units_for hs order row ≡ 0
+none_for : (P : Hold → Type 0) (order row : ℕ) (hs : List Hold) → Each P hs → ((h : Hold) → P h → h.order ≡ order → h.row ≡ row → ⊥)
+    → units_for hs order row ≡ 0
 none_for P order row hs each never = elim (cases_eq (units_for hs order row) 0) [
   | inl none ↦ none
   | inr some ↦ let is = found P order row hs each some in absurd (never is.hold is.has is.for_order is.at_row)
@@ -118,10 +122,13 @@ same_hold g h o r q =
     with_order ∙ (with_row ∙ with_units)
 
 -- lists that rise and have the same units are the same
-same_lists : (gs hs : List Hold) → Rises gs → Rises hs → Each IsSome gs → Each IsSome hs → ((order row : ℕ) → units_for gs order row ≡ units_for hs order row) → gs ≡ hs
+same_lists : (gs hs : List Hold) → Rises gs → Rises hs → Each IsSome gs → Each IsSome hs → ((order row : ℕ) → units_for gs order row ≡ units_for hs order row)
+    → gs ≡ hs
 same_lists [] [] one two some other same = refl
-same_lists [] (h ∷ hs) one two some other same = absurd (omega (arith, same h.order h.row, sum_by-cons (hold_for h.order h.row) h hs, hold_for-own h.order h.row h refl refl, other.0))
-same_lists (g ∷ gs) [] one two some other same = absurd (omega (arith, same g.order g.row, sum_by-cons (hold_for g.order g.row) g gs, hold_for-own g.order g.row g refl refl, some.0))
+same_lists [] (h ∷ hs) one two some other same = absurd (omega
+    (arith, same h.order h.row, sum_by-cons (hold_for h.order h.row) h hs, hold_for-own h.order h.row h refl refl, other.0))
+same_lists (g ∷ gs) [] one two some other same = absurd (omega
+    (arith, same g.order g.row, sum_by-cons (hold_for g.order g.row) g gs, hold_for-own g.order g.row g refl refl, some.0))
 same_lists (g ∷ gs) (h ∷ hs) one two some other same =
     let g_units = sum_by-cons (hold_for g.order g.row) g gs in
     let h_units = sum_by-cons (hold_for h.order h.row) h hs in
@@ -182,7 +189,8 @@ order_holds : (order rows : ℕ) (units : ℕ → ℕ) → Each (IsOrderHold ord
 order_holds order zero units = tt
 order_holds order (suc row) units =
     Each-append (IsOrderHold order (suc row)) (order_held_list order row units) (hold_of_any order row (units row))
-    (Each-then (IsOrderHold order row) (IsOrderHold order (suc row)) _ (λ h is. (is.0, omega (arith, is.1), is.2)) (order_holds order row units)) (hold_of_any-is order row (units row)).each
+    (Each-then (IsOrderHold order row) (IsOrderHold order (suc row)) _ (λ h is. (is.0, omega (arith, is.1), is.2)) (order_holds order row units))
+        (hold_of_any-is order row (units row)).each
 
 -- they rise
 order_rises : (order rows : ℕ) (units : ℕ → ℕ) → Rises (order_held_list order rows units)
@@ -191,7 +199,8 @@ order_rises order (suc row) units =
     let any = hold_of_any-is order row (units row) in
     Rises-append (order_held_list order row units) (hold_of_any order row (units row)) (order_rises order row units) any.rises
     (Each-then (IsOrderHold order row) (λ g. Each (IsBefore g) (hold_of_any order row (units row))) _
-    (λ g is. Each-both (IsOrderHold order (suc row)) (λ h. h.row ≡ row) (IsBefore g) _ (λ h has at. inr (is.0 ∙ sym has.0, omega (arith, is.1, at))) any.each any.last) (order_holds order row units))
+    (λ g is. Each-both (IsOrderHold order (suc row)) (λ h. h.row ≡ row) (IsBefore g) _
+        (λ h has at. inr (is.0 ∙ sym has.0, omega (arith, is.1, at))) any.each any.last) (order_holds order row units))
 
 -- what they have for the order, and in all, at a row
 order_units : (order rows : ℕ) (units : ℕ → ℕ) (row : ℕ) → row < rows → units_for (order_held_list order rows units) order row ≡ units row
@@ -214,7 +223,8 @@ order_at order (suc last) units row within =
     let any = hold_of_any-is order last (units last) in
     let split = sum_by-append (hold_at row) list (hold_of_any order last (units last)) in
     elim (cases_eq row last) [
-      | inl here ↦ omega (arith, split, none_at last order row list (order_holds order last units) (omega arith), ap (units_at (hold_of_any order last (units last))) here, any.at, ap units here)
+      | inl here ↦ omega (arith, split, none_at last order row list (order_holds order last units) (omega arith),
+          ap (units_at (hold_of_any order last (units last))) here, any.at, ap units here)
       | inr other ↦ omega (arith, split, any.other_at row other, order_at order last units row (omega arith))
     ]
 
@@ -234,28 +244,35 @@ held_rises zero rows held = tt
 held_rises (suc order) rows held =
     Rises-append (held_list order rows held) (order_held_list order rows (held order)) (held_rises order rows held) (order_rises order rows (held order))
     (Each-then (IsHoldWithin order rows) (λ g. Each (IsBefore g) (order_held_list order rows (held order))) _
-    (λ g is. Each-then (IsOrderHold order rows) (IsBefore g) _ (λ h has. inl (omega (arith, is.0, has.0))) (order_holds order rows (held order))) (held_within order rows held))
+    (λ g is. Each-then (IsOrderHold order rows) (IsBefore g) _ (λ h has. inl (omega (arith, is.0, has.0))) (order_holds order rows (held order)))
+        (held_within order rows held))
 
 -- what they have for an order at a row
-pub held_units : (orders rows : ℕ) (held : ℕ → ℕ → ℕ) (order row : ℕ) → order < orders → row < rows → units_for (held_list orders rows held) order row ≡ held order row
+pub held_units : (orders rows : ℕ) (held : ℕ → ℕ → ℕ) (order row : ℕ) → order < orders → row < rows
+    → units_for (held_list orders rows held) order row ≡ held order row
 held_units zero rows held order row below within = absurd (omega arith)
 held_units (suc last) rows held order row below within =
     let split = sum_by-append (hold_for order row) (held_list last rows held) (order_held_list last rows (held last)) in
     elim (cases_eq order last) [
       | inl here ↦
-          let none = none_for (IsHoldWithin last rows) order row (held_list last rows held) (held_within last rows held) (λ h is o r. absurd (omega (arith, is.0))) in
-          omega (arith, split, none, ap (λ o. units_for (order_held_list last rows (held last)) o row) here, order_units last rows (held last) row within, ap (λ o. held o row) here)
+          let none = none_for (IsHoldWithin last rows) order row (held_list last rows held) (held_within last rows held)
+                  (λ h is o r. absurd (omega (arith, is.0))) in
+          omega (arith, split, none, ap (λ o. units_for (order_held_list last rows (held last)) o row) here, order_units last rows (held last) row within,
+              ap (λ o. held o row) here)
       | inr other ↦
-          let none = none_for (IsOrderHold last rows) order row (order_held_list last rows (held last)) (order_holds last rows (held last)) (λ h is o r. absurd (other (sym o ∙ is.0))) in
+          let none = none_for (IsOrderHold last rows) order row (order_held_list last rows (held last)) (order_holds last rows (held last))
+                  (λ h is o r. absurd (other (sym o ∙ is.0))) in
           omega (arith, split, none, held_units last rows held order row (omega arith) within)
     ]
 
 pub held_none : (orders rows : ℕ) (held : ℕ → ℕ → ℕ) (order row : ℕ) → (orders ≤ order) ⊎ (rows ≤ row) → units_for (held_list orders rows held) order row ≡ 0
 held_none orders rows held order row past =
-    none_for (IsHoldWithin orders rows) order row (held_list orders rows held) (held_within orders rows held) (λ h is o r. elim past [ inl a ↦ absurd (omega (arith, is.0)) | inr b ↦ absurd (omega (arith, is.1)) ])
+    none_for (IsHoldWithin orders rows) order row (held_list orders rows held) (held_within orders rows held)
+        (λ h is o r. elim past [ inl a ↦ absurd (omega (arith, is.0)) | inr b ↦ absurd (omega (arith, is.1)) ])
 
 -- what they have at a row
-pub held_at_row : (orders rows : ℕ) (held : ℕ → ℕ → ℕ) (row : ℕ) → row < rows → units_at (held_list orders rows held) row ≡ sum_below orders (λ order. held order row)
+pub held_at_row : (orders rows : ℕ) (held : ℕ → ℕ → ℕ) (row : ℕ) → row < rows
+    → units_at (held_list orders rows held) row ≡ sum_below orders (λ order. held order row)
 held_at_row zero rows held row within = refl
 held_at_row (suc last) rows held row within =
     omega (
@@ -266,10 +283,12 @@ held_at_row (suc last) rows held row within =
     )
 
 -- a list that rises is that of the units that it has
-pub is_held_list : (hs : List Hold) (orders rows : ℕ) (held : ℕ → ℕ → ℕ) → Rises hs → Each IsSome hs → ((order row : ℕ) → units_for hs order row ≡ held order row)
+pub is_held_list : (hs : List Hold) (orders rows : ℕ) (held : ℕ → ℕ → ℕ) → Rises hs → Each IsSome hs
+    → ((order row : ℕ) → units_for hs order row ≡ held order row)
     → ((order row : ℕ) → (orders ≤ order) ⊎ (rows ≤ row) → held order row ≡ 0) → hs ≡ held_list orders rows held
 is_held_list hs orders rows held rises some units past =
-    same_lists hs (held_list orders rows held) rises (held_rises orders rows held) some (Each-then (IsHoldWithin orders rows) IsSome _ (λ h is. is.2) (held_within orders rows held)) (λ order row. units order row ∙ sym (all order row))
+    same_lists hs (held_list orders rows held) rises (held_rises orders rows held) some
+        (Each-then (IsHoldWithin orders rows) IsSome _ (λ h is. is.2) (held_within orders rows held)) (λ order row. units order row ∙ sym (all order row))
   where
     all : (order row : ℕ) → units_for (held_list orders rows held) order row ≡ held order row
     all order row = elim (cases_lt order orders) [

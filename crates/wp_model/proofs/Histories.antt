@@ -7,20 +7,24 @@ use Rattle.wp_model.specs.Step.{step}
 use Rattle.wp_model.specs.declared.command.Command.{Command}
 use Rattle.wp_model.specs.declared.entry.Entry.{Entry}
 
-state_from-append : (opening : Opening) (state : State) (entries more : List Entry) → state_from opening state (entries ++ more) ≡ state_from opening (state_from opening state entries) more
+state_from-append : (opening : Opening) (state : State) (entries more : List Entry)
+    → state_from opening state (entries ++ more) ≡ state_from opening (state_from opening state entries) more
 state_from-append opening state [] more = refl
 state_from-append opening state (entry ∷ entries) more = state_from-append opening (step opening state entry.command).state entries more
 
 -- the state after one more answer
-pub state_after-answered : (history : History) (desk : ℕ) (command : Command) → state_after (answered history desk command) ≡ (step history.opening (state_after history) command).state
+pub state_after-answered : (history : History) (desk : ℕ) (command : Command)
+    → state_after (answered history desk command) ≡ (step history.opening (state_after history) command).state
 state_after-answered history desk command =
     state_from-append history.opening (opening_state history.opening) history.entries (next_entry history desk command ∷ [])
 
-legal_more : (opening : Opening) (number : ℕ) (state : State) (entries : List Entry) (entry : Entry) → IsLegalFrom opening number state entries → entry.number ≡ number + length entries
+legal_more : (opening : Opening) (number : ℕ) (state : State) (entries : List Entry) (entry : Entry) → IsLegalFrom opening number state entries
+    → entry.number ≡ number + length entries
     → entry.reply ≡ (step opening (state_from opening state entries) entry.command).reply → IsLegalFrom opening number state (entries ++ entry ∷ [])
 legal_more opening number state [] entry legal numbered replied = (numbered ∙ add-zero number, replied, tt)
 legal_more opening number state (first ∷ entries) entry legal numbered replied =
-    (legal.0, legal.1, legal_more opening (number + 1) (step opening state first.command).state entries entry legal.2 (numbered ∙ shift number (length entries)) replied)
+    (legal.0, legal.1, legal_more opening (number + 1) (step opening state first.command).state entries entry legal.2
+        (numbered ∙ shift number (length entries)) replied)
   where
     shift : (n m : ℕ) → n + suc m ≡ (n + 1) + m
     shift n m = omega arith

@@ -28,12 +28,14 @@ alike_then a b c first second = record {
 }
 
 same_article : (article units : ℕ) (f : Row → Row) (found : Option Row) → ((r : Row) → (f r).article ≡ r.article)
-    → option_map_or (λ r. if r.article == article then units else 0) (option_map f found) 0 ≡ option_map_or (λ r. if r.article == article then units else 0) found 0
+    → option_map_or (λ r. if r.article == article then units else 0) (option_map f found) 0 ≡ option_map_or
+        (λ r. if r.article == article then units else 0) found 0
 same_article article units f None kept = refl
 same_article article units f (Some r) kept = ap (λ a. if a == article then units else 0) (kept r)
 
 -- a change of units keeps the articles
-pub alike_changed : (change : ℕ → Row → Row) (rows : List Row) → ((k : ℕ) (r : Row) → (change k r).article ≡ r.article) → AreAlike rows (change_rows change 0 rows)
+pub alike_changed : (change : ℕ → Row → Row) (rows : List Row) → ((k : ℕ) (r : Row) → (change k r).article ≡ r.article)
+    → AreAlike rows (change_rows change 0 rows)
 alike_changed change rows kept = record {
   count = length-change_rows change rows;
   articles = λ article units k. ap (λ found. option_map_or (λ r. if r.article == article then units k else 0) found 0) (slice_get-change_rows change rows k)
@@ -45,17 +47,20 @@ pub units_of-agree : (rows : List Row) (article : ℕ) (f g : ℕ → ℕ) (k : 
 units_of-agree rows article f g k same = ap (λ u. option_map_or (λ r. if r.article == article then u else 0) (slice_get rows k) 0) same
 
 -- where a wave holds the same units at the same rows, it holds as many in all, and for each order
-pub wave_held-same : (old new : State) (number orders : ℕ) → length new.rows ≡ length old.rows → ((order k : ℕ) → new.held number order k ≡ old.held number order k)
+pub wave_held-same : (old new : State) (number orders : ℕ) → length new.rows ≡ length old.rows
+    → ((order k : ℕ) → new.held number order k ≡ old.held number order k)
     → wave_held new number orders ≡ wave_held old number orders
 wave_held-same old new number orders count same =
     ap (λ n. sum_below n (λ row. wave_held_at new number orders row)) count
     ∙ sum-agree (length old.rows) _ _ (λ k within. sum-agree orders _ _ (λ order below. same order k))
 
-pub order_held-same : (old new : State) (number article place : ℕ) → AreAlike old.rows new.rows → ((order k : ℕ) → new.held number order k ≡ old.held number order k)
+pub order_held-same : (old new : State) (number article place : ℕ) → AreAlike old.rows new.rows
+    → ((order k : ℕ) → new.held number order k ≡ old.held number order k)
     → order_held new number article place ≡ order_held old number article place
 order_held-same old new number article place alike same =
     ap (λ n. sum_below n (units_of new.rows article (new.held number place))) alike.count
-    ∙ sum-agree (length old.rows) _ _ (λ k within. alike.articles article (new.held number place) k ∙ units_of-agree old.rows article (new.held number place) (old.held number place) k (same place k))
+    ∙ sum-agree (length old.rows) _ _ (λ k within. alike.articles article (new.held number place) k
+        ∙ units_of-agree old.rows article (new.held number place) (old.held number place) k (same place k))
 
 -- a wave that holds the same as before holds what a wave in its state does
 all_the_same : (old new : State) (number : ℕ) (v w : Wave) → w.orders ≡ v.orders → AreAlike old.rows new.rows
@@ -67,7 +72,8 @@ pub HoldsAs-same : (s : WaveState) (opening : Opening) (old new : State) (number
     → ((order k : ℕ) → new.held number order k ≡ old.held number order k) → HoldsAs s opening old number v → HoldsAs s opening new number w
 HoldsAs-same wave.Submitted opening old new number v w e alike same holds = all_the_same old new number v w e alike same ∙ holds
 HoldsAs-same wave.Allotted opening old new number v w e alike same holds =
-    λ place article. order_held-same old new number article place alike same ∙ holds place article ∙ ap (λ orders. demand_at opening orders article place) (sym e)
+    λ place article. order_held-same old new number article place alike same ∙ holds place article
+        ∙ ap (λ orders. demand_at opening orders article place) (sym e)
 HoldsAs-same wave.Released opening old new number v w e alike same holds = subst (λ n. 0 < n) (sym (all_the_same old new number v w e alike same)) holds
 HoldsAs-same wave.Cancelled opening old new number v w e alike same holds = all_the_same old new number v w e alike same ∙ holds
 HoldsAs-same wave.Done opening old new number v w e alike same holds = all_the_same old new number v w e alike same ∙ holds

@@ -38,7 +38,8 @@ hold_moves demand except number orders state within e wanted sound = record {
   others = with_held-other state number _;
 }
 
-pub give_back_moves : (number orders : ℕ) (state : State) → number < length state.waves → orders_in state number ≡ orders → IsSoundStock state → IsMoved number state (give_back number orders state)
+pub give_back_moves : (number orders : ℕ) (state : State) → number < length state.waves → orders_in state number ≡ orders → IsSoundStock state
+    → IsMoved number state (give_back number orders state)
 give_back_moves number orders state within e sound = record {
   waves = refl;
   stock = give_back_keeps_stock number orders state within e sound;
@@ -46,7 +47,8 @@ give_back_moves number orders state within e sound = record {
   others = with_held-other state number (λ order row. 0);
 }
 
-pub take_moves : (number order row units orders : ℕ) (state : State) → number < length state.waves → orders_in state number ≡ orders → order < orders → units ≤ state.held number order row
+pub take_moves : (number order row units orders : ℕ) (state : State) → number < length state.waves → orders_in state number ≡ orders → order < orders
+    → units ≤ state.held number order row
     → IsSoundStock state → IsMoved number state (take number order row units state)
 take_moves number order row units orders state within e below enough sound = record {
   waves = refl;

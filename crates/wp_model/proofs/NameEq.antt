@@ -93,14 +93,16 @@ number_below_if false rest len among e = suc_below rest len ∙ e
 pub number_below : (name : List ℕ) (names : List (List ℕ)) → nat_lt (number_among names name) (length names) ≡ is_among names name
 number_below name [] = refl
 number_below name (other ∷ names) =
-    rw (← bytes_eq_flips name other) (number_below_if (bytes_eq name other) (number_among names name) (length names) (is_among names name) (number_below name names))
+    rw (← bytes_eq_flips name other) (number_below_if (bytes_eq name other) (number_among names name) (length names) (is_among names name)
+        (number_below name names))
 
 -- what a look-up in an ordered set gives
 pub number_found : (name : List ℕ) (names : List (List ℕ)) → position (name_eq name) names ≡ article_in names name
 number_found name names = rw (number_of_name name names, number_below name names) refl
 
 -- a name that is found is there, at its place
-pub found_there : (name : List ℕ) (names : List (List ℕ)) (i : ℕ) → article_in names name ≡ Some i → (number_among names name ≡ i) × (i < length names) × (is_among names name ≡ true)
+pub found_there : (name : List ℕ) (names : List (List ℕ)) (i : ℕ) → article_in names name ≡ Some i → (number_among names name ≡ i) × (i < length names)
+    × (is_among names name ≡ true)
 found_there name names i e =
     let parts = cond_some (is_among names name) (number_among names name) i e in
     let below : nat_lt (number_among names name) (length names) ≡ true = number_below name names ∙ parts.0 in

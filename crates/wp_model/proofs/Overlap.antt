@@ -32,6 +32,7 @@ pub overlap-le-offer : (demand offer : ℕ → ℕ) (order row : ℕ) → overla
 overlap-le-offer demand offer order row = omega arith
 
 -- where the offers cover the demands an order gets just what it wants
-pub order_gets_demand : (demand offer : ℕ → ℕ) (orders rows order : ℕ) → sum_below orders demand ≤ sum_below rows offer → order < orders → sum_below rows (overlap demand offer order) ≡ demand order
+pub order_gets_demand : (demand offer : ℕ → ℕ) (orders rows order : ℕ) → sum_below orders demand ≤ sum_below rows offer → order < orders
+    → sum_below rows (overlap demand offer order) ≡ demand order
 order_gets_demand demand offer orders rows order covered within =
     omega (arith, order_share demand offer rows order, sum-grows (suc order) orders demand within)

@@ -23,13 +23,15 @@ neither true q e = absurd (cc e)
 not_known : (orders : List Order) (name : List ℕ) → ((j : ℕ) (b : Order) → slice_get orders j ≡ Some b → b.name ≡ name → ⊥) → is_known_order orders name ≡ false
 not_known [] name other = refl
 not_known (order ∷ orders) name other =
-    not_known_if (bytes_eq order.name name) (λ is. other zero order refl ((bytes_eq-Decides order.name name).0 is)) (not_known orders name (λ j b at same. other (suc j) b at same))
+    not_known_if (bytes_eq order.name name) (λ is. other zero order refl ((bytes_eq-Decides order.name name).0 is))
+        (not_known orders name (λ j b at same. other (suc j) b at same))
   where
     not_known_if : (b : Bool) → (b ≡ true → ⊥) → is_known_order orders name ≡ false → (b || is_known_order orders name) ≡ false
     not_known_if true here rest = absurd (here refl)
     not_known_if false here rest = rest
 
-pub apart_from : (orders : List Order) → ((i j : ℕ) (a b : Order) → slice_get orders i ≡ Some a → slice_get orders j ≡ Some b → a.name ≡ b.name → i ≡ j) → AreApart orders
+pub apart_from : (orders : List Order) → ((i j : ℕ) (a b : Order) → slice_get orders i ≡ Some a → slice_get orders j ≡ Some b → a.name ≡ b.name → i ≡ j)
+    → AreApart orders
 apart_from [] different = tt
 apart_from (order ∷ orders) different = (
   not_known orders order.name (λ j b at same. let e : zero ≡ suc j = different zero (suc j) order b refl at (sym same) in absurd (omega arith)),
@@ -43,9 +45,11 @@ never_known (order ∷ orders) name zero b unknown at same =
     let is = (bytes_eq-Decides order.name name).1 (ap (λ (o : Order). o.name) e ∙ same) in
     let parts = neither (bytes_eq order.name name) (is_known_order orders name) unknown in
     cc (is, parts.0)
-never_known (order ∷ orders) name (suc j) b unknown at same = never_known orders name j b (neither (bytes_eq order.name name) (is_known_order orders name) unknown).1 at same
+never_known (order ∷ orders) name (suc j) b unknown at same =
+    never_known orders name j b (neither (bytes_eq order.name name) (is_known_order orders name) unknown).1 at same
 
-pub different_from : (orders : List Order) → AreApart orders → (i j : ℕ) (a b : Order) → slice_get orders i ≡ Some a → slice_get orders j ≡ Some b → a.name ≡ b.name → i ≡ j
+pub different_from : (orders : List Order) → AreApart orders → (i j : ℕ) (a b : Order) → slice_get orders i ≡ Some a → slice_get orders j ≡ Some b
+    → a.name ≡ b.name → i ≡ j
 different_from [] apart i j a b at_i at_j same = absurd (cc at_i)
 different_from (order ∷ orders) apart zero zero a b at_i at_j same = refl
 different_from (order ∷ orders) apart zero (suc j) a b at_i at_j same =
@@ -56,7 +60,8 @@ different_from (order ∷ orders) apart (suc i) zero a b at_i at_j same =
     absurd (never_known orders order.name i a apart.0 at_i (same ∙ ap (λ (o : Order). o.name) (sym e)))
 different_from (order ∷ orders) apart (suc i) (suc j) a b at_i at_j same = ap suc (different_from orders apart.1 i j a b at_i at_j same)
 
-known_if : (b : Bool) (order next : Order) (orders more : List Order) (name : List ℕ) → next.name ≡ order.name → is_known_order (order ∷ orders) name ≡ false → (is_known_order orders name ≡ false → is_known_order more name ≡ false)
+known_if : (b : Bool) (order next : Order) (orders more : List Order) (name : List ℕ) → next.name ≡ order.name → is_known_order (order ∷ orders) name ≡ false
+    → (is_known_order orders name ≡ false → is_known_order more name ≡ false)
     → is_known_order (if b then next ∷ orders else order ∷ more) name ≡ false
 known_if true order next orders more name same unknown rest = rw same unknown
 known_if false order next orders more name same unknown rest =
@@ -64,12 +69,15 @@ known_if false order next orders more name same unknown rest =
     rw (parts.0, rest parts.1) refl
 
 -- a line of another name makes no order of this name
-known_after : (orders : List Order) (line : OrderLine) (name : List ℕ) → bytes_eq line.order name ≡ false → is_known_order orders name ≡ false → is_known_order (add_order_line orders line) name ≡ false
+known_after : (orders : List Order) (line : OrderLine) (name : List ℕ) → bytes_eq line.order name ≡ false → is_known_order orders name ≡ false
+    → is_known_order (add_order_line orders line) name ≡ false
 known_after [] line name other unknown = rw other refl
 known_after (order ∷ orders) line name other unknown =
-    known_if (bytes_eq order.name line.order) order (record order { lines = order.lines ++ line.line ∷ [] }) orders (add_order_line orders line) name refl unknown (known_after orders line name other)
+    known_if (bytes_eq order.name line.order) order (record order { lines = order.lines ++ line.line ∷ [] }) orders
+        (add_order_line orders line) name refl unknown (known_after orders line name other)
 
-apart_if : (b : Bool) (order : Order) (orders : List Order) (line : OrderLine) → bytes_eq order.name line.order ≡ b → AreApart (order ∷ orders) → AreApart (add_order_line orders line)
+apart_if : (b : Bool) (order : Order) (orders : List Order) (line : OrderLine) → bytes_eq order.name line.order ≡ b → AreApart (order ∷ orders)
+    → AreApart (add_order_line orders line)
     → AreApart (if b then record order { lines = order.lines ++ line.line ∷ [] } ∷ orders else order ∷ add_order_line orders line)
 apart_if true order orders line is apart rest = apart
 apart_if false order orders line is apart rest = (known_after orders line order.name (bytes_eq_flips line.order order.name ∙ is) apart.0, rest)
@@ -83,9 +91,11 @@ few_if true n most room = omega arith
 few_if false n most room = omega (arith, room refl)
 
 -- a line that may join leaves such orders
-pub kept_by_order_line : (articles : List (List ℕ)) (orders : List Order) (line : OrderLine) → AreReadOrders articles orders → MayJoinOrders articles orders line → AreReadOrders articles (add_order_line orders line)
+pub kept_by_order_line : (articles : List (List ℕ)) (orders : List Order) (line : OrderLine) → AreReadOrders articles orders
+    → MayJoinOrders articles orders line → AreReadOrders articles (add_order_line orders line)
 kept_by_order_line articles orders line read may = record {
-  each = All-from_recursion (IsOrder articles) (add_order_line orders line) (added_orders articles orders line may.is_line (recursion_from_All (IsOrder articles) orders read.each) may.short);
+  each = All-from_recursion (IsOrder articles) (add_order_line orders line)
+      (added_orders articles orders line may.is_line (recursion_from_All (IsOrder articles) orders read.each) may.short);
   most = rw (added_length orders line) (few_if (is_known_order orders line.order) (length orders) read.most may.few);
   different = different_from (add_order_line orders line) (apart_after orders line (apart_from orders read.different));
 }

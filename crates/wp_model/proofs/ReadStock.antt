@@ -94,7 +94,8 @@ one_before a b not_before other =
     lex_total a.aisle b.aisle _ _ _ not_before (regroup (b.aisle == a.aisle) (b.slot == a.slot) (same_side b.side a.side) other)
     (λ first_slot other_slot. lex_total a.slot b.slot _ _ _ first_slot other_slot (side_total a.side b.side))
 
-rises_if : (b : Bool) (row r : StockRow) (rows : List StockRow) → is_before row.location r.location ≡ b → same_location r.location row.location ≡ false → Rises (r ∷ rows) → Rises (put_row row rows)
+rises_if : (b : Bool) (row r : StockRow) (rows : List StockRow) → is_before row.location r.location ≡ b → same_location r.location row.location ≡ false
+    → Rises (r ∷ rows) → Rises (put_row row rows)
     → Rises (if b then row ∷ r ∷ rows else r ∷ put_row row rows)
 rises_if true row r rows is other rises put =
     ((is, all_weaker (LiesBefore r) (LiesBefore row) (λ s before. before_trans row.location r.location s.location is before) rows rises.0), rises)
@@ -111,13 +112,15 @@ rises_put row (r ∷ rows) new rises =
     let parts = neither (same_location r.location row.location) (list_any (lies_at row.location) rows) new in
     rises_if (is_before row.location r.location) row r rows refl parts.0 rises (rises_put row rows parts.1 rises.1)
 
-places_if : (b : Bool) (row r : StockRow) (rows : List StockRow) (article : ℕ) → places_of (put_row row rows) article ≡ (if row.article == article then 1 else 0) + places_of rows article
+places_if : (b : Bool) (row r : StockRow) (rows : List StockRow) (article : ℕ)
+    → places_of (put_row row rows) article ≡ (if row.article == article then 1 else 0) + places_of rows article
     → places_of (if b then row ∷ r ∷ rows else r ∷ put_row row rows) article ≡ (if row.article == article then 1 else 0) + places_of (r ∷ rows) article
 places_if true row r rows article rest = refl
 places_if false row r rows article rest = omega (arith, rest)
 
 -- one more row of its article
-pub places_put : (row : StockRow) (rows : List StockRow) (article : ℕ) → places_of (put_row row rows) article ≡ (if row.article == article then 1 else 0) + places_of rows article
+pub places_put : (row : StockRow) (rows : List StockRow) (article : ℕ)
+    → places_of (put_row row rows) article ≡ (if row.article == article then 1 else 0) + places_of rows article
 places_put row [] article = refl
 places_put row (r ∷ rows) article = places_if (is_before row.location r.location) row r rows article (places_put row rows article)
 
@@ -125,7 +128,8 @@ some_or_none : (b : Bool) (n m : ℕ) → n ≡ m → (b ≡ true → m < most_p
 some_or_none true n m same room most = omega (arith, room refl)
 some_or_none false n m same room most = omega arith
 
-number_length : (b : Bool) (names : List (List ℕ)) (name : List ℕ) → nat_lt (number_among names name) (length names) ≡ b → is_among names name ≡ b → (number_among names name < length (join names name)) × (length names ≤ length (join names name))
+number_length : (b : Bool) (names : List (List ℕ)) (name : List ℕ) → nat_lt (number_among names name) (length names) ≡ b → is_among names name ≡ b
+    → (number_among names name < length (join names name)) × (length names ≤ length (join names name))
 number_length true names name below among = rw among (grind (arith, nat_tests), omega arith)
 number_length false names name below among =
     let number = number_new names name among in
@@ -141,12 +145,14 @@ kept_by_line stock line read may =
     let number = number_length (is_among names line.article) names line.article (number_below line.article names) refl in
     let same = number_joined line.article names in
     let here : IsStockRow joined row = record { article = omega arith; on_hand = may.on_hand } in
-    let others = all_weaker (IsStockRow names) (IsStockRow joined) (λ r is. record { article = omega (arith, is.article); on_hand = is.on_hand }) stock.rows (recursion_from_All (IsStockRow names) stock.rows read.rows) in
+    let others = all_weaker (IsStockRow names) (IsStockRow joined) (λ r is. record { article = omega (arith, is.article); on_hand = is.on_hand }) stock.rows
+            (recursion_from_All (IsStockRow names) stock.rows read.rows) in
     record {
       rows = All-from_recursion (IsStockRow joined) (put_row row stock.rows) (all_put (IsStockRow joined) row stock.rows here others);
       most = omega (arith, length_put row stock.rows, may.room);
       few = few_kept stock line read.few;
       rise = rising_from (put_row row stock.rows) (rises_put row stock.rows may.free (rises_from stock.rows read.rise));
-      places = λ article. rw (places_put row stock.rows article) (some_or_none (row.article == article) (places_of stock.rows article) (places_of stock.rows article) refl
+      places = λ article. rw (places_put row stock.rows article)
+          (some_or_none (row.article == article) (places_of stock.rows article) (places_of stock.rows article) refl
           (λ e. subst (λ (a : ℕ). places_of stock.rows a < most_places) (sym same ∙ eqb-true row.article article e) may.places) (read.places article));
     }

@@ -16,7 +16,8 @@ pub all_put : (P : StockRow → Type 0) (row : StockRow) (rows : List StockRow) 
 all_put P row [] here rest = (here, rest)
 all_put P row (r ∷ rows) here rest = all_put_if (is_before row.location r.location) P row r rows here rest (all_put P row rows here rest.1)
   where
-    all_put_if : (b : Bool) (P : StockRow → Type 0) (row r : StockRow) (rows : List StockRow) → P row → AllByRecursion P (r ∷ rows) → AllByRecursion P (put_row row rows)
+    all_put_if : (b : Bool) (P : StockRow → Type 0) (row r : StockRow) (rows : List StockRow) → P row → AllByRecursion P (r ∷ rows)
+        → AllByRecursion P (put_row row rows)
         → AllByRecursion P (if b then row ∷ r ∷ rows else r ∷ put_row row rows)
     all_put_if true P row r rows here rest put = (here, rest)
     all_put_if false P row r rows here rest put = (rest.0, put)
@@ -32,7 +33,8 @@ length_if false xs ys n one other = other
 pub length_put : (row : StockRow) (rows : List StockRow) → length (put_row row rows) ≡ length rows + 1
 length_put row [] = refl
 length_put row (r ∷ rows) =
-    length_if (is_before row.location r.location) (row ∷ r ∷ rows) (r ∷ put_row row rows) (length (r ∷ rows) + 1) (omega arith) (omega (arith, length_put row rows))
+    length_if (is_before row.location r.location) (row ∷ r ∷ rows) (r ∷ put_row row rows) (length (r ∷ rows) + 1) (omega arith)
+        (omega (arith, length_put row rows))
 
 -- the place of a name that isn't there
 pub number_new : (names : List (List ℕ)) (name : List ℕ) → is_among names name ≡ false → number_among names name ≡ length names
@@ -54,7 +56,8 @@ pub join_new : (names : List (List ℕ)) (name : List ℕ) → is_among names na
 join_new names name new = join_if (is_among names name) names name new
 
 -- an article more needs a row more
-pub few_kept : (stock : Stock) (line : StockLine) → length stock.articles ≤ length stock.rows → length (add_line stock line).articles ≤ length (add_line stock line).rows
+pub few_kept : (stock : Stock) (line : StockLine) → length stock.articles ≤ length stock.rows
+    → length (add_line stock line).articles ≤ length (add_line stock line).rows
 few_kept stock line few =
     let names = join_longer (is_among stock.articles line.article) stock.articles line.article in
     omega (arith, names, length_put (row_of (join stock.articles line.article) line) stock.rows)

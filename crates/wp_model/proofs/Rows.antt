@@ -1,11 +1,13 @@
 -- Rows that are changed by their places.
-use Rattle.std.proofs.Common.{◌≡◌, ◌≢◌, ℕ, zero, suc, ◌+◌, List, [], ◌∷◌, length, slice_get, Option, Some, None, IfSome, All, option_map, ◌==◌, refl, sym, ap, ◌∙◌, subst, arith, eq-eqb, ne_eqb}
+use Rattle.std.proofs.Common.{◌≡◌, ◌≢◌, ℕ, zero, suc, ◌+◌, List, [], ◌∷◌, length, slice_get, Option, Some, None, IfSome, All, option_map, ◌==◌, refl, sym, ap}
+use Rattle.std.proofs.Common.{◌∙◌, subst, arith, eq-eqb, ne_eqb}
 use Rattle.std.proofs.lemmas.Bool.{cond-true, cond-false, cond_both}
 use Rattle.wp_model.proofs.Elements.{All-from_at, at_some}
 use Rattle.wp_model.specs.Change.{at_place, change_rows}
 use Rattle.wp_model.specs.declared.row.Row.{Row}
 
-slice_get-change_rows_from : (change : ℕ → Row → Row) (rows : List Row) (place k : ℕ) → slice_get (change_rows change place rows) k ≡ option_map (change (place + k)) (slice_get rows k)
+slice_get-change_rows_from : (change : ℕ → Row → Row) (rows : List Row) (place k : ℕ)
+    → slice_get (change_rows change place rows) k ≡ option_map (change (place + k)) (slice_get rows k)
 slice_get-change_rows_from change [] place k = refl
 slice_get-change_rows_from change (row ∷ rows) place zero =
     let same : place ≡ place + 0 = omega arith in
@@ -15,7 +17,8 @@ slice_get-change_rows_from change (row ∷ rows) place (suc k) =
     slice_get-change_rows_from change rows (place + 1) k ∙ ap (λ p. option_map (change p) (slice_get rows k)) same
 
 -- each row is changed by its number
-pub slice_get-change_rows : (change : ℕ → Row → Row) (rows : List Row) (k : ℕ) → slice_get (change_rows change 0 rows) k ≡ option_map (change k) (slice_get rows k)
+pub slice_get-change_rows : (change : ℕ → Row → Row) (rows : List Row) (k : ℕ)
+    → slice_get (change_rows change 0 rows) k ≡ option_map (change k) (slice_get rows k)
 slice_get-change_rows change rows k =
     let same : 0 + k ≡ k = omega arith in
     slice_get-change_rows_from change rows 0 k ∙ ap (λ p. option_map (change p) (slice_get rows k)) same
@@ -33,11 +36,13 @@ if_some-option_map None f P each = tt
 if_some-option_map (Some r) f P each = each r refl
 
 -- what holds of each changed row
-pub IfSome-change_rows : (change : ℕ → Row → Row) (rows : List Row) (k : ℕ) (P : Row → Type 0) → ((r : Row) → slice_get rows k ≡ Some r → P (change k r)) → IfSome (slice_get (change_rows change 0 rows) k) P
+pub IfSome-change_rows : (change : ℕ → Row → Row) (rows : List Row) (k : ℕ) (P : Row → Type 0) → ((r : Row) → slice_get rows k ≡ Some r → P (change k r))
+    → IfSome (slice_get (change_rows change 0 rows) k) P
 IfSome-change_rows change rows k P each =
     subst (λ (found : Option Row). IfSome found P) (sym (slice_get-change_rows change rows k)) (if_some-option_map (slice_get rows k) (change k) P each)
 
-pub All-change_rows : (change : ℕ → Row → Row) (rows : List Row) (P : Row → Type 0) → ((k : ℕ) (r : Row) → slice_get rows k ≡ Some r → P (change k r)) → All P (change_rows change 0 rows)
+pub All-change_rows : (change : ℕ → Row → Row) (rows : List Row) (P : Row → Type 0) → ((k : ℕ) (r : Row) → slice_get rows k ≡ Some r → P (change k r))
+    → All P (change_rows change 0 rows)
 All-change_rows change rows P each =
     All-from_at P _ (λ k r is. at_some _ P r is (IfSome-change_rows change rows k P (each k)))
 

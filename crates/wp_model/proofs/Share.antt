@@ -1,5 +1,6 @@
 -- What orders take from rows.
-use Rattle.std.proofs.Common.{◌≡◌, ◌≢◌, ℕ, ◌<◌, ◌≤◌, ◌&&◌, ◌==◌, not, List, length, slice_get, Option, Some, inl, inr, sym, ap, ◌∙◌, if◌then◌else◌, arith, eq-eqb, ne_eqb}
+use Rattle.std.proofs.Common.{◌≡◌, ◌≢◌, ℕ, ◌<◌, ◌≤◌, ◌&&◌, ◌==◌, not, List, length, slice_get, Option, Some, inl, inr, sym, ap, ◌∙◌, if◌then◌else◌, arith}
+use Rattle.std.proofs.Common.{eq-eqb, ne_eqb}
 use Rattle.std.proofs.lemmas.Bool.{and_left, cases_eq, cond-false, cond-true}
 use Rattle.std.proofs.lemmas.Option.{slice_get_cases}
 use Rattle.std.specs.Option.{option_map_or}
@@ -35,7 +36,8 @@ pub shares-le-free : (demand : ℕ → ℕ → ℕ) (rows : List Row) (except : 
     → shares demand rows except orders k ≤ r.free
 shares-le-free demand rows except orders k r is =
     let offer = offer_at rows r.article except in
-    let same = sum-agree orders (λ order. share demand rows except order k) (λ order. overlap (demand r.article) offer order k) (λ order within. share-at demand rows except order k r is) in
+    let same = sum-agree orders (λ order. share demand rows except order k) (λ order. overlap (demand r.article) offer order k)
+            (λ order within. share-at demand rows except order k r is) in
     omega (arith, same, row_share (demand r.article) offer orders k, offer_at-le rows r.article except k r is)
 
 -- an order that takes units from a row wants some of its article
@@ -43,16 +45,19 @@ pub share-some : (demand : ℕ → ℕ → ℕ) (rows : List Row) (except : Opti
     → (r : Row) × (slice_get rows k ≡ Some r) × (demand r.article order ≢ 0)
 share-some demand rows except order k some = elim (slice_get_cases rows k).1 [
   | inl found ↦ let r = found.0 in
-      (r, found.2, λ none. some (omega (arith, share-at demand rows except order k r found.2, overlap-le-demand (demand r.article) (offer_at rows r.article except) order k)))
+      (r, found.2, λ none. some (omega (arith, share-at demand rows except order k r found.2,
+          overlap-le-demand (demand r.article) (offer_at rows r.article except) order k)))
   | inr past ↦ absurd (some (ap (λ found. option_map_or (λ r. overlap (demand r.article) (offer_at rows r.article except) order k) found 0) past.1))
 ]
 
 -- a row's units, where it is of the article and where it isn't
-units_of-here : (rows : List Row) (article : ℕ) (units : ℕ → ℕ) (k : ℕ) (r : Row) → slice_get rows k ≡ Some r → r.article ≡ article → units_of rows article units k ≡ units k
+units_of-here : (rows : List Row) (article : ℕ) (units : ℕ → ℕ) (k : ℕ) (r : Row) → slice_get rows k ≡ Some r → r.article ≡ article
+    → units_of rows article units k ≡ units k
 units_of-here rows article units k r is e =
     ap (λ found. option_map_or (λ r. if r.article == article then units k else 0) found 0) is ∙ cond-true (r.article == article) _ _ (eq-eqb _ _ e)
 
-units_of-elsewhere : (rows : List Row) (article : ℕ) (units : ℕ → ℕ) (k : ℕ) (r : Row) → slice_get rows k ≡ Some r → r.article ≢ article → units_of rows article units k ≡ 0
+units_of-elsewhere : (rows : List Row) (article : ℕ) (units : ℕ → ℕ) (k : ℕ) (r : Row) → slice_get rows k ≡ Some r → r.article ≢ article
+    → units_of rows article units k ≡ 0
 units_of-elsewhere rows article units k r is other =
     ap (λ found. option_map_or (λ r. if r.article == article then units k else 0) found 0) is ∙ cond-false (r.article == article) _ _ (ne_eqb _ _ other)
 
@@ -71,7 +76,8 @@ share-of_article demand rows except place article k within =
           ∙ ap (λ a. overlap (demand a) (offer_at rows a except) place k) e
       | inr other ↦
           let nothing = ap (λ found. option_map_or (offer_of article except k) found 0) found.1 ∙ offer_of-other article except k r other in
-          omega (arith, units_of-elsewhere rows article (share demand rows except place) k r found.1 other, overlap-le-offer (demand article) (offer_at rows article except) place k)
+          omega (arith, units_of-elsewhere rows article (share demand rows except place) k r found.1 other,
+              overlap-le-offer (demand article) (offer_at rows article except) place k)
     ]
 
 -- where free stock covers what orders want of an article, an order gets just what it wants

@@ -24,8 +24,10 @@ opening_is_sound opening is =
     let articles = opening.stock.articles in
     let none_held = All-map (λ (r : Row). r.held ≡ 0) opening_row rows (λ k d within. refl) in
     record {
-      rows = All-map IsBalanced opening_row rows (All-weaker (IsStockRow articles) (λ r. IsBalanced (opening_row r)) (λ r is_row. record { sum = omega arith; most = is_row.on_hand }) rows is.rows);
-      held = λ k. if_some (slice_get (map opening_row rows) k) (λ r. r.held ≡ 0) (λ r there. All-at (λ (r : Row). r.held ≡ 0) (map opening_row rows) k r none_held there);
+      rows = All-map IsBalanced opening_row rows (All-weaker (IsStockRow articles) (λ r. IsBalanced (opening_row r))
+          (λ r is_row. record { sum = omega arith; most = is_row.on_hand }) rows is.rows);
+      held = λ k. if_some (slice_get (map opening_row rows) k) (λ r. r.held ≡ 0)
+          (λ r there. All-at (λ (r : Row). r.held ≡ 0) (map opening_row rows) k r none_held there);
       nowhere_else = λ number order row some. absurd (some refl);
       waves = λ n. tt;
       names = λ i j v w at_i. absurd (cc);
@@ -33,7 +35,8 @@ opening_is_sound opening is =
     }
 
 -- each command
-pub step_keeps_sound : (opening : Opening) (state : State) (command : Command) → IsOpening opening → IsSound opening state → IsSound opening (step opening state command).state
+pub step_keeps_sound : (opening : Opening) (state : State) (command : Command) → IsOpening opening → IsSound opening state
+    → IsSound opening (step opening state command).state
 step_keeps_sound opening state (command.Submit name orders) is sound = submit_keeps_sound opening state name orders sound
 step_keeps_sound opening state (command.Allot name) is sound = allot_keeps_sound opening state name is sound
 step_keeps_sound opening state (command.Release name) is sound = release_keeps_sound opening state name is sound
@@ -43,7 +46,8 @@ step_keeps_sound opening state (command.Missing name order location quantity) is
 step_keeps_sound opening state (command.Receive location article quantity) is sound = receive_keeps_sound opening state location article quantity sound
 
 -- entries, one after the other
-pub entries_keep_sound : (opening : Opening) (state : State) (entries : List Entry) → IsOpening opening → IsSound opening state → IsSound opening (state_from opening state entries)
+pub entries_keep_sound : (opening : Opening) (state : State) (entries : List Entry) → IsOpening opening → IsSound opening state
+    → IsSound opening (state_from opening state entries)
 entries_keep_sound opening state [] is sound = sound
 entries_keep_sound opening state (entry ∷ entries) is sound =
     entries_keep_sound opening (step opening state entry.command).state entries is (step_keeps_sound opening state entry.command is sound)

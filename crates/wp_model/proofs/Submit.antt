@@ -1,5 +1,6 @@
 -- Submit keeps a state sound.
-use Rattle.std.proofs.Common.{◌≡◌, ◌≢◌, ℕ, suc, ◌<◌, ◌≤◌, inl, inr, List, [], ◌∷◌, ◌++◌, length, slice_get, Some, None, IsTrue, true, false, All, option_map, ◌==◌, nat_lt, refl, sym, ap, ◌∙◌, subst₂, arith, le_refl}
+use Rattle.std.proofs.Common.{◌≡◌, ◌≢◌, ℕ, suc, ◌<◌, ◌≤◌, inl, inr, List, [], ◌∷◌, ◌++◌, length, slice_get, Some, None, IsTrue, true, false, All, option_map}
+use Rattle.std.proofs.Common.{◌==◌, nat_lt, refl, sym, ap, ◌∙◌, subst₂, arith, le_refl}
 use Rattle.std.proofs.lemmas.Bool.{cases_eq, cases_lt, eqb-false, ltb-false}
 use Rattle.std.proofs.lemmas.List.{length_push}
 use Rattle.std.proofs.lemmas.Option.{slice_get_past}
@@ -26,14 +27,17 @@ record CanJoin (opening : Opening) (state : State) (name : List ℕ) (orders : L
   unnamed : (i : ℕ) (v : Wave) → slice_get state.waves i ≡ Some v → v.name ≢ name
   different : AreDifferent orders
   known : All (λ order. IsTrue (is_known_order opening.orders order)) orders
-  untaken : (i : ℕ) (v : Wave) (k l : ℕ) (order : List ℕ) → slice_get state.waves i ≡ Some v → is_live v.state ≡ true → slice_get v.orders k ≡ Some order → slice_get orders l ≡ Some order → ⊥
+  untaken : (i : ℕ) (v : Wave) (k l : ℕ) (order : List ℕ) → slice_get state.waves i ≡ Some v → is_live v.state ≡ true → slice_get v.orders k ≡ Some order
+      → slice_get orders l ≡ Some order → ⊥
 
 -- a wave without a fault can join
-can_join : (opening : Opening) (state : State) (name : List ℕ) (orders : List (List ℕ)) → submit_fault opening state name orders ≡ None → CanJoin opening state name orders
+can_join : (opening : Opening) (state : State) (name : List ℕ) (orders : List (List ℕ)) → submit_fault opening state name orders ≡ None
+    → CanJoin opening state name orders
 can_join opening state name orders none =
     let some = if-none (length orders == 0) reply.NoOrders _ none in
     let most = if-none (nat_lt most_orders (length orders)) (reply.WaveFull (length orders)) _ some.1 in
-    let faults = option_or-none (option_map (λ found. reply.KnownWave) (wave_from 0 state.waves name)) (first_order_fault opening state.waves [] orders) most.1 in
+    let faults = option_or-none (option_map (λ found. reply.KnownWave) (wave_from 0 state.waves name))
+            (first_order_fault opening state.waves [] orders) most.1 in
     let free = free_from_no_fault opening state.waves [] orders faults.1 in
     record {
       some = let no : length orders ≡ 0 → ⊥ = eqb-false _ _ some.0 in omega arith;
@@ -59,10 +63,12 @@ nothing_past state n past sound order row = elim (cases_eq (state.held n order r
 ]
 
 -- the orders of a wave that was there
-orders_in-add : (state : State) (name : List ℕ) (orders : List (List ℕ)) (n : ℕ) → n < length state.waves → orders_in (add_wave name orders state) n ≡ orders_in state n
+orders_in-add : (state : State) (name : List ℕ) (orders : List (List ℕ)) (n : ℕ) → n < length state.waves
+    → orders_in (add_wave name orders state) n ≡ orders_in state n
 orders_in-add state name orders n within = ap (λ found. option_map_or (λ w. length w.orders) found 0) (slice_get-push_before state.waves n _ within)
 
-held_at-add : (state : State) (name : List ℕ) (orders : List (List ℕ)) (row : ℕ) → IsSoundStock state → held_at (add_wave name orders state) row ≡ held_at state row
+held_at-add : (state : State) (name : List ℕ) (orders : List (List ℕ)) (row : ℕ) → IsSoundStock state
+    → held_at (add_wave name orders state) row ≡ held_at state row
 held_at-add state name orders row sound =
     let after = add_wave name orders state in
     let one_more : length after.waves ≡ suc (length state.waves) = omega (arith, length_push state.waves (new_wave name orders)) in
@@ -94,12 +100,14 @@ waves_after_add opening state name orders sound can n v there =
           let same = HoldsAs-same v.state opening state after n v v refl (alike_itself state.rows) (λ order k. refl) was.holds in
           still_sound opening state after n v v refl was same was.picked
       | inr last ↦
-          let none = sum-zero _ _ (λ row within. sum-zero _ _ (λ order below. nothing_past state (length state.waves) (le_refl _) (stock_of opening state sound) order row)) in
+          let none = sum-zero _ _ (λ row within. sum-zero _ _
+                  (λ order below. nothing_past state (length state.waves) (le_refl _) (stock_of opening state sound) order row)) in
           subst₂ (IsSoundWave opening after) (sym last.0) (sym last.1)
           (record { some = can.some; most = can.most; different = can.different; known = can.known; holds = none; picked = refl })
     ]
 
-add_wave_keeps_sound : (opening : Opening) (state : State) (name : List ℕ) (orders : List (List ℕ)) → IsSound opening state → CanJoin opening state name orders → IsSound opening (add_wave name orders state)
+add_wave_keeps_sound : (opening : Opening) (state : State) (name : List ℕ) (orders : List (List ℕ)) → IsSound opening state
+    → CanJoin opening state name orders → IsSound opening (add_wave name orders state)
 add_wave_keeps_sound opening state name orders sound can =
     let stock = add_wave_keeps_stock state name orders (stock_of opening state sound) in
     let new = new_wave name orders in
@@ -108,7 +116,8 @@ add_wave_keeps_sound opening state name orders sound can =
       rows = stock.rows;
       held = stock.held;
       nowhere_else = stock.nowhere_else;
-      waves = λ n. if_some (slice_get (state.waves ++ new ∷ []) n) (IsSoundWave opening (add_wave name orders state) n) (waves_after_add opening state name orders sound can n);
+      waves = λ n. if_some (slice_get (state.waves ++ new ∷ []) n) (IsSoundWave opening (add_wave name orders state) n)
+          (waves_after_add opening state name orders sound can n);
       names = λ i j u v at_i at_j same. elim (place i u new at_i) [
         | inl a ↦ elim (place j v new at_j) [
           | inl b ↦ sound.names i j u v a b same
@@ -131,7 +140,8 @@ add_wave_keeps_sound opening state name orders sound can =
       ];
     }
 
-pub submit_keeps_sound : (opening : Opening) (state : State) (name : List ℕ) (orders : List (List ℕ)) → IsSound opening state → IsSound opening (submit opening state name orders).state
+pub submit_keeps_sound : (opening : Opening) (state : State) (name : List ℕ) (orders : List (List ℕ)) → IsSound opening state
+    → IsSound opening (submit opening state name orders).state
 submit_keeps_sound opening state name orders sound =
     option_map_or-both (λ (stepped : Stepped). IsSound opening stepped.state) (refuse state) (submit_fault opening state name orders) _
     (λ fault is. sound)

@@ -19,7 +19,8 @@ side_of (b ∷ c ∷ rest) = None
 -- the location whose parts these texts write
 abbrev pub location_from : List ℕ → List ℕ → List ℕ → Option Location
 location_from aisle slot side =
-    option_and_then (λ a. option_and_then (λ s. option_map (λ d. record { aisle = a; slot = s; side = d }) (side_of side)) (number_of 5 slot)) (number_of 5 aisle)
+    option_and_then (λ a. option_and_then (λ s. option_map (λ d. record { aisle = a; slot = s; side = d }) (side_of side)) (number_of 5 slot))
+        (number_of 5 aisle)
 
 -- the location that a text writes: an aisle, a dash, a slot, a dash and a side
 abbrev pub location_of : List ℕ → Option Location

@@ -29,6 +29,7 @@ TookPrefix-first old new first second took =
     (took.0, omega (arith, length-append first second), grind (arith, common_steps))
 
 -- a first text, and then a beginning of a second, is a beginning of both
-pub TookPrefix-second : (old mid new : Option (List ℕ)) (first second : List ℕ) → Grows old mid first → TookPrefix mid new second → TookPrefix old new (first ++ second)
+pub TookPrefix-second : (old mid new : Option (List ℕ)) (first second : List ℕ) → Grows old mid first → TookPrefix mid new second
+    → TookPrefix old new (first ++ second)
 TookPrefix-second old mid new first second one took =
     (length first + took.0, omega (arith, length-append first second, took.1), rw take-append-add (Grows-append old mid new first _ one took.2))

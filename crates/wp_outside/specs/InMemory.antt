@@ -1,5 +1,6 @@
 -- Files and sinks in memory, as clauses see them.
-use Rattle.std.specs.Prelude.{ℕ, ◌+◌, ◌-◌, ◌^◌, Bool, ◌==◌, ◌&&◌, ◌||◌, nat_lt, if◌then◌else◌, List, [], length, map, find, Option, is_none, option_map, unwrap_or, String, string_bytes, Vec}
+use Rattle.std.specs.Prelude.{ℕ, ◌+◌, ◌-◌, ◌^◌, Bool, ◌==◌, ◌&&◌, ◌||◌, nat_lt, if◌then◌else◌, List, [], length, map, find, Option, is_none, option_map}
+use Rattle.std.specs.Prelude.{unwrap_or, String, string_bytes, Vec}
 use Rattle.std.specs.List.{zip, list_any}
 use Rattle.std.specs.Str.{bytes_eq}
 use Rattle.std.specs.declared.alloc.Global.{Global}

@@ -16,15 +16,18 @@ names_then names rest = and_then rest (λ more. Ok (names ++ more))
 pub names_fault : (names rest : List (List ℕ)) (field : List ℕ) (why : Why) → name_read field ≡ Err why → names_then names (names_read (field ∷ rest)) ≡ Err why
 names_fault names rest field why is = rw is refl
 
-more_if : (names : List (List ℕ)) (name : List ℕ) (rest : Result (List (List ℕ)) Why) → names_then names (and_then rest (λ more. Ok (name ∷ more))) ≡ names_then (names ++ name ∷ []) rest
+more_if : (names : List (List ℕ)) (name : List ℕ) (rest : Result (List (List ℕ)) Why)
+    → names_then names (and_then rest (λ more. Ok (name ∷ more))) ≡ names_then (names ++ name ∷ []) rest
 more_if names name (Ok more) = ap Ok (sym (append_assoc names (name ∷ []) more))
 more_if names name (Err why) = refl
 
 -- one more name
-pub names_more : (names rest : List (List ℕ)) (field name : List ℕ) → name_read field ≡ Ok name → names_then names (names_read (field ∷ rest)) ≡ names_then (names ++ name ∷ []) (names_read rest)
+pub names_more : (names rest : List (List ℕ)) (field name : List ℕ) → name_read field ≡ Ok name
+    → names_then names (names_read (field ∷ rest)) ≡ names_then (names ++ name ∷ []) (names_read rest)
 names_more names rest field name is = rw is (more_if names name (names_read rest))
 
 -- the command of a record whose first two fields are read
-pub command_then : (desk text : List ℕ) (rest : List (List ℕ)) (d : ℕ) (w : Word) → list_all is_utf8 (desk ∷ text ∷ rest) ≡ true → desk_read desk ≡ Ok d → word_read text ≡ Ok w
+pub command_then : (desk text : List ℕ) (rest : List (List ℕ)) (d : ℕ) (w : Word) → list_all is_utf8 (desk ∷ text ∷ rest) ≡ true → desk_read desk ≡ Ok d
+    → word_read text ≡ Ok w
     → command_in_fields (desk ∷ text ∷ rest) ≡ command_of w rest
 command_then desk text rest d w texts first second = rw (texts, first, second) refl

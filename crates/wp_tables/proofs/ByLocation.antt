@@ -88,12 +88,15 @@ pub before_by_cmp : (a b : Location) → is_lt (location_cmp a b) ≡ is_before 
 before_by_cmp a b = simp (lt_then, nat_lt_by_cmp, nat_eq_by_cmp_too, side_lt_by_cmp)
 
 -- a map of rows by their locations has a location where a row lies there
-pub found_by_location : (cmp : Location → Location → Ordering) (agrees : (a b : Location) → cmp a b ≡ location_cmp a b) (location : Location) (rows : List StockRow)
+pub found_by_location : (cmp : Location → Location → Ordering) (agrees : (a b : Location) → cmp a b ≡ location_cmp a b) (location : Location)
+    (rows : List StockRow)
     → is_some (lookup (is_at (cmp location)) (by_location rows)) ≡ list_any (lies_at location) rows
 found_by_location cmp agrees location [] = refl
 found_by_location cmp agrees location (row ∷ rows) =
-    let here : is_eq (cmp location row.location) ≡ same_location row.location location = ap is_eq (agrees location row.location) ∙ same_by_cmp location row.location in
-    rw here (found_if (same_location row.location location) row (lookup (is_at (cmp location)) (by_location rows)) (list_any (lies_at location) rows) (found_by_location cmp agrees location rows))
+    let here : is_eq (cmp location row.location) ≡ same_location row.location location =
+            ap is_eq (agrees location row.location) ∙ same_by_cmp location row.location in
+    rw here (found_if (same_location row.location location) row (lookup (is_at (cmp location)) (by_location rows)) (list_any (lies_at location) rows)
+        (found_by_location cmp agrees location rows))
 
 neither : (p q : Bool) → (p || q) ≡ false → (p ≡ false) × (q ≡ false)
 neither false q e = (refl, e)
@@ -126,5 +129,6 @@ rows_back [] = refl
 rows_back (row ∷ rows) = ap (λ rest. row ∷ rest) (rows_back rows)
 
 -- a map that has these rows by their locations has just them
-pub kept_by_location : (entries : List (Location × StockRow)) (rows : List StockRow) → entries ≡ by_location rows → entries ≡ by_location (map (λ e. e.1) entries)
+pub kept_by_location : (entries : List (Location × StockRow)) (rows : List StockRow) → entries ≡ by_location rows
+    → entries ≡ by_location (map (λ e. e.1) entries)
 kept_by_location entries rows e = rw e (ap by_location (sym (rows_back rows)))

@@ -1,5 +1,6 @@
 -- The fields of a record by their places.
-use Rattle.std.proofs.Common.{◌≡◌, ◌≢◌, ◌∙◌, refl, sym, ap, Bool, true, false, ℕ, zero, suc, ◌+◌, ◌-◌, ◌<◌, ◌≤◌, List, [], ◌∷◌, drop, length, Option, Some, None, Err, arith, rules}
+use Rattle.std.proofs.Common.{◌≡◌, ◌≢◌, ◌∙◌, refl, sym, ap, Bool, true, false, ℕ, zero, suc, ◌+◌, ◌-◌, ◌<◌, ◌≤◌, List, [], ◌∷◌, drop, length, Option, Some}
+use Rattle.std.proofs.Common.{None, Err, arith, rules}
 use Rattle.std.specs.Prelude.{slice_get, IsSome}
 use Rattle.std.specs.List.{list_all}
 use Rattle.std.specs.Option.{option_map}
@@ -52,11 +53,13 @@ pub three_left : {A : Type 0} (xs : List A) (at : ℕ) (a b c : A) → length xs
     → slice_get xs at ≡ Some a → slice_get xs (at + 1) ≡ Some b → slice_get xs (at + 2) ≡ Some c → drop at xs ≡ a ∷ b ∷ c ∷ []
 three_left xs at a b c three within first second third =
     drop_got xs at a first
-    ∙ ap (λ rest. a ∷ rest) (drop_then xs (at + 1) (at + 2) b (omega arith) second ∙ ap (λ rest. b ∷ rest) (drop_then xs (at + 2) (at + 3) c (omega arith) third ∙ ap (λ rest. c ∷ rest) (drop_all (at + 3) xs (omega arith))))
+    ∙ ap (λ rest. a ∷ rest) (drop_then xs (at + 1) (at + 2) b (omega arith) second
+        ∙ ap (λ rest. b ∷ rest) (drop_then xs (at + 2) (at + 3) c (omega arith) third ∙ ap (λ rest. c ∷ rest) (drop_all (at + 3) xs (omega arith))))
 
 -- and the last four
 pub four_left : {A : Type 0} (xs : List A) (at : ℕ) (a b c d : A) → length xs - at ≡ 4 → at ≤ length xs
-    → slice_get xs at ≡ Some a → slice_get xs (at + 1) ≡ Some b → slice_get xs (at + 2) ≡ Some c → slice_get xs (at + 3) ≡ Some d → drop at xs ≡ a ∷ b ∷ c ∷ d ∷ []
+    → slice_get xs at ≡ Some a → slice_get xs (at + 1) ≡ Some b → slice_get xs (at + 2) ≡ Some c → slice_get xs (at + 3) ≡ Some d
+        → drop at xs ≡ a ∷ b ∷ c ∷ d ∷ []
 four_left xs at a b c d four within first second third fourth =
     drop_got xs at a first
     ∙ ap (λ rest. a ∷ rest) (drop_then xs (at + 1) (at + 2) b (omega arith) second

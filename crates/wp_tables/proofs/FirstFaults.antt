@@ -10,8 +10,10 @@ use Rattle.wp_tables.specs.Records.{IsAmong, Kept, kept_before, kept_from, kept_
 use Rattle.wp_tables.specs.declared.fault.RowFault.{RowFault}
 use Rattle.wp_tables.specs.declared.fault.Why.{Why}
 
-first_or_later : {A : Type 0} (next : A → Record → Result A Why) (nothing : A) (kept : Kept) (more : List Kept) (fault : RowFault) (given : Result A Why) → next nothing kept.fields ≡ given
-    → and_then (at_row kept.number given) (λ made. made_by next made more) ≡ Err fault → ((made : A) → made_by next made more ≡ Err fault → IsFirstFault next made more fault) → IsFirstFault next nothing (kept ∷ more) fault
+first_or_later : {A : Type 0} (next : A → Record → Result A Why) (nothing : A) (kept : Kept) (more : List Kept) (fault : RowFault) (given : Result A Why)
+    → next nothing kept.fields ≡ given
+    → and_then (at_row kept.number given) (λ made. made_by next made more) ≡ Err fault
+        → ((made : A) → made_by next made more ≡ Err fault → IsFirstFault next made more fault) → IsFirstFault next nothing (kept ∷ more) fault
 first_or_later next nothing kept more fault (Err why) is e later =
     let same : fault_at kept.number why ≡ fault = cc e in
     record {
@@ -38,7 +40,8 @@ first_or_later next nothing kept more fault (Ok made) is e later =
     }
 
 -- the first record that fails gives the fault
-pub first_fault : {A : Type 0} (next : A → Record → Result A Why) (nothing : A) (records : List Kept) (fault : RowFault) → made_by next nothing records ≡ Err fault → IsFirstFault next nothing records fault
+pub first_fault : {A : Type 0} (next : A → Record → Result A Why) (nothing : A) (records : List Kept) (fault : RowFault)
+    → made_by next nothing records ≡ Err fault → IsFirstFault next nothing records fault
 first_fault next nothing [] fault e = absurd (cc e)
 first_fault next nothing (kept ∷ more) fault e =
     first_or_later next nothing kept more fault (next nothing kept.fields) refl e (λ made failed. first_fault next made more fault failed)
@@ -51,13 +54,15 @@ pub record IsAmongFrom (n : ℕ) (records : List Record) (kept : Kept) : Type 0 
   pub number : kept.number ≡ place + n
   pub trims : kept.fields ≡ trimmed fields
 
-later_too : (n : ℕ) (first : Record) (records : List Record) (kept : List Kept) → AllByRecursion (IsAmongFrom (n + 1) records) kept → AllByRecursion (IsAmongFrom n (first ∷ records)) kept
+later_too : (n : ℕ) (first : Record) (records : List Record) (kept : List Kept) → AllByRecursion (IsAmongFrom (n + 1) records) kept
+    → AllByRecursion (IsAmongFrom n (first ∷ records)) kept
 later_too n first records [] all = tt
 later_too n first records (k ∷ kept) all =
     let is = all.0 in
     (record { place = suc is.place; fields = is.fields; at = is.at; number = omega (arith, is.number); trims = is.trims }, later_too n first records kept all.1)
 
-kept_or_not : (n : ℕ) (first : Record) (records : List Record) (left : Record) (kept : List Kept) → trimmed first ≡ left → AllByRecursion (IsAmongFrom n (first ∷ records)) kept
+kept_or_not : (n : ℕ) (first : Record) (records : List Record) (left : Record) (kept : List Kept) → trimmed first ≡ left
+    → AllByRecursion (IsAmongFrom n (first ∷ records)) kept
     → AllByRecursion (IsAmongFrom n (first ∷ records)) (kept_before n left kept)
 kept_or_not n first records [] kept is all = all
 kept_or_not n first records (field ∷ fields) kept is all = (record { place = zero; fields = first; at = refl; number = omega arith; trims = sym is }, all)
@@ -65,7 +70,8 @@ kept_or_not n first records (field ∷ fields) kept is all = (record { place = z
 numbered_from : (n : ℕ) (records : List Record) → AllByRecursion (IsAmongFrom n records) (kept_from n records)
 numbered_from n [] = tt
 numbered_from n (first ∷ records) =
-    kept_or_not n first records (trimmed first) (kept_from (n + 1) records) refl (later_too n first records (kept_from (n + 1) records) (numbered_from (n + 1) records))
+    kept_or_not n first records (trimmed first) (kept_from (n + 1) records) refl
+        (later_too n first records (kept_from (n + 1) records) (numbered_from (n + 1) records))
 
 from_one : (records : List Record) (kept : List Kept) → AllByRecursion (IsAmongFrom 1 records) kept → AllByRecursion (IsAmong records) kept
 from_one records [] all = tt

@@ -1,5 +1,6 @@
 -- Orders kept by their names and their lines.
-use Rattle.std.proofs.Common.{◌≡◌, refl, sym, ap, ℕ, zero, suc, ◌+◌, ◌<◌, Bool, true, false, List, [], ◌∷◌, ◌++◌, ◌∙◌, subst, Vec, get_or, length, map, set, Some, arith}
+use Rattle.std.proofs.Common.{◌≡◌, refl, sym, ap, ℕ, zero, suc, ◌+◌, ◌<◌, Bool, true, false, List, [], ◌∷◌, ◌++◌, ◌∙◌, subst, Vec, get_or, length, map, set}
+use Rattle.std.proofs.Common.{Some, arith}
 use Rattle.std.specs.Prelude.{if◌then◌else◌, not, slice_get, ◌||◌}
 use Rattle.std.specs.List.{All}
 use Rattle.std.proofs.lemmas.List.{get_or-map, length-map}
@@ -18,7 +19,8 @@ parts_length [] lines same = refl
 parts_length (name ∷ names) [] same = absurd (omega arith)
 parts_length (name ∷ names) (v ∷ lines) same = omega (arith, parts_length names lines (omega arith))
 
-pub parts_known : (names : List (List ℕ)) (lines : List (Vec Line Global)) (order : List ℕ) → length lines ≡ length names → is_known_order (orders_of_parts names lines) order ≡ is_among names order
+pub parts_known : (names : List (List ℕ)) (lines : List (Vec Line Global)) (order : List ℕ) → length lines ≡ length names
+    → is_known_order (orders_of_parts names lines) order ≡ is_among names order
 parts_known [] lines order same = refl
 parts_known (name ∷ names) [] order same = absurd (omega arith)
 parts_known (name ∷ names) (v ∷ lines) order same = ap (λ rest. bytes_eq name order || rest) (parts_known names lines order (omega arith))
@@ -30,21 +32,26 @@ neither : (p q : Bool) → (p || q) ≡ false → (p ≡ false) × (q ≡ false)
 neither false q e = (refl, e)
 neither true q e = absurd (cc e)
 
-parts_lines_if : (b : Bool) (i : ℕ) (order : List ℕ) (names : List (List ℕ)) (lines : List (Vec Line Global)) (v w : Vec Line Global) → slice_get (v ∷ lines) (if not b then 1 + i else 0) ≡ Some w
-    → (slice_get lines i ≡ Some w → lines_of (orders_of_parts names lines) order ≡ w.items) → (if b then v.items else lines_of (orders_of_parts names lines) order) ≡ w.items
+parts_lines_if : (b : Bool) (i : ℕ) (order : List ℕ) (names : List (List ℕ)) (lines : List (Vec Line Global)) (v w : Vec Line Global)
+    → slice_get (v ∷ lines) (if not b then 1 + i else 0) ≡ Some w
+    → (slice_get lines i ≡ Some w → lines_of (orders_of_parts names lines) order ≡ w.items)
+        → (if b then v.items else lines_of (orders_of_parts names lines) order) ≡ w.items
 parts_lines_if true i order names lines v w at rest = let same : v ≡ w = cc in ap (λ (x : Vec Line Global). x.items) same
 parts_lines_if false i order names lines v w at rest = rest (after_first lines v w i at)
 
 -- the lines of an order that is there
-pub parts_lines : (names : List (List ℕ)) (lines : List (Vec Line Global)) (order : List ℕ) (w : Vec Line Global) → slice_get lines (number_among names order) ≡ Some w
+pub parts_lines : (names : List (List ℕ)) (lines : List (Vec Line Global)) (order : List ℕ) (w : Vec Line Global)
+    → slice_get lines (number_among names order) ≡ Some w
     → length lines ≡ length names → lines_of (orders_of_parts names lines) order ≡ w.items
 parts_lines [] [] order w at same = absurd (cc at)
 parts_lines [] (v ∷ lines) order w at same = absurd (omega arith)
 parts_lines (name ∷ names) [] order w at same = absurd (omega arith)
-parts_lines (name ∷ names) (v ∷ lines) order w at same = rw (bytes_eq_flips name order) (parts_lines_if (bytes_eq order name) (number_among names order) order names lines v w at (λ there. parts_lines names lines order w there (omega arith)))
+parts_lines (name ∷ names) (v ∷ lines) order w at same = rw (bytes_eq_flips name order)
+    (parts_lines_if (bytes_eq order name) (number_among names order) order names lines v w at (λ there. parts_lines names lines order w there (omega arith)))
 
 -- an order that isn't there has none
-pub parts_no_lines : (names : List (List ℕ)) (lines : List (Vec Line Global)) (order : List ℕ) → is_among names order ≡ false → lines_of (orders_of_parts names lines) order ≡ []
+pub parts_no_lines : (names : List (List ℕ)) (lines : List (Vec Line Global)) (order : List ℕ) → is_among names order ≡ false
+    → lines_of (orders_of_parts names lines) order ≡ []
 parts_no_lines [] lines order new = refl
 parts_no_lines (name ∷ names) [] order new = refl
 parts_no_lines (name ∷ names) (v ∷ lines) order new =
@@ -54,7 +61,8 @@ parts_no_lines (name ∷ names) (v ∷ lines) order new =
 set_after_first : {A : Type 0} (xs : List A) (x y : A) (i : ℕ) → set (x ∷ xs) (1 + i) y ≡ x ∷ set xs i y
 set_after_first xs x y i = let e : 1 + i ≡ suc i = omega arith in rw e refl
 
-parts_added_if : (b : Bool) (i : ℕ) (line : OrderLine) (name : List ℕ) (names : List (List ℕ)) (v : Vec Line Global) (lines : List (Vec Line Global)) (old new : Vec Line Global)
+parts_added_if : (b : Bool) (i : ℕ) (line : OrderLine) (name : List ℕ) (names : List (List ℕ)) (v : Vec Line Global) (lines : List (Vec Line Global))
+    (old new : Vec Line Global)
     → slice_get (v ∷ lines) (if not b then 1 + i else 0) ≡ Some old → new.items ≡ old.items ++ line.line ∷ []
     → (slice_get lines i ≡ Some old → add_order_line (orders_of_parts names lines) line ≡ orders_of_parts names (set lines i new))
     → (if b then record { name = name; lines = v.items ++ line.line ∷ [] } ∷ orders_of_parts names lines
@@ -75,7 +83,8 @@ parts_added [] (v ∷ lines) line old new at more same = absurd (omega arith)
 parts_added (name ∷ names) [] line old new at more same = absurd (omega arith)
 parts_added (name ∷ names) (v ∷ lines) line old new at more same =
     rw (bytes_eq_flips name line.order)
-    (parts_added_if (bytes_eq line.order name) (number_among names line.order) line name names v lines old new at more (λ there. parts_added names lines line old new there more (omega arith)))
+    (parts_added_if (bytes_eq line.order name) (number_among names line.order) line name names v lines old new at more
+        (λ there. parts_added names lines line old new there more (omega arith)))
 
 -- a line of a new order comes last
 pub parts_new : (names : List (List ℕ)) (lines : List (Vec Line Global)) (line : OrderLine) (first : Vec Line Global)
@@ -95,7 +104,8 @@ names_back (name ∷ names) [] same = absurd (omega arith)
 names_back (name ∷ names) (v ∷ lines) same = ap (λ rest. name ∷ rest) (names_back names lines (omega arith))
 
 -- where an order that is found has its lines
-pub order_there : (names : List (List ℕ)) (lines : List (Vec Line Global)) (order : List ℕ) (i : ℕ) → length lines ≡ length names → article_in (map name_of (orders_of_parts names lines)) order ≡ Some i
+pub order_there : (names : List (List ℕ)) (lines : List (Vec Line Global)) (order : List ℕ) (i : ℕ) → length lines ≡ length names
+    → article_in (map name_of (orders_of_parts names lines)) order ≡ Some i
     → (number_among names order ≡ i) × (i < length lines) × (is_among names order ≡ true)
 order_there names lines order i same found =
     let there = found_there order names i (rw (names_back names lines same) at found) in
@@ -108,11 +118,13 @@ item_at (y ∷ xs) zero x below is = ap Some (sym is)
 item_at (y ∷ xs) (suc i) x below is = item_at xs i x (omega arith) is
 
 -- the name of the order at a place
-pub name_at : (names : List (List ℕ)) (lines : List (Vec Line Global)) (i : ℕ) (name : List ℕ) → length lines ≡ length names → slice_get names i ≡ Some name → slice_get (map name_of (orders_of_parts names lines)) i ≡ Some name
+pub name_at : (names : List (List ℕ)) (lines : List (Vec Line Global)) (i : ℕ) (name : List ℕ) → length lines ≡ length names → slice_get names i ≡ Some name
+    → slice_get (map name_of (orders_of_parts names lines)) i ≡ Some name
 name_at names lines i name same at = rw (names_back names lines same) at
 
 -- its lines
-pub lines_at : (names : List (List ℕ)) (lines : List (Vec Line Global)) (i : ℕ) (v : Vec Line Global) → length lines ≡ length names → slice_get lines i ≡ Some v → slice_get (map lines_in (orders_of_parts names lines)) i ≡ Some v.items
+pub lines_at : (names : List (List ℕ)) (lines : List (Vec Line Global)) (i : ℕ) (v : Vec Line Global) → length lines ≡ length names
+    → slice_get lines i ≡ Some v → slice_get (map lines_in (orders_of_parts names lines)) i ≡ Some v.items
 lines_at names [] i v same at = absurd (cc at)
 lines_at [] (w ∷ lines) i v same at = absurd (omega arith)
 lines_at (name ∷ names) (w ∷ lines) zero v same at = let e : w ≡ v = cc in ap (λ (x : Vec Line Global). Some x.items) e

@@ -1,5 +1,6 @@
 -- How many rows are of an article that is named.
-use Rattle.std.proofs.Common.{◌≡◌, ◌∙◌, refl, sym, ap, ap₂, ℕ, zero, suc, ◌+◌, ◌<◌, ◌≤◌, Bool, true, false, List, [], ◌∷◌, max, length, Some, None, arith, length-append}
+use Rattle.std.proofs.Common.{◌≡◌, ◌∙◌, refl, sym, ap, ap₂, ℕ, zero, suc, ◌+◌, ◌<◌, ◌≤◌, Bool, true, false, List, [], ◌∷◌, max, length, Some, None, arith}
+use Rattle.std.proofs.Common.{length-append}
 use Rattle.std.specs.Prelude.{if◌then◌else◌, ◌==◌, nat_lt, slice_index, get_or}
 use Rattle.std.proofs.lemmas.Bool.Decides.{nat_tests}
 use Rattle.wp_model.specs.Opening.{Stock}
@@ -18,7 +19,8 @@ read_at (y ∷ xs) zero x below is = is
 read_at (y ∷ xs) (suc i) x below is = read_at xs i x (omega arith) is
 
 -- those of an article that is there
-pub places_found : (stock : Stock) (places : List ℕ) (name : List ℕ) (i x : ℕ) → ArePlaces stock places → article_in stock.articles name ≡ Some i → x ≡ get_or places i x → x ≡ places_named stock name
+pub places_found : (stock : Stock) (places : List ℕ) (name : List ℕ) (i x : ℕ) → ArePlaces stock places → article_in stock.articles name ≡ Some i
+    → x ≡ get_or places i x → x ≡ places_named stock name
 places_found stock places name i x are found is =
     let there = found_there name stock.articles i found in
     read_at places i x (omega (arith, there.1, are.as_many)) is ∙ are.counts i ∙ ap (places_of stock.rows) (sym there.0)
@@ -29,12 +31,14 @@ past (x ∷ xs) zero beyond = absurd (omega arith)
 past (x ∷ xs) (suc i) beyond = past xs i (omega arith)
 
 -- an article that isn't there has none
-pub places_new : (stock : Stock) (places : List ℕ) (name : List ℕ) → ArePlaces stock places → article_in stock.articles name ≡ None → 0 ≡ places_named stock name
+pub places_new : (stock : Stock) (places : List ℕ) (name : List ℕ) → ArePlaces stock places → article_in stock.articles name ≡ None
+    → 0 ≡ places_named stock name
 places_new stock places name are none =
     let number = number_new stock.articles name (not_there name stock.articles none) in
     sym (past places (length stock.articles) (omega (arith, are.as_many))) ∙ are.counts (length stock.articles) ∙ ap (places_of stock.rows) (sym number)
 
-longer : (b : Bool) (names : List (List ℕ)) (name : List ℕ) → is_among names name ≡ b → max (length names) (number_among names name + 1) ≡ length (join names name)
+longer : (b : Bool) (names : List (List ℕ)) (name : List ℕ) → is_among names name ≡ b
+    → max (length names) (number_among names name + 1) ≡ length (join names name)
 longer true names name among =
     let below : nat_lt (number_among names name) (length names) ≡ true = number_below name names ∙ among in
     let less : number_among names name < length names = grind (arith, nat_tests) in
@@ -45,8 +49,10 @@ longer false names name among =
     omega arith
 
 -- the numbers with one more for a line's article
-pub places_joined : (stock : Stock) (line : StockLine) (places counts : List ℕ) (place : ℕ) → ArePlaces stock places → place ≡ number_among stock.articles line.article
-    → ((article : ℕ) → slice_index counts article ≡ slice_index places article + (if place == article then 1 else 0)) → length counts ≡ max (length places) (place + 1) → ArePlaces (add_line stock line) counts
+pub places_joined : (stock : Stock) (line : StockLine) (places counts : List ℕ) (place : ℕ) → ArePlaces stock places
+    → place ≡ number_among stock.articles line.article
+    → ((article : ℕ) → slice_index counts article ≡ slice_index places article + (if place == article then 1 else 0))
+        → length counts ≡ max (length places) (place + 1) → ArePlaces (add_line stock line) counts
 places_joined stock line places counts place are number more length_is =
     let names = stock.articles in
     let row = row_of (join names line.article) line in

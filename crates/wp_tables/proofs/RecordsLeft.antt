@@ -1,5 +1,6 @@
 -- The records that are left, after one more was read.
-use Rattle.std.proofs.Common.{◌≡◌, ◌∙◌, refl, sym, ap, ℕ, zero, suc, ◌+◌, ◌<◌, ◌≤◌, Bool, true, false, List, [], ◌∷◌, length, Option, Some, None, Bor, inl, arith}
+use Rattle.std.proofs.Common.{◌≡◌, ◌∙◌, refl, sym, ap, ℕ, zero, suc, ◌+◌, ◌<◌, ◌≤◌, Bool, true, false, List, [], ◌∷◌, length, Option, Some, None, Bor, inl}
+use Rattle.std.proofs.Common.{arith}
 use Rattle.std.specs.Prelude.{if◌then◌else◌}
 use Rattle.std.specs.Option.{option_map_or}
 use Rattle.csv.specs.Machine.{Read, ends_at_end, next_record}
@@ -11,7 +12,8 @@ use Rattle.csv.proofs.ReadFacts.{rows-end, rows-more}
 use Rattle.wp_tables.proofs.TakenBytes.{no_record_at_end, record_takes}
 
 -- a record takes bytes of those that are left
-pub takes : (s : State) (xs : List ℕ) (p : Read) → ends_at_end s ≡ false → next_record default_config s [] [] xs ≡ Some p → (length p.2 < length xs) × (ends_at_end p.1 ≡ false)
+pub takes : (s : State) (xs : List ℕ) (p : Read) → ends_at_end s ≡ false → next_record default_config s [] [] xs ≡ Some p → (length p.2 < length xs)
+    × (ends_at_end p.1 ≡ false)
 takes s [] p between found = absurd (cc (found, no_record_at_end s between))
 takes s (c ∷ xs) p between found = record_takes s [] [] c xs p found
 
@@ -22,7 +24,8 @@ enough_at n m s xs None is rest = refl
 enough_at n m s xs (Some p) is rest = ap (λ more. p.0 ∷ more) (rest p refl)
 
 -- as many records as there are bytes are all records
-pub enough : (n m : ℕ) (s : State) (xs : List ℕ) → length xs < n → length xs < m → ends_at_end s ≡ false → records_from default_config n s xs ≡ records_from default_config m s xs
+pub enough : (n m : ℕ) (s : State) (xs : List ℕ) → length xs < n → length xs < m → ends_at_end s ≡ false
+    → records_from default_config n s xs ≡ records_from default_config m s xs
 unfolding records_from
 enough zero m s xs below below' between = absurd (omega arith)
 enough (suc n) zero s xs below below' between = absurd (omega arith)
@@ -62,7 +65,8 @@ no_longer (a ∷ b ∷ c ∷ rest) = no_longer_if (is_bom a b c) a b c rest
 
 -- a reader that took a record
 pub took : (before after : Records) (fields : List (List ℕ)) → IsReading before
-    → ReadRecord (λ (text : Bor (List ℕ)). Some text.now) before.reader after.reader true fields → is_flexible after.reader ≡ is_flexible before.reader → took_first after.reader ≡ true → after.number ≡ before.number + 1
+    → ReadRecord (λ (text : Bor (List ℕ)). Some text.now) before.reader after.reader true fields → is_flexible after.reader ≡ is_flexible before.reader
+        → took_first after.reader ≡ true → after.number ≡ before.number + 1
     → TakesRecord before fields after
 unfolding Reached
 took before after fields reading read flexible first number =

@@ -1,5 +1,6 @@
 -- A search among rows in the order of their locations finds the row at a location.
-use Rattle.std.proofs.Common.{◌≡◌, ◌∙◌, refl, sym, ap, subst, ℕ, zero, suc, ◌+◌, ◌<◌, ◌≤◌, Bool, true, false, List, [], ◌∷◌, length, Result, Ok, Err, Some, None, MatchResult, arith, inl, inr, lit≤, ◌⊎◌}
+use Rattle.std.proofs.Common.{◌≡◌, ◌∙◌, refl, sym, ap, subst, ℕ, zero, suc, ◌+◌, ◌<◌, ◌≤◌, Bool, true, false, List, [], ◌∷◌, length, Result, Ok, Err, Some}
+use Rattle.std.proofs.Common.{None, MatchResult, arith, inl, inr, lit≤, ◌⊎◌}
 use Rattle.std.specs.Prelude.{◌&&◌, ◌||◌, ◌==◌, nat_lt, slice_get}
 use Rattle.std.specs.List.Sorted.{IsBinarySearchResult, IsNonDecreasingBy, IsSearchInRange}
 use Rattle.std.specs.Ordering.{is_eq, is_lt, ordering_index}
@@ -19,12 +20,14 @@ use Rattle.wp_model.proofs.ReadStock.{before_trans}
 use Rattle.wp_tables.proofs.ByLocation.{before_by_cmp, location_cmp, same_by_cmp}
 
 -- the same by the first number and the rest
-lex_apart : (p q s : ℕ) (u v w : Bool) → (nat_lt p q || ((p == q) && u)) ≡ true → ((q == s) && v) ≡ true → (u ≡ true → v ≡ true → w ≡ false) → ((p == s) && w) ≡ false
+lex_apart : (p q s : ℕ) (u v w : Bool) → (nat_lt p q || ((p == q) && u)) ≡ true → ((q == s) && v) ≡ true → (u ≡ true → v ≡ true → w ≡ false)
+    → ((p == s) && w) ≡ false
 lex_apart p q s true true w first same rest = rw (rest refl refl) (grind (arith, nat_tests))
 lex_apart p q s u false w first same rest = grind (arith, nat_tests)
 lex_apart p q s false true w first same rest = grind (arith, nat_tests)
 
-lex_same : (p q s : ℕ) (u v w : Bool) → (nat_lt p q || ((p == q) && u)) ≡ true → ((s == q) && v) ≡ true → (u ≡ true → v ≡ true → w ≡ true) → (nat_lt p s || ((p == s) && w)) ≡ true
+lex_same : (p q s : ℕ) (u v w : Bool) → (nat_lt p q || ((p == q) && u)) ≡ true → ((s == q) && v) ≡ true → (u ≡ true → v ≡ true → w ≡ true)
+    → (nat_lt p s || ((p == s) && w)) ≡ true
 lex_same p q s true true w first same rest = rw (rest refl refl) (grind (arith, nat_tests))
 lex_same p q s u false w first same rest = grind (arith, nat_tests)
 lex_same p q s false true w first same rest = grind (arith, nat_tests)
@@ -77,7 +80,8 @@ same_flips : (a b : Location) → same_location a b ≡ same_location b a
 same_flips a b = rw (eq_flips a.aisle b.aisle, eq_flips a.slot b.slot, side_flips a.side b.side) refl
 
 -- the first row at a location, where the rows before it lie before it
-row_there : (rows : List StockRow) (n i : ℕ) (r : StockRow) (location : Location) → AreRising rows → slice_get rows i ≡ Some r → same_location r.location location ≡ true
+row_there : (rows : List StockRow) (n i : ℕ) (r : StockRow) (location : Location) → AreRising rows → slice_get rows i ≡ Some r
+    → same_location r.location location ≡ true
     → row_number_from n rows location ≡ Some (n + i)
 row_there [] n i r location rising at same = absurd (cc at)
 row_there (x ∷ rows) n zero r location rising at same =
@@ -91,7 +95,8 @@ row_there (x ∷ rows) n (suc i) r location rising at same =
     rw other (row_there rows (n + 1) i r location (λ i j s t at_i at_j less. rising (suc i) (suc j) s t at_i at_j (omega arith)) at same ∙ ap Some next)
 
 -- no row at a location
-no_row : (rows : List StockRow) (n : ℕ) (location : Location) → ((k : ℕ) (r : StockRow) → slice_get rows k ≡ Some r → same_location r.location location ≡ false) → row_number_from n rows location ≡ None
+no_row : (rows : List StockRow) (n : ℕ) (location : Location)
+    → ((k : ℕ) (r : StockRow) → slice_get rows k ≡ Some r → same_location r.location location ≡ false) → row_number_from n rows location ≡ None
 no_row [] n location others = refl
 no_row (x ∷ rows) n location others =
     let other = others zero x refl in
@@ -114,7 +119,8 @@ less_or_more k i = by_test (nat_lt k i) refl
     by_test false is = inr (grind (arith, nat_tests))
 
 -- the answers rise along the rows
-answers_rise : (cmp : Location → Location → Ordering) (agrees : (a b : Location) → cmp a b ≡ location_cmp a b) (rows : List StockRow) (location : Location) → AreRising rows
+answers_rise : (cmp : Location → Location → Ordering) (agrees : (a b : Location) → cmp a b ≡ location_cmp a b) (rows : List StockRow) (location : Location)
+    → AreRising rows
     → IsNonDecreasingBy (λ row. ordering_index (cmp row.location location)) rows
 answers_rise cmp agrees rows location rising i j d ordered below =
     let (x, at_x) = within_some rows i (omega arith) in
@@ -136,12 +142,15 @@ answers_rise cmp agrees rows location rising i j d ordered below =
     ])
 
 -- an answer that isn't `Equal` tells of another location
-not_same : (cmp : Location → Location → Ordering) (agrees : (a b : Location) → cmp a b ≡ location_cmp a b) (a b : Location) (o : Ordering) → cmp a b ≡ o → is_eq o ≡ false → same_location a b ≡ false
+not_same : (cmp : Location → Location → Ordering) (agrees : (a b : Location) → cmp a b ≡ location_cmp a b) (a b : Location) (o : Ordering) → cmp a b ≡ o
+    → is_eq o ≡ false → same_location a b ≡ false
 not_same cmp agrees a b o answer other = same_flips a b ∙ sym (same_by_cmp a b) ∙ ap is_eq (sym (agrees a b) ∙ answer) ∙ other
 
 -- the answer of a search
-pub searched : (cmp : Location → Location → Ordering) (agrees : (a b : Location) → cmp a b ≡ location_cmp a b) (rows : List StockRow) (location : Location) (r : Result ℕ ℕ) → AreRising rows
-    → IsSearchInRange r (length rows) → IsBinarySearchResult (λ row. cmp row.location location) rows r → MatchResult r (λ i. Some i ≡ row_number_from 0 rows location) (λ i. None ≡ row_number_from 0 rows location)
+pub searched : (cmp : Location → Location → Ordering) (agrees : (a b : Location) → cmp a b ≡ location_cmp a b) (rows : List StockRow) (location : Location)
+    (r : Result ℕ ℕ) → AreRising rows
+    → IsSearchInRange r (length rows) → IsBinarySearchResult (λ row. cmp row.location location) rows r
+        → MatchResult r (λ i. Some i ≡ row_number_from 0 rows location) (λ i. None ≡ row_number_from 0 rows location)
 searched cmp agrees rows location (Ok i) rising within is =
     let (x, at) = within_some rows i within in
     let got = get_or_from_slice_get rows i x x at in

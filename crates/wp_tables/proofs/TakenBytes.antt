@@ -1,7 +1,8 @@
 -- A record takes bytes of a text.
 use Rattle.std.proofs.Common.{◌≡◌, refl, subst, ℕ, ◌<◌, Bool, true, false, List, [], ◌∷◌, ◌++◌, length, Option, Some, None, arith, inl, inr, ◌⊎◌}
 use Rattle.std.specs.Prelude.{if◌then◌else◌, ◌==◌, ◌&&◌}
-use Rattle.csv.specs.Machine.{Read, carriage_return, ends_at_end, ends_with, field_after, fields_after, in_field, is_end, next_record, start_field, start_record, step}
+use Rattle.csv.specs.Machine.{Read, carriage_return, ends_at_end, ends_with, field_after, fields_after, in_field, is_end, next_record, start_field}
+use Rattle.csv.specs.Machine.{start_record, step}
 use Rattle.csv.specs.declared.parser.Action.{Action}
 use Rattle.csv.specs.declared.parser.Action.TheVariants as act
 use Rattle.csv.specs.Reading.{default_config}
@@ -55,7 +56,8 @@ took : {A : Type 0} (b : Bool) (x y : A) (o : Option A) → (if b then Some x el
 took true x y o e = inl (refl, cc e)
 took false x y o e = inr (refl, e)
 
-record_at_end : (s : State) (fields : List (List ℕ)) (field : List ℕ) (c : ℕ) (p : Read) → next_record default_config s fields field [] ≡ Some p → TakesBytes (c ∷ []) p
+record_at_end : (s : State) (fields : List (List ℕ)) (field : List ℕ) (c : ℕ) (p : Read) → next_record default_config s fields field [] ≡ Some p
+    → TakesBytes (c ∷ []) p
 unfolding next_record
 record_at_end s fields field c p e =
     elim (took (ends_at_end s) (fields ++ (field ∷ []), st.StartRecord, []) p None e) [
@@ -68,13 +70,15 @@ pub record_takes : (s : State) (fields : List (List ℕ)) (field : List ℕ) (c 
 unfolding next_record
 record_takes s fields field c [] p e =
     let next = step default_config s c in
-    elim (took (is_end next.1) (fields_after next.1 fields field, next.0, []) p (next_record default_config next.0 (fields_after next.1 fields field) (field_after next.1 c field) []) e) [
+    elim (took (is_end next.1) (fields_after next.1 fields field, next.0, []) p
+        (next_record default_config next.0 (fields_after next.1 fields field) (field_after next.1 c field) []) e) [
       | inl found ↦ subst (TakesBytes (c ∷ [])) found.1 (omega arith, rests_after_byte s c found.0)
       | inr more ↦ record_at_end next.0 (fields_after next.1 fields field) (field_after next.1 c field) c p more.1
     ]
 record_takes s fields field c (d ∷ rest) p e =
     let next = step default_config s c in
-    elim (took (is_end next.1) (fields_after next.1 fields field, next.0, d ∷ rest) p (next_record default_config next.0 (fields_after next.1 fields field) (field_after next.1 c field) (d ∷ rest)) e) [
+    elim (took (is_end next.1) (fields_after next.1 fields field, next.0, d ∷ rest) p
+        (next_record default_config next.0 (fields_after next.1 fields field) (field_after next.1 c field) (d ∷ rest)) e) [
       | inl found ↦ subst (TakesBytes (c ∷ d ∷ rest)) found.1 (omega arith, rests_after_byte s c found.0)
       | inr more ↦
           let (shorter, rests) = record_takes next.0 (fields_after next.1 fields field) (field_after next.1 c field) d rest p more.1 in

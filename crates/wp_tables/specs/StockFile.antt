@@ -22,7 +22,8 @@ is_inside layout location = nat_le 1 location.aisle && nat_le location.aisle lay
 -- the location of a further row: it is in the layout, and no row lies there
 abbrev pub free_location : Layout → Stock → List ℕ → Result Location Why
 free_location layout stock field = and_then (location_read field)
-    (λ location. if is_inside layout location then (if list_any (lies_at location) stock.rows then Err why.LocationTwice else Ok location) else Err why.UnknownLocation)
+    (λ location. if is_inside layout location then (if list_any (lies_at location) stock.rows then Err why.LocationTwice else Ok location) else Err
+        why.UnknownLocation)
 
 -- the article of a further row
 abbrev pub article_with_room : Stock → List ℕ → Result (List ℕ) Why

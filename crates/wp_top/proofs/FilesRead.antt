@@ -27,7 +27,8 @@ Counts = List ℕ → ℕ
 pub held_before : (old new : Holding) (name text : List ℕ) → new name ≡ old name → IsHeld new name text → IsHeld old name text
 held_before old new name text same held = let P : Option (List ℕ) → Type 0 = λ o. IfSome o (λ told. text ≡ told) in subst P same held
 
-first_of : (first : Result Said Refusal) (xs ys : List ReadFile) → ((said : Said) → said_after said (xs ++ ys) ≡ and_then (said_after said xs) (λ more. said_after more ys))
+first_of : (first : Result Said Refusal) (xs ys : List ReadFile)
+    → ((said : Said) → said_after said (xs ++ ys) ≡ and_then (said_after said xs) (λ more. said_after more ys))
     → and_then first (λ m. said_after m (xs ++ ys)) ≡ and_then (and_then first (λ m. said_after m xs)) (λ more. said_after more ys)
 first_of (Ok m) xs ys more = more m
 first_of (Err why) xs ys more = refl
@@ -46,7 +47,8 @@ pub nothing_read : (holds : Holding) → HaveSaid holds [] nothing_said
 nothing_read holds = record { read = []; are = refl; held = All-nil (λ (r : ReadFile). IsHeld holds r.file.name r.text); say = refl }
 
 -- one file more
-pub have_next : (holds : Holding) (files : List File) (said more : Said) (kind : Input) (name text : List ℕ) → HaveSaid holds files said → IsHeld holds name text → said_with said kind text ≡ Ok more
+pub have_next : (holds : Holding) (files : List File) (said more : Said) (kind : Input) (name text : List ℕ) → HaveSaid holds files said
+    → IsHeld holds name text → said_with said kind text ≡ Ok more
     → HaveSaid holds (files ++ file_of kind name ∷ []) more
 have_next holds files said more kind name text so_far held is =
     let next : ReadFile = record { file = file_of kind name; text = text } in
@@ -58,7 +60,8 @@ have_next holds files said more kind name text so_far held is =
     }
 
 -- a stop among the first files is one among all
-pub stops_among_more : (holds : Holding) (files more : List File) (before after : Counts) (s : Stop) → StopsAmong holds files before after s → StopsAmong holds (files ++ more) before after s
+pub stops_among_more : (holds : Holding) (files more : List File) (before after : Counts) (s : Stop) → StopsAmong holds files before after s
+    → StopsAmong holds (files ++ more) before after s
 stops_among_more holds files more before after (stop.Complaint (complaint.Words why)) stops = absurd stops
 stops_among_more holds files more before after (stop.Complaint (complaint.Refused kind why)) stops = record {
   before = stops.before;
@@ -84,11 +87,15 @@ stops_among_more holds files more before after (stop.Complaint (complaint.Wrong 
 stops_among_more holds files more before after stop.Memory stops = tt
 
 -- where nothing came of a file, a job stops at it
-pub stops_there : {A : Type 0} (says : List ℕ → Result A Refusal) (holds held : Holding) (files later : List File) (said : Said) (kind : Input) (name : List ℕ) (before first last after : Counts) (s : Stop)
-    → ((text : List ℕ) (why : Refusal) → says text ≡ Err why → said_with said kind text ≡ Err why) → SameBytes holds held → HaveSaid holds files said → NoneFalls before first → NoneFalls last after
+pub stops_there : {A : Type 0} (says : List ℕ → Result A Refusal) (holds held : Holding) (files later : List File) (said : Said) (kind : Input)
+    (name : List ℕ) (before first last after : Counts) (s : Stop)
+    → ((text : List ℕ) (why : Refusal) → says text ≡ Err why → said_with said kind text ≡ Err why) → SameBytes holds held → HaveSaid holds files said
+        → NoneFalls before first → NoneFalls last after
     → IsUnsaid says held name (first name) (last name) kind s → StopsAmong holds (files ++ file_of kind name ∷ later) before after s
-stops_there says holds held files later said kind name before first last after (stop.Complaint (complaint.Words why)) refuses same so_far up to nothing = absurd nothing
-stops_there says holds held files later said kind name before first last after (stop.Complaint (complaint.Refused f why)) refuses same so_far up to (is, text, here, none) = record {
+stops_there says holds held files later said kind name before first last after (stop.Complaint (complaint.Words why)) refuses same so_far up to nothing =
+    absurd nothing
+stops_there says holds held files later said kind name before first last after (stop.Complaint (complaint.Refused f why)) refuses same so_far up to
+    (is, text, here, none) = record {
   before = files;
   name = name;
   later = later;
@@ -99,7 +106,8 @@ stops_there says holds held files later said kind name before first last after (
   held = held_before holds held name text (same name) here;
   refused = ap (λ k. said_with said k text) is ∙ refuses text why none;
 }
-stops_there says holds held files later said kind name before first last after (stop.Complaint (complaint.Fault f)) refuses same so_far up to (is, less) = record {
+stops_there says holds held files later said kind name before first last after (stop.Complaint (complaint.Fault f)) refuses same so_far up to (is, less) =
+    record {
   before = files;
   name = name;
   later = later;
@@ -108,13 +116,17 @@ stops_there says holds held files later said kind name before first last after (
   accepted = so_far;
   rose = omega (arith, less, up name, to name);
 }
-stops_there says holds held files later said kind name before first last after (stop.Complaint (complaint.Wrong found)) refuses same so_far up to nothing = absurd nothing
+stops_there says holds held files later said kind name before first last after (stop.Complaint (complaint.Wrong found)) refuses same so_far up to nothing =
+    absurd nothing
 stops_there says holds held files later said kind name before first last after stop.Memory refuses same so_far up to nothing = tt
 
 -- where something came of it, the files say more
-pub say_there : {A : Type 0} (says : List ℕ → Result A Refusal) (holds held : Holding) (files : List File) (said more : Said) (kind : Input) (name : List ℕ) (x : A)
-    → ((text : List ℕ) → says text ≡ Ok x → said_with said kind text ≡ Ok more) → SameBytes holds held → HaveSaid holds files said → IsSaid says held name x → HaveSaid holds (files ++ file_of kind name ∷ []) more
-say_there says holds held files said more kind name x takes same so_far (text, here, is) = have_next holds files said more kind name text so_far (held_before holds held name text (same name) here) (takes text is)
+pub say_there : {A : Type 0} (says : List ℕ → Result A Refusal) (holds held : Holding) (files : List File) (said more : Said) (kind : Input) (name : List ℕ)
+    (x : A)
+    → ((text : List ℕ) → says text ≡ Ok x → said_with said kind text ≡ Ok more) → SameBytes holds held → HaveSaid holds files said → IsSaid says held name x
+        → HaveSaid holds (files ++ file_of kind name ∷ []) more
+say_there says holds held files said more kind name x takes same so_far (text, here, is) =
+    have_next holds files said more kind name text so_far (held_before holds held name text (same name) here) (takes text is)
 
 -- no count falls where none is touched
 pub none_fell : (counts : Counts) → NoneFalls counts counts
@@ -132,22 +144,28 @@ same_twice old held new p q = λ name. q name ∙ p name
 abbrev pub layout_file : List ℕ → List File
 layout_file layout = file_of input.Layout layout ∷ []
 
-pub after_layout : (holds : Holding) (layout : List ℕ) (space : Layout) → IsSaid layout_in holds layout space → HaveSaid holds (layout_file layout) (record nothing_said { layout = space })
+pub after_layout : (holds : Holding) (layout : List ℕ) (space : Layout) → IsSaid layout_in holds layout space
+    → HaveSaid holds (layout_file layout) (record nothing_said { layout = space })
 after_layout holds layout space is =
-    say_there layout_in holds holds [] nothing_said (record nothing_said { layout = space }) input.Layout layout space (λ text said. rw said refl) (λ name. refl) (nothing_read holds) is
+    say_there layout_in holds holds [] nothing_said (record nothing_said { layout = space }) input.Layout layout space (λ text said. rw said refl)
+        (λ name. refl) (nothing_read holds) is
 
 -- and the stock file
 abbrev pub stock_files : List ℕ → List ℕ → List File
 stock_files layout stock = file_of input.Layout layout ∷ file_of input.Stock stock ∷ []
 
-pub after_stock : (holds held : Holding) (layout stock : List ℕ) (space : Layout) (rows : Stock) → SameBytes holds held → HaveSaid holds (layout_file layout) (record nothing_said { layout = space }) → IsSaid (stock_in space) held stock rows
+pub after_stock : (holds held : Holding) (layout stock : List ℕ) (space : Layout) (rows : Stock) → SameBytes holds held
+    → HaveSaid holds (layout_file layout) (record nothing_said { layout = space }) → IsSaid (stock_in space) held stock rows
     → HaveSaid holds (stock_files layout stock) (opening_said space (record { stock = rows; orders = [] }))
 after_stock holds held layout stock space rows same so_far is =
-    say_there (stock_in space) holds held (layout_file layout) (record nothing_said { layout = space }) (opening_said space (record { stock = rows; orders = [] })) input.Stock stock rows (λ text said. rw said refl) same so_far is
+    say_there (stock_in space) holds held (layout_file layout) (record nothing_said { layout = space })
+        (opening_said space (record { stock = rows; orders = [] })) input.Stock stock rows (λ text said. rw said refl) same so_far is
 
 -- and the order file
 pub after_orders : (holds held : Holding) (layout stock orders : List ℕ) (space : Layout) (opening : Opening) → SameBytes holds held
-    → HaveSaid holds (stock_files layout stock) (opening_said space (record { stock = opening.stock; orders = [] })) → IsSaid (orders_in opening.stock) held orders opening.orders
+    → HaveSaid holds (stock_files layout stock) (opening_said space (record { stock = opening.stock; orders = [] }))
+        → IsSaid (orders_in opening.stock) held orders opening.orders
     → HaveSaid holds (opening_files layout stock orders) (opening_said space opening)
 after_orders holds held layout stock orders space opening same so_far is =
-    say_there (orders_in opening.stock) holds held (stock_files layout stock) (opening_said space (record { stock = opening.stock; orders = [] })) (opening_said space opening) input.Orders orders opening.orders (λ text said. rw said refl) same so_far is
+    say_there (orders_in opening.stock) holds held (stock_files layout stock) (opening_said space (record { stock = opening.stock; orders = [] }))
+        (opening_said space opening) input.Orders orders opening.orders (λ text said. rw said refl) same so_far is

@@ -23,7 +23,8 @@ use Rattle.wp_top.specs.declared.input.Input.TheVariants as input
 use Rattle.wp_words.specs.Words.{AuditNames, JobNames, PlanNames, audit, plan}
 
 -- a stop among a job's files is one of the job
-stop_of : (holds : Holding) (job : JobNames) (before after : Counts) (s : Stop) → StopsAmong holds (files_of job) before after s → IsStop holds (Ok job) before after s
+stop_of : (holds : Holding) (job : JobNames) (before after : Counts) (s : Stop) → StopsAmong holds (files_of job) before after s
+    → IsStop holds (Ok job) before after s
 stop_of holds job before after (stop.Complaint (complaint.Words why)) stops = absurd stops
 stop_of holds job before after (stop.Complaint (complaint.Refused kind why)) stops = (job, refl, stops)
 stop_of holds job before after (stop.Complaint (complaint.Fault kind)) stops = (job, refl, stops)
@@ -31,9 +32,11 @@ stop_of holds job before after (stop.Complaint (complaint.Wrong found)) stops = 
 stop_of holds job before after stop.Memory stops = tt
 
 -- a stop among the first three files
-pub stop_at_opening : (holds : Holding) (job : JobNames) (files : List File) (last : File) (before after : Counts) (s : Stop) → files_of job ≡ files ++ last ∷ [] → StopsAmong holds files before after s → IsStop holds (Ok job) before after s
+pub stop_at_opening : (holds : Holding) (job : JobNames) (files : List File) (last : File) (before after : Counts) (s : Stop)
+    → files_of job ≡ files ++ last ∷ [] → StopsAmong holds files before after s → IsStop holds (Ok job) before after s
 stop_at_opening holds job files last before after s are stops =
-    stop_of holds job before after s (subst (λ fs. StopsAmong holds fs before after s) (sym are) (stops_among_more holds files (last ∷ []) before after s stops))
+    stop_of holds job before after s (subst (λ fs. StopsAmong holds fs before after s) (sym are)
+        (stops_among_more holds files (last ∷ []) before after s stops))
 
 -- nothing came of the desk file
 pub stop_at_desks : (holds held : Holding) (names : PlanNames) (before first after : Counts) (layout : Layout) (opening : Opening) (s : Stop)
@@ -41,7 +44,9 @@ pub stop_at_desks : (holds held : Holding) (names : PlanNames) (before first aft
     → IsUnsaid scripts_in held names.desks (first names.desks) (after names.desks) input.Desks s → IsStop holds (Ok (plan names)) before after s
 stop_at_desks holds held names before first after layout opening s same said so_far nothing =
     stop_of holds (plan names) before after s
-    (stops_there scripts_in holds held (opening_files names.layout names.stock names.orders) [] (opening_said layout opening) input.Desks names.desks before first after after s (λ text why none. rw none refl) same said so_far (none_fell after) nothing)
+    (stops_there scripts_in holds held (opening_files names.layout names.stock names.orders) []
+        (opening_said layout opening) input.Desks names.desks before first after after s (λ text why none. rw none refl) same said so_far
+        (none_fell after) nothing)
 
 -- nothing came of the journal
 stop_at_journal : (holds held : Holding) (names : AuditNames) (before first after : Counts) (layout : Layout) (opening : Opening) (s : Stop)
@@ -49,16 +54,20 @@ stop_at_journal : (holds held : Holding) (names : AuditNames) (before first afte
     → IsUnsaid text_in held names.journal (first names.journal) (after names.journal) input.Journal s → IsStop holds (Ok (audit names)) before after s
 stop_at_journal holds held names before first after layout opening s same said so_far nothing =
     stop_of holds (audit names) before after s
-    (stops_there text_in holds held (opening_files names.layout names.stock names.orders) [] (opening_said layout opening) input.Journal names.journal before first after after s (λ text why none. rw none refl) same said so_far (none_fell after) nothing)
+    (stops_there text_in holds held (opening_files names.layout names.stock names.orders) []
+        (opening_said layout opening) input.Journal names.journal before first after after s (λ text why none. rw none refl) same said so_far
+        (none_fell after) nothing)
 
 -- what the files of an audit say
 abbrev with_journal : Layout → Opening → List ℕ → Said
 with_journal layout opening text = record (opening_said layout opening) { journal = text }
 
-audit_files : (holds held : Holding) (names : AuditNames) (layout : Layout) (opening : Opening) (text : List ℕ) → SameBytes holds held → HaveSaid holds (opening_files names.layout names.stock names.orders) (opening_said layout opening)
+audit_files : (holds held : Holding) (names : AuditNames) (layout : Layout) (opening : Opening) (text : List ℕ) → SameBytes holds held
+    → HaveSaid holds (opening_files names.layout names.stock names.orders) (opening_said layout opening)
     → IsRead held names.journal text → HaveSaid holds (files_of (audit names)) (with_journal layout opening text)
 audit_files holds held names layout opening text same said read =
-    have_next holds (opening_files names.layout names.stock names.orders) (opening_said layout opening) (with_journal layout opening text) input.Journal names.journal text said
+    have_next holds (opening_files names.layout names.stock names.orders) (opening_said layout opening)
+        (with_journal layout opening text) input.Journal names.journal text said
     (held_before holds held names.journal text (same names.journal) read.held) (rw read.short refl)
 
 -- the journal isn't right
@@ -81,12 +90,15 @@ stop_at_fault holds held names before after layout opening text stop.Memory same
 pub stop_at_finding : (holds held : Holding) (names : AuditNames) (before first after : Counts) (layout : Layout) (opening : Opening) (s : Stop)
     → SameBytes holds held → HaveSaid holds (opening_files names.layout names.stock names.orders) (opening_said layout opening) → NoneFalls before first
     → StopsFinding held opening names.journal (first names.journal) (after names.journal) s → IsStop holds (Ok (audit names)) before after s
-stop_at_finding holds held names before first after layout opening s same said so_far (inl nothing) = stop_at_journal holds held names before first after layout opening s same said so_far nothing
-stop_at_finding holds held names before first after layout opening s same said so_far (inr (text, read, wrong)) = stop_at_fault holds held names before after layout opening text s same said read wrong
+stop_at_finding holds held names before first after layout opening s same said so_far (inl nothing) =
+    stop_at_journal holds held names before first after layout opening s same said so_far nothing
+stop_at_finding holds held names before first after layout opening s same said so_far (inr (text, read, wrong)) =
+    stop_at_fault holds held names before after layout opening text s same said read wrong
 
 -- the output of a plan
 pub plan_is : (holds held : Holding) (names : PlanNames) (layout : Layout) (opening : Opening) (output : List ℕ)
-    → SameBytes holds held → HaveSaid holds (opening_files names.layout names.stock names.orders) (opening_said layout opening) → IsReadOpening opening → IsDay held opening names.desks output
+    → SameBytes holds held → HaveSaid holds (opening_files names.layout names.stock names.orders) (opening_said layout opening) → IsReadOpening opening
+        → IsDay held opening names.desks output
     → IsOutput holds (Ok (plan names)) output
 plan_is holds held names layout opening output same said read day =
     let script = day.script in
@@ -97,7 +109,8 @@ plan_is holds held names layout opening output same said read day =
       job = plan names;
       asked_for = refl;
       said = all;
-      accepted = say_there scripts_in holds held (opening_files names.layout names.stock names.orders) (opening_said layout opening) all input.Desks names.desks (script ∷ []) (λ text is. rw is refl) same said day.desk_file;
+      accepted = say_there scripts_in holds held (opening_files names.layout names.stock names.orders)
+          (opening_said layout opening) all input.Desks names.desks (script ∷ []) (λ text is. rw is refl) same said day.desk_file;
       comes = record {
         history = history;
         starts = begun;
@@ -110,7 +123,8 @@ plan_is holds held names layout opening output same said read day =
 
 -- the output of an audit
 pub audit_is : (holds held : Holding) (names : AuditNames) (layout : Layout) (opening : Opening) (entries : ℕ) (output : List ℕ)
-    → SameBytes holds held → HaveSaid holds (opening_files names.layout names.stock names.orders) (opening_said layout opening) → IsRightJournal held opening names.journal entries
+    → SameBytes holds held → HaveSaid holds (opening_files names.layout names.stock names.orders) (opening_said layout opening)
+        → IsRightJournal held opening names.journal entries
     → output ≡ audit_line entries → IsOutput holds (Ok (audit names)) output
 audit_is holds held names layout opening entries output same said right is = record {
   job = audit names;

@@ -21,7 +21,8 @@ length-zeros n = length-replicate n 0
 is_refused : (text : List ℕ) → MAX_FILE_BYTES < length text → text_in text ≡ Err refusal.TooLong
 is_refused text long = rw (above MAX_FILE_BYTES (length text) long) refl
 
-long_told : (holds : List ℕ → Option (List ℕ)) (name : List ℕ) (o : Option (List ℕ)) (P : List ℕ → Type 0) → holds name ≡ o → IfSome o (λ told. IsTooLong told × P told)
+long_told : (holds : List ℕ → Option (List ℕ)) (name : List ℕ) (o : Option (List ℕ)) (P : List ℕ → Type 0) → holds name ≡ o
+    → IfSome o (λ told. IsTooLong told × P told)
     → (text : List ℕ) × IsHeld holds name text × (text_in text ≡ Err refusal.TooLong)
 long_told holds name None P e long = (zeros 16777217, rw e tt, is_refused (zeros 16777217) (omega (arith, length-zeros 16777217)))
 long_told holds name (Some told) P e long = (told, rw e refl, is_refused told long.0)

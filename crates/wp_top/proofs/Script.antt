@@ -1,5 +1,6 @@
 -- A script is answered command by command.
-use Rattle.std.proofs.Common.{◌≡◌, ◌∙◌, refl, sym, ap, ℕ, zero, suc, ◌+◌, ◌-◌, ◌≤◌, Bool, true, false, List, [], ◌∷◌, ◌++◌, length, take, Some, slice_get, append_assoc, arith}
+use Rattle.std.proofs.Common.{◌≡◌, ◌∙◌, refl, sym, ap, ℕ, zero, suc, ◌+◌, ◌-◌, ◌≤◌, Bool, true, false, List, [], ◌∷◌, ◌++◌, length, take, Some, slice_get}
+use Rattle.std.proofs.Common.{append_assoc, arith}
 use Rattle.std.specs.Prelude.{◌==◌, if◌then◌else◌}
 use Rattle.std.proofs.lemmas.Bool.Decides.{nat_tests}
 use Rattle.std.proofs.lemmas.Option.{slice_get_past}
@@ -28,27 +29,33 @@ next_of history desk (first ∷ commands) (suc i) command is = next_of (answered
 -- one more command of the list
 pub answered_all-next : (history : History) (desk : ℕ) (commands : List Command) (i : ℕ) (command : Command) → slice_get commands i ≡ Some command
     → answered_all history desk (take (i + 1) commands) ≡ answered (answered_all history desk (take i commands)) desk command
-answered_all-next history desk commands i command is = ap (λ n. answered_all history desk (take n commands)) (sym (one_more i)) ∙ next_of history desk commands i command is
+answered_all-next history desk commands i command is = ap (λ n. answered_all history desk (take n commands)) (sym (one_more i))
+    ∙ next_of history desk commands i command is
 
-onto_part : (test : Bool) (command : Command) (xs ys zs : List Command) → xs ≡ ys ++ zs → (if test then command ∷ xs else xs) ≡ (if test then command ∷ ys else ys) ++ zs
+onto_part : (test : Bool) (command : Command) (xs ys zs : List Command) → xs ≡ ys ++ zs
+    → (if test then command ∷ xs else xs) ≡ (if test then command ∷ ys else ys) ++ zs
 onto_part true command xs ys zs same = ap (λ cs. command ∷ cs) same
 onto_part false command xs ys zs same = same
 
 part_more : (desk : ℕ) (entries more : List Entry) → part_of desk (entries ++ more) ≡ part_of desk entries ++ part_of desk more
 part_more desk [] more = refl
-part_more desk (entry ∷ entries) more = onto_part (entry.desk == desk) entry.command (part_of desk (entries ++ more)) (part_of desk entries) (part_of desk more) (part_more desk entries more)
+part_more desk (entry ∷ entries) more = onto_part (entry.desk == desk) entry.command (part_of desk (entries ++ more)) (part_of desk entries)
+    (part_of desk more) (part_more desk entries more)
 
 none_either_way : (test : Bool) → ◌≡◌ {A = List Command} (if test then [] else []) []
 none_either_way true = refl
 none_either_way false = refl
 
-by_desk : (test : Bool) (command : Command) (commands : List Command) → (if test then command ∷ [] else []) ++ (if test then commands else []) ≡ (if test then command ∷ commands else [])
+by_desk : (test : Bool) (command : Command) (commands : List Command)
+    → (if test then command ∷ [] else []) ++ (if test then commands else []) ≡ (if test then command ∷ commands else [])
 by_desk true command commands = refl
 by_desk false command commands = refl
 
 -- what was answered are the commands, all of the one desk
-part_answered : (history : History) (desk : ℕ) (commands : List Command) (other : ℕ) → part_of other (answered_all history desk commands).entries ≡ part_of other history.entries ++ (if desk == other then commands else [])
-part_answered history desk [] other = sym (ap (λ cs. part_of other history.entries ++ cs) (none_either_way (desk == other)) ∙ append-nil (part_of other history.entries))
+part_answered : (history : History) (desk : ℕ) (commands : List Command) (other : ℕ)
+    → part_of other (answered_all history desk commands).entries ≡ part_of other history.entries ++ (if desk == other then commands else [])
+part_answered history desk [] other = sym (ap (λ cs. part_of other history.entries ++ cs) (none_either_way (desk == other))
+    ∙ append-nil (part_of other history.entries))
 part_answered history desk (command ∷ commands) other =
     part_answered (answered history desk command) desk commands other
     ∙ (ap (λ cs. cs ++ (if desk == other then commands else [])) (part_more other history.entries (next_entry history desk command ∷ []))
@@ -69,7 +76,8 @@ pub parts_are : (opening : Opening) (script : List Command) (desk : ℕ) → par
 parts_are opening script desk = part_answered (opened opening) 1 script desk ∙ only_script script desk
 
 -- there is an entry for each command
-pub entries_answered : (history : History) (desk : ℕ) (commands : List Command) → length (answered_all history desk commands).entries ≡ length history.entries + length commands
+pub entries_answered : (history : History) (desk : ℕ) (commands : List Command)
+    → length (answered_all history desk commands).entries ≡ length history.entries + length commands
 entries_answered history desk [] = omega arith
 entries_answered history desk (command ∷ commands) =
     omega (arith, entries_answered (answered history desk command) desk commands, pushed history.entries (next_entry history desk command))
@@ -79,7 +87,8 @@ entries_answered history desk (command ∷ commands) =
     pushed (first ∷ entries) entry = omega (arith, pushed entries entry)
 
 outcomes-append : (opening : Opening) (number : ℕ) (state : State) (entries more : List Entry)
-    → outcomes_from opening number state (entries ++ more) ≡ outcomes_from opening number state entries ++ outcomes_from opening (number + length entries) (state_from opening state entries) more
+    → outcomes_from opening number state (entries ++ more) ≡ outcomes_from opening number state entries
+        ++ outcomes_from opening (number + length entries) (state_from opening state entries) more
 outcomes-append opening number state [] more = ap (λ n. outcomes_from opening n state more) (none number)
   where
     none : (n : ℕ) → n ≡ n + 0
@@ -87,7 +96,8 @@ outcomes-append opening number state [] more = ap (λ n. outcomes_from opening n
 outcomes-append opening number state (entry ∷ entries) more =
     ap (λ os. outcome_of number state entry.command (step opening state entry.command) ∷ os)
     (outcomes-append opening (number + 1) (step opening state entry.command).state entries more
-    ∙ ap (λ n. outcomes_from opening (number + 1) (step opening state entry.command).state entries ++ outcomes_from opening n (state_from opening (step opening state entry.command).state entries) more)
+    ∙ ap (λ n. outcomes_from opening (number + 1) (step opening state entry.command).state entries
+        ++ outcomes_from opening n (state_from opening (step opening state entry.command).state entries) more)
     (shift number (length entries)))
   where
     shift : (n m : ℕ) → (n + 1) + m ≡ n + suc m
@@ -98,7 +108,8 @@ zero_more n = omega arith
 
 -- one more answer, and the refill that its step tells
 pub refills_of-answered : (history : History) (desk : ℕ) (command : Command)
-    → refills_of (answered history desk command) ≡ refills_of history ++ refill_in (outcome_of (length history.entries) (state_after history) command (step history.opening (state_after history) command))
+    → refills_of (answered history desk command) ≡ refills_of history
+        ++ refill_in (outcome_of (length history.entries) (state_after history) command (step history.opening (state_after history) command))
 refills_of-answered history desk command =
     let start = opening_state history.opening in
     let entry = next_entry history desk command in
@@ -106,4 +117,5 @@ refills_of-answered history desk command =
     ap (flat_map refill_in) (outcomes-append history.opening 0 start history.entries (entry ∷ []))
     ∙ (flat_map-append refill_in told _
     ∙ ap (λ refills. flat_map refill_in told ++ refills)
-    (append-nil _ ∙ ap (λ n. refill_in (outcome_of n (state_after history) command (step history.opening (state_after history) command))) (zero_more (length history.entries))))
+    (append-nil _ ∙ ap (λ n. refill_in (outcome_of n (state_after history) command (step history.opening (state_after history) command)))
+        (zero_more (length history.entries))))

@@ -1,5 +1,6 @@
 -- A refill takes from rows of the stock.
-use Rattle.std.proofs.Common.{◌≡◌, sym, subst, ℕ, zero, suc, ◌+◌, ◌-◌, ◌<◌, ◌==◌, Bool, true, false, List, [], ◌∷◌, length, Option, Some, None, if◌then◌else◌, arith}
+use Rattle.std.proofs.Common.{◌≡◌, sym, subst, ℕ, zero, suc, ◌+◌, ◌-◌, ◌<◌, ◌==◌, Bool, true, false, List, [], ◌∷◌, length, Option, Some, None, if◌then◌else◌}
+use Rattle.std.proofs.Common.{arith}
 use Rattle.std.specs.List.{All, flat_map}
 use Rattle.std.specs.Option.{option_map_or}
 use Rattle.std.proofs.lemmas.List.Concat.{flat_map-cons}
@@ -25,19 +26,22 @@ use Rattle.wp_top.specs.Refills.{outcomes_from, refill_in}
 abbrev pub IsWithin : ℕ → Refill → Type 0
 IsWithin rows refill = All (λ hold. hold.row < rows) refill.holds
 
-one_hold : (rows row order units : ℕ) (b : Bool) → row < rows → All (λ (h : Hold). h.row < rows) (if b then [] else record { order = order; row = row; quantity = units } ∷ [])
+one_hold : (rows row order units : ℕ) (b : Bool) → row < rows
+    → All (λ (h : Hold). h.row < rows) (if b then [] else record { order = order; row = row; quantity = units } ∷ [])
 one_hold rows row order units true within = All-nil (λ (h : Hold). h.row < rows)
 one_hold rows row order units false within = All-cons (λ (h : Hold). h.row < rows) _ [] within (All-nil (λ (h : Hold). h.row < rows))
 
 order_within : (order rows most : ℕ) (units : ℕ → ℕ) → rows < suc most → All (λ (h : Hold). h.row < most) (order_held_list order rows units)
 order_within order zero most units few = All-nil (λ (h : Hold). h.row < most)
 order_within order (suc row) most units few =
-    All-append (λ (h : Hold). h.row < most) (order_held_list order row units) _ (order_within order row most units (omega arith)) (one_hold most row order (units row) (units row == 0) (omega arith))
+    All-append (λ (h : Hold). h.row < most) (order_held_list order row units) _ (order_within order row most units (omega arith))
+        (one_hold most row order (units row) (units row == 0) (omega arith))
 
 list_within : (orders rows : ℕ) (held : ℕ → ℕ → ℕ) → All (λ (h : Hold). h.row < rows) (held_list orders rows held)
 list_within zero rows held = All-nil (λ (h : Hold). h.row < rows)
 list_within (suc order) rows held =
-    All-append (λ (h : Hold). h.row < rows) (held_list order rows held) _ (list_within order rows held) (order_within order rows rows (held order) (omega arith))
+    All-append (λ (h : Hold). h.row < rows) (held_list order rows held) _ (list_within order rows held)
+        (order_within order rows rows (held order) (omega arith))
 
 abbrev Within : ℕ → Outcome → Type 0
 Within rows told = All (IsWithin rows) (refill_in told)
@@ -46,16 +50,21 @@ none_within : (rows : ℕ) → All (IsWithin rows) []
 none_within rows = All-nil (IsWithin rows)
 
 by_found : (n number rows : ℕ) (before after : State) (name order : List ℕ) (found : Option (ℕ × Wave)) → length after.rows ≡ n
-    → Within n (option_map_or (λ (found : ℕ × Wave). outcome.Refilled (record { number = number; wave = name; order = order; holds = held_list (length found.1.orders) (length after.rows) (λ o r. after.held found.0 o r - before.held found.0 o r) })) found outcome.Plain)
+    → Within n (option_map_or (λ (found : ℕ × Wave). outcome.Refilled
+        (record { number = number; wave = name; order = order;
+        holds = held_list (length found.1.orders) (length after.rows) (λ o r. after.held found.0 o r - before.held found.0 o r) })) found outcome.Plain)
 by_found n number rows before after name order None same = none_within n
 by_found n number rows before after name order (Some found) same =
     All-cons (IsWithin n) _ []
-    (subst (λ m. All (λ (h : Hold). h.row < m) (held_list (length found.1.orders) (length after.rows) (λ o r. after.held found.0 o r - before.held found.0 o r))) same
+    (subst (λ m. All (λ (h : Hold). h.row < m) (held_list (length found.1.orders) (length after.rows)
+        (λ o r. after.held found.0 o r - before.held found.0 o r))) same
     (list_within (length found.1.orders) (length after.rows) (λ o r. after.held found.0 o r - before.held found.0 o r)))
     (none_within n)
 
 no_refill : (n number : ℕ) (after : State) (name : List ℕ) (found : Option (ℕ × Wave))
-    → Within n (option_map_or (λ (found : ℕ × Wave). outcome.Released (record { number = number; wave = name; orders = found.1.orders; holds = held_list (length found.1.orders) (length after.rows) (after.held found.0) })) found outcome.Plain)
+    → Within n (option_map_or (λ (found : ℕ × Wave). outcome.Released
+        (record { number = number; wave = name; orders = found.1.orders;
+        holds = held_list (length found.1.orders) (length after.rows) (after.held found.0) })) found outcome.Plain)
 no_refill n number after name None = none_within n
 no_refill n number after name (Some found) = none_within n
 
@@ -63,13 +72,16 @@ at_release : (n number : ℕ) (after : State) (name : List ℕ) (answer : Reply)
 at_release n number after name reply.Released = no_refill n number after name (wave_from 0 after.waves name)
 at_release n number after name other = none_within n
 
-at_missing : (n number : ℕ) (before after : State) (name order : List ℕ) (answer : Reply) → length after.rows ≡ n → Within n (missing_outcome number before after name order answer)
+at_missing : (n number : ℕ) (before after : State) (name order : List ℕ) (answer : Reply) → length after.rows ≡ n
+    → Within n (missing_outcome number before after name order answer)
 at_missing n number before after name order (reply.Refilled units) same = by_found n number 0 before after name order (wave_from 0 after.waves name) same
 at_missing n number before after name order other same = none_within n
 
-outcome_within : (n number : ℕ) (before : State) (command : Command) (stepped : Stepped) → length stepped.state.rows ≡ n → Within n (outcome_of number before command stepped)
+outcome_within : (n number : ℕ) (before : State) (command : Command) (stepped : Stepped) → length stepped.state.rows ≡ n
+    → Within n (outcome_of number before command stepped)
 outcome_within n number before (command.Release name) stepped same = at_release n number stepped.state name stepped.reply
-outcome_within n number before (command.Missing name order location quantity) stepped same = at_missing n number before stepped.state name order stepped.reply same
+outcome_within n number before (command.Missing name order location quantity) stepped same =
+    at_missing n number before stepped.state name order stepped.reply same
 outcome_within n number before (command.Submit name orders) stepped same = none_within n
 outcome_within n number before (command.Allot name) stepped same = none_within n
 outcome_within n number before (command.Cancel name) stepped same = none_within n
@@ -87,4 +99,5 @@ refills_within opening number state (entry ∷ entries) are =
     let after = step_keeps_rows opening opening.stock state entry.command are in
     let later = outcomes_from opening (number + 1) stepped.state entries in
     subst (All (IsWithin n)) (sym (flat_map-cons refill_in told later))
-    (All-append (IsWithin n) (refill_in told) (flat_map refill_in later) (outcome_within n number state entry.command stepped after.count) (refills_within opening (number + 1) stepped.state entries after))
+    (All-append (IsWithin n) (refill_in told) (flat_map refill_in later) (outcome_within n number state entry.command stepped after.count)
+        (refills_within opening (number + 1) stepped.state entries after))

@@ -13,12 +13,15 @@ one_more : (i : ℕ) → i + 1 ≡ suc i
 one_more i = omega arith
 
 -- the texts of one more item of a list
-pub flat_map-next : {X : Type 0} (f : X → List ℕ) (xs : List X) (i : ℕ) (x : X) → slice_get xs i ≡ Some x → flat_map f (take (i + 1) xs) ≡ flat_map f (take i xs) ++ f x
+pub flat_map-next : {X : Type 0} (f : X → List ℕ) (xs : List X) (i : ℕ) (x : X) → slice_get xs i ≡ Some x
+    → flat_map f (take (i + 1) xs) ≡ flat_map f (take i xs) ++ f x
 flat_map-next f xs i x is =
     ap (λ n. flat_map f (take n xs)) (one_more i) ∙ (ap (flat_map f) (take_next xs i x is)
     ∙ (flat_map-append f (take i xs) (x ∷ []) ∙ ap (λ text. flat_map f (take i xs) ++ text) (append-nil (f x))))
 
 -- a text that has grown by a heading and items grows by one more
-pub grown : (old text new heading items item more : List ℕ) → text ≡ old ++ (heading ++ items) → new ≡ text ++ item → more ≡ items ++ item → new ≡ old ++ (heading ++ more)
+pub grown : (old text new heading items item more : List ℕ) → text ≡ old ++ (heading ++ items) → new ≡ text ++ item → more ≡ items ++ item
+    → new ≡ old ++ (heading ++ more)
 grown old text new heading items item more so_far next is =
-    next ∙ (ap (λ text. text ++ item) so_far ∙ (append_assoc old (heading ++ items) item ∙ ap (λ text. old ++ text) (append_assoc heading items item ∙ ap (λ text. heading ++ text) (sym is))))
+    next ∙ (ap (λ text. text ++ item) so_far ∙ (append_assoc old (heading ++ items) item
+        ∙ ap (λ text. old ++ text) (append_assoc heading items item ∙ ap (λ text. heading ++ text) (sym is))))

@@ -26,7 +26,8 @@ pub record Course : Type 0 where
   pub sink' : ℕ
 
 abbrev pub course : (List ℕ → Option (List ℕ)) → (List ℕ → Option (List ℕ)) → (List ℕ → ℕ) → (List ℕ → ℕ) → Option (List ℕ) → Option (List ℕ) → ℕ → ℕ → Course
-course holds held faults faults' taken taken' sink sink' = record { holds = holds; held = held; faults = faults; faults' = faults'; taken = taken; taken' = taken'; sink = sink; sink' = sink' }
+course holds held faults faults' taken taken' sink sink' = record
+    { holds = holds; held = held; faults = faults; faults' = faults'; taken = taken; taken' = taken'; sink = sink; sink' = sink' }
 
 -- the sink took this text in the run
 abbrev pub Took : Course → List ℕ → Type 0
@@ -104,7 +105,8 @@ pub record Keeps (asked : Asked) (run : Course) (status : ℕ) : Type 0 where
   -- a refused file ends with 2
   pub bad_file : IsBadFile asked run → SinkStands run → EndsWith 2 status
   -- a journal that isn't right ends with 6
-  pub bad_journal : (job : JobNames) (said : Said) (found : Finding) → AreGoodFiles asked run job said → IsWrong job said found → SinkStands run → EndsWith 6 status
+  pub bad_journal : (job : JobNames) (said : Said) (found : Finding) → AreGoodFiles asked run job said → IsWrong job said found → SinkStands run
+      → EndsWith 6 status
   -- and else the run ends with 0
   pub complete : (job : JobNames) (said : Said) → AreGoodFiles asked run job said → IsRight job said → SinkStands run → EndsWith 0 status
   -- each name holds what it held, and no count falls

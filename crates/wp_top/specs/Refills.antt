@@ -15,7 +15,8 @@ use Rattle.wp_machine.specs.declared.outcome.Refill.{Refill}
 abbrev pub outcomes_from : Opening → ℕ → State → List Entry → List Outcome
 outcomes_from opening number state [] = []
 outcomes_from opening number state (entry ∷ entries) =
-    outcome_of number state entry.command (step opening state entry.command) ∷ outcomes_from opening (number + 1) (step opening state entry.command).state entries
+    outcome_of number state entry.command (step opening state entry.command)
+        ∷ outcomes_from opening (number + 1) (step opening state entry.command).state entries
 
 -- the refill that a step tells, if it tells one
 abbrev pub refill_in : Outcome → List Refill

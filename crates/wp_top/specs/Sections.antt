@@ -17,7 +17,8 @@ location_after_space opening number = option_map_or (λ row. after_space (locati
 -- the line of one row from which a refill took: the entry's number, the wave, the order, the location and the units
 abbrev pub refill_line : Opening → Refill → Hold → List ℕ
 refill_line opening refill hold =
-    line (codes "refill" ++ number_after_space refill.number ++ after_space refill.wave ++ after_space refill.order ++ location_after_space opening hold.row ++ number_after_space hold.quantity)
+    line (codes "refill" ++ number_after_space refill.number ++ after_space refill.wave ++ after_space refill.order ++ location_after_space opening hold.row
+        ++ number_after_space hold.quantity)
 
 -- the lines of a refill, by row
 abbrev pub refill_lines : Opening → Refill → List ℕ
@@ -43,4 +44,5 @@ stock_section opening rows = line (codes "stock") ++ flat_map (row_line opening)
 -- the output of a history: its journal, its refills, the stock as it leaves it, and a last line
 abbrev pub output_of : History → List ℕ
 output_of history =
-    journal history.entries ++ refills_section history.opening (refills_of history) ++ stock_section history.opening (state_after history).rows ++ line (codes "end")
+    journal history.entries ++ refills_section history.opening (refills_of history) ++ stock_section history.opening (state_after history).rows
+        ++ line (codes "end")

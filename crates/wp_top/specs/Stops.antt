@@ -38,7 +38,8 @@ IsSaid says holds name said = (text : List ℕ) × IsHeld holds name text × (sa
 -- why nothing came of one file: its text is refused, or its count of faults rose
 abbrev pub IsUnsaid : {A : Type 0} → (List ℕ → Result A Refusal) → (List ℕ → Option (List ℕ)) → List ℕ → ℕ → ℕ → Input → Stop → Type 0
 IsUnsaid says holds name before after file (stop.Complaint (complaint.Words why)) = ⊥
-IsUnsaid says holds name before after file (stop.Complaint (complaint.Refused f why)) = (f ≡ file) × (text : List ℕ) × IsHeld holds name text × (says text ≡ Err why)
+IsUnsaid says holds name before after file (stop.Complaint (complaint.Refused f why)) = (f ≡ file) × (text : List ℕ) × IsHeld holds name text
+    × (says text ≡ Err why)
 IsUnsaid says holds name before after file (stop.Complaint (complaint.Fault f)) = (f ≡ file) × (before < after)
 IsUnsaid says holds name before after file (stop.Complaint (complaint.Wrong found)) = ⊥
 IsUnsaid says holds name before after file stop.Memory = ⊤
@@ -100,7 +101,8 @@ pub record IsRightJournal (holds : List ℕ → Option (List ℕ)) (opening : Op
 
 -- it finds nothing: nothing came of the file, or the journal isn't right
 abbrev pub StopsFinding : (List ℕ → Option (List ℕ)) → Opening → List ℕ → ℕ → ℕ → Stop → Type 0
-StopsFinding holds opening name before after why = IsUnsaid text_in holds name before after input.Journal why ⊎ ((text : List ℕ) × IsRead holds name text × StopsAudit opening text why)
+StopsFinding holds opening name before after why = IsUnsaid text_in holds name before after input.Journal why
+    ⊎ ((text : List ℕ) × IsRead holds name text × StopsAudit opening text why)
 
 -- the ending of an output, or of a stop
 abbrev pub IsEndOf : Result (String Global) Stop → Ending → Type 0

@@ -99,7 +99,8 @@ scripts_in = said_in refusal.Row scripts_said
 abbrev pub said_with : Said → Input → List ℕ → Result Said Refusal
 said_with said input.Layout text = and_then (layout_in text) (λ layout. Ok (record said { layout = layout }))
 said_with said input.Stock text = and_then (stock_in said.layout text) (λ stock. Ok (record said { opening = record { stock = stock; orders = [] } }))
-said_with said input.Orders text = and_then (orders_in said.opening.stock text) (λ orders. Ok (record said { opening = record { stock = said.opening.stock; orders = orders } }))
+said_with said input.Orders text = and_then (orders_in said.opening.stock text)
+    (λ orders. Ok (record said { opening = record { stock = said.opening.stock; orders = orders } }))
 said_with said input.Desks text = and_then (scripts_in text) (λ scripts. Ok (record said { scripts = scripts }))
 said_with said input.Journal text = and_then (text_in text) (λ journal. Ok (record said { journal = journal }))
 

@@ -1,7 +1,8 @@
 -- The points of a path, by how many moves lead to them.
 use Rattle.std.proofs.lemmas.Bool.{and_from, and_parts, eq-eqb, eqb-true, false≢true}
 use Rattle.wp_graph.proofs.Picking.{same_point}
-use Rattle.std.proofs.Common.{◌≡◌, ◌≢◌, ◌&&◌, true, false, eqb, ap, sym, ◌∙◌, ℕ, zero, suc, ◌+◌, ◌<◌, List, [], ◌∷◌, length, get_or, add-one, arith, refl, inl, inr}
+use Rattle.std.proofs.Common.{◌≡◌, ◌≢◌, ◌&&◌, true, false, eqb, ap, sym, ◌∙◌, ℕ, zero, suc, ◌+◌, ◌<◌, List, [], ◌∷◌, length, get_or, add-one, arith, refl}
+use Rattle.std.proofs.Common.{inl, inr}
 use Rattle.wp_model.specs.declared.point.Point.{Point}
 use Rattle.wp_classes.specs.Paths.{On, after_moves}
 
@@ -16,10 +17,12 @@ after_get start points i default within = rw add-one (go start points i within)
         first qs = refl
     go from (p ∷ ps) (suc k) h = go p ps k (omega arith)
 
-pub never_there : (start : Point) (points : List Point) (goal default : Point) → On start points goal → start ≢ goal → ((k : ℕ) → k < length points → get_or points k default ≢ goal) → ⊥
+pub never_there : (start : Point) (points : List Point) (goal default : Point) → On start points goal → start ≢ goal
+    → ((k : ℕ) → k < length points → get_or points k default ≢ goal) → ⊥
 never_there start [] goal default on first none = first on
 never_there start (p ∷ points) goal default (inl e) first none = first e
-never_there start (p ∷ points) goal default (inr on) first none = never_there p points goal default on (none 0 (omega arith)) (λ k within. none (suc k) (omega arith))
+never_there start (p ∷ points) goal default (inr on) first none =
+    never_there p points goal default on (none 0 (omega arith)) (λ k within. none (suc k) (omega arith))
 
 -- what a test of two points tells
 pub points_same : (p q : Point) → true ≡ (eqb p.aisle q.aisle && eqb p.slot q.slot) → p ≡ q
@@ -27,4 +30,5 @@ points_same p q e = let parts = and_parts (eqb p.aisle q.aisle) (eqb p.slot q.sl
 
 pub points_differ : (p q : Point) → false ≡ (eqb p.aisle q.aisle && eqb p.slot q.slot) → p ≢ q
 points_differ p q e same =
-    let on = and_from (eqb p.aisle q.aisle) (eqb p.slot q.slot) (eq-eqb _ _ (ap (λ (r : Point). r.aisle) same)) (eq-eqb _ _ (ap (λ (r : Point). r.slot) same)) in false≢true (e ∙ on)
+    let on = and_from (eqb p.aisle q.aisle) (eqb p.slot q.slot) (eq-eqb _ _ (ap (λ (r : Point). r.aisle) same))
+            (eq-eqb _ _ (ap (λ (r : Point). r.slot) same)) in false≢true (e ∙ on)

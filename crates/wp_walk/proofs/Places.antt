@@ -18,6 +18,7 @@ behind_more aisle place count i points within so_far =
     let here : count - 1 - i ≡ count - (i + 1) = omega arith in
     rw here (append_assoc points (at aisle (place + (count - (i + 1))) ∷ []) (behind aisle place (count - (i + 1))) ∙ (rw next at so_far))
 
-pub behind_done : (aisle place count i : ℕ) (points : List Point) → count ≤ i → points ++ behind aisle place (count - i) ≡ behind aisle place count → points ≡ behind aisle place count
+pub behind_done : (aisle place count i : ℕ) (points : List Point) → count ≤ i → points ++ behind aisle place (count - i) ≡ behind aisle place count
+    → points ≡ behind aisle place count
 behind_done aisle place count i points done so_far =
     let none : count - i ≡ 0 = omega arith in sym (append-nil points) ∙ (rw none at so_far)

@@ -29,7 +29,8 @@ pub simple : (command : App) → is_simple_and_free command ≡ true → is_simp
 simple command is = left _ _ is
 
 -- an error that isn't want of memory comes only of words that aren't accepted
-pub faulty : (kinds : Kinds) (rows : List Row) (error : Error) → HasKind kinds error → (kind_of error ≡ kind.OutOfMemory → ⊥) → unless_faulty kinds rows ≡ Err fault.BadWords
+pub faulty : (kinds : Kinds) (rows : List Row) (error : Error) → HasKind kinds error → (kind_of error ≡ kind.OutOfMemory → ⊥)
+    → unless_faulty kinds rows ≡ Err fault.BadWords
 faulty [] rows error has other = absurd (⊎_elim other (λ among. among) has)
 faulty (k ∷ kinds) rows error has other = refl
 

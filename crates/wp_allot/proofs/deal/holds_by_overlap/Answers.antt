@@ -7,4 +7,5 @@ loop-place-init c = record { size = refl; dealt = nothing_dealt c.args.book.now.
 
 pub returns : goal.returns
 returns c =
-    has_overlaps c.args.book.now.rows c.args.wants.now c.args.except c.loop-place.place c.args.room.now c.loop-place.room c.sort.new.self c.loop-place-test.false c.loop-place.invariant.size c.loop-place.invariant.dealt c.sort.ensures
+    has_overlaps c.args.book.now.rows c.args.wants.now c.args.except c.loop-place.place c.args.room.now c.loop-place.room c.sort.new.self
+        c.loop-place-test.false c.loop-place.invariant.size c.loop-place.invariant.dealt c.sort.ensures

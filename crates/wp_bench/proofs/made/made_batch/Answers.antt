@@ -11,7 +11,8 @@ loop-preserved c =
     record {
       layout = c.add_order.ensures.layout;
       state = order_end c.loop.counter start c.loop.generator.state _ before.state c.add_order.ensures.state;
-      points = order_more c.loop.counter start c.loop.generator.state (λ p. Contains c.add_order.new.picks.points p) (λ p. Contains c.loop.picks.points p) before.state c.add_order.ensures.points before.points;
+      points = order_more c.loop.counter start c.loop.generator.state (λ p. Contains c.add_order.new.picks.points p)
+          (λ p. Contains c.loop.picks.points p) before.state c.add_order.ensures.points before.points;
     }
 
 pub returns-clause-points : goal.returns-clause-points

@@ -7,7 +7,8 @@ use Rattle.wp_book.proofs.holds.give_back_chain.Given as goal
 abbrev pub invariant-loop-node : goal.invariant-loop-node
 invariant-loop-node l = record {
   rest : (row : ℕ) → chain_units (is_for_wave l.wave row) l.chain ≤ chain_units (is_for_wave l.wave row) l.fn.chain;
-  rows : l.rows ≡ change_rows (λ row. free_held_units (chain_units (is_for_wave l.wave row) l.fn.chain - chain_units (is_for_wave l.wave row) l.chain)) 0 l.fn.rows;
+  rows : l.rows ≡ change_rows (λ row. free_held_units (chain_units (is_for_wave l.wave row) l.fn.chain - chain_units (is_for_wave l.wave row) l.chain)) 0
+      l.fn.rows;
   others : (passes : Where) → chain_units (but_of l.wave passes) l.chain + chain_units passes l.done ≡ chain_units (but_of l.wave passes) l.fn.chain;
 }
 

@@ -6,18 +6,21 @@ use Rattle.wp_book.proofs.holds.take_from_holds.Goals as goal
 pub loop-hold-preserved : goal.loop-hold-preserved
 loop-hold-preserved c =
     let i = c.loop-hold.hold-index in
-    let own = sums_are (hold_for c.args.order c.args.row) c.loop-hold.holds i (record { order = 0; row = 0; quantity = 0 }) c.take_from_hold-left.new.hold (omega arith) in
+    let own = sums_are (hold_for c.args.order c.args.row) c.loop-hold.holds i (record { order = 0; row = 0; quantity = 0 }) c.take_from_hold-left.new.hold
+            (omega arith) in
     record {
       most = omega arith;
       rest = omega (arith, own.rest);
       left = omega (arith, own.rest);
       taken = λ passes wave.
-          let all = sums_are (hold_units_where passes wave) c.loop-hold.holds i (record { order = 0; row = 0; quantity = 0 }) c.take_from_hold-left.new.hold (omega arith) in
+          let all = sums_are (hold_units_where passes wave) c.loop-hold.holds i (record { order = 0; row = 0; quantity = 0 }) c.take_from_hold-left.new.hold
+                  (omega arith) in
           omega (
             arith,
             all.all,
             c.take_from_hold-left.ensures.taken passes wave,
             c.loop-hold.invariant.taken passes wave,
-            taken_so_far (passes wave c.args.order c.args.row) c.args.units c.loop-hold.left c.take_from_hold-left.result c.loop-hold.invariant.most (omega arith),
+            taken_so_far (passes wave c.args.order c.args.row) c.args.units c.loop-hold.left c.take_from_hold-left.result c.loop-hold.invariant.most
+                (omega arith),
           );
     }

@@ -8,5 +8,6 @@ invariant-loop-hold l = record {
   most : l.left ≤ l.units;
   rest : units_for (drop l.hold-index l.holds) l.order l.row ≤ units_for l.fn.holds l.order l.row;
   left : l.left ≡ l.units - (units_for l.fn.holds l.order l.row - units_for (drop l.hold-index l.holds) l.order l.row);
-  taken : (passes : Where) (wave : ℕ) → sum_by (hold_units_where passes wave) l.holds + (if passes wave l.order l.row then l.units - l.left else 0) ≡ sum_by (hold_units_where passes wave) l.fn.holds;
+  taken : (passes : Where) (wave : ℕ) → sum_by (hold_units_where passes wave) l.holds + (if passes wave l.order l.row then l.units - l.left else 0) ≡ sum_by
+      (hold_units_where passes wave) l.fn.holds;
 }

@@ -18,7 +18,8 @@ overflow_add-index_mut c =
     let r = slice_index_or rows i none in
     let there = slice_get-get_or rows i none c.loop-row-test.true in
     let is = countable rows c.args.articles c.requires.rows c.requires.known i r there in
-    let count : c.index_mut.result.now ≡ slice_index free r.article = c.index_mut.ensures.value ∙ get_or_default free r.article c.index_mut.result.now 0 (omega (arith, is.article, c.loop-row.invariant.long)) in
+    let count : c.index_mut.result.now ≡ slice_index free r.article =
+            c.index_mut.ensures.value ∙ get_or_default free r.article c.index_mut.result.now 0 (omega (arith, is.article, c.loop-row.invariant.long)) in
     omega (
       arith,
       count,
@@ -40,7 +41,8 @@ loop-row-preserved c =
     let there = slice_get-get_or rows i none c.loop-row-test.true in
     let is = countable rows c.args.articles c.requires.rows c.requires.known i r there in
     let within : r.article < length free = omega (arith, is.article, c.loop-row.invariant.long) in
-    let count : c.index_mut.result.now ≡ slice_index free r.article = c.index_mut.ensures.value ∙ get_or_default free r.article c.index_mut.result.now 0 within in
+    let count : c.index_mut.result.now ≡ slice_index free r.article =
+            c.index_mut.ensures.value ∙ get_or_default free r.article c.index_mut.result.now 0 within in
     record {
       long = length-set free r.article n ∙ c.loop-row.invariant.long;
       counts = counts_next rows i free r n c.loop-row.invariant.counts there within (omega (arith, count, c.from.ensures));
@@ -50,4 +52,5 @@ pub returns : goal.returns
 returns c =
     let rows = c.args.rows.now in
     let all : c.loop-row.row-index ≡ length rows = omega arith in
-    all_counted rows c.args.articles c.loop-row.free.items c.requires.few c.requires.rows c.requires.known c.loop-row.invariant.long (subst (λ n. CountsFirst rows n c.loop-row.free.items) all c.loop-row.invariant.counts)
+    all_counted rows c.args.articles c.loop-row.free.items c.requires.few c.requires.rows c.requires.known c.loop-row.invariant.long
+        (subst (λ n. CountsFirst rows n c.loop-row.free.items) all c.loop-row.invariant.counts)

@@ -12,7 +12,8 @@ on_from_first c =
     let valid = c.aisles-done-end.ensures.valid in
     at_first _ c.args.layout.now.aisles c.loop-done.done _ valid.aisles.0 (omega arith) (omega (arith, valid.aisles)) c.loop-done.invariant
 
-least : (c : After-least_length_by_way) → IsLeastFirst (block_of c.args.layout.now c.args.picks.now.points) (c.args.layout.now.aisles - 1) c.least_length_by_way.result
+least : (c : After-least_length_by_way) → IsLeastFirst (block_of c.args.layout.now c.args.picks.now.points)
+    (c.args.layout.now.aisles - 1) c.least_length_by_way.result
 least c =
     let valid = c.aisles-done-end.ensures.valid in
     let on = at_first _ c.args.layout.now.aisles c.loop-done.done _ valid.aisles.0 (omega arith) (omega (arith, valid.aisles)) c.loop-done.invariant in
@@ -23,7 +24,8 @@ least_length_by_way-requires-clause-ways c = λ way. ways_within _ _ _ _ c.aisle
 
 pub least_length_by_way-requires-clause-after : goal.least_length_by_way-requires-clause-after
 least_length_by_way-requires-clause-after c = λ class.
-    lengths_within _ _ _ _ _ c.aisles-done-end.ensures.valid (omega (arith, c.aisles-done-end.ensures.valid.aisles)) (on_from_first (goal.at.least_length_by_way-requires-clause-after c).After-aisle_ways) class
+    lengths_within _ _ _ _ _ c.aisles-done-end.ensures.valid (omega (arith, c.aisles-done-end.ensures.valid.aisles))
+        (on_from_first (goal.at.least_length_by_way-requires-clause-after c).After-aisle_ways) class
 
 pub unwrap-requires : goal.unwrap-requires
 unwrap-requires c = some_way_on _ _ _ (least (goal.at.unwrap-requires c).After-least_length_by_way)

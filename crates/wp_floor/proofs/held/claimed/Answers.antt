@@ -5,11 +5,13 @@ use Rattle.wp_floor.proofs.held.claimed.Goals as goal
 pub returns-in-Some : goal.returns-in-Some
 returns-in-Some c = record {
   found = tt;
-  refused = wrong_state c.args.book.now c.args.number c.args.wave.now c.args.claim.now.order c.args.claim.now.location c.args.claim.now.quantity c.in-Some.refusal (sym c.wrong_state.ensures ∙ c.in-Some.is);
+  refused = wrong_state c.args.book.now c.args.number c.args.wave.now c.args.claim.now.order c.args.claim.now.location c.args.claim.now.quantity
+      c.in-Some.refusal (sym c.wrong_state.ensures ∙ c.in-Some.is);
 }
 
 pub returns-in-None : goal.returns-in-None
 returns-in-None c =
     let claim = c.args.claim.now in
-    let is = claimed_is c.args.book.now c.args.number c.args.wave.now claim.order claim.location claim.quantity c.enough_held.result (is_released c.args.wave.now.state (sym c.wrong_state.ensures ∙ c.in-None.is)) c.enough_held.ensures in
+    let is = claimed_is c.args.book.now c.args.number c.args.wave.now claim.order claim.location claim.quantity c.enough_held.result
+            (is_released c.args.wave.now.state (sym c.wrong_state.ensures ∙ c.in-None.is)) c.enough_held.ensures in
     record { found = is.0; refused = is.1 }

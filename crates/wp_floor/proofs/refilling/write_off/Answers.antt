@@ -12,7 +12,8 @@ hold_elsewhere-sheet-requires-clause-rooms c =
 
 pub returns-in-Some-clause-refilled : goal.returns-in-Some-clause-refilled
 returns-in-Some-clause-refilled c waves at released within =
-    refilled c.args.opening.now c.args.book.now c.take.new.self c.hold_elsewhere-sheet.new.book waves c.args.number c.args.wave.now c.settle.new.wave c.args.lost c.args.quantity c.in-Some.sheet
+    refilled c.args.opening.now c.args.book.now c.take.new.self c.hold_elsewhere-sheet.new.book waves c.args.number c.args.wave.now c.settle.new.wave
+        c.args.lost c.args.quantity c.in-Some.sheet
     (record { at = at; released = released; within = within; enough = c.requires.held; taken = c.take.ensures })
     c.in-Some.ensures.held
     (record { none = c.settle.ensures.none; some = c.settle.ensures.some })
@@ -20,7 +21,8 @@ returns-in-Some-clause-refilled c waves at released within =
 pub returns-in-None-clause-lost : goal.returns-in-None-clause-lost
 returns-in-None-clause-lost c waves at released within =
     let named = ap (λ (stock : Stock). slice_get stock.articles c.args.lost.article) (sym c.stock.ensures.stock) ∙ c.article.ensures in
-    lost c.args.opening.now c.args.book.now c.take.new.self c.hold_elsewhere-sheet.new.book waves c.args.number c.args.wave.now c.settle.new.wave c.args.lost c.args.quantity c.article.result
+    lost c.args.opening.now c.args.book.now c.take.new.self c.hold_elsewhere-sheet.new.book waves c.args.number c.args.wave.now c.settle.new.wave c.args.lost
+        c.args.quantity c.article.result
     (record { at = at; released = released; within = within; enough = c.requires.held; taken = c.take.ensures })
     c.in-None.ensures.few c.in-None.ensures.same named
     (record { none = c.settle.ensures.none; some = c.settle.ensures.some })

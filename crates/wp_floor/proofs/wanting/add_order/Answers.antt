@@ -13,7 +13,8 @@ loop-line-init c = record {
 
 pub add_line-requires-clause-small : goal.add_line-requires-clause-small
 add_line-requires-clause-small c =
-    fits_more c.args.place c.args.lines.now c.loop-line.line-index _ c.args.wants.now.items c.loop-line.wants.items c.loop-line-test.true c.requires.small c.loop-line.invariant.added
+    fits_more c.args.place c.args.lines.now c.loop-line.line-index _ c.args.wants.now.items c.loop-line.wants.items c.loop-line-test.true c.requires.small
+        c.loop-line.invariant.added
 
 pub loop-line-preserved : goal.loop-line-preserved
 loop-line-preserved c =
@@ -21,8 +22,10 @@ loop-line-preserved c =
     let old = c.args.wants.now.items in
     record {
       split = c.in_ok-add_line.ensures.split;
-      added = added_more c.args.place lines c.loop-line.line-index _ old c.loop-line.wants.items c.add_line.new.wants.items c.loop-line-test.true c.loop-line.invariant.added c.in_ok-add_line.ensures.added;
-      articles = articles_more lines c.loop-line.line-index _ old c.loop-line.wants.items c.add_line.new.wants.items c.loop-line-test.true c.loop-line.invariant.articles c.in_ok-add_line.ensures.articles;
+      added = added_more c.args.place lines c.loop-line.line-index _ old c.loop-line.wants.items c.add_line.new.wants.items c.loop-line-test.true
+          c.loop-line.invariant.added c.in_ok-add_line.ensures.added;
+      articles = articles_more lines c.loop-line.line-index _ old c.loop-line.wants.items c.add_line.new.wants.items c.loop-line-test.true
+          c.loop-line.invariant.articles c.in_ok-add_line.ensures.articles;
     }
 
 pub returns-clause-before : goal.returns-clause-before
@@ -30,4 +33,5 @@ returns-clause-before c = before_next c.len-start.result c.args.place c.loop-lin
 
 pub returns-clause-added : goal.returns-clause-added
 returns-clause-added c =
-    subst (λ lines. HaveAdded c.args.place lines c.args.wants.now.items c.loop-line.wants.items) (take_all c.loop-line.line-index c.args.lines.now (omega arith)) c.loop-line.invariant.added
+    subst (λ lines. HaveAdded c.args.place lines c.args.wants.now.items c.loop-line.wants.items)
+        (take_all c.loop-line.line-index c.args.lines.now (omega arith)) c.loop-line.invariant.added

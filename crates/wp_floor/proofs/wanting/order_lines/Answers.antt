@@ -13,11 +13,13 @@ pub lines-requires : goal.lines-requires
 lines-requires c =
     let found : article_in (map name_of c.args.opening.now.orders) c.args.order.now ≡ Some c.in-Some.number =
     found_in c.args.opening.now c.orders-known.result.now c.args.order.now c.find.result c.in-Some.number c.orders-known.ensures c.find.ensures c.in-Some.is in
-    found_within c.args.opening.now c.args.order.now c.in-Some.number (length c.orders-known.result.now) found (ap (λ (orders : List Order). length orders) c.orders-known.ensures)
+    found_within c.args.opening.now c.args.order.now c.in-Some.number (length c.orders-known.result.now) found
+        (ap (λ (orders : List Order). length orders) c.orders-known.ensures)
 
 pub returns-in-Some-clause-lines : goal.returns-in-Some-clause-lines
 returns-in-Some-clause-lines c =
-    lines_found c.orders-known.result.now c.args.order.now c.in-Some.number c.lines.result.now (sym c.find.ensures ∙ c.in-Some.is) c.lines.ensures ∙ ap (λ (orders : List Order). lines_of orders c.args.order.now) c.orders-known.ensures
+    lines_found c.orders-known.result.now c.args.order.now c.in-Some.number c.lines.result.now (sym c.find.ensures ∙ c.in-Some.is) c.lines.ensures
+        ∙ ap (λ (orders : List Order). lines_of orders c.args.order.now) c.orders-known.ensures
 
 pub returns-in-Some-clause-each : goal.returns-in-Some-clause-each
 returns-in-Some-clause-each c =
@@ -31,4 +33,5 @@ returns-in-Some-clause-few c =
 
 pub returns-in-None-clause-lines : goal.returns-in-None-clause-lines
 returns-in-None-clause-lines c =
-    sym (ap (λ (orders : List Order). lines_of orders c.args.order.now) (sym c.orders-known.ensures) ∙ no_lines c.orders-known.result.now c.args.order.now (sym c.find.ensures ∙ c.in-None.is))
+    sym (ap (λ (orders : List Order). lines_of orders c.args.order.now) (sym c.orders-known.ensures)
+        ∙ no_lines c.orders-known.result.now c.args.order.now (sym c.find.ensures ∙ c.in-None.is))

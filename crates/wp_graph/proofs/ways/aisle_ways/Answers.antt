@@ -11,7 +11,8 @@ unfolding ways_of
 returns-clause-value c =
     let layout = c.args.layout.now in
     let distances = required_distances layout c.args.picks.now.points c.args.aisle in
-    let summed = ways_reached (c.args.aisle == layout.depot) c.length_of_aisle.result distances (required_ascending layout c.args.picks.now.points c.args.aisle c.depot.ensures.valid) in
+    let summed = ways_reached (c.args.aisle == layout.depot) c.length_of_aisle.result distances
+            (required_ascending layout c.args.picks.now.points c.args.aisle c.depot.ensures.valid) in
     c.ways_by.ensures
     ∙ ap (λ d. ways_by_stretch (c.args.aisle == d) c.length_of_aisle.result c.reach_aisle.result) c.depot.ensures.value
     ∙ ap (ways_by_stretch (c.args.aisle == layout.depot) c.length_of_aisle.result) c.reach_aisle.ensures.value

@@ -14,11 +14,13 @@ slots c = record { ranges = c.reach_depot-stretch.ensures.valid; slots = λ p ha
 
 pub reach_word-stretch-requires-clause-slots : goal.reach_word-stretch-requires-clause-slots
 reach_word-stretch-requires-clause-slots c = λ k small set.
-    (slot_had c.args.layout.now c.args.picks.now.points c.args.aisle _ (slots (goal.at.reach_word-stretch-requires-clause-slots c).After-word) (sym (c.word.ensures.bits k small) ∙ eq-eqb _ _ set)).slot
+    (slot_had c.args.layout.now c.args.picks.now.points c.args.aisle _ (slots (goal.at.reach_word-stretch-requires-clause-slots c).After-word)
+        (sym (c.word.ensures.bits k small) ∙ eq-eqb _ _ set)).slot
 
 pub loop-index-preserved : goal.loop-index-preserved
 loop-index-preserved c = record {
-  value = words_more reach_to (distance c.args.layout.now) (has_point c.args.picks.now.points c.args.aisle) _ c.loop-index.stretch c.reach_word-stretch.result c.loop-index.index c.word.result c.loop-index.invariant.value c.reach_word-stretch.ensures.value c.word.ensures.bits;
+  value = words_more reach_to (distance c.args.layout.now) (has_point c.args.picks.now.points c.args.aisle) _ c.loop-index.stretch c.reach_word-stretch.result
+      c.loop-index.index c.word.result c.loop-index.invariant.value c.reach_word-stretch.ensures.value c.word.ensures.bits;
   slots = λ some. (slots (goal.at.loop-index-preserved c).After-word).slots;
   last = c.reach_word-stretch.ensures.last;
 }

@@ -9,7 +9,8 @@ use Rattle.wp_graph.proofs.ways.reach_aisle.Given as goal
 
 abbrev pub invariant-loop-index : goal.invariant-loop-index
 invariant-loop-index l = record {
-  value : l.stretch ≡ fold reach_to (fold reach_to None (depot_distances l.layout l.aisle)) (map (distance l.layout) (filter (has_point l.picks.points l.aisle) (range_with_len 0 (64 * l.index))));
+  value : l.stretch ≡ fold reach_to (fold reach_to None (depot_distances l.layout l.aisle))
+      (map (distance l.layout) (filter (has_point l.picks.points l.aisle) (range_with_len 0 (64 * l.index))));
   slots : 0 < l.index → (p : Point) → Contains l.picks.points p → IsSlot l.layout p;
   last : IfSome l.stretch (λ s. s.last ≤ 2000000);
 }

@@ -7,7 +7,8 @@ use Rattle.wp_graph.proofs.ways.reach_word.Given as goal
 
 abbrev pub invariant-loop-rest : goal.invariant-loop-rest
 invariant-loop-rest l = record {
-  value : fold reach_to l.stretch (map (distance l.layout) (bit_places l.first l.rest)) ≡ fold reach_to l.fn.before (map (distance l.layout) (bit_places l.first l.fn.bits));
+  value : fold reach_to l.stretch (map (distance l.layout) (bit_places l.first l.rest)) ≡ fold reach_to l.fn.before
+      (map (distance l.layout) (bit_places l.first l.fn.bits));
   slots : (k : ℕ) → k < 64 → bit_at l.rest k ≡ 1 → IsUpTo l.layout.slots (l.first + k);
   last : IfSome l.stretch (λ s. s.last ≤ 2000000);
 }

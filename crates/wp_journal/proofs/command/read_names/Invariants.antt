@@ -6,4 +6,5 @@ use Rattle.wp_journal.proofs.command.read_names.Given as goal
 
 -- the names so far go before those of the words that are left
 abbrev pub invariant-loop-word : goal.invariant-loop-word
-invariant-loop-word l = (names_in (words_now l.words) ≡ names_then l.names.items (names_in (words_now (drop l.word-index l.words)))) × (vec_len l.names ≡ l.word-index)
+invariant-loop-word l = (names_in (words_now l.words) ≡ names_then l.names.items (names_in (words_now (drop l.word-index l.words))))
+    × (vec_len l.names ≡ l.word-index)

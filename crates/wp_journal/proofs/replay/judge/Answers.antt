@@ -7,6 +7,7 @@ pub returns-then-is_right-clause-judges : goal.returns-then-is_right-clause-judg
 returns-then-is_right-clause-judges c = (
   c.args.entry.now.desk,
   c.args.entry.now.command,
-  subst (IsLineOf c.args.line.now) c.in_ok-right.ensures.entry (is_line c.args.line.now c.in_ok-right.right (sym c.in_ok-is_right.ensures ∙ c.if-is_right.true)),
+  subst (IsLineOf c.args.line.now) c.in_ok-right.ensures.entry
+      (is_line c.args.line.now c.in_ok-right.right (sym c.in_ok-is_right.ensures ∙ c.if-is_right.true)),
   c.in_ok-right.ensures.history,
 )

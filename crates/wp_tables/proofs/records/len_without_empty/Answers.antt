@@ -9,7 +9,8 @@ loop-len-preserved c =
     let fields = fields_of c.args.fields.now in
     let before = c.loop-len.len - 1 in
     let last = take_got fields before c.loop-len.len c.field_of.result.now (omega arith) c.field_of.ensures in (
-      sym (trimmed_empty (take before fields) c.field_of.result.now (sym c.is_empty.ensures ∙ c.if-is_empty.true)) ∙ ap trimmed (sym last) ∙ c.loop-len.invariant.0,
+      sym (trimmed_empty (take before fields) c.field_of.result.now (sym c.is_empty.ensures ∙ c.if-is_empty.true)) ∙ ap trimmed (sym last)
+          ∙ c.loop-len.invariant.0,
       omega arith,
     )
 
@@ -18,4 +19,5 @@ returns-else-is_empty c =
     let fields = fields_of c.args.fields.now in
     let before = c.loop-len.len - 1 in
     let last = take_got fields before c.loop-len.len c.field_of.result.now (omega arith) c.field_of.ensures in
-    last ∙ sym (trimmed_end (take before fields) c.field_of.result.now (sym c.is_empty.ensures ∙ c.if-is_empty.false)) ∙ ap trimmed (sym last) ∙ c.loop-len.invariant.0
+    last ∙ sym (trimmed_end (take before fields) c.field_of.result.now (sym c.is_empty.ensures ∙ c.if-is_empty.false)) ∙ ap trimmed (sym last)
+        ∙ c.loop-len.invariant.0

@@ -8,16 +8,19 @@ use Rattle.wp_top.proofs.answering.answer_script.Goals as goal
 
 pub answer-requires-clause-same : goal.answer-requires-clause-same
 answer-requires-clause-same c =
-    ap (λ (h : History). h.opening) c.loop-command.invariant.machine ∙ answered_all-opening (opened c.args.opening.now) 1 (take c.loop-command.command-index c.args.script.now)
+    ap (λ (h : History). h.opening) c.loop-command.invariant.machine
+        ∙ answered_all-opening (opened c.args.opening.now) 1 (take c.loop-command.command-index c.args.script.now)
 
 pub answer-requires-clause-few : goal.answer-requires-clause-few
 answer-requires-clause-few c =
     let count = ap (λ (h : History). length h.entries) c.loop-command.invariant.machine in
-    omega (arith, count, entries_answered (opened c.args.opening.now) 1 (take c.loop-command.command-index c.args.script.now), length-take c.loop-command.command-index c.args.script.now, c.requires.few)
+    omega (arith, count, entries_answered (opened c.args.opening.now) 1 (take c.loop-command.command-index c.args.script.now),
+        length-take c.loop-command.command-index c.args.script.now, c.requires.few)
 
 pub loop-command-preserved : goal.loop-command-preserved
 loop-command-preserved c =
-    let at = slice_get_read c.args.script.now (length c.args.script.now) c.loop-command.command-index c.command-item.result refl c.loop-command-test.true c.command-item.is in
+    let at = slice_get_read c.args.script.now (length c.args.script.now) c.loop-command.command-index c.command-item.result refl c.loop-command-test.true
+            c.command-item.is in
     let next = answered_all-next (opened c.args.opening.now) 1 c.args.script.now c.loop-command.command-index c.command-item.result at in
     record {
       machine = c.in_ok-answer.ensures.machine ∙ (ap (λ h. answered h 1 c.command-item.result) c.loop-command.invariant.machine ∙ sym next);

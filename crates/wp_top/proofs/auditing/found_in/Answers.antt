@@ -8,7 +8,9 @@ returns-in_err-journal-clause-stops g c =
     rw (p.1, p.2) (inl c.in_err-journal.ensures.stops)
 
 pub returns-clause-stops : goal.returns-clause-stops
-returns-clause-stops g c = IfErr-weaker c.audit_text.result _ _ (λ s wrong. inr (c.in_ok-journal.journal.items, c.in_ok-journal.ensures.text, wrong)) c.audit_text.ensures.wrong
+returns-clause-stops g c = IfErr-weaker c.audit_text.result _ _
+    (λ s wrong. inr (c.in_ok-journal.journal.items, c.in_ok-journal.ensures.text, wrong)) c.audit_text.ensures.wrong
 
 pub returns-clause-found : goal.returns-clause-found
-returns-clause-found g c = IfOk-weaker c.audit_text.result _ _ (λ found right. record { text = c.in_ok-journal.journal.items; read = c.in_ok-journal.ensures.text; shows = right }) c.audit_text.ensures.right
+returns-clause-found g c = IfOk-weaker c.audit_text.result _ _
+    (λ found right. record { text = c.in_ok-journal.journal.items; read = c.in_ok-journal.ensures.text; shows = right }) c.audit_text.ensures.right

@@ -8,4 +8,5 @@ use Rattle.wp_top.proofs.print.print_stock.Given as goal
 
 -- the rows so far were written
 abbrev pub invariant-loop-number : goal.invariant-loop-number
-invariant-loop-number l = string_bytes l.text ≡ string_bytes l.fn.text ++ (line (codes "stock") ++ flat_map (row_line l.opening) (take l.number (state_after l.machine).rows))
+invariant-loop-number l = string_bytes l.text ≡ string_bytes l.fn.text
+    ++ (line (codes "stock") ++ flat_map (row_line l.opening) (take l.number (state_after l.machine).rows))

@@ -6,19 +6,22 @@ use Rattle.wp_walk.proofs.turns.reach_all.Goals.{else-is_required, then-is_requi
 pub loop-place-preserved : goal.loop-place-preserved
 loop-place-preserved c = elim c.if-is_required.branch [
   | then-is_required w ↦ rw w.reached-is (record {
-    value = rw w.reach-reached.ensures.value (looked_yes c.args.layout.now c.args.picks.now.points c.args.aisle c.loop-place.place c.loop-place.reached (sym c.is_required.ensures.value ∙ w.if-is_required.true) c.loop-place.invariant.value);
+    value = rw w.reach-reached.ensures.value (looked_yes c.args.layout.now c.args.picks.now.points c.args.aisle c.loop-place.place c.loop-place.reached
+        (sym c.is_required.ensures.value ∙ w.if-is_required.true) c.loop-place.invariant.value);
     slots = λ some. c.is_required.ensures.slots;
     within = w.reach-reached.ensures.within;
   })
   | else-is_required w ↦ rw w.reached-is (record {
-    value = looked_no c.args.layout.now c.args.picks.now.points c.args.aisle c.loop-place.place c.loop-place.reached (sym c.is_required.ensures.value ∙ w.if-is_required.false) c.loop-place.invariant.value;
+    value = looked_no c.args.layout.now c.args.picks.now.points c.args.aisle c.loop-place.place c.loop-place.reached
+        (sym c.is_required.ensures.value ∙ w.if-is_required.false) c.loop-place.invariant.value;
     slots = λ some. c.is_required.ensures.slots;
     within = c.loop-place.invariant.within;
   })
 ]
 
 pub returns-clause-value : goal.returns-clause-value
-returns-clause-value c = looked_all c.args.layout.now c.args.picks.now.points c.args.aisle c.loop-place.place c.loop-place.reached (omega (arith, c.slots-place-end.ensures.value)) c.loop-place.invariant.value
+returns-clause-value c = looked_all c.args.layout.now c.args.picks.now.points c.args.aisle c.loop-place.place c.loop-place.reached
+    (omega (arith, c.slots-place-end.ensures.value)) c.loop-place.invariant.value
 
 pub returns-clause-slots : goal.returns-clause-slots
 returns-clause-slots c = c.loop-place.invariant.slots (omega (arith, c.slots-place-end.ensures.value))

@@ -6,4 +6,5 @@ pub through-requires-clause-allowed : goal.through-requires-clause-allowed
 through-requires-clause-allowed c = first_allowed c.args.way
 
 pub returns : goal.returns
-returns c = λ class total takes. if_ok_then c.through.result _ _ (λ after is. first_walked c.args.layout.now c.args.picks.now.points c.args.way _ after class total refl takes is) c.through.ensures
+returns c = λ class total takes. if_ok_then c.through.result _ _
+    (λ after is. first_walked c.args.layout.now c.args.picks.now.points c.args.way _ after class total refl takes is) c.through.ensures

@@ -44,10 +44,12 @@ rows_after : (c : goal.After-self-1) → c.hold_in_rows.new.rows ≡ rows_held c
 rows_after c =
     c.hold_in_rows.ensures ∙ ap (λ (holds : List Hold). rows_held c.self.inside.rows holds) c.as_slice.ensures.value
 
-chains_after : (c : goal.After-self-1) → set c.self.inside.chains.items c.chain_of.result c.push.new.self ≡ with_node c.self.inside.chains.items c.args.wave (node_of c)
+chains_after : (c : goal.After-self-1) → set c.self.inside.chains.items c.chain_of.result c.push.new.self ≡ with_node c.self.inside.chains.items c.args.wave
+    (node_of c)
 chains_after c =
     let chains = c.self.inside.chains.items in
-    let found = chain_found chains c.args.wave c.chain_of.result c.index_mut-chain.result.now c.self.invariant.count c.chain_of.ensures c.index_mut-chain.ensures.value in
+    let found = chain_found chains c.args.wave c.chain_of.result c.index_mut-chain.result.now c.self.invariant.count c.chain_of.ensures
+            c.index_mut-chain.ensures.value in
     ap (λ (new : List WaveHolds). set chains c.chain_of.result new) (c.push.ensures ∙ ap (λ (nodes : List WaveHolds). nodes ++ node_of c ∷ []) found)
     ∙ ap (λ i. set chains i (chain_for chains c.args.wave ++ node_of c ∷ [])) c.chain_of.ensures
 
@@ -62,7 +64,11 @@ returns c =
     let rows = c.self.inside.rows in
     let chains = c.self.inside.chains.items in
     let does = hold_does rows chains c.args.wave (node_of c) (may_add c) in
-    subst (λ (old : Book). HasHeld c.args.wave c.args.room.holds old (book_of c.hold_in_rows.new.rows (set chains c.chain_of.result c.push.new.self))) c.self.view_is
-    (subst (λ (new : List Row). HasHeld c.args.wave c.args.room.holds (book_of rows chains) (book_of new (set chains c.chain_of.result c.push.new.self))) (sym (rows_after c))
-    (subst (λ (new : List (List WaveHolds)). HasHeld c.args.wave c.args.room.holds (book_of rows chains) (book_of (rows_held rows (node_of c).holds.items) new)) (sym (chains_after c))
-    (subst (λ (holds : List Hold). HasHeld c.args.wave holds (book_of rows chains) (book_of (rows_held rows (node_of c).holds.items) (with_node chains c.args.wave (node_of c)))) c.into_parts-holds.ensures does)))
+    subst (λ (old : Book). HasHeld c.args.wave c.args.room.holds old (book_of c.hold_in_rows.new.rows (set chains c.chain_of.result c.push.new.self)))
+        c.self.view_is
+    (subst (λ (new : List Row). HasHeld c.args.wave c.args.room.holds (book_of rows chains) (book_of new (set chains c.chain_of.result c.push.new.self)))
+        (sym (rows_after c))
+    (subst (λ (new : List (List WaveHolds)). HasHeld c.args.wave c.args.room.holds (book_of rows chains)
+        (book_of (rows_held rows (node_of c).holds.items) new)) (sym (chains_after c))
+    (subst (λ (holds : List Hold). HasHeld c.args.wave holds (book_of rows chains)
+        (book_of (rows_held rows (node_of c).holds.items) (with_node chains c.args.wave (node_of c)))) c.into_parts-holds.ensures does)))

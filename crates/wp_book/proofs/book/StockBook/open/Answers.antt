@@ -10,4 +10,5 @@ pub invariant_of-result : goal.invariant_of-result
 invariant_of-result c =
     let stock = c.args.stock.now in
     subst (λ (rows : List Row). IsKept rows c.in_ok-chains.chains.items) (sym c.in_ok-rows.ensures.rows)
-    (subst (λ (chains : List (List WaveHolds)). IsKept (map opening_row stock.rows) chains) (sym c.in_ok-chains.ensures) (opens stock c.«open».ensures.read.rows))
+    (subst (λ (chains : List (List WaveHolds)). IsKept (map opening_row stock.rows) chains) (sym c.in_ok-chains.ensures)
+        (opens stock c.«open».ensures.read.rows))

@@ -12,5 +12,6 @@ invariant_of-self c =
     let chains = c.self.inside.chains.items in
     subst (λ (rows : List Row). IsKept rows chains) (sym c.receive.ensures) (receive_keeps rows chains c.args.row c.args.quantity (record {
       kept = c.self.invariant;
-      room = subst (λ (book : Book). IfSome (slice_get book.rows c.args.row) (λ r. r.on_hand + c.args.quantity ≤ most_on_hand)) (sym c.self.view_is) c.requires.room;
+      room = subst (λ (book : Book). IfSome (slice_get book.rows c.args.row) (λ r. r.on_hand + c.args.quantity ≤ most_on_hand))
+          (sym c.self.view_is) c.requires.room;
     }))

@@ -10,5 +10,6 @@ returns c =
     subst (λ (old : Content). IsInOrder old (record { size = c.self.inside.size; holds = c.sort_unstable_by_key.new.self.items })) c.self.view_is (record {
       size = refl;
       same = c.sort_unstable_by_key.ensures.permutation;
-      order = in_order _ (c.sort_unstable_by_key.ensures.sorted (λ (hold : Hold). (hold.order, hold.row)) (answers_always _ (λ a r. r ≡ (a.0.now.order, a.0.now.row)) _ (λ f a r q k. search rules)));
+      order = in_order _ (c.sort_unstable_by_key.ensures.sorted (λ (hold : Hold). (hold.order, hold.row))
+          (answers_always _ (λ a r. r ≡ (a.0.now.order, a.0.now.row)) _ (λ f a r q k. search rules)));
     })

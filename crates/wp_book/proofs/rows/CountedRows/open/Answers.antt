@@ -14,4 +14,5 @@ pub count_free-requires-clause-known : goal.count_free-requires-clause-known
 count_free-requires-clause-known c =
     let rows_are = c.deref.ensures.value ∙ (c.in_ok-rows.ensures ∙ ap (map opening_row) c.as_rows.ensures.rows) in
     subst (λ (articles : ℕ). All (λ (row : Row). row.article < articles) c.deref.result.now) (sym c.articles.ensures)
-    (subst (λ (rows : List Row). All (λ (row : Row). row.article < length c.args.stock.now.articles) rows) (sym rows_are) (known c.args.stock.now c.as_rows.ensures.read.rows))
+    (subst (λ (rows : List Row). All (λ (row : Row). row.article < length c.args.stock.now.articles) rows) (sym rows_are)
+        (known c.args.stock.now c.as_rows.ensures.read.rows))

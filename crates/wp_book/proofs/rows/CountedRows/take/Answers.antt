@@ -12,4 +12,5 @@ invariant_of-self c =
     count_kept rows c.self.inside.free.items c.args.row r (take_units c.args.units r) c.self.invariant there refl refl
 
 pub returns : goal.returns
-returns c = write_is_change (take_units c.args.units) c.self.inside.rows.items c.args.self.now c.args.row c.index_mut-row.result.now c.requires.row c.index_mut-row.ensures.value c.self.view_is
+returns c = write_is_change (take_units c.args.units) c.self.inside.rows.items c.args.self.now c.args.row c.index_mut-row.result.now c.requires.row
+    c.index_mut-row.ensures.value c.self.view_is

@@ -9,7 +9,9 @@ use Rattle.wp_floor.proofs.floor.Floor.allot.Goals as goal
 pub returns-in_default : goal.returns-in_default
 returns-in_default c =
     let state = state_of c.args.self.now in
-    unknown_wave c.args.opening.now (command.Allot c.args.name.now) c.args.name.now (λ number w. allot c.args.opening.now state number w w.state) c.args.self.now c.take_out.new.self c.requires.floor refl c.in_default.ensures.none c.in_default.ensures.nobody
+    unknown_wave c.args.opening.now (command.Allot c.args.name.now) c.args.name.now
+        (λ number w. allot c.args.opening.now state number w w.state) c.args.self.now c.take_out.new.self c.requires.floor refl c.in_default.ensures.none
+        c.in_default.ensures.nobody
 
 pub allot_wave-reply-requires-clause-room : goal.allot_wave-reply-requires-clause-room
 allot_wave-reply-requires-clause-room c =
@@ -46,5 +48,6 @@ returns c =
       is_found = is;
       answers = answers;
       waves = c.put_back.ensures;
-      takers = takers_same c.args.opening.now c.args.name.now old c.put_back.new.self c.take_out.new.self found left c.requires.floor is c.put_back.ensures answers.name answers.orders c.allot_wave-reply.ensures.live;
+      takers = takers_same c.args.opening.now c.args.name.now old c.put_back.new.self c.take_out.new.self found left c.requires.floor is c.put_back.ensures
+          answers.name answers.orders c.allot_wave-reply.ensures.live;
     })

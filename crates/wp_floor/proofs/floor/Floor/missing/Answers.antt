@@ -11,7 +11,8 @@ returns-in_default-clause-refused c =
     let claim = c.args.claim.now in
     let old = c.args.self.now in
     unknown_wave c.args.opening.now (command.Missing c.args.name.now claim.order claim.location claim.quantity) c.args.name.now
-    (missing_at c.args.opening.now (state_of old) claim.order claim.location claim.quantity) old c.take_out.new.self c.requires.floor refl c.in_default.ensures.none c.in_default.ensures.nobody
+    (missing_at c.args.opening.now (state_of old) claim.order claim.location claim.quantity) old c.take_out.new.self c.requires.floor refl
+        c.in_default.ensures.none c.in_default.ensures.nobody
 
 pub missing_wave-done-requires-clause-articles : goal.missing_wave-done-requires-clause-articles
 missing_wave-done-requires-clause-articles c = all_have_articles c.args.opening.now c.args.self.now c.requires.floor
@@ -22,5 +23,6 @@ returns c =
     let done = c.missing_wave-done in
     let is = missing_answered c.args.opening.now c.args.name.now claim.order claim.location claim.quantity c.args.self.now c.take_out.new.self c.in-Some.found
     done.new.book c.put_back.new.self done.new.wave done.result
-    (record { floor = c.requires.floor; is_found = c.in-Some.ensures.some; waves_are = c.put_back.ensures; live = done.ensures.live }) done.ensures.refilled done.ensures.answered in
+    (record { floor = c.requires.floor; is_found = c.in-Some.ensures.some; waves_are = c.put_back.ensures; live = done.ensures.live }) done.ensures.refilled
+        done.ensures.answered in
     record { out = is.out; told = is.told; stays = done.ensures.stays; refused = is.refused }

@@ -10,7 +10,8 @@ returns-in_default c =
     let claim = c.args.claim.now in
     let state = state_of c.args.self.now in
     unknown_wave c.args.opening.now (command.Pick c.args.name.now claim.order claim.location claim.quantity) c.args.name.now
-    (λ number w. at_released state number w claim.order claim.location claim.quantity (pick state number w claim.quantity) w.state) c.args.self.now c.take_out.new.self c.requires.floor refl c.in_default.ensures.none c.in_default.ensures.nobody
+    (λ number w. at_released state number w claim.order claim.location claim.quantity (pick state number w claim.quantity) w.state) c.args.self.now
+        c.take_out.new.self c.requires.floor refl c.in_default.ensures.none c.in_default.ensures.nobody
 
 pub returns : goal.returns
 returns c =
@@ -23,12 +24,14 @@ returns c =
     let at = found_at c.args.opening.now c.args.name.now old c.take_out.new.self found c.requires.floor is in
     let answers = c.pick_wave-reply.ensures.answered c.args.opening.now _ at in
     answered c.args.opening.now (command.Pick c.args.name.now claim.order claim.location claim.quantity) c.args.name.now
-    (λ number w. at_released state number w claim.order claim.location claim.quantity (pick state number w claim.quantity) w.state) old c.take_out.new.self found
+    (λ number w. at_released state number w claim.order claim.location claim.quantity (pick state number w claim.quantity) w.state) old c.take_out.new.self
+        found
     (record { book = c.pick_wave-reply.new.book; waves = c.put_back.new.self; takers = old.takers }) left c.pick_wave-reply.result refl
     (record {
       floor = c.requires.floor;
       is_found = is;
       answers = answers;
       waves = c.put_back.ensures;
-      takers = takers_same c.args.opening.now c.args.name.now old c.put_back.new.self c.take_out.new.self found left c.requires.floor is c.put_back.ensures answers.name answers.orders c.pick_wave-reply.ensures.live;
+      takers = takers_same c.args.opening.now c.args.name.now old c.put_back.new.self c.take_out.new.self found left c.requires.floor is c.put_back.ensures
+          answers.name answers.orders c.pick_wave-reply.ensures.live;
     })

@@ -14,7 +14,9 @@ returns-in_default c =
       out = tt;
       told = tt;
       stays = refl;
-      refused = unknown_wave c.args.opening.now (command.Release c.args.name.now) c.args.name.now (λ number w. release c.args.opening.now state number w w.state) c.args.self.now c.take_out.new.self c.requires.floor refl c.in_default.ensures.none c.in_default.ensures.nobody;
+      refused = unknown_wave c.args.opening.now (command.Release c.args.name.now) c.args.name.now
+          (λ number w. release c.args.opening.now state number w w.state) c.args.self.now c.take_out.new.self c.requires.floor refl c.in_default.ensures.none
+          c.in_default.ensures.nobody;
     }
 
 pub release_wave-done-requires-clause-room : goal.release_wave-done-requires-clause-room
@@ -38,17 +40,23 @@ release_wave-done-requires-clause-wants c =
 pub returns-clause-out : goal.returns-clause-out
 returns-clause-out c =
     release_out c.args.opening.now c.args.name.now c.args.self.now c.take_out.new.self c.in-Some.found
-    (record { book = c.release_wave-done.new.book; waves = c.put_back.new.self; takers = c.args.self.now.takers }) c.release_wave-done.new.wave c.release_wave-done.result
-    (record { floor = c.requires.floor; is_found = c.in-Some.ensures.some; waves = c.put_back.ensures; takers = refl; live = c.release_wave-done.ensures.live }) c.release_wave-done.ensures.out
+    (record { book = c.release_wave-done.new.book; waves = c.put_back.new.self; takers = c.args.self.now.takers }) c.release_wave-done.new.wave
+        c.release_wave-done.result
+    (record { floor = c.requires.floor; is_found = c.in-Some.ensures.some; waves = c.put_back.ensures; takers = refl;
+        live = c.release_wave-done.ensures.live }) c.release_wave-done.ensures.out
 
 pub returns-clause-told : goal.returns-clause-told
 returns-clause-told c =
     release_told c.args.opening.now c.args.name.now c.args.self.now c.take_out.new.self c.in-Some.found
-    (record { book = c.release_wave-done.new.book; waves = c.put_back.new.self; takers = c.args.self.now.takers }) c.release_wave-done.new.wave c.release_wave-done.result
-    (record { floor = c.requires.floor; is_found = c.in-Some.ensures.some; waves = c.put_back.ensures; takers = refl; live = c.release_wave-done.ensures.live }) c.release_wave-done.ensures.out
+    (record { book = c.release_wave-done.new.book; waves = c.put_back.new.self; takers = c.args.self.now.takers }) c.release_wave-done.new.wave
+        c.release_wave-done.result
+    (record { floor = c.requires.floor; is_found = c.in-Some.ensures.some; waves = c.put_back.ensures; takers = refl;
+        live = c.release_wave-done.ensures.live }) c.release_wave-done.ensures.out
 
 pub returns-clause-refused : goal.returns-clause-refused
 returns-clause-refused c =
     release_refused c.args.opening.now c.args.name.now c.args.self.now c.take_out.new.self c.in-Some.found
-    (record { book = c.release_wave-done.new.book; waves = c.put_back.new.self; takers = c.args.self.now.takers }) c.release_wave-done.new.wave c.release_wave-done.result
-    (record { floor = c.requires.floor; is_found = c.in-Some.ensures.some; waves = c.put_back.ensures; takers = refl; live = c.release_wave-done.ensures.live }) c.release_wave-done.ensures.refused
+    (record { book = c.release_wave-done.new.book; waves = c.put_back.new.self; takers = c.args.self.now.takers }) c.release_wave-done.new.wave
+        c.release_wave-done.result
+    (record { floor = c.requires.floor; is_found = c.in-Some.ensures.some; waves = c.put_back.ensures; takers = refl;
+        live = c.release_wave-done.ensures.live }) c.release_wave-done.ensures.refused

@@ -16,7 +16,8 @@ returns-in-Some c =
     let old = c.args.self.now in
     let first : first_order_fault opening (map wave_of old.waves) [] c.args.new.wave.orders ≡ Some c.in-Some.fault =
     ap (λ (names : List (List ℕ)). first_order_fault opening (map wave_of old.waves) [] names) (sym c.as_slice-orders.ensures)
-    ∙ (sym (c.first_order_fault.ensures (map wave_of old.waves) (subst (AreTakers opening (map wave_of old.waves)) (sym c.as_slice.ensures.value) c.requires.floor.takers)) ∙ c.in-Some.is) in
+    ∙ (sym (c.first_order_fault.ensures (map wave_of old.waves)
+        (subst (AreTakers opening (map wave_of old.waves)) (sym c.as_slice.ensures.value) c.requires.floor.takers)) ∙ c.in-Some.is) in
     faulted opening old c.args.new.wave c.in-Some.fault c.requires.floor c.requires.new (sym c.has.ensures ∙ c.if-has.false) first
 
 pub returns : goal.returns
@@ -25,10 +26,14 @@ returns c =
     let old = c.args.self.now in
     let first : first_order_fault opening (map wave_of old.waves) [] c.args.new.wave.orders ≡ None =
     ap (λ (names : List (List ℕ)). first_order_fault opening (map wave_of old.waves) [] names) (sym c.as_slice-orders.ensures)
-    ∙ sym (c.in_default.ensures (map wave_of old.waves) (subst (AreTakers opening (map wave_of old.waves)) (sym c.as_slice.ensures.value) c.requires.floor.takers)) in
+    ∙ sym (c.in_default.ensures (map wave_of old.waves) (subst (AreTakers opening (map wave_of old.waves))
+        (sym c.as_slice.ensures.value) c.requires.floor.takers)) in
     let takers = c.put_takers.new.takers in
     let long : length takers ≡ old.takers.len = omega (arith, c.put_takers.ensures.count, c.deref_mut.ensures.len) in
-    let put = subst (λ (ts : List (Option (List ℕ))). HasPut opening c.args.new.wave.orders (Some c.args.new.wave.name) old.takers.items ts) (sym (with_items_is old.takers takers long))
+    let put = subst (λ (ts : List (Option (List ℕ))). HasPut opening c.args.new.wave.orders (Some c.args.new.wave.name) old.takers.items ts)
+            (sym (with_items_is old.takers takers long))
     (subst (λ (ts : List (Option (List ℕ))). HasPut opening c.args.new.wave.orders (Some c.args.new.wave.name) ts takers) c.deref_mut.ensures.value
-    (subst (λ (names : List (List ℕ)). HasPut opening names (Some c.args.new.wave.name) c.deref_mut.result.now takers) c.as_slice-orders.ensures c.put_takers.ensures)) in
-    submitted opening old (record { book = old.book; waves = c.push.new.self; takers = with_items old.takers takers }) c.args.new.wave c.requires.floor c.requires.new (sym c.has.ensures ∙ c.if-has.false) first refl c.push.ensures put
+    (subst (λ (names : List (List ℕ)). HasPut opening names (Some c.args.new.wave.name) c.deref_mut.result.now takers) c.as_slice-orders.ensures
+        c.put_takers.ensures)) in
+    submitted opening old (record { book = old.book; waves = c.push.new.self; takers = with_items old.takers takers }) c.args.new.wave c.requires.floor
+        c.requires.new (sym c.has.ensures ∙ c.if-has.false) first refl c.push.ensures put

@@ -3,7 +3,8 @@ use Rattle.wp_graph.proofs.Picking.{contained_marked}
 use Rattle.wp_graph.proofs.picks.Picks.word.Goals as goal
 
 pub returns-clause-bits : goal.returns-clause-bits
-returns-clause-bits c = rw (← c.self.view_is) (λ k small. word_tells _ _ _ _ k c.self.invariant (rw (← c.self.view_is) at c.requires.aisle) c.requires.index small)
+returns-clause-bits c = rw (← c.self.view_is) (λ k small. word_tells _ _ _ _ k c.self.invariant
+    (rw (← c.self.view_is) at c.requires.aisle) c.requires.index small)
 
 pub returns-clause-slots : goal.returns-clause-slots
 returns-clause-slots c = rw (← c.self.view_is) (λ p has. (contained_marked _ _ p has).0)

@@ -23,11 +23,13 @@ invariant_of-self c =
     let floor = c.self.inside.floor in
     let next = c.answer_plan-answer.new.floor in
     let answer = c.answer_plan-answer.result in
-    let is = asked_of h c.self.inside.count c.args.desk asked floor next answer c.self.invariant.0 few c.self.invariant.1 (c.answer_plan-answer.ensures asked plan) in
+    let is = asked_of h c.self.inside.count c.args.desk asked floor next answer c.self.invariant.0 few c.self.invariant.1
+            (c.answer_plan-answer.ensures asked plan) in
     let entry = c.entry_of-entry.ensures ∙ entry_is h c.args.desk asked floor next answer is c.self.inside.count c.self.invariant.0 in
     let entries : c.push.new.self ≡ h.entries ++ next_entry h c.args.desk asked ∷ [] = c.push.ensures ∙ ap (λ (e : Entry). h.entries ++ e ∷ []) entry in (
       omega (arith, c.self.invariant.0, ap length entries, length-append h.entries (next_entry h c.args.desk asked ∷ [])),
-      subst (λ (es : List Entry). IsMachine (record { opening = h.opening; entries = es }) next) (sym entries) (machine_steps h c.args.desk asked floor next answer is),
+      subst (λ (es : List Entry). IsMachine (record { opening = h.opening; entries = es }) next) (sym entries)
+          (machine_steps h c.args.desk asked floor next answer is),
     )
 
 pub returns-clause-history : goal.returns-clause-history
@@ -37,8 +39,10 @@ returns-clause-history c =
     let same : c.args.ready.opening ≡ c.self.inside.opening.now = c.requires.same ∙ ap (λ (h : History). h.opening) (sym c.self.view_is) in
     let plan = subst (λ (o : Opening). IsPlanOf o asked c.into_parts-command.result.1) same c.into_parts-command.ensures.plan in
     let few = rw (← c.self.view_is) at c.requires.few in
-    let is = asked_of h c.self.inside.count c.args.desk asked c.self.inside.floor c.answer_plan-answer.new.floor c.answer_plan-answer.result c.self.invariant.0 few c.self.invariant.1 (c.answer_plan-answer.ensures asked plan) in
-    let entry = c.entry_of-entry.ensures ∙ entry_is h c.args.desk asked c.self.inside.floor c.answer_plan-answer.new.floor c.answer_plan-answer.result is c.self.inside.count c.self.invariant.0 in
+    let is = asked_of h c.self.inside.count c.args.desk asked c.self.inside.floor c.answer_plan-answer.new.floor c.answer_plan-answer.result
+            c.self.invariant.0 few c.self.invariant.1 (c.answer_plan-answer.ensures asked plan) in
+    let entry = c.entry_of-entry.ensures ∙ entry_is h c.args.desk asked c.self.inside.floor c.answer_plan-answer.new.floor c.answer_plan-answer.result is
+            c.self.inside.count c.self.invariant.0 in
     rw (← c.self.view_is, ← c.into_parts-command.ensures.command, c.push.ensures, entry) refl
 
 pub returns-clause-number : goal.returns-clause-number
@@ -56,8 +60,10 @@ returns-clause-reply c =
     let same : c.args.ready.opening ≡ c.self.inside.opening.now = c.requires.same ∙ ap (λ (h : History). h.opening) (sym c.self.view_is) in
     let plan = subst (λ (o : Opening). IsPlanOf o asked c.into_parts-command.result.1) same c.into_parts-command.ensures.plan in
     let few = rw (← c.self.view_is) at c.requires.few in
-    let is = asked_of h c.self.inside.count c.args.desk asked c.self.inside.floor c.answer_plan-answer.new.floor c.answer_plan-answer.result c.self.invariant.0 few c.self.invariant.1 (c.answer_plan-answer.ensures asked plan) in
-    rw (← c.self.view_is, ← c.into_parts-command.ensures.command) (reply_is h c.args.desk asked c.self.inside.floor c.answer_plan-answer.new.floor c.answer_plan-answer.result is)
+    let is = asked_of h c.self.inside.count c.args.desk asked c.self.inside.floor c.answer_plan-answer.new.floor c.answer_plan-answer.result
+            c.self.invariant.0 few c.self.invariant.1 (c.answer_plan-answer.ensures asked plan) in
+    rw (← c.self.view_is, ← c.into_parts-command.ensures.command)
+        (reply_is h c.args.desk asked c.self.inside.floor c.answer_plan-answer.new.floor c.answer_plan-answer.result is)
 
 pub returns-clause-outcome : goal.returns-clause-outcome
 returns-clause-outcome c =
@@ -66,5 +72,7 @@ returns-clause-outcome c =
     let same : c.args.ready.opening ≡ c.self.inside.opening.now = c.requires.same ∙ ap (λ (h : History). h.opening) (sym c.self.view_is) in
     let plan = subst (λ (o : Opening). IsPlanOf o asked c.into_parts-command.result.1) same c.into_parts-command.ensures.plan in
     let few = rw (← c.self.view_is) at c.requires.few in
-    let is = asked_of h c.self.inside.count c.args.desk asked c.self.inside.floor c.answer_plan-answer.new.floor c.answer_plan-answer.result c.self.invariant.0 few c.self.invariant.1 (c.answer_plan-answer.ensures asked plan) in
-    rw (← c.self.view_is, ← c.into_parts-command.ensures.command) (outcome_is h c.args.desk asked c.self.inside.floor c.answer_plan-answer.new.floor c.answer_plan-answer.result is)
+    let is = asked_of h c.self.inside.count c.args.desk asked c.self.inside.floor c.answer_plan-answer.new.floor c.answer_plan-answer.result
+            c.self.invariant.0 few c.self.invariant.1 (c.answer_plan-answer.ensures asked plan) in
+    rw (← c.self.view_is, ← c.into_parts-command.ensures.command)
+        (outcome_is h c.args.desk asked c.self.inside.floor c.answer_plan-answer.new.floor c.answer_plan-answer.result is)

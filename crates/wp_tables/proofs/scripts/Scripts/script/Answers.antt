@@ -11,4 +11,5 @@ returns-clause-plain c =
     let scripts = c.self.inside.scripts.items in
     let last = rw (← c.self.view_is) at c.requires.last in
     rw c.as_slice.ensures.value
-    (all_at (λ v. v.items) (All (λ command. IsTrue (is_plain command))) scripts (c.args.desk - 1) c.index.result.now c.self.invariant.plain (omega (arith, last, length-map scripts (λ v. v.items), c.requires.first)) c.index.ensures)
+    (all_at (λ v. v.items) (All (λ command. IsTrue (is_plain command))) scripts (c.args.desk - 1) c.index.result.now c.self.invariant.plain
+        (omega (arith, last, length-map scripts (λ v. v.items), c.requires.first)) c.index.ensures)

@@ -21,7 +21,8 @@ invariant_of-result c =
       kept_by_location _ _ put,
       subst (λ (s : Stock). IsKeptStock s c.count_at.new.counts.items) (sym made) (record {
         read = kept_by_line _ c.args.line kept.read may;
-        counted = places_joined _ c.args.line c.self.inside.places.items c.count_at.new.counts.items c.in_ok-article.article kept.counted place c.in_ok-count_at.ensures.counts c.in_ok-count_at.ensures.length;
+        counted = places_joined _ c.args.line c.self.inside.places.items c.count_at.new.counts.items c.in_ok-article.article kept.counted place
+            c.in_ok-count_at.ensures.counts c.in_ok-count_at.ensures.length;
       }),
     )
 
@@ -32,5 +33,6 @@ returns c =
     let put = entries ∙ put_by_location _ cmp_is _ (map (λ e. e.1) c.self.inside.rows.entries) may.free in
     let rows = ap (map (λ e. e.1)) put ∙ rows_back _ in
     let names = c.in_ok-article.ensures.keys ∙ joins c.args.line.article c.self.inside.articles.keys in
-    let number = c.in_ok-article.ensures.index ∙ number_of_name c.args.line.article c.self.inside.articles.keys ∙ sym (number_joined c.args.line.article c.self.inside.articles.keys) in
+    let number = c.in_ok-article.ensures.index ∙ number_of_name c.args.line.article c.self.inside.articles.keys
+            ∙ sym (number_joined c.args.line.article c.self.inside.articles.keys) in
     rw (← c.self.view_is) (ap₂ (λ r a. record { rows = r; articles = a }) (rw number at rows) names)
