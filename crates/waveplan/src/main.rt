@@ -66,8 +66,11 @@ fn end_of<R: Sync, F: Files, K: Sink>(
     files: &mut F,
     out: &mut K,
 ) -> ExitCode
-    ensures runs { IfOk words (λ words. Keeps (asked_by words.items) (course (F.holds files.old) (F.holds files.new) (F.faults files.old) (F.faults files.new) (K.taken out.old) (K.taken out.new) (K.faults out.old) (K.faults out.new)) (exit_status result)) }
-    ensures lacks { OnErr words (LacksWords (course (F.holds files.old) (F.holds files.new) (F.faults files.old) (F.faults files.new) (K.taken out.old) (K.taken out.new) (K.faults out.old) (K.faults out.new)) (exit_status result)) }
+    ensures runs { IfOk words (λ words. Keeps (asked_by words.items)
+        (course (F.holds files.old) (F.holds files.new) (F.faults files.old) (F.faults files.new) (K.taken out.old) (K.taken out.new) (K.faults out.old)
+        (K.faults out.new)) (exit_status result)) }
+    ensures lacks { OnErr words (LacksWords (course (F.holds files.old) (F.holds files.new) (F.faults files.old) (F.faults files.new) (K.taken out.old)
+        (K.taken out.new) (K.faults out.old) (K.faults out.new)) (exit_status result)) }
 {
     match words {
         Ok(words) => ExitCode::from(run(rt, alloc, &words, files, out)),
@@ -84,9 +87,15 @@ fn run_given<R: Sync, F: Files, K: Sink>(
     files: &mut F,
     out: &mut K,
 ) -> ExitCode
-    ensures given { IfOk given (λ given. EndsFor (asked_by (drop 1 (into_iter_items given))) (course (F.holds files.old) (F.holds files.new) (F.faults files.old) (F.faults files.new) (K.taken out.old) (K.taken out.new) (K.faults out.old) (K.faults out.new)) (exit_status result)) }
-    ensures bad { OnErr given (EndsFor (job_said (codes "plan" ∷ [])) (course (F.holds files.old) (F.holds files.new) (F.faults files.old) (F.faults files.new) (K.taken out.old) (K.taken out.new) (K.faults out.old) (K.faults out.new)) (exit_status result)) }
-    ensures lacks { IfErr given (λ fault. error_kind fault ≢ InvalidData → LacksWords (course (F.holds files.old) (F.holds files.new) (F.faults files.old) (F.faults files.new) (K.taken out.old) (K.taken out.new) (K.faults out.old) (K.faults out.new)) (exit_status result)) }
+    ensures given { IfOk given (λ given. EndsFor (asked_by (drop 1 (into_iter_items given)))
+        (course (F.holds files.old) (F.holds files.new) (F.faults files.old) (F.faults files.new) (K.taken out.old) (K.taken out.new) (K.faults out.old)
+        (K.faults out.new)) (exit_status result)) }
+    ensures bad { OnErr given (EndsFor (job_said (codes "plan" ∷ []))
+        (course (F.holds files.old) (F.holds files.new) (F.faults files.old) (F.faults files.new) (K.taken out.old) (K.taken out.new) (K.faults out.old)
+        (K.faults out.new)) (exit_status result)) }
+    ensures lacks { IfErr given (λ fault. error_kind fault ≢ InvalidData → LacksWords
+        (course (F.holds files.old) (F.holds files.new) (F.faults files.old) (F.faults files.new) (K.taken out.old) (K.taken out.new) (K.faults out.old)
+        (K.faults out.new)) (exit_status result)) }
 {
     end_of(rt, alloc, words_given(alloc, given), files, out)
 }

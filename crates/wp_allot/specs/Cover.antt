@@ -22,4 +22,4 @@ abbrev pub IsFirstAmong : List Row → List Want → Option ℕ → ℕ → Opti
 IsFirstAmong rows wants except count None = (k : ℕ) (w : Want) → k < count → slice_get wants k ≡ Some w → IsEnough rows wants except w.article
 IsFirstAmong rows wants except count (Some short) =
     IsLess rows wants except short × ((k : ℕ) (w : Want) → k < count → slice_get wants k ≡ Some w → w.article < short.article
-        → IsEnough rows wants except w.article)
+    → IsEnough rows wants except w.article)

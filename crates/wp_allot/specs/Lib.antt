@@ -1,3 +1,4 @@
 pub mod Wants
 pub mod Cover
-pub mod Dealing
+pub mod UntouchedStock
+pub mod DealtUnits

@@ -43,7 +43,8 @@ fn shortage(book: &StockBook, wants: &[Want], article: u32, except: Option<u32>)
 
 // The one with the smaller article.
 fn earlier(first: Option<Short>, other: Option<Short>) -> Option<Short>
-    ensures { (rows : List RowData) (wants : List WantData) (except : Option ℕ) (count : ℕ) (want : WantData) → slice_get wants count ≡ Some want → IsFirstAmong rows wants except count first → IsShortage rows wants except want.article other → IsFirstAmong rows wants except (count + 1) result }
+    ensures { (rows : List RowData) (wants : List WantData) (except : Option ℕ) (count : ℕ) (want : WantData) → slice_get wants count ≡ Some want
+        → IsFirstAmong rows wants except count first → IsShortage rows wants except want.article other → IsFirstAmong rows wants except (count + 1) result }
 {
     match (first, other) {
         (Some(one), Some(two)) if one.article <= two.article => Some(one),

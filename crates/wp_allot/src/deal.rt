@@ -1,7 +1,9 @@
 //! Dealing the free units of articles to the orders that want them.
 ghost use Rattle.std.specs.Prelude.{◌≡◌, ◌+◌, ◌<◌, None, length};
+ghost use Rattle.wp_book.specs.Calls.{KeepsOthers};
 ghost use Rattle.wp_book.specs.Room.{Content};
-ghost use Rattle.wp_allot.specs.Dealing.{AreDealt, CanDeal, IsDealt};
+ghost use Rattle.wp_allot.specs.DealtUnits.{AreDealt, CanDeal, IsDealt};
+ghost use Rattle.wp_allot.specs.UntouchedStock.{KeepsEarlier, KeepsExcepted, KeepsOtherArticles};
 ghost use Rattle.wp_allot.specs.Wants.{AreRegular, HasOverlaps, IsAllotted, IsRoomFor, IsShort};
 
 use crate::cover::wanted_units;
@@ -59,13 +61,19 @@ pub fn holds_by_overlap(book: &StockBook, wants: &[Want], except: Option<u32>, r
     room.sort();
 }
 
-/// Holds stock for a wave by overlap: the units that its orders take from the rows go from free to held. Nothing may be
-/// short, and the room needs space for one hold a row of the wanted articles and one a want. It takes no memory.
+/// Holds stock for a wave by overlap: the units that its orders take from the rows go from free to held. Rows of
+/// articles that they don't want, the excepted row, what other waves hold and what the wave held before stay as they
+/// are. Nothing may be short, and the room needs space for one hold a row of the wanted articles and one a want. It
+/// takes no memory.
 pub fn allot(book: &mut StockBook, wave: u32, wants: &[Want], except: Option<u32>, mut room: Room)
     requires regular { AreRegular wants.now }
     requires covered { IsShort book.old.rows wants.now except None }
     requires room { IsRoomFor book.old.rows wants.now room }
-    ensures { IsAllotted wave wants.now except book.old book.new }
+    ensures exact { IsAllotted wave wants.now except book.old book.new }
+    ensures others { KeepsOtherArticles wants.now book.old.rows book.new.rows }
+    ensures excepted { KeepsExcepted except book.old.rows book.new.rows }
+    ensures waves { KeepsOthers wave book.old book.new }
+    ensures earlier { KeepsEarlier wave wants.now except book.old book.new }
 {
     holds_by_overlap(book, wants, except, &mut room);
     book.hold(wave, room);

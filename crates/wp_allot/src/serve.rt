@@ -1,7 +1,7 @@
 //! Serving an order from the free units of an article.
 ghost use Rattle.std.specs.Prelude.{◌≡◌, ◌<◌, ◌^◌, ◌==◌, ◌++◌, ◌∷◌, [], length, if◌then◌else◌};
 ghost use Rattle.wp_model.specs.Demand.{offer_at};
-ghost use Rattle.wp_allot.specs.Dealing.{CanServe, IsServed};
+ghost use Rattle.wp_allot.specs.DealtUnits.{CanServe, IsServed};
 
 use crate::mark::Mark;
 use crate::want::Want;

@@ -38,7 +38,8 @@ fn book_of(alloc: Global, text: &str) -> Result<StockBook, Fail> {
 /// Whether the want at a place may stand after all before it.
 fn follows(wants: &[Want], place: usize) -> bool
     requires { place < length wants.now }
-    ensures { IsTrue result → (k : ℕ) (v w : WantData) → k < place → slice_get wants.now k ≡ Some v → slice_get wants.now place ≡ Some w → (v.order ≤ w.order) × (v.order ≡ w.order → v.article ≡ w.article → ⊥) }
+    ensures { IsTrue result → (k : ℕ) (v w : WantData) → k < place → slice_get wants.now k ≡ Some v → slice_get wants.now place ≡ Some w → (v.order ≤ w.order)
+        × (v.order ≡ w.order → v.article ≡ w.article → ⊥) }
 {
     let last = wants[place];
     for k in 0..place {
@@ -52,7 +53,8 @@ fn follows(wants: &[Want], place: usize) -> bool
 
 /// Whether each want may stand after all before it.
 fn all_follow(wants: &[Want]) -> bool
-    ensures { IsTrue result → (j k : ℕ) (v w : WantData) → k < j → slice_get wants.now k ≡ Some v → slice_get wants.now j ≡ Some w → (v.order ≤ w.order) × (v.order ≡ w.order → v.article ≡ w.article → ⊥) }
+    ensures { IsTrue result → (j k : ℕ) (v w : WantData) → k < j → slice_get wants.now k ≡ Some v → slice_get wants.now j ≡ Some w → (v.order ≤ w.order) ×
+        (v.order ≡ w.order → v.article ≡ w.article → ⊥) }
 {
     for place in 0..wants.len() {
         if !follows(wants, place) {

@@ -26,7 +26,7 @@ line_more n state point New Now Old is added before p = (
       ((added p).0 new),
   λ either. (added p).1 (⊎_elim (λ old. inl ((before p).1 (inl old)))
       (λ of. ⊎_elim (λ e. inr (of.2 ∙ ap (λ (k : ℕ). line_slot (state_after (3 * k) state)) e ∙ sym is))
-          (λ other. inl ((before p).1 (inr (of.0, omega (arith, of.1, other), of.2)))) (cases_eq of.0 n))
+      (λ other. inl ((before p).1 (inr (of.0, omega (arith, of.1, other), of.2)))) (cases_eq of.0 n))
       either),
 )
 
@@ -34,7 +34,7 @@ line_more n state point New Now Old is added before p = (
 pub order_end : (n state now new : ℕ) → now ≡ after_orders n state → new ≡ state_after (3 * line_count now) (next_state now) → new ≡ after_orders (n + 1) state
 order_end n state now new is drawn =
     let more : suc n ≡ n + 1 = omega arith in drawn ∙ ap (λ (s : ℕ). state_after (3 * line_count s) (next_state s)) is
-            ∙ ap (λ (orders : ℕ). after_orders orders state) more
+    ∙ ap (λ (orders : ℕ). after_orders orders state) more
 
 -- one more order
 pub order_more : (n state now : ℕ) (New Now : Point → Type 0) → now ≡ after_orders n state → ((p : Point) → New p ↔ (Now p ⊎ IsOfOrder now p))
@@ -50,7 +50,7 @@ order_more n state now New Now is added before p = (
 pub batch_end : (n now new : ℕ) → now ≡ after_orders (3 * n) 1 → new ≡ after_orders 3 now → new ≡ after_orders (3 * (n + 1)) 1
 batch_end n now new is made =
     let more : suc (suc (suc (3 * n))) ≡ 3 * (n + 1) = omega arith in
-            made ∙ ap (λ (s : ℕ). after_orders 3 s) is ∙ ap (λ (orders : ℕ). after_orders orders 1) more
+    made ∙ ap (λ (s : ℕ). after_orders 3 s) is ∙ ap (λ (orders : ℕ). after_orders orders 1) more
 
 -- one more tour
 pub tour_more : (n now sum total next : ℕ) (layout : Layout) (picks : List Point) → now ≡ after_orders (3 * n) 1 → layout ≡ layout_of_batches
@@ -58,7 +58,9 @@ pub tour_more : (n now sum total next : ℕ) (layout : Layout) (picks : List Poi
     IsSumOfTours (n + 1) next
 tour_more n now sum total next layout picks is numbers points shortest before added =
     let more : suc n ≡ n + 1 = omega arith in
-    let tour : IsTourOfBatch (after_orders (3 * n) 1) total =
-            (picks, subst (λ (s : ℕ). (p : Point) → Contains picks p ↔ IsOfOrders 3 s p) is points,
-            subst (λ (l : Layout). IsShortest l picks total) numbers shortest) in
+    let tour : IsTourOfBatch (after_orders (3 * n) 1) total = (
+      picks,
+      subst (λ (s : ℕ). (p : Point) → Contains picks p ↔ IsOfOrders 3 s p) is points,
+      subst (λ (l : Layout). IsShortest l picks total) numbers shortest,
+    ) in
     subst (λ (batches : ℕ). IsSumOfTours batches next) more (sum, total, before, tour, added)

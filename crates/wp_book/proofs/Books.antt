@@ -1,4 +1,4 @@
--- What each call of a book keeps and does.
+-- What is held in a book by rows, waves and orders, and one more call's holds.
 use Rattle.std.proofs.Common.{◌≡◌, ◌∙◌, refl, sym, ap, subst, ℕ, suc, ◌+◌, ◌<◌, ◌≤◌, ◌^◌, ◌%◌, ◌==◌, ◌&&◌, not, Bool, true, false, inl, inr, List, [], ◌∷◌}
 use Rattle.std.proofs.Common.{◌++◌, length, slice_get, Some, All, IsTrue, if◌then◌else◌, arith, rules, eq-eqb, length-set, ne_eqb}
 use Rattle.std.proofs.Math.ListN.{set}
@@ -13,13 +13,13 @@ use Rattle.wp_model.specs.declared.row.Row.{Row}
 use Rattle.wp_book.specs.Calls.{CanHold, HasHeld, HoldsNone}
 use Rattle.wp_book.specs.Chains.{all_units, chain_units, node_units}
 use Rattle.wp_book.specs.Kept.{IsKept, book_of, chain_count}
-use Rattle.wp_book.specs.declared.room.WaveHolds.{WaveHolds}
+use Rattle.wp_book.specs.declared.room.KeptHolds.{KeptHolds}
 use Rattle.wp_book.proofs.HoldSums.{other_wave-for, other_wave-of, same_wave-for, sum_by-within}
 use Rattle.wp_book.proofs.Totals.{IsRow, book_moved, chain_for, chain_most, chain_place, is_for-of, nowhere_else, placed_moved, row_is, total_is, total_moved}
 use Rattle.wp_book.proofs.Totals.{wave_held}
 
 -- the units of a wave's chain are among those of all
-pub chain-le-all : (rows : List Row) (chains : List (List WaveHolds)) (wave : ℕ) (passes : Where) → IsKept rows chains
+pub chain-le-all : (rows : List Row) (chains : List (List KeptHolds)) (wave : ℕ) (passes : Where) → IsKept rows chains
     → chain_units passes (chain_for chains wave) ≤ all_units passes chains
 chain-le-all rows chains wave passes kept = get_or-le-sum_by (chain_units passes) chains (wave % chain_count) [] (omega (arith, kept.count, chain_place wave))
 
@@ -29,19 +29,23 @@ wave-le-row wave row w hold = elim (cases_eq hold.row row) [
   | inl same ↦
       let all = cond-true (hold.row == row) hold.quantity 0 (eq-eqb hold.row row same) in
       cond_both ((w == wave) && (hold.row == row)) hold.quantity 0 (λ n. n ≤ hold_units_where (is_at row) w hold) (λ e. omega (arith, all)) (λ e. omega arith)
-  | inr other ↦ omega (arith, cond-false ((w == wave) && (hold.row == row)) hold.quantity 0
-      (both_false (w == wave) (hold.row == row) (ne_eqb hold.row row other)))
+  | inr other ↦ omega (
+    arith,
+    cond-false ((w == wave) && (hold.row == row)) hold.quantity 0
+        (both_false (w == wave) (hold.row == row) (ne_eqb hold.row row other)),
+  )
 ]
   where
     both_false : (a b : Bool) → b ≡ false → (a && b) ≡ false
     both_false true b e = e
     both_false false b e = refl
 
-pub chain_wave-le-row : (wave row : ℕ) (nodes : List WaveHolds) → chain_units (is_for_wave wave row) nodes ≤ chain_units (is_at row) nodes
+-- of a chain, what is held for a wave at a row is within what is held at the row
+pub chain_wave-le-row : (wave row : ℕ) (nodes : List KeptHolds) → chain_units (is_for_wave wave row) nodes ≤ chain_units (is_at row) nodes
 chain_wave-le-row wave row nodes =
     sum_by-within (node_units (is_for_wave wave row)) (node_units (is_at row)) nodes (λ node.
     sum_by-within (hold_units_where (is_for_wave wave row) node.wave) (hold_units_where (is_at row) node.wave) node.holds.items
-        (wave-le-row wave row node.wave))
+    (wave-le-row wave row node.wave))
 
 -- what is held for an order is within what is held for its wave
 order-le-wave : (wave order row w : ℕ) (hold : Hold) → hold_units_where (is_for wave order row) w hold ≤ hold_units_where (is_for_wave wave row) w hold
@@ -53,23 +57,25 @@ order-le-wave wave order row w hold = pick (w == wave) (hold.order == order) (ho
     pick true false false q = omega arith
     pick false b c q = omega arith
 
-pub chain_order-le-wave : (wave order row : ℕ) (nodes : List WaveHolds) → chain_units (is_for wave order row) nodes ≤ chain_units (is_for_wave wave row) nodes
+-- of a chain, what is held for an order at a row is within what is held for its wave there
+pub chain_order-le-wave : (wave order row : ℕ) (nodes : List KeptHolds) → chain_units (is_for wave order row) nodes ≤ chain_units (is_for_wave wave row) nodes
 chain_order-le-wave wave order row nodes =
     sum_by-within (node_units (is_for wave order row)) (node_units (is_for_wave wave row)) nodes (λ node.
     sum_by-within (hold_units_where (is_for wave order row) node.wave) (hold_units_where (is_for_wave wave row) node.wave) node.holds.items
-        (order-le-wave wave order row node.wave))
+    (order-le-wave wave order row node.wave))
 
--- what is held at a row: for a wave, and for all others
+-- a sum whose terms are each the sum of two is the sum of both sums
 pub sum_by-plus : {X : Type 0} (f g h : X → ℕ) (xs : List X) → ((x : X) → f x ≡ g x + h x) → sum_by f xs ≡ sum_by g xs + sum_by h xs
 sum_by-plus f g h [] each = refl
 sum_by-plus f g h (x ∷ xs) each = omega (arith, sum_by-cons f x xs, sum_by-cons g x xs, sum_by-cons h x xs, each x, sum_by-plus f g h xs each)
 
-pub chain_at_row : (wave row : ℕ) (nodes : List WaveHolds) → chain_units (is_at row) nodes ≡ chain_units (but_of wave (is_at row)) nodes + chain_units
+-- what a chain holds at a row is what it holds there for other waves and what it holds there for the wave
+pub chain_at_row : (wave row : ℕ) (nodes : List KeptHolds) → chain_units (is_at row) nodes ≡ chain_units (but_of wave (is_at row)) nodes + chain_units
     (is_for_wave wave row) nodes
 chain_at_row wave row nodes =
     sum_by-plus (node_units (is_at row)) (node_units (but_of wave (is_at row))) (node_units (is_for_wave wave row)) nodes (λ node.
     sum_by-plus (hold_units_where (is_at row) node.wave) (hold_units_where (but_of wave (is_at row)) node.wave)
-        (hold_units_where (is_for_wave wave row) node.wave) node.holds.items
+    (hold_units_where (is_for_wave wave row) node.wave) node.holds.items
     (λ hold. parts (node.wave == wave) (hold.row == row) hold.quantity))
   where
     parts : (a b : Bool) (q : ℕ) → (if b then q else 0) ≡ (if b && not a then q else 0) + (if a && b then q else 0)
@@ -78,12 +84,13 @@ chain_at_row wave row nodes =
     parts false true q = omega arith
     parts false false q = omega arith
 
--- what a wave holds at a row is in the row, and at no place that is no row
-pub wave_in_row : (rows : List Row) (chains : List (List WaveHolds)) (wave row : ℕ) → IsKept rows chains
+-- what a wave holds at a row is within all that is held there
+pub wave_in_row : (rows : List Row) (chains : List (List KeptHolds)) (wave row : ℕ) → IsKept rows chains
     → chain_units (is_for_wave wave row) (chain_for chains wave) ≤ all_units (is_at row) chains
 wave_in_row rows chains wave row kept = omega (arith, chain_wave-le-row wave row (chain_for chains wave), chain-le-all rows chains wave (is_at row) kept)
 
-pub wave_nowhere : (rows : List Row) (chains : List (List WaveHolds)) (wave row : ℕ) → IsKept rows chains → length rows ≤ row
+-- a wave holds nothing at a place that is no row
+pub wave_nowhere : (rows : List Row) (chains : List (List KeptHolds)) (wave row : ℕ) → IsKept rows chains → length rows ≤ row
     → chain_units (is_for_wave wave row) (chain_for chains wave) ≡ 0
 wave_nowhere rows chains wave row kept past = omega (arith, wave_in_row rows chains wave row kept, nowhere_else rows chains row kept.book past)
 
@@ -93,16 +100,20 @@ pub record HasUnits (units : ℕ) (r : Row) : Type 0 where
   pub on_hand : units ≤ r.on_hand
   pub fits : r.free + r.held < 2 ^ 32
 
-pub row_has : (rows : List Row) (chains : List (List WaveHolds)) (wave row : ℕ) (r : Row) → IsKept rows chains → slice_get rows row ≡ Some r
+-- a row of a book has what a wave holds there among what is held and what is on hand, and its units fit
+pub row_has : (rows : List Row) (chains : List (List KeptHolds)) (wave row : ℕ) (r : Row) → IsKept rows chains → slice_get rows row ≡ Some r
     → HasUnits (chain_units (is_for_wave wave row) (chain_for chains wave)) r
 row_has rows chains wave row r kept there =
     let is = row_is rows chains row r kept.book there in
     let within = wave_in_row rows chains wave row kept in
-    record { held = omega (arith, is.held, within); on_hand = omega (arith, is.held, is.balance.sum, within);
-        fits = omega (arith, is.balance.sum, is.balance.most) }
+    record {
+      held = omega (arith, is.held, within);
+      on_hand = omega (arith, is.held, is.balance.sum, within);
+      fits = omega (arith, is.balance.sum, is.balance.most);
+    }
 
 -- what an order holds fits
-pub order_fits : (rows : List Row) (chains : List (List WaveHolds)) (wave order row : ℕ) → IsKept rows chains
+pub order_fits : (rows : List Row) (chains : List (List KeptHolds)) (wave order row : ℕ) → IsKept rows chains
     → chain_units (is_for wave order row) (chain_for chains wave) < 2 ^ 32
 order_fits rows chains wave order row kept = elim (cases_lt row (length rows)) [
   | inl within ↦
@@ -112,20 +123,21 @@ order_fits rows chains wave order row kept = elim (cases_lt row (length rows)) [
   | inr past ↦ omega (arith, chain_order-le-wave wave order row (chain_for chains wave), wave_nowhere rows chains wave row kept past)
 ]
 
--- hold: one more call's holds in the wave's chain
-pub record CanAdd (rows : List Row) (chains : List (List WaveHolds)) (wave : ℕ) (node : WaveHolds) : Type 0 where
+-- one more call's holds can go into the chain of their wave
+pub record CanAdd (rows : List Row) (chains : List (List KeptHolds)) (wave : ℕ) (node : KeptHolds) : Type 0 where
   pub kept : IsKept rows chains
   pub can : CanHold (book_of rows chains) node.holds.items
   pub own : node.wave ≡ wave
 
--- the chains with it
-abbrev pub with_node : List (List WaveHolds) → ℕ → WaveHolds → List (List WaveHolds)
+-- the chains with these holds
+abbrev pub with_node : List (List KeptHolds) → ℕ → KeptHolds → List (List KeptHolds)
 with_node chains wave node = set chains (wave % chain_count) (chain_for chains wave ++ node ∷ [])
 
--- the rows with its units held
+-- the rows with the units of the holds held
 abbrev pub rows_held : List Row → List Hold → List Row
 rows_held rows holds = change_rows (λ row. hold_units (units_at holds row)) 0 rows
 
+-- holds that are all at rows have no unit at a place past the rows
 pub no_units_past : (rows : List Row) (holds : List Hold) (row : ℕ) → All (λ (hold : Hold). hold.row < length rows) holds → length rows ≤ row
     → units_at holds row ≡ 0
 no_units_past rows holds row within past = none holds (λ k h at. All-at (λ (hold : Hold). hold.row < length rows) holds k h within at)
@@ -136,12 +148,12 @@ no_units_past rows holds row within past = none holds (λ k h at. All-at (λ (ho
         let here = cond-false (h.row == row) h.quantity 0 (ne_eqb h.row row (λ e. absurd (omega (arith, each 0 h refl)))) in
         omega (arith, sum_by-cons (hold_at row) h hs, here, none hs (λ k g at. each (suc k) g at))
 
-total_added : (rows : List Row) (chains : List (List WaveHolds)) (wave : ℕ) (node : WaveHolds) (passes : Where) → IsKept rows chains
+total_added : (rows : List Row) (chains : List (List KeptHolds)) (wave : ℕ) (node : KeptHolds) (passes : Where) → IsKept rows chains
     → all_units passes (with_node chains wave node) ≡ all_units passes chains + node_units passes node
 total_added rows chains wave node passes kept =
     omega (arith, total_moved rows chains wave (chain_for chains wave ++ node ∷ []) passes kept, sum_by_push (node_units passes) (chain_for chains wave) node)
 
-hold_row : (rows : List Row) (chains : List (List WaveHolds)) (wave : ℕ) (node : WaveHolds) → CanAdd rows chains wave node
+hold_row : (rows : List Row) (chains : List (List KeptHolds)) (wave : ℕ) (node : KeptHolds) → CanAdd rows chains wave node
     → (k : ℕ) (r : Row) → slice_get rows k ≡ Some r → IsRow chains k r → IsRow (with_node chains wave node) k (hold_units (units_at node.holds.items k) r)
 hold_row rows chains wave node add k r there is =
     let enough = at_some _ (λ (r : Row). units_at node.holds.items k ≤ r.free) r there (add.can.free k) in
@@ -150,12 +162,17 @@ hold_row rows chains wave node add k r there is =
       held = omega (arith, is.held, total_added rows chains wave node (is_at k) add.kept);
     }
 
-pub hold_keeps : (rows : List Row) (chains : List (List WaveHolds)) (wave : ℕ) (node : WaveHolds) → CanAdd rows chains wave node
+-- after one more call's holds the rows and the chains keep a book
+pub hold_keeps : (rows : List Row) (chains : List (List KeptHolds)) (wave : ℕ) (node : KeptHolds) → CanAdd rows chains wave node
     → IsKept (rows_held rows node.holds.items) (with_node chains wave node)
 hold_keeps rows chains wave node add = record {
   book = book_moved _ rows chains (with_node chains wave node) add.kept.book (hold_row rows chains wave node add) (λ k past.
-      omega (arith, total_added rows chains wave node (is_at k) add.kept, nowhere_else rows chains k add.kept.book past,
-          no_units_past rows node.holds.items k add.can.rows past));
+      omega (
+        arith,
+        total_added rows chains wave node (is_at k) add.kept,
+        nowhere_else rows chains k add.kept.book past,
+        no_units_past rows node.holds.items k add.can.rows past,
+      ));
   count = long;
   placed = placed_moved rows chains wave (chain_for chains wave ++ node ∷ []) add.kept (λ other elsewhere.
       omega (
@@ -169,7 +186,8 @@ hold_keeps rows chains wave node add = record {
     long : length (with_node chains wave node) ≡ chain_count
     long = omega (arith, length-set chains (wave % chain_count) (chain_for chains wave ++ node ∷ []), add.kept.count)
 
-pub hold_does : (rows : List Row) (chains : List (List WaveHolds)) (wave : ℕ) (node : WaveHolds) → CanAdd rows chains wave node
+-- and the units of the holds have gone from free to held, for their wave alone
+pub hold_does : (rows : List Row) (chains : List (List KeptHolds)) (wave : ℕ) (node : KeptHolds) → CanAdd rows chains wave node
     → HasHeld wave node.holds.items (book_of rows chains) (book_of (rows_held rows node.holds.items) (with_node chains wave node))
 hold_does rows chains wave node add = record {
   rows = refl;
@@ -198,7 +216,7 @@ holds_of_none wave w [] none = refl
 holds_of_none wave w (h ∷ hs) none =
     let own = none h.order h.row in
     let same : (w == wave) && ((h.order == h.order) && (h.row == h.row)) ≡ (w == wave) =
-            both (w == wave) (h.order == h.order) (h.row == h.row) (eq-eqb h.order h.order refl) (eq-eqb h.row h.row refl) in
+    both (w == wave) (h.order == h.order) (h.row == h.row) (eq-eqb h.order h.order refl) (eq-eqb h.row h.row refl) in
     let here : hold_units_where (is_for wave h.order h.row) w h ≡ hold_units_where (is_of wave) w h = ap (λ t. if t then h.quantity else 0) same in
     let rest = holds_of_none wave w hs (λ o r. omega (arith, none o r, sum_by-cons (hold_units_where (is_for wave o r) w) h hs)) in
     omega (arith, sum_by-cons (hold_units_where (is_of wave) w) h hs, sum_by-cons (hold_units_where (is_for wave h.order h.row) w) h hs, own, here, rest)
@@ -207,19 +225,21 @@ holds_of_none wave w (h ∷ hs) none =
     both true b c p q = rw (p, q) refl
     both false b c p q = refl
 
-chain_of_none : (wave : ℕ) (nodes : List WaveHolds) → ((o r : ℕ) → chain_units (is_for wave o r) nodes ≡ 0) → chain_units (is_of wave) nodes ≡ 0
+chain_of_none : (wave : ℕ) (nodes : List KeptHolds) → ((o r : ℕ) → chain_units (is_for wave o r) nodes ≡ 0) → chain_units (is_of wave) nodes ≡ 0
 chain_of_none wave [] none = refl
 chain_of_none wave (node ∷ nodes) none =
     let here = holds_of_none wave node.wave node.holds.items (λ o r. omega (arith, none o r, sum_by-cons (node_units (is_for wave o r)) node nodes)) in
     let rest = chain_of_none wave nodes (λ o r. omega (arith, none o r, sum_by-cons (node_units (is_for wave o r)) node nodes)) in
     omega (arith, sum_by-cons (node_units (is_of wave)) node nodes, here, rest)
 
-pub holds_none_from : (rows : List Row) (chains : List (List WaveHolds)) (wave : ℕ) → IsKept rows chains → HoldsNone (book_of rows chains) wave
+-- a wave that holds nothing has no unit in its chain
+pub holds_none_from : (rows : List Row) (chains : List (List KeptHolds)) (wave : ℕ) → IsKept rows chains → HoldsNone (book_of rows chains) wave
     → chain_units (is_of wave) (chain_for chains wave) ≡ 0
 holds_none_from rows chains wave kept none =
     chain_of_none wave (chain_for chains wave) (λ o r. sym (wave_held rows chains wave (is_for wave o r) kept (is_for-of wave o r)) ∙ none o r)
 
-pub holds_none_to : (rows : List Row) (chains : List (List WaveHolds)) (wave : ℕ) → IsKept rows chains → chain_units (is_of wave) (chain_for chains wave) ≡ 0
+-- and a wave that has no unit in its chain holds nothing
+pub holds_none_to : (rows : List Row) (chains : List (List KeptHolds)) (wave : ℕ) → IsKept rows chains → chain_units (is_of wave) (chain_for chains wave) ≡ 0
     → HoldsNone (book_of rows chains) wave
 holds_none_to rows chains wave kept none o r =
     let P = is_for wave o r in
@@ -228,7 +248,7 @@ holds_none_to rows chains wave kept none o r =
     omega_zero : {a b : ℕ} → a ≤ b → b ≡ 0 → a ≡ 0
     omega_zero less none = omega arith
 
--- a test for 0
+-- a test for 0 is true exactly where the number is 0
 pub zero_tests : (b : Bool) (n : ℕ) → b ≡ (n == 0) → (IsTrue b → n ≡ 0) × (n ≡ 0 → IsTrue b)
 zero_tests b n e = elim (cases_eq n 0) [
   | inl none ↦ (λ t. none, λ z. subst IsTrue (sym (e ∙ eq-eqb n 0 none)) (search rules))

@@ -2,9 +2,10 @@ pub mod RowChanges
 pub mod HoldSums
 pub mod Totals
 pub mod Books
-pub mod Back
-pub mod Taking
-pub mod Opening
-pub mod Free
-pub mod Counting
-pub mod Sorting
+pub mod ReturnedUnits
+pub mod TakenUnits
+pub mod ReceivedUnits
+pub mod FreeBook
+pub mod FreeUnits
+pub mod FreeCounts
+pub mod SortedHolds

@@ -15,7 +15,7 @@ use Rattle.wp_model.specs.declared.row.Hold.{Hold}
 use Rattle.wp_model.specs.declared.row.Row.{Row}
 use Rattle.wp_book.specs.Chains.{all_units, chain_units, holdings_of, node_units}
 use Rattle.wp_book.specs.Kept.{IsKept, book_of, chain_count}
-use Rattle.wp_book.specs.declared.room.WaveHolds.{WaveHolds}
+use Rattle.wp_book.specs.declared.room.KeptHolds.{KeptHolds}
 use Rattle.wp_book.proofs.HoldSums.{sum_by-within}
 
 sum_by-map : {A B : Type 0} (f : B → ℕ) (g : A → B) (xs : List A) → sum_by f (map g xs) ≡ sum_by (λ x. f (g x)) xs
@@ -27,7 +27,7 @@ sum_by-flat f g h [] each = refl
 sum_by-flat f g h (x ∷ xs) each = omega (arith, sum_by-append f (g x) (flat_map g xs), sum_by-cons h x xs, each x, sum_by-flat f g h xs each)
 
 -- the units of a book are those of its chains
-pub total_is : (passes : Where) (rows : List Row) (chains : List (List WaveHolds)) → held_where passes (book_of rows chains) ≡ all_units passes chains
+pub total_is : (passes : Where) (rows : List Row) (chains : List (List KeptHolds)) → held_where passes (book_of rows chains) ≡ all_units passes chains
 total_is passes rows chains =
     sum_by-flat (units_where passes) (flat_map holdings_of) (chain_units passes) chains (λ nodes.
     sum_by-flat (units_where passes) holdings_of (node_units passes) nodes (λ node. sum_by-map (units_where passes) (of_wave node.wave) node.holds.items))
@@ -51,12 +51,15 @@ sum_by-one f (x ∷ xs) (suc i) d within others =
 abbrev pub IsOfWave : ℕ → Where → Type 0
 IsOfWave wave passes = (w o r : ℕ) → w ≢ wave → passes w o r ≡ false
 
+-- only what is held for a wave passes the test for an order of it at a row
 pub is_for-of : (wave order row : ℕ) → IsOfWave wave (is_for wave order row)
 is_for-of wave order row w o r other = and_left _ _ (ne_eqb w wave other)
 
+-- and the test for the wave at a row
 pub is_for_wave-of : (wave row : ℕ) → IsOfWave wave (is_for_wave wave row)
 is_for_wave-of wave row w o r other = and_left _ _ (ne_eqb w wave other)
 
+-- and the test for the wave
 pub is_of-of : (wave : ℕ) → IsOfWave wave (is_of wave)
 is_of-of wave w o r other = ne_eqb w wave other
 
@@ -69,38 +72,41 @@ wave_most wave passes w hold of = elim (cases_eq w wave) [
   | inr other ↦ omega (arith, cond-false (passes w hold.order hold.row) hold.quantity 0 (of w hold.order hold.row other))
 ]
 
-pub chain_most : (wave : ℕ) (passes : Where) (nodes : List WaveHolds) → IsOfWave wave passes → chain_units passes nodes ≤ chain_units (is_of wave) nodes
+-- of a chain, no more passes such a test than is held for the wave
+pub chain_most : (wave : ℕ) (passes : Where) (nodes : List KeptHolds) → IsOfWave wave passes → chain_units passes nodes ≤ chain_units (is_of wave) nodes
 chain_most wave passes nodes of =
     sum_by-within (node_units passes) (node_units (is_of wave)) nodes (λ node.
     sum_by-within (hold_units_where passes node.wave) (hold_units_where (is_of wave) node.wave) node.holds.items
-        (λ hold. wave_most wave passes node.wave hold of))
+    (λ hold. wave_most wave passes node.wave hold of))
 
 -- the chain of a wave
-abbrev pub chain_for : List (List WaveHolds) → ℕ → List WaveHolds
+abbrev pub chain_for : List (List KeptHolds) → ℕ → List KeptHolds
 chain_for chains wave = get_or chains (wave % chain_count) []
 
+-- the chain of a wave is one of the chains
 pub chain_place : (wave : ℕ) → wave % chain_count < chain_count
 chain_place wave = omega arith
 
--- has all that is held for it
-pub wave_total : (rows : List Row) (chains : List (List WaveHolds)) (wave : ℕ) (passes : Where) → IsKept rows chains → IsOfWave wave passes
+-- the chain of a wave has all units of all chains that are held for the wave
+pub wave_total : (rows : List Row) (chains : List (List KeptHolds)) (wave : ℕ) (passes : Where) → IsKept rows chains → IsOfWave wave passes
     → all_units passes chains ≡ chain_units passes (chain_for chains wave)
 wave_total rows chains wave passes kept of =
     sum_by-one (chain_units passes) chains (wave % chain_count) [] (omega (arith, kept.count, chain_place wave)) (λ k below other.
     omega (arith, chain_most wave passes (get_or chains k []) of, kept.placed k wave (omega (arith, kept.count)) (λ e. other (sym e))))
 
-pub wave_held : (rows : List Row) (chains : List (List WaveHolds)) (wave : ℕ) (passes : Where) → IsKept rows chains → IsOfWave wave passes
+-- the chain of a wave has all that a book holds for it
+pub wave_held : (rows : List Row) (chains : List (List KeptHolds)) (wave : ℕ) (passes : Where) → IsKept rows chains → IsOfWave wave passes
     → held_where passes (book_of rows chains) ≡ chain_units passes (chain_for chains wave)
 wave_held rows chains wave passes kept of = total_is passes rows chains ∙ wave_total rows chains wave passes kept of
 
--- after a chain has changed
-pub total_moved : (rows : List Row) (chains : List (List WaveHolds)) (wave : ℕ) (new : List WaveHolds) (passes : Where) → IsKept rows chains
+-- a chain that is written over changes the units of all chains by its old and its new units
+pub total_moved : (rows : List Row) (chains : List (List KeptHolds)) (wave : ℕ) (new : List KeptHolds) (passes : Where) → IsKept rows chains
     → all_units passes (set chains (wave % chain_count) new) + chain_units passes (chain_for chains wave) ≡ all_units passes chains + chain_units passes new
 total_moved rows chains wave new passes kept =
     sum_by-set (chain_units passes) chains (wave % chain_count) new [] (omega (arith, kept.count, chain_place wave))
 
--- where the chain holds nothing for waves of other chains
-pub placed_moved : (rows : List Row) (chains : List (List WaveHolds)) (wave : ℕ) (new : List WaveHolds) → IsKept rows chains
+-- what is held stays in the chain of its wave where the chain that is written over has nothing of other chains' waves
+pub placed_moved : (rows : List Row) (chains : List (List KeptHolds)) (wave : ℕ) (new : List KeptHolds) → IsKept rows chains
     → ((other : ℕ) → other % chain_count ≢ wave % chain_count → chain_units (is_of other) new ≡ 0)
     → (i other : ℕ) → i < chain_count → other % chain_count ≢ i → chain_units (is_of other) (get_or (set chains (wave % chain_count) new) i []) ≡ 0
 placed_moved rows chains wave new kept none i other within elsewhere = elim (cases_eq i (wave % chain_count)) [
@@ -112,21 +118,23 @@ placed_moved rows chains wave new kept none i other within elsewhere = elim (cas
 ]
 
 -- what is known of a row of a book
-pub record IsRow (chains : List (List WaveHolds)) (k : ℕ) (r : Row) : Type 0 where
+pub record IsRow (chains : List (List KeptHolds)) (k : ℕ) (r : Row) : Type 0 where
   pub balance : IsBalanced r
   pub held : r.held ≡ all_units (is_at k) chains
 
-pub row_is : (rows : List Row) (chains : List (List WaveHolds)) (k : ℕ) (r : Row) → IsBook (book_of rows chains) → slice_get rows k ≡ Some r → IsRow chains k r
+-- a row of a book balances, and what is held in it is what all chains hold there
+pub row_is : (rows : List Row) (chains : List (List KeptHolds)) (k : ℕ) (r : Row) → IsBook (book_of rows chains) → slice_get rows k ≡ Some r → IsRow chains k r
 row_is rows chains k r book there = record {
   balance = All-at IsBalanced rows k r book.rows there;
   held = at_some _ (λ (r : Row). r.held ≡ held_where (is_at k) (book_of rows chains)) r there (book.held k) ∙ total_is (is_at k) rows chains;
 }
 
-pub nowhere_else : (rows : List Row) (chains : List (List WaveHolds)) (k : ℕ) → IsBook (book_of rows chains) → length rows ≤ k → all_units (is_at k) chains ≡ 0
+-- the chains of a book hold nothing at a place that is no row
+pub nowhere_else : (rows : List Row) (chains : List (List KeptHolds)) (k : ℕ) → IsBook (book_of rows chains) → length rows ≤ k → all_units (is_at k) chains ≡ 0
 nowhere_else rows chains k book past = sym (total_is (is_at k) rows chains) ∙ book.nowhere_else k past
 
 -- a book whose rows have changed, each to what is held there now
-pub book_moved : (change : ℕ → Row → Row) (rows : List Row) (chains new : List (List WaveHolds)) → IsBook (book_of rows chains)
+pub book_moved : (change : ℕ → Row → Row) (rows : List Row) (chains new : List (List KeptHolds)) → IsBook (book_of rows chains)
     → ((k : ℕ) (r : Row) → slice_get rows k ≡ Some r → IsRow chains k r → IsRow new k (change k r)) → ((k : ℕ) → length rows ≤ k → all_units (is_at k) new ≡ 0)
     → IsBook (book_of (change_rows change 0 rows) new)
 book_moved change rows chains new book each nowhere = record {
@@ -137,7 +145,7 @@ book_moved change rows chains new book each nowhere = record {
 }
 
 -- the chain that was looked up is the wave's
-pub chain_found : (chains : List (List WaveHolds)) (wave i : ℕ) (found : List WaveHolds) → length chains ≡ chain_count → i ≡ wave % chain_count
+pub chain_found : (chains : List (List KeptHolds)) (wave i : ℕ) (found : List KeptHolds) → length chains ≡ chain_count → i ≡ wave % chain_count
     → found ≡ get_or chains i found → found ≡ chain_for chains wave
 chain_found chains wave i found count place at =
     at ∙ (get_or_default chains i found [] (omega (arith, count, place, chain_place wave)) ∙ ap (λ k. get_or chains k []) place)

@@ -1,5 +1,5 @@
 pub mod Room
 pub mod Chains
 pub mod Kept
-pub mod Counted
+pub mod FreeCounts
 pub mod Calls

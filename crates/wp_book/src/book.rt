@@ -1,14 +1,14 @@
 ghost use Rattle.std.specs.Prelude.{◌≡◌, ◌≤◌, ◌<◌, ◌+◌, ◌^◌, ◌%◌, ◌↔◌, ℕ, IsTrue, IfOk, IfSome, Some, [], length, replicate, slice_get};
 ghost use Rattle.wp_model.specs.Book.{IsBook, held_for};
 ghost use Rattle.wp_model.specs.Demand.{free_units, offer_of};
-ghost use Rattle.wp_model.specs.Opening.{most_on_hand};
+ghost use Rattle.wp_model.specs.Limits.{most_on_hand};
 ghost use Rattle.wp_book.specs.Calls.{CanHold, HasGivenBack, HasHeld, HasReceived, HasTaken, HoldsNone, free_book};
 ghost use Rattle.wp_book.specs.Kept.{chain_count};
 
 use crate::holds::{
     chain_holds_none, give_back_chain, hold_in_rows, take_from_chain, units_in_chain,
 };
-use crate::room::{Room, WaveHolds};
+use crate::room::{KeptHolds, Room};
 use crate::rows::CountedRows;
 use std::alloc::Global;
 use std::marker::Model;
@@ -23,7 +23,7 @@ const CHAINS: usize = 512;
 #[derive(Drop)]
 pub struct StockBook {
     rows: CountedRows,
-    chains: Vec<Chain<WaveHolds>>,
+    chains: Vec<Chain<KeptHolds>>,
 }
 
 impl Model for StockBook {
@@ -39,7 +39,7 @@ impl Model for StockBook {
 }
 
 // So many chains of nothing.
-fn empty_chains(alloc: Global) -> Result<Vec<Chain<WaveHolds>>, Memory>
+fn empty_chains(alloc: Global) -> Result<Vec<Chain<KeptHolds>>, Memory>
     ensures { IfOk result (λ chains. chains.items ≡ replicate chain_count []) }
 {
     let mut chains = Vec::with_capacity(alloc, CHAINS)?;
@@ -113,7 +113,7 @@ impl StockBook {
         let (holds, cell) = room.into_parts();
         hold_in_rows(&mut self.rows, holds.as_slice());
         let chain = &mut self.chains[chain_of(wave)];
-        chain.push(WaveHolds { wave, holds }, cell);
+        chain.push(KeptHolds { wave, holds }, cell);
     }
 
     /// All units that are held for a wave go back to free.

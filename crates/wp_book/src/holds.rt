@@ -6,14 +6,15 @@ ghost use Rattle.wp_model.specs.declared.row.Hold.{Hold as HoldData};
 ghost use Rattle.wp_model.specs.Change.{change_rows, free_held_units, hold_units};
 ghost use Rattle.wp_book.specs.Chains.{chain_units, node_units};
 
-use crate::room::WaveHolds;
+use crate::room::KeptHolds;
 use crate::rows::CountedRows;
 use wp_model::{Chain, Hold};
 
 // Takes units off a hold where it is for the order at the row, and gives how many are left to take.
 fn take_from_hold(hold: &mut Hold, order: u32, row: u32, units: u32) -> u32
     ensures left { result ≡ units - hold_for order row hold.old }
-    ensures taken { (passes : Where) (wave : ℕ) → hold_units_where passes wave hold.new + (if passes wave order row then units - result else 0) ≡ hold_units_where passes wave hold.old }
+    ensures taken { (passes : Where) (wave : ℕ) → hold_units_where passes wave hold.new +
+        (if passes wave order row then units - result else 0) ≡ hold_units_where passes wave hold.old }
 {
     if hold.order != order || hold.row != row {
         return units;
@@ -26,7 +27,8 @@ fn take_from_hold(hold: &mut Hold, order: u32, row: u32, units: u32) -> u32
 // Takes units off the holds for the order at the row, and gives how many are left to take.
 fn take_from_holds(holds: &mut [Hold], order: u32, row: u32, units: u32) -> u32
     ensures left { result ≡ units - units_for holds.old order row }
-    ensures taken { (passes : Where) (wave : ℕ) → sum_by (hold_units_where passes wave) holds.new + (if passes wave order row then units - result else 0) ≡ sum_by (hold_units_where passes wave) holds.old }
+    ensures taken { (passes : Where) (wave : ℕ) → sum_by (hold_units_where passes wave) holds.new +
+        (if passes wave order row then units - result else 0) ≡ sum_by (hold_units_where passes wave) holds.old }
 {
     let mut left = units;
     for hold in holds.iter_mut() {
@@ -36,7 +38,7 @@ fn take_from_holds(holds: &mut [Hold], order: u32, row: u32, units: u32) -> u32
 }
 
 // The same of the holds of one call, where they are the wave's.
-fn take_from_node(node: &mut WaveHolds, wave: u32, order: u32, row: u32, units: u32) -> u32
+fn take_from_node(node: &mut KeptHolds, wave: u32, order: u32, row: u32, units: u32) -> u32
     ensures left { result ≡ units - node_units (is_for wave order row) node.old }
     ensures taken { (passes : Where) → node_units passes node.new + (if passes wave order row then units - result else 0) ≡ node_units passes node.old }
 {
@@ -48,7 +50,7 @@ fn take_from_node(node: &mut WaveHolds, wave: u32, order: u32, row: u32, units: 
 }
 
 /// Takes units off what is held for the order of the wave at the row.
-pub fn take_from_chain(chain: &mut Chain<WaveHolds>, wave: u32, order: u32, row: u32, units: u32)
+pub fn take_from_chain(chain: &mut Chain<KeptHolds>, wave: u32, order: u32, row: u32, units: u32)
     requires { units ≤ chain_units (is_for wave order row) chain.old }
     ensures { (passes : Where) → chain_units passes chain.new + (if passes wave order row then units else 0) ≡ chain_units passes chain.old }
 {
@@ -109,7 +111,7 @@ fn give_back_holds(rows: &mut CountedRows, holds: &mut [Hold])
 }
 
 // The same of the holds of one call, where they are the wave's.
-fn give_back_node(rows: &mut CountedRows, node: &mut WaveHolds, wave: u32)
+fn give_back_node(rows: &mut CountedRows, node: &mut KeptHolds, wave: u32)
     requires within { (row : ℕ) → length rows.old ≤ row → node_units (is_for_wave wave row) node.old ≡ 0 }
     requires held { (row : ℕ) → IfSome (slice_get rows.old row) (λ r. (node_units (is_for_wave wave row) node.old ≤ r.held) × (r.free + r.held < 2 ^ 32)) }
     ensures rows { rows.new ≡ change_rows (λ row. free_held_units (node_units (is_for_wave wave row) node.old)) 0 rows.old }
@@ -121,7 +123,7 @@ fn give_back_node(rows: &mut CountedRows, node: &mut WaveHolds, wave: u32)
 }
 
 /// All that is held for the wave goes from held to free.
-pub fn give_back_chain(rows: &mut CountedRows, chain: &mut Chain<WaveHolds>, wave: u32)
+pub fn give_back_chain(rows: &mut CountedRows, chain: &mut Chain<KeptHolds>, wave: u32)
     requires within { (row : ℕ) → length rows.old ≤ row → chain_units (is_for_wave wave row) chain.old ≡ 0 }
     requires held { (row : ℕ) → IfSome (slice_get rows.old row) (λ r. (chain_units (is_for_wave wave row) chain.old ≤ r.held) × (r.free + r.held < 2 ^ 32)) }
     ensures rows { rows.new ≡ change_rows (λ row. free_held_units (chain_units (is_for_wave wave row) chain.old)) 0 rows.old }
@@ -150,7 +152,7 @@ fn units_in_holds(holds: &[Hold], order: u32, row: u32) -> u32
 }
 
 // The same of the holds of one call, where they are the wave's.
-fn units_in_node(node: &WaveHolds, wave: u32, order: u32, row: u32) -> u32
+fn units_in_node(node: &KeptHolds, wave: u32, order: u32, row: u32) -> u32
     requires { node_units (is_for wave order row) node.now < 2 ^ 32 }
     ensures { result ≡ node_units (is_for wave order row) node.now }
 {
@@ -162,7 +164,7 @@ fn units_in_node(node: &WaveHolds, wave: u32, order: u32, row: u32) -> u32
 }
 
 /// The units that are held for the order of the wave at the row.
-pub fn units_in_chain(chain: &Chain<WaveHolds>, wave: u32, order: u32, row: u32) -> u32
+pub fn units_in_chain(chain: &Chain<KeptHolds>, wave: u32, order: u32, row: u32) -> u32
     requires { chain_units (is_for wave order row) chain.now < 2 ^ 32 }
     ensures { result ≡ chain_units (is_for wave order row) chain.now }
 {
@@ -183,14 +185,14 @@ fn are_of_nothing(holds: &[Hold]) -> bool
 }
 
 // Whether nothing is held for the wave by the holds of one call.
-fn node_holds_none(node: &WaveHolds, wave: u32) -> bool
+fn node_holds_none(node: &KeptHolds, wave: u32) -> bool
     ensures { result ≡ (node_units (is_of wave) node.now == 0) }
 {
     node.wave != wave || are_of_nothing(&node.holds)
 }
 
 /// Whether nothing is held for the wave.
-pub fn chain_holds_none(chain: &Chain<WaveHolds>, wave: u32) -> bool
+pub fn chain_holds_none(chain: &Chain<KeptHolds>, wave: u32) -> bool
     ensures { result ≡ (chain_units (is_of wave) chain.now == 0) }
 {
     let mut at = chain;

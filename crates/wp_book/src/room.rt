@@ -7,7 +7,7 @@ use wp_model::{Cell, Hold, Holds, Memory};
 
 /// What one call held for a wave.
 #[derive(Debug, Drop)]
-pub struct WaveHolds {
+pub struct KeptHolds {
     pub wave: u32,
     pub holds: Vec<Hold>,
 }
@@ -17,7 +17,7 @@ pub struct WaveHolds {
 pub struct Room {
     size: u32,
     holds: Vec<Hold>,
-    cell: Cell<WaveHolds>,
+    cell: Cell<KeptHolds>,
 }
 
 impl Model for Room {
@@ -98,7 +98,7 @@ impl Room {
     }
 
     /// The holds, and the room for them in a chain.
-    pub(crate) fn into_parts(self) -> (Vec<Hold>, Cell<WaveHolds>)
+    pub(crate) fn into_parts(self) -> (Vec<Hold>, Cell<KeptHolds>)
         ensures { result.0.items ≡ self.holds }
     {
         let Room {

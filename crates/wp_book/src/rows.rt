@@ -6,7 +6,7 @@ ghost use Rattle.wp_model.specs.Sound.{IsBalanced};
 ghost use Rattle.wp_model.specs.State.{opening_row};
 ghost use Rattle.wp_model.specs.Tables.{IsReadStock};
 ghost use Rattle.wp_model.specs.declared.row.Row.{Row as RowData};
-ghost use Rattle.wp_book.specs.Counted.{AreCounted};
+ghost use Rattle.wp_book.specs.FreeCounts.{AreCounted};
 
 use std::alloc::Global;
 use std::marker::Model;
@@ -57,7 +57,7 @@ pub struct CountedRows {
 impl Model for CountedRows {
     ghost use Rattle.std.specs.Prelude.{List};
     ghost use Rattle.wp_model.specs.declared.row.Row.{Row as RowData};
-    ghost use Rattle.wp_book.specs.Counted.{AreCounted};
+    ghost use Rattle.wp_book.specs.FreeCounts.{AreCounted};
 
     ghost Value = { List RowData };
 

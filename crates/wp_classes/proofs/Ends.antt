@@ -5,7 +5,7 @@ use Rattle.wp_classes.specs.declared.class.Class.{Class}
 use Rattle.wp_classes.specs.declared.class.Class.TheVariants.{UU1, E01, ZE1, EE1, EE2, Z00, Z01}
 use Rattle.wp_classes.specs.Tables.{is_whole}
 use Rattle.wp_classes.proofs.FitCrossing.{beside_agrees, everywhere_left, front_alone, never_both}
-use Rattle.wp_classes.proofs.Fitting.{Crossed, Fits, Toured, beside, everywhere}
+use Rattle.wp_classes.proofs.FitClasses.{Crossed, Fits, Toured, beside, everywhere}
 
 -- before the first aisle nothing has been passed
 pub starts_with_none : (t : Toured) → Crossed t 0 Z00

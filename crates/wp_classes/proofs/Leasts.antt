@@ -5,19 +5,23 @@ use Rattle.std.proofs.Common.{◌≡◌, ℕ, ◌+◌, ◌≤◌, true, false, e
 use Rattle.wp_classes.specs.Least.{lesser}
 use Rattle.wp_classes.specs.Onward.{IsLeastOf}
 
+-- where no number has the property, there is no least one
 pub least_none : (P : ℕ → Type 0) → ((t : ℕ) → P t → ⊥) → IsLeastOf P None
 least_none P no_one = no_one
 
+-- two properties of the same numbers have the same least one
 pub least_like : (P Q : ℕ → Type 0) (least : Option ℕ) → ((t : ℕ) → P t → Q t) → ((t : ℕ) → Q t → P t) → IsLeastOf P least → IsLeastOf Q least
 least_like P Q None there back is = λ t h. is t (back t h)
 least_like P Q (Some m) there back is = (there m is.0, λ t h. is.1 t (back t h))
 
+-- a property has only one least number
 pub least_same : (P : ℕ → Type 0) (a b : Option ℕ) → IsLeastOf P a → IsLeastOf P b → a ≡ b
 least_same P None None is there = refl
 least_same P None (Some n) is there = absurd (is n there.0)
 least_same P (Some m) None is there = absurd (there m is.0)
 least_same P (Some m) (Some n) is there = let up = is.1 n there.0 in let down = there.1 m is.0 in let same : m ≡ n = omega arith in ap (λ k. Some k) same
 
+-- the lesser of the least numbers with two properties is the least with one of them
 pub least_lesser : (P Q : ℕ → Type 0) (a b : Option ℕ) → IsLeastOf P a → IsLeastOf Q b → IsLeastOf (λ t. P t ⊎ Q t) (lesser a b)
 least_lesser P Q None None is there = λ t h. ⊎_elim (is t) (there t) h
 least_lesser P Q None (Some n) is there = (inr there.0, λ t h. ⊎_elim (λ p. absurd (is t p)) (there.1 t) h)

@@ -5,8 +5,8 @@ use Rattle.std.proofs.lemmas.Option.{same_Some}
 use Rattle.wp_model.specs.declared.point.Point.{Point}
 use Rattle.wp_model.specs.Warehouse.{Layout, IsLayout}
 use Rattle.wp_graph.specs.declared.ways.AisleWays.{AisleWays}
-use Rattle.wp_graph.specs.AisleLengths.{ways_of}
-use Rattle.wp_graph.proofs.Bounding.{AreAtMost, ways_small}
+use Rattle.wp_graph.specs.AisleLengths.{AreAtMost, ways_of}
+use Rattle.wp_graph.proofs.WayBounds.{ways_small}
 use Rattle.wp_classes.specs.declared.class.Class.{Class}
 use Rattle.wp_classes.specs.declared.class.Way.{Way}
 use Rattle.wp_classes.specs.declared.class.Way.TheVariants.{Pass, Back, Front, Gap, Double, Skip}
@@ -17,16 +17,18 @@ use Rattle.wp_classes.specs.Choices.{Block, block_of}
 use Rattle.wp_classes.specs.Least.{least_by_cross, least_by_way, length_at}
 use Rattle.wp_classes.specs.Onward.{Across, AreOnward, IsLeastOf, Onward, Through}
 use Rattle.wp_classes.specs.Tables.{copies, way_length}
-use Rattle.wp_classes.proofs.Going.{least_ways, onward_left}
+use Rattle.wp_classes.proofs.LeastLengths.{least_ways, onward_left}
 
 -- the lengths of a layout of greatest size
 pub record IsSmall (block : Block) : Type 0 where
   pub ways : (aisle : ℕ) → AreAtMost 4020000 (block.ways aisle)
   pub spacing : (aisle : ℕ) → block.spacing aisle ≤ 10000
 
+-- the ways and the spacings of each layout are so small
 pub block_small : (layout : Layout) (picks : List Point) → IsLayout layout → IsSmall (block_of layout picks)
 block_small layout picks valid = record { ways = λ aisle. ways_small layout picks aisle valid; spacing = λ aisle. valid.spacing.1 }
 
+-- a bound of the ways through an aisle is one of each that applies
 pub ways_fit : (most : ℕ) (ways : AisleWays) → AreAtMost most ways → (way : Way) → IfSome (way_length ways way) (λ t. t ≤ most)
 ways_fit most ways are Pass = are.pass
 ways_fit most ways are Back = are.back
@@ -46,6 +48,7 @@ copies_few C20 = omega arith
 copies_few C02 = omega arith
 copies_few C22 = omega arith
 
+-- going on by some way is at most 4020000 longer than going on after it
 pub through_small : (onward : Class → ℕ → Type 0) (ways : AisleWays) (most : ℕ) → AreAtMost 4020000 ways → ((c : Class) (t : ℕ) → onward c t → t ≤ most) →
     (class : Class) (t : ℕ) → Through onward ways class t → t ≤ 4020000 + most
 through_small onward ways most are bound class t (way, (next, through, rest, takes, on, total)) =
@@ -53,6 +56,7 @@ through_small onward ways most are bound class t (way, (next, through, rest, tak
     let near = some_fits (way_length ways way) 4020000 through (ways_fit 4020000 ways are way) takes.applies in
     omega (arith, far, near, total)
 
+-- going on by some crossing is at most 40000 longer than going on after it
 pub across_small : (onward : Class → ℕ → Type 0) (spacing most : ℕ) → spacing ≤ 10000 → ((c : Class) (t : ℕ) → onward c t → t ≤ most) →
     (class : Class) (t : ℕ) → Across onward spacing class t → t ≤ 40000 + most
 across_small onward spacing most small bound class t (cross, (next, across, rest, takes, on, total)) =
@@ -60,6 +64,7 @@ across_small onward spacing most small bound class t (cross, (next, across, rest
     let few = mul-le (copies cross) spacing 4 10000 (copies_few cross) small in
     omega (arith, far, few, takes.length_is, total)
 
+-- going on to the end is at most 4060000 long for each aisle left
 pub onward_small : (block : Block) → IsSmall block → (left aisle : ℕ) (class : Class) (t : ℕ) → Onward block left aisle class t → t ≤ left * 4060000
 onward_small block small zero aisle class t h = omega (arith, h.1)
 onward_small block small (suc left) aisle class t h =
@@ -67,19 +72,22 @@ onward_small block small (suc left) aisle class t h =
     let between = λ (c : Class) (r : ℕ) (on : Through (λ next more. Onward block left (suc aisle) next more) (block.ways (suc aisle)) c r).
     through_small (λ next more. Onward block left (suc aisle) next more) (block.ways (suc aisle)) (left * 4060000) (small.ways (suc aisle)) bound c r on in
     let whole = across_small (λ c r. Through (λ next more. Onward block left (suc aisle) next more) (block.ways (suc aisle)) c r) (block.spacing aisle)
-            (4020000 + left * 4060000) (small.spacing aisle) between class t h in
+    (4020000 + left * 4060000) (small.spacing aisle) between class t h in
     omega (arith, whole)
 
+-- a bound of all numbers with a property is one of the least
 pub least_small : (P : ℕ → Type 0) (least : Option ℕ) (most : ℕ) → IsLeastOf P least → ((t : ℕ) → P t → t ≤ most) → IfSome least (λ t. t ≤ most)
 least_small P None most is bound = tt
 least_small P (Some m) most is bound = bound m is.0
 
+-- with at most 64 aisles left, the least lengths on are at most 300000000
 pub onward_fits : (block : Block) (left aisle : ℕ) (lengths : Lengths) → IsSmall block → left ≤ 64 → AreOnward block left aisle lengths → (class : Class)
     → IfSome (length_at lengths class) (λ t. t ≤ 300000000)
 onward_fits block left aisle lengths small near are class =
     least_small (λ t. Onward block left aisle class t) (length_at lengths class) 300000000 (are.least class)
-        (λ t on. let b = onward_small block small left aisle class t on in omega (arith, b, near))
+    (λ t on. let b = onward_small block small left aisle class t on in omega (arith, b, near))
 
+-- what is within a bound is within each wider one
 pub fits_wider : (found : Option ℕ) (most more : ℕ) → most ≤ more → IfSome found (λ t. t ≤ most) → IfSome found (λ t. t ≤ more)
 fits_wider None most more le fits = tt
 fits_wider (Some t) most more le fits = omega (arith, le, fits)
@@ -90,7 +98,7 @@ pub lengths_within : (layout : Layout) (picks : List Point) (left aisle : ℕ) (
     (class : Class) → IfSome (length_at lengths class) (λ t. t ≤ 2 ^ 40)
 lengths_within layout picks left aisle lengths valid near are class =
     fits_wider (length_at lengths class) 300000000 (2 ^ 40) (lit≤ tt)
-        (onward_fits (block_of layout picks) left aisle lengths (block_small layout picks valid) near are class)
+    (onward_fits (block_of layout picks) left aisle lengths (block_small layout picks valid) near are class)
 
 -- so do the ways through an aisle of a layout
 pub ways_within : (layout : Layout) (picks : List Point) (aisle : ℕ) (ways : AisleWays) → IsLayout layout → ways ≡ ways_of layout picks aisle → (way : Way)
@@ -98,13 +106,13 @@ pub ways_within : (layout : Layout) (picks : List Point) (aisle : ℕ) (ways : A
 ways_within layout picks aisle ways valid is way =
     subst (λ (w : AisleWays). IfSome (way_length w way) (λ t. t ≤ 2 ^ 40)) (sym is)
     (fits_wider (way_length (ways_of layout picks aisle) way) 4020000 (2 ^ 40) (lit≤ tt)
-        (ways_fit 4020000 (ways_of layout picks aisle) (ways_small layout picks aisle valid) way))
+    (ways_fit 4020000 (ways_of layout picks aisle) (ways_small layout picks aisle valid) way))
 
 -- and the least lengths before the way
 pub through_within : (layout : Layout) (picks : List Point) (left aisle : ℕ) (ways : AisleWays) (after through : Lengths) → IsLayout layout → left ≤ 64
     → AreOnward (block_of layout picks) left aisle after →
     ways ≡ ways_of layout picks aisle → ((class : Class) → length_at through class ≡ least_by_way ways after class) → (class : Class)
-        → IfSome (length_at through class) (λ t. t ≤ 2 ^ 40)
+    → IfSome (length_at through class) (λ t. t ≤ 2 ^ 40)
 through_within layout picks left aisle ways after through valid near are is by_ways class =
     let block = block_of layout picks in
     let on : Class → ℕ → Type 0 = λ next rest. Onward block left aisle next rest in

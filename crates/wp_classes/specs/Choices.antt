@@ -22,7 +22,7 @@ abbrev pub block_of : Layout → List Point → Block
 block_of layout picks = record { ways = ways_of layout picks; spacing = spacing_after layout }
 
 -- a way for each aisle, and for each aisle the crossing to the next
-pub record Plan : Type 0 where
+pub record Route : Type 0 where
   pub way : ℕ → Way
   pub cross : ℕ → Cross
 
@@ -31,9 +31,9 @@ pub record Choices : Type 0 where
   pub ways : List Way
   pub crosses : List Cross
 
--- the plan that lists of ways and crossings make, aisles being counted from 1
-abbrev pub plan_of : Choices → Plan
-plan_of choices = record { way = λ aisle. slice_index_or choices.ways (aisle - 1) Skip; cross = λ aisle. slice_index_or choices.crosses (aisle - 1) C00 }
+-- the route that lists of ways and crossings make, aisles being counted from 1
+abbrev pub route_of : Choices → Route
+route_of choices = record { way = λ aisle. slice_index_or choices.ways (aisle - 1) Skip; cross = λ aisle. slice_index_or choices.crosses (aisle - 1) C00 }
 
 -- a way leads through an aisle from one class to another, and has this length
 pub record TakesWay (ways : AisleWays) (way : Way) (before after : Class) (length : ℕ) : Type 0 where
@@ -45,29 +45,39 @@ pub record TakesCross (spacing : ℕ) (cross : Cross) (before after : Class) (le
   pub allowed : class_after_cross before cross ≡ Some after
   pub length_is : length ≡ copies cross * spacing
 
--- With the first aisle and so many more, a plan comes to a class with this length. It begins in class 000 before the
+-- With the first aisle and so many more, a route comes to a class with this length. It begins in class 000 before the
 -- first aisle.
-abbrev pub ComesTo : Block → Plan → ℕ → Class → ℕ → Type 0
-ComesTo block plan zero class total = TakesWay (block.ways 1) (plan.way 1) Z00 class total
-ComesTo block plan (suc more) class total =
-    (before : Class) × (between : Class) × (so_far : ℕ) × (across : ℕ) × (through : ℕ) × ComesTo block plan more before so_far
-    × TakesCross (block.spacing (suc more)) (plan.cross (suc more)) before between across
-    × TakesWay (block.ways (suc (suc more))) (plan.way (suc (suc more))) between class through
+abbrev pub ComesTo : Block → Route → ℕ → Class → ℕ → Type 0
+ComesTo block route zero class total = TakesWay (block.ways 1) (route.way 1) Z00 class total
+ComesTo block route (suc more) class total =
+    (before : Class) × (between : Class) × (so_far : ℕ) × (across : ℕ) × (through : ℕ) × ComesTo block route more before so_far
+    × TakesCross (block.spacing (suc more)) (route.cross (suc more)) before between across
+    × TakesWay (block.ways (suc (suc more))) (route.way (suc (suc more))) between class through
     × (total ≡ so_far + across + through)
 
--- the tables allow a plan for all aisles, it makes a whole tour, and its length is this
-pub record IsAllowed (layout : Layout) (picks : List Point) (plan : Plan) (total : ℕ) : Type 0 where
+-- how a route comes from one aisle to the next
+pub record ComesOn (block : Block) (route : Route) (more : ℕ) (class : Class) (so_far : ℕ) : Type 0 where
+  pub between : Class
+  pub next : Class
+  pub across : ℕ
+  pub through : ℕ
+  pub crosses : TakesCross (block.spacing (suc more)) (route.cross (suc more)) class between across
+  pub takes : TakesWay (block.ways (suc (suc more))) (route.way (suc (suc more))) between next through
+  pub comes : ComesTo block route (suc more) next (so_far + across + through)
+
+-- the tables allow a route for all aisles, it makes a whole tour, and its length is this
+pub record IsAllowed (layout : Layout) (picks : List Point) (route : Route) (total : ℕ) : Type 0 where
   pub class : Class
-  pub comes : ComesTo (block_of layout picks) plan (layout.aisles - 1) class total
+  pub comes : ComesTo (block_of layout picks) route (layout.aisles - 1) class total
   pub whole : IsTrue (is_whole class)
 
--- some plan that the tables allow has this length, and none has a smaller one
-pub record IsLeastPlan (layout : Layout) (picks : List Point) (total : ℕ) : Type 0 where
-  pub some : (plan : Plan) × IsAllowed layout picks plan total
-  pub least : (plan : Plan) (other : ℕ) → IsAllowed layout picks plan other → total ≤ other
+-- some route that the tables allow has this length, and none has a smaller one
+pub record IsLeastRoute (layout : Layout) (picks : List Point) (total : ℕ) : Type 0 where
+  pub some : (route : Route) × IsAllowed layout picks route total
+  pub least : (route : Route) (other : ℕ) → IsAllowed layout picks route other → total ≤ other
 
 -- a way for each aisle and a crossing for each two neighbouring aisles, which the tables allow with this length
 pub record IsChoiceOf (layout : Layout) (picks : List Point) (choices : Choices) (total : ℕ) : Type 0 where
   pub ways : length choices.ways ≡ layout.aisles
   pub crosses : length choices.crosses ≡ layout.aisles - 1
-  pub allowed : IsAllowed layout picks (plan_of choices) total
+  pub allowed : IsAllowed layout picks (route_of choices) total

@@ -5,3 +5,4 @@ pub mod Onward
 pub mod Steps
 pub mod Paths
 pub mod Parts
+pub mod Rounds

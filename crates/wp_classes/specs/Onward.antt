@@ -27,12 +27,13 @@ ByCross onward spacing class cross total = (next : Class) × (across : ℕ) × (
 abbrev pub Across : (Class → ℕ → Type 0) → ℕ → Class → ℕ → Type 0
 Across onward spacing class total = (cross : Cross) × ByCross onward spacing class cross total
 
--- from the class after the way through an aisle, with so many more aisles, a tour may go on to its end with this length
+-- from the class after the way through an aisle, with so many more aisles, a tour may go on to its end with this
+-- length
 abbrev pub Onward : Block → ℕ → ℕ → Class → ℕ → Type 0
 Onward block zero aisle class total = IsTrue (is_whole class) × (total ≡ 0)
 Onward block (suc left) aisle class total =
     Across (λ between rest. Through (λ next more. Onward block left (suc aisle) next more) (block.ways (suc aisle)) between rest)
-        (block.spacing aisle) class total
+    (block.spacing aisle) class total
 
 -- a number is the least with a property, or there is none
 abbrev pub IsLeastOf : (ℕ → Type 0) → Option ℕ → Type 0

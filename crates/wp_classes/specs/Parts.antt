@@ -99,8 +99,11 @@ with_cross layout aisle ZE1 C22 part = record part {
 }
 with_cross layout aisle EE1 C00 part = record { start = at aisle (back_end layout); first = part.first ++ part.second; second = [] }
 with_cross layout aisle EE1 C11 part = part
-with_cross layout aisle EE1 C20 part = record part { first = at aisle (back_end layout) ∷ (part.first ++ part.second) ++ at (suc aisle) (back_end layout)
-    ∷ []; second = [] }
+with_cross layout aisle EE1 C20 part = record part {
+  first = at aisle (back_end layout) ∷ (part.first ++ part.second) ++ at (suc aisle) (back_end layout)
+      ∷ [];
+  second = [];
+}
 with_cross layout aisle EE1 C02 part = record part { first = at aisle 0 ∷ (part.second ++ part.first) ++ at (suc aisle) 0 ∷ []; second = [] }
 with_cross layout aisle EE1 C22 part = record part {
   first = at aisle (back_end layout) ∷ part.first ++ at (suc aisle) 0 ∷ [];

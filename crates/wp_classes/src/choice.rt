@@ -1,5 +1,5 @@
 ghost use Rattle.std.specs.Prelude.{◌≡◌, ◌-◌, ◌≤◌, length, take};
-ghost use Rattle.wp_classes.specs.Choices.{plan_of};
+ghost use Rattle.wp_classes.specs.Choices.{route_of};
 
 use crate::class::{Cross, Way};
 use std::marker::Model;
@@ -41,7 +41,7 @@ impl Choice {
     pub fn way(&self, aisle: u32) -> Way
         requires first { 1 ≤ aisle }
         requires last { aisle ≤ length self.now.ways }
-        ensures { result ≡ (plan_of self.now).way aisle }
+        ensures { result ≡ (route_of self.now).way aisle }
     {
         self.ways[aisle as usize - 1]
     }
@@ -50,7 +50,7 @@ impl Choice {
     pub fn cross(&self, left: u32) -> Cross
         requires first { 1 ≤ left }
         requires last { left ≤ length self.now.crosses }
-        ensures { result ≡ (plan_of self.now).cross left }
+        ensures { result ≡ (route_of self.now).cross left }
     {
         self.crosses[left as usize - 1]
     }

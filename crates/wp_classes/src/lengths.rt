@@ -231,7 +231,8 @@ pub(crate) fn best_cross(spacing: u64, after: &Lengths, class: Class) -> Cross
 /// The lengths at the end, for each aisle.
 pub(crate) fn all_at_the_end() -> [Lengths; 64]
     ensures whole { length result ≡ 64 }
-    ensures each { (k : ℕ) (d : LengthsData) (class : ClassData) → k < 64 → length_at (slice_index_or result k d) class ≡ (if is_whole class then Some 0 else None) }
+    ensures each { (k : ℕ) (d : LengthsData) (class : ClassData) → k < 64 → length_at (slice_index_or result k d) class ≡
+        (if is_whole class then Some 0 else None) }
 {
     [Lengths::at_the_end(); 64]
 }

@@ -1,7 +1,7 @@
 ghost use Rattle.std.specs.Prelude.{◌≡◌, ◌+◌, ◌-◌, ◌≤◌, ℕ, length, slice_index_or};
 ghost use Rattle.wp_model.specs.Tours.{IsShortest};
 ghost use Rattle.wp_model.specs.Warehouse.{IsLayout, IsUpTo};
-ghost use Rattle.wp_classes.specs.Choices.{IsChoiceOf, IsLeastPlan, block_of};
+ghost use Rattle.wp_classes.specs.Choices.{IsChoiceOf, IsLeastRoute, block_of};
 ghost use Rattle.wp_classes.specs.Onward.{AreOnward, Onward};
 ghost use Rattle.wp_classes.specs.Steps.{IsBestStep};
 ghost use Rattle.wp_classes.specs.declared.lengths.Lengths.{Lengths as LengthsData};
@@ -60,7 +60,7 @@ fn best_step(layout: &Layout, picks: &Picks, aisle: u32, after: &Lengths, class:
 /// none is shorter. It is the least sum over all ways and crossings that the tables allow.
 pub fn tour_length(layout: &Layout, picks: &Picks) -> u64
     requires { picks.now.layout ≡ layout.now }
-    ensures least { IsLeastPlan layout.now picks.now.points result }
+    ensures least { IsLeastRoute layout.now picks.now.points result }
     ensures shortest { IsShortest layout.now picks.now.points result }
 {
     let mut onward = Lengths::at_the_end();

@@ -108,6 +108,7 @@ papers_same old new number kept wave.Released rows held papers = tt
 papers_same old new number kept wave.Cancelled rows held papers = tt
 papers_same old new number kept wave.Done rows held papers = tt
 
+-- a wave that holds what it held is kept as it should be in a book of as many rows
 pub kept_same : (opening : Opening) (old new : Book) (number : ℕ) (kept : KeptWave) → length new.rows ≡ length old.rows
     → ((order row : ℕ) → held_for new number order row ≡ held_for old number order row) → IsKeptWave opening old number kept
     → IsKeptWave opening new number kept
@@ -130,6 +131,7 @@ put_is : (name : List ℕ) (old : List KeptWave) (rest : List KeptWave) (found :
 put_is name old rest found left is = ap₂ (λ (ws : List KeptWave) (i : ℕ). slice_set ws i left) is.parts is.number
     ∙ set_seam rest (reverse found.after) found.wave left
 
+-- the waves, once the one that was taken out is back, are those that were with this one in its place
 pub waves_put : (name : List ℕ) (old new rest : List KeptWave) (found : Found) (left : KeptWave) → IsFound name old rest found
     → new ≡ rest ++ left ∷ reverse found.after
     → map wave_of new ≡ slice_set (map wave_of old) found.number (wave_of left)
@@ -140,7 +142,7 @@ waves_put name old new rest found left is new_is =
 pub answered : (opening : Opening) (command : Command) (name : List ℕ) (change : ℕ → Wave → Stepped) (old : Floor) (rest : List KeptWave) (found : Found)
     (new : Floor) (left : KeptWave) (answer : Reply)
     → step opening (state_of old) command ≡ at_wave (state_of old) name change
-        → IsAnswered opening name old rest found new left (change found.number (wave_of found.wave)) answer
+    → IsAnswered opening name old rest found new left (change found.number (wave_of found.wave)) answer
     → HasStepped opening command old new answer
 answered opening command name change old rest found new left answer is done =
     let at = found_at opening name old rest found done.floor done.is_found in
@@ -148,7 +150,7 @@ answered opening command name change old rest found new left answer is done =
     let zero : 0 + found.number ≡ found.number = omega arith in
     let put = waves_put name old.waves new.waves rest found left done.is_found done.waves in
     let all = is ∙ (ap (λ (f : Option (ℕ × Wave)). option_map_or (λ (f : ℕ × Wave). change f.0 f.1) f (refuse (state_of old) reply.UnknownWave))
-            (by ∙ ap (λ (n : ℕ). Some (n, wave_of found.wave)) zero)
+    (by ∙ ap (λ (n : ℕ). Some (n, wave_of found.wave)) zero)
     ∙ (done.answers.is ∙ ap (λ (ws : List Wave). let s : Stepped = record { reply = answer; state = state_at new.book ws } in s) (sym put))) in
     let after : (step opening (state_of old) command).state ≡ state_of new = ap (λ (s : Stepped). s.state) all in
     let set = sym (put_is name old.waves rest found left done.is_found) in
@@ -160,7 +162,7 @@ answered opening command name change old rest found new left answer is done =
         rows = subst (λ (s : State). AreSameRows opening s.rows) after (step_keeps_rows opening (state_of old) command done.floor.rows);
         waves = λ n. subst (λ (ws : List KeptWave). IfSome (slice_get ws n) (IsKeptWave opening new.book n)) (sym (done.waves ∙ set))
             (if_some (slice_get (slice_set old.waves found.number left) n) (IsKeptWave opening new.book n)
-                (λ kept there. elim (slice_get-set old.waves found.number n kept left there) [
+            (λ kept there. elim (slice_get-set old.waves found.number n kept left there) [
               | inl here ↦ subst (λ (k : KeptWave). IsKeptWave opening new.book n k) (sym here.1)
                   (subst (λ (m : ℕ). IsKeptWave opening new.book m left) (sym here.0) done.answers.keeps)
               | inr other ↦ kept_same opening old.book new.book n kept done.answers.rows (λ order row. done.answers.others n order row other.0)
@@ -179,14 +181,15 @@ taker-set (x ∷ waves) zero w v order there name orders live =
     let same : x ≡ w = cc in
     ap (λ b. if b && is_among v.orders order then Some v.name else taker_of waves order) (live ∙ ap (λ (u : Wave). is_live u.state) (sym same))
     ∙ ap₂ (λ (os : List (List ℕ)) (n : List ℕ). if is_live x.state && is_among os order then Some n else taker_of waves order)
-        (orders ∙ ap (λ (u : Wave). u.orders) (sym same)) (name ∙ ap (λ (u : Wave). u.name) (sym same))
+    (orders ∙ ap (λ (u : Wave). u.orders) (sym same)) (name ∙ ap (λ (u : Wave). u.name) (sym same))
 taker-set (x ∷ waves) (suc k) w v order there name orders live =
     ap (λ rest. if is_live x.state && is_among x.orders order then Some x.name else rest) (taker-set waves k w v order there name orders live)
 
+-- a wave that is live or not as before and has its name and orders leaves all orders to those that have them
 pub takers_same : (opening : Opening) (name : List ℕ) (old : Floor) (new rest : List KeptWave) (found : Found) (left : KeptWave) → IsFloor opening old
     → IsFound name old.waves rest found → new ≡ rest ++ left ∷ reverse found.after
     → left.name ≡ found.wave.name → left.orders ≡ found.wave.orders → is_live left.state ≡ is_live found.wave.state
-        → AreTakers opening (map wave_of new) old.takers.items
+    → AreTakers opening (map wave_of new) old.takers.items
 takers_same opening name old new rest found left floor is new_is named orders live =
     let at = found_at opening name old rest found floor is in
     record {
@@ -225,7 +228,7 @@ taker-without [] k w v order there orders none = refl
 taker-without (x ∷ waves) zero w v order there orders none =
     let same : x ≡ w = cc in
     let fails = λ (u : Wave) (e : is_among u.orders order ≡ false). both_fail (is_live u.state) (is_among u.orders order)
-            (λ live has. let c : true ≡ false = sym has ∙ e in absurd (cc)) in
+    (λ live has. let c : true ≡ false = sym has ∙ e in absurd (cc)) in
     ap (λ b. if b then Some v.name else taker_of waves order) (fails v (ap (λ (os : List (List ℕ)). is_among os order) orders ∙ none))
     ∙ sym (ap (λ b. if b then Some x.name else taker_of waves order) (fails x (ap (λ (u : Wave). is_among u.orders order) same ∙ none)))
 taker-without (x ∷ waves) (suc k) w v order there orders none =
@@ -235,7 +238,7 @@ taker-without (x ∷ waves) (suc k) w v order there orders none =
 pub takers_freed : (opening : Opening) (name : List ℕ) (old : Floor) (new rest : List KeptWave) (found : Found) (left : KeptWave)
     (takers : List (Option (List ℕ))) → IsFloor opening old → IsFound name old.waves rest found
     → new ≡ rest ++ left ∷ reverse found.after → left.orders ≡ found.wave.orders → is_live found.wave.state ≡ true → is_live left.state ≡ false
-        → HasPut opening found.wave.orders None old.takers.items takers
+    → HasPut opening found.wave.orders None old.takers.items takers
     → AreTakers opening (map wave_of new) takers
 takers_freed opening name old new rest found left takers floor is new_is orders live gone put =
     let at = found_at opening name old rest found floor is in
@@ -247,9 +250,9 @@ takers_freed opening name old new rest found left takers floor is new_is orders 
           let was = floor.takers.each i order there in
           put.each i order there ∙ (by_cases (is_among found.wave.orders order.name) (slice_get old.takers.items i) (taker_of (map wave_of new) order.name)
           (λ has. ap (λ (ws : List Wave). taker_of ws order.name) set
-              ∙ no_taker (slice_set waves found.number (wave_of left)) order.name (nobody order.name has))
+          ∙ no_taker (slice_set waves found.number (wave_of left)) order.name (nobody order.name has))
           (λ none. was ∙ ap Some (sym (ap (λ (ws : List Wave). taker_of ws order.name) set
-              ∙ taker-without waves found.number (wave_of found.wave) (wave_of left) order.name at.there orders none))));
+          ∙ taker-without waves found.number (wave_of found.wave) (wave_of left) order.name at.there orders none))));
     }
   where
     by_cases : (b : Bool) (before : Option (Option (List ℕ))) (now : Option (List ℕ)) → (b ≡ true → now ≡ None) → (b ≡ false → before ≡ Some now)
@@ -286,4 +289,4 @@ takers_after_cancel opening name old new rest found left takers answer floor is 
         let was = kept e in
         subst (λ (ts : List (Option (List ℕ))). AreTakers opening (map wave_of new) ts) (sym (same e))
         (takers_same opening name old new rest found left floor is new_is (ap (λ (k : KeptWave). k.name) was) orders
-            (ap (λ (k : KeptWave). is_live k.state) was))
+        (ap (λ (k : KeptWave). is_live k.state) was))

@@ -6,7 +6,8 @@ use Rattle.std.proofs.lemmas.Bool.{cond_both}
 use Rattle.std.proofs.lemmas.List.Elements.{All-head, All-tail}
 use Rattle.std.proofs.lemmas.Option.{same_Some}
 use Rattle.wp_model.proofs.NameEq.{bytes_eq_flips, found_there, not_there}
-use Rattle.wp_model.specs.Opening.{IsOrder, Order, lines_of, most_lines}
+use Rattle.wp_model.specs.Opening.{IsOrder, Order, lines_of}
+use Rattle.wp_model.specs.Limits.{most_lines}
 use Rattle.wp_model.specs.Step.{is_among}
 use Rattle.wp_model.specs.TableLines.{article_in, number_among}
 use Rattle.wp_model.specs.declared.row.Line.{Line}
@@ -26,7 +27,7 @@ lines_there : (orders : List Order) (name : List ℕ) (lines : List Line)
 lines_there [] name lines at = absurd (cc at)
 lines_there (order ∷ orders) name lines at =
     rw (bytes_eq_flips order.name name) (lines_if (bytes_eq name order.name) (number_among (map name_of orders) name) name order orders lines at
-        (lines_there orders name lines))
+    (lines_there orders name lines))
 
 -- the lines of an order that is found
 pub lines_found : (orders : List Order) (name : List ℕ) (i : ℕ) (lines : List Line) → article_in (map name_of orders) name ≡ Some i

@@ -30,10 +30,11 @@ name_at names name i found =
     let same : bytes_eq name (get_or names i []) ≡ true = ap (λ k. bytes_eq name (get_or names k [])) (sym is.0) ∙ passes in
     slice_get-get_or names i [] is.1 ∙ ap Some (sym ((bytes_eq-Decides name (get_or names i [])).0 same))
 
+-- the order that is found by a name stands at its number and has the name
 pub order_at : (orders : List Order) (name : List ℕ) (i : ℕ) → article_in (map name_of orders) name ≡ Some i → IsOrderAt orders name i
 order_at orders name i found =
     option_map_some (slice_get orders i) name_of name (sym (slice_get-map name_of orders i) ∙ name_at (map name_of orders) name i found)
-        (λ order there is. record { order = order; there = there; named = is })
+    (λ order there is. record { order = order; there = there; named = is })
 
 -- no order has a name that isn't found
 pub no_order : (orders : List Order) (name : List ℕ) → article_in (map name_of orders) name ≡ None → (i : ℕ) (order : Order) → slice_get orders i ≡ Some order
@@ -42,7 +43,7 @@ no_order orders name none i order there same =
     let names = map name_of orders in
     let at : slice_get names i ≡ Some order.name = slice_get-map name_of orders i ∙ ap (option_map name_of) there in
     let is = list_any_at (λ other. bytes_eq other name) names i order.name (slice_get_within names i order.name at)
-            ((bytes_eq-Decides _ name).1 (get_or_from_slice_get names i order.name order.name at ∙ same)) in
+    ((bytes_eq-Decides _ name).1 (get_or_from_slice_get names i order.name order.name at ∙ same)) in
     let not : is_among names name ≡ false = not_there name names none in
     absurd (cc)
 
@@ -75,7 +76,7 @@ put_none opening names i name taker old now within is none put = record {
   each = λ k order there.
       let more = among_more names i name order.name within in
       let other : bytes_eq (get_or names i name) order.name ≡ false =
-              ap (λ n. bytes_eq n order.name) (sym is) ∙ differs name order.name (λ e. no_order opening.orders name none k order there (sym e)) in
+      ap (λ n. bytes_eq n order.name) (sym is) ∙ differs name order.name (λ e. no_order opening.orders name none k order there (sym e)) in
       put.each k order there ∙ ap (λ b. if b then Some taker else slice_get old k) (sym (more ∙ or_same (is_among (take i names) order.name) _ other));
 }
 
@@ -83,7 +84,7 @@ put_none opening names i name taker old now within is none put = record {
 pub put_one : (opening : Opening) (names : List (List ℕ)) (i n : ℕ) (name : List ℕ) (taker : Option (List ℕ)) (old now : List (Option (List ℕ)))
     → AreReadOrders opening.stock.articles opening.orders → length old ≡ length opening.orders → i < length names → name ≡ get_or names i name
     → article_in (map name_of opening.orders) name ≡ Some n → HasPut opening (take i names) taker old now
-        → HasPut opening (take (i + 1) names) taker old (set now n taker)
+    → HasPut opening (take (i + 1) names) taker old (set now n taker)
 put_one opening names i n name taker old now read long within is found put =
     let at = order_at opening.orders name n found in
     record {
@@ -96,16 +97,16 @@ put_one opening names i n name taker old now read long within is found put =
                 let one : order ≡ at.order = cc in
                 let same : order.name ≡ name = ap (λ (o : Order). o.name) one ∙ at.named in
                 let is_name : bytes_eq (get_or names i name) order.name ≡ true =
-                        ap (λ m. bytes_eq m order.name) (sym is) ∙ (bytes_eq-Decides name order.name).1 (sym same) in
+                ap (λ m. bytes_eq m order.name) (sym is) ∙ (bytes_eq-Decides name order.name).1 (sym same) in
                 ap (slice_get (set now n taker)) here ∙ (slice_get-set_same now n taker
-                    (omega (arith, put.count, slice_get_within opening.orders n at.order at.there))
+                (omega (arith, put.count, slice_get_within opening.orders n at.order at.there))
                 ∙ ap (λ b. if b then Some taker else slice_get old k) (sym (more ∙ or_true (is_among (take i names) order.name) _ is_name)))
             | inr away ↦
                 let other : bytes_eq (get_or names i name) order.name ≡ false
                 = ap (λ m. bytes_eq m order.name) (sym is) ∙ differs name order.name
-                    (λ e. away (read.different k n order at.order there at.there (sym e ∙ sym at.named))) in
+                (λ e. away (read.different k n order at.order there at.there (sym e ∙ sym at.named))) in
                 slice_get-set_other now n k taker away ∙ (put.each k order there
-                    ∙ ap (λ b. if b then Some taker else slice_get old k) (sym (more ∙ or_same (is_among (take i names) order.name) _ other)))
+                ∙ ap (λ b. if b then Some taker else slice_get old k) (sym (more ∙ or_same (is_among (take i names) order.name) _ other)))
           ];
     }
 

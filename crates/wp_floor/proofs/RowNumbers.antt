@@ -8,7 +8,7 @@ use Rattle.wp_model.specs.declared.location.Location.{Location}
 use Rattle.wp_model.specs.declared.row.Row.{Row}
 use Rattle.wp_model.specs.declared.row.StockRow.{StockRow}
 use Rattle.wp_floor.specs.Floor.{AreSameRows, row_place, stock_row_place}
-use Rattle.wp_floor.specs.Held.{IsRowAt}
+use Rattle.wp_floor.specs.HeldUnits.{IsRowAt}
 
 -- rows that lie where others lie have the same numbers
 same_numbers : (number : ℕ) (rows : List Row) (others : List StockRow) (location : Location) → map row_place rows ≡ map stock_row_place others
@@ -20,9 +20,9 @@ same_numbers number (row ∷ rows) (other ∷ others) location same =
     let place : row_place row ≡ stock_row_place other = cc in
     let rest : map row_place rows ≡ map stock_row_place others = cc in
     by (same_location row.location location) (row_from (number + 1) rows location) (row_number_from (number + 1) others location)
-        (same_numbers (number + 1) rows others location rest)
+    (same_numbers (number + 1) rows others location rest)
     ∙ ap (λ (there : Location). if same_location there location then Some number else row_number_from (number + 1) others location)
-        (ap (λ (p : Location × ℕ). p.0) place)
+    (ap (λ (p : Location × ℕ). p.0) place)
   where
     by : (b : Bool) (found : Option (ℕ × Row)) (later : Option ℕ) → option_map (λ (found : ℕ × Row). found.0) found ≡ later
         → option_map (λ (found : ℕ × Row). found.0) (if b then Some (number, row) else found) ≡ (if b then Some number else later)

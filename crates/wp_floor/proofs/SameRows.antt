@@ -5,7 +5,8 @@ use Rattle.std.specs.Str.{bytes_eq}
 use Rattle.wp_model.proofs.Found.{option_map_or-both}
 use Rattle.wp_model.specs.Change.{at_place, change_rows, receive_units, take, take_units}
 use Rattle.wp_model.specs.Demand.{free_units, short_article}
-use Rattle.wp_model.specs.Opening.{Opening, article_name, most_on_hand}
+use Rattle.wp_model.specs.Opening.{Opening, article_name}
+use Rattle.wp_model.specs.Limits.{most_on_hand}
 use Rattle.wp_model.specs.State.{State, Wave, opening_row, opening_state}
 use Rattle.wp_model.specs.Step.{Held, Stepped, allot, at_released, at_wave, cancel, held_for, hold_for, pick, receive_at, refuse, release, row_from, step}
 use Rattle.wp_model.specs.Step.{submit_fault, wave_from, write_off}
@@ -37,7 +38,7 @@ hold_for_stays : (opening : Opening) (state : State) (next : WaveState) (done : 
     → Stays state (hold_for opening state next done number w)
 hold_for_stays opening state next done number w =
     option_map_or-both (Stays state) _ (short_article opening state.rows w.orders None) _ (λ article short. refl)
-        (λ none. places_kept _ 0 state.rows (λ k r. refl))
+    (λ none. places_kept _ 0 state.rows (λ k r. refl))
 
 allot_stays : (opening : Opening) (state : State) (number : ℕ) (w : Wave) (s : WaveState) → Stays state (allot opening state number w s)
 allot_stays opening state number w wave.Submitted = hold_for_stays opening state wave.Allotted reply.Allotted number w
@@ -95,7 +96,7 @@ at_wave_stays : (state : State) (name : List ℕ) (change : ℕ → Wave → Ste
     → Stays state (at_wave state name change)
 at_wave_stays state name change each =
     option_map_or-both (Stays state) (λ (found : ℕ × Wave). change found.0 found.1) (wave_from 0 state.waves name) _ (λ found is. each found.0 found.1)
-        (λ none. refl)
+    (λ none. refl)
 
 step_stays : (opening : Opening) (state : State) (command : Command) → Stays state (step opening state command)
 step_stays opening state (command.Submit name orders) = option_map_or-both (Stays state) (refuse state) (submit_fault opening state name orders) _
@@ -105,10 +106,10 @@ step_stays opening state (command.Release name) = at_wave_stays state name _ (λ
 step_stays opening state (command.Cancel name) = at_wave_stays state name _ (λ number w. cancel_stays state number w w.state)
 step_stays opening state (command.Pick name order location quantity) =
     at_wave_stays state name _ (λ number w. at_released_stays state number w order location quantity (pick state number w quantity) w.state
-        (λ held. taken_stays state held quantity))
+    (λ held. taken_stays state held quantity))
 step_stays opening state (command.Missing name order location quantity) =
     at_wave_stays state name _ (λ number w. at_released_stays state number w order location quantity (write_off opening state number w quantity) w.state
-        (λ held. write_off_stays opening state number w quantity held))
+    (λ held. write_off_stays opening state number w quantity held))
 step_stays opening state (command.Receive location article quantity) =
     option_map_or-both (Stays state) (λ (found : ℕ × Row). receive_at opening state article quantity found.0 found.1) (row_from 0 state.rows location) _
     (λ found is. receive_stays opening state article quantity found.0 found.1) (λ none. refl)

@@ -19,6 +19,7 @@ state_known opening floor name kept number is named there =
     let stands : slice_get (map wave_of floor.waves) number ≡ Some (wave_of kept) = slice_get-map wave_of floor.waves number ∙ ap (option_map wave_of) there in
     sym (ap (option_map (λ (found : ℕ × Wave). found.1.state)) (wave_by (map wave_of floor.waves) name 0 number (wave_of kept) stands named is.sound.names))
 
+-- a name that no kept wave has finds no wave
 pub state_unknown : (floor : Floor) (name : List ℕ) → list_any (has_name name) floor.waves ≡ false
     → None ≡ option_map (λ (found : ℕ × Wave). found.1.state) (wave_from 0 (state_of floor).waves name)
 state_unknown floor name nobody = sym (ap (option_map (λ (found : ℕ × Wave). found.1.state)) (none_by floor.waves name 0 nobody))

@@ -7,7 +7,8 @@ use Rattle.wp_book.specs.Calls.{KeepsOthers}
 use Rattle.wp_book.specs.Room.{Content}
 use Rattle.wp_model.specs.Book.{Book, held_for, held_list}
 use Rattle.wp_model.specs.Demand.{demand_at}
-use Rattle.wp_model.specs.Opening.{Opening, Order, most_lines, most_orders}
+use Rattle.wp_model.specs.Opening.{Opening, Order}
+use Rattle.wp_model.specs.Limits.{most_lines, most_wave_orders}
 use Rattle.wp_model.specs.Sound.{IsSound}
 use Rattle.wp_model.specs.State.{State, Wave}
 use Rattle.wp_model.specs.Step.{Stepped, step, taker_of}
@@ -32,7 +33,7 @@ state_at book waves = record { rows = book.rows; waves = waves; held = held_for 
 
 -- the most wants that a wave may have
 abbrev pub most_wants : ℕ
-most_wants = most_orders * most_lines
+most_wants = most_wave_orders * most_lines
 
 -- wants are those of orders
 pub record AreWantsOf (opening : Opening) (orders : List (List ℕ)) (wants : List Want) : Type 0 where
@@ -45,12 +46,13 @@ pub record AreWantsOf (opening : Opening) (orders : List (List ℕ)) (wants : Li
 abbrev pub IsFreshRoom : ℕ → Content → Type 0
 IsFreshRoom size room = (room.holds ≡ []) × (size ≤ room.size)
 
--- the papers of a wave: until it is released it has a copy of its orders, and while it is allotted the list of what it holds
+-- the papers of a wave: until it is released it has a copy of its orders, and while it is allotted the list of what
+-- it holds
 abbrev pub HasPapers : WaveState → Book → ℕ → KeptWave → Type 0
 HasPapers wave.Submitted book number kept = kept.copy ≡ Some kept.orders
 HasPapers wave.Allotted book number kept =
     (kept.copy ≡ Some kept.orders) × ((sheet : Content) × (kept.sheet ≡ Some sheet) ×
-        (sheet.holds ≡ held_list (length kept.orders) (length book.rows) (held_for book number)))
+    (sheet.holds ≡ held_list (length kept.orders) (length book.rows) (held_for book number)))
 HasPapers wave.Released book number kept = ⊤
 HasPapers wave.Cancelled book number kept = ⊤
 HasPapers wave.Done book number kept = ⊤
@@ -79,8 +81,8 @@ stock_row_place row = (row.location, row.article)
 abbrev pub AreSameRows : Opening → List Row → Type 0
 AreSameRows opening rows = map row_place rows ≡ map stock_row_place opening.stock.rows
 
--- a wave's command was answered: the step of the wave gives this reply, and the state of the book and of the wave as they
--- are now; and all else is as it was
+-- a wave's command was answered: the step of the wave gives this reply, and the state of the book and of the wave as
+-- they are now; and all else is as it was
 pub record HasAnswered (opening : Opening) (stepped : Stepped) (old new : Book) (waves : List Wave) (number : ℕ) (was kept : KeptWave)
     (answer : Reply) : Type 0 where
   pub is : stepped ≡ record { reply = answer; state = state_at new (slice_set waves number (wave_of kept)) }

@@ -1,13 +1,14 @@
 //! How the state is kept.
 ghost use Rattle.std.specs.Prelude.{◌≡◌, ◌≤◌, ◌<◌, ◌+◌, ◌^◌, true, false, [], length, replicate, slice_get, Some, None, IfOk};
-ghost use Rattle.wp_model.specs.Opening.{Order, most_quantity};
+ghost use Rattle.wp_model.specs.Opening.{Order};
+ghost use Rattle.wp_model.specs.Limits.{most_quantity};
 ghost use Rattle.wp_model.specs.State.{opening_state};
 ghost use Rattle.wp_model.specs.Step.{is_among, row_from};
 ghost use Rattle.wp_model.specs.declared.command.Command.TheVariants as command;
 ghost use Rattle.wp_model.specs.Tables.{IsReadOpening};
 ghost use Rattle.wp_floor.specs.Floor.{HasStepped, IsFloor, state_of, wave_count, wave_of};
-ghost use Rattle.wp_floor.specs.Held.{IsRowAt};
-ghost use Rattle.wp_floor.specs.Receiving.{AllHaveArticles, HasReceivedAt};
+ghost use Rattle.wp_floor.specs.HeldUnits.{IsRowAt};
+ghost use Rattle.wp_floor.specs.ReceivedUnits.{AllHaveArticles, HasReceivedAt};
 ghost use Rattle.wp_model.specs.declared.row.Row.{Row as RowData};
 ghost use Rattle.wp_floor.specs.Takers.{HasPut, IsPutAt, frees};
 
@@ -17,9 +18,7 @@ use crate::wave_steps::{cancel_wave, pick_wave};
 use crate::waves::{KeptWave, Waves};
 use std::alloc::Global;
 use wp_book::StockBook;
-use wp_model::{Location, Memory, Name, Reply};
-
-const MOST_ON_HAND: u64 = 1_000_000;
+use wp_model::{Location, MOST_ON_HAND, Memory, Name, Reply};
 
 /// The stock book, the waves in the order of their submission, and for each order of the opening the wave that has it.
 #[derive(Drop)]

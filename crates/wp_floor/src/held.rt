@@ -1,7 +1,7 @@
 //! What is held for an order of a wave at a row.
 ghost use Rattle.std.specs.Prelude.{◌≡◌, ◌<◌, ◌≤◌, ◌^◌, length, option_map, IfOk, IfErr};
 ghost use Rattle.wp_model.specs.Step.{place_from};
-ghost use Rattle.wp_floor.specs.Held.{IsClaimRefused, IsClaimed, IsEnoughHeld, IsHeldAt, IsRowAt, held_of, held_there, unless_released};
+ghost use Rattle.wp_floor.specs.HeldUnits.{IsClaimRefused, IsClaimed, IsEnoughHeld, IsHeldAt, IsRowAt, held_of, held_there, unless_released};
 
 use crate::waves::KeptWave;
 use wp_book::StockBook;

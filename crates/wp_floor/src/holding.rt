@@ -6,7 +6,7 @@ ghost use Rattle.wp_model.specs.State.{Wave};
 ghost use Rattle.wp_model.specs.Step.{allot, is_live};
 ghost use Rattle.wp_floor.specs.Floor.{AreWantsOf, HasAnswered, HasStepped, IsAt, IsFloor, most_wants, state_at, state_of, wave_of};
 ghost use Rattle.wp_model.specs.declared.command.Command.TheVariants as command;
-ghost use Rattle.wp_floor.specs.Holding.{AreFreshRooms, HaveSpace, IsHeld, IsRefusedShort, short_reply};
+ghost use Rattle.wp_floor.specs.WaveStock.{AreFreshRooms, HaveSpace, IsHeld, IsRefusedShort, short_reply};
 
 use crate::floor::Floor;
 use crate::opening::Opening;
@@ -14,7 +14,7 @@ use crate::waves::KeptWave;
 use std::alloc::Global;
 use wp_allot::{Short, Want, allot, holds_by_overlap, short_article};
 use wp_book::{Room, StockBook};
-use wp_model::{Memory, Name, Reply, WaveState};
+use wp_model::{MOST_LINES, MOST_WAVE_ORDERS, Memory, Name, Reply, WaveState};
 
 /// Room for what is held for a wave, and for the list of it.
 #[derive(Drop)]
@@ -23,7 +23,8 @@ pub struct Rooms {
     pub(crate) sheet: Room,
 }
 
-const MOST_WANTS: u32 = 64 * 50;
+// The most units of demand that a wave has: as many as lines of its orders.
+const MOST_WANTS: u32 = MOST_WAVE_ORDERS * MOST_LINES;
 
 // Units that are lost are wanted once more, for one order.
 const REFILL_WANTS: u32 = 1;
@@ -105,7 +106,8 @@ pub fn allot_wave(
     requires wants { AreWantsOf opening.now wave.old.orders wave.old.wants.items }
     ensures live { is_live wave.new.state ≡ is_live wave.old.state }
     ensures answered { (waves : List Wave) → IsAt opening.now book.old waves number wave.old
-        → HasAnswered opening.now (allot opening.now (state_at book.old waves) number (wave_of wave.old) wave.old.state) book.old book.new waves number wave.old wave.new result }
+        → HasAnswered opening.now (allot opening.now (state_at book.old waves) number (wave_of wave.old) wave.old.state) book.old book.new waves number
+        wave.old wave.new result }
 {
     match wave.state {
         WaveState::Submitted => {

@@ -8,9 +8,9 @@ ghost use Rattle.wp_model.specs.declared.command.Command.TheVariants as command;
 ghost use Rattle.wp_model.specs.declared.reply.Reply.TheVariants as replies;
 ghost use Rattle.wp_model.specs.declared.reply.WaveState.TheVariants as states;
 ghost use Rattle.wp_floor.specs.Floor.{HasAnswered, HasStepped, IsAt, IsFloor, state_at, state_of, wave_of};
-ghost use Rattle.wp_floor.specs.Held.{IsRowAt, held_of};
-ghost use Rattle.wp_floor.specs.Receiving.{AllHaveArticles};
-ghost use Rattle.wp_floor.specs.Refilling.{HasRefilled, HaveRefillSpace, IsHeldElsewhere, TellsRefill, refills};
+ghost use Rattle.wp_floor.specs.HeldUnits.{IsRowAt, held_of};
+ghost use Rattle.wp_floor.specs.ReceivedUnits.{AllHaveArticles};
+ghost use Rattle.wp_floor.specs.MissingUnits.{HasRefilled, HaveRefillSpace, IsHeldElsewhere, TellsRefill, refills};
 
 use crate::floor::Floor;
 use crate::held::{Claim, HeldUnits, claimed};
@@ -67,11 +67,15 @@ fn write_off(
     requires article { lost.article < length opening.now.stock.articles }
     requires rooms { HaveRefillSpace book.old.rows rooms }
     ensures live { wave.old.state ≡ states.Released → is_live wave.new.state ≡ true }
-    ensures refilled { IfOk result (λ room. (waves : List Wave) → IsAt opening.now book.old waves number wave.old → wave.old.state ≡ states.Released → lost.order < length wave.old.orders
-        → HasRefilled opening.now (write_off opening.now (state_at book.old waves) number (wave_of wave.old) quantity (held_of lost)) book.old book.new waves number wave.old wave.new quantity room) }
+    ensures refilled { IfOk result (λ room. (waves : List Wave) → IsAt opening.now book.old waves number wave.old → wave.old.state ≡ states.Released
+        → lost.order < length wave.old.orders
+        → HasRefilled opening.now (write_off opening.now (state_at book.old waves) number (wave_of wave.old) quantity (held_of lost)) book.old book.new waves
+        number wave.old wave.new quantity room) }
     ensures stays { IfErr result (λ why. refills why ≡ false) }
-    ensures lost { IfErr result (λ why. (waves : List Wave) → IsAt opening.now book.old waves number wave.old → wave.old.state ≡ states.Released → lost.order < length wave.old.orders
-        → HasAnswered opening.now (write_off opening.now (state_at book.old waves) number (wave_of wave.old) quantity (held_of lost)) book.old book.new waves number wave.old wave.new why) }
+    ensures lost { IfErr result (λ why. (waves : List Wave) → IsAt opening.now book.old waves number wave.old → wave.old.state ≡ states.Released
+        → lost.order < length wave.old.orders
+        → HasAnswered opening.now (write_off opening.now (state_at book.old waves) number (wave_of wave.old) quantity (held_of lost)) book.old book.new waves
+        number wave.old wave.new why) }
 {
     book.take(number, lost.order, lost.row, quantity);
     let sheet = hold_elsewhere(book, number, lost, quantity, rooms);
@@ -102,11 +106,13 @@ pub fn missing_wave(
     requires rooms { HaveRefillSpace book.old.rows rooms }
     ensures live { is_live wave.new.state ≡ is_live wave.old.state }
     ensures refilled { IfOk result (λ room. (waves : List Wave) → IsAt opening.now book.old waves number wave.old
-        → HasRefilled opening.now (at_released (state_at book.old waves) number (wave_of wave.old) claim.now.order claim.now.location claim.now.quantity (write_off opening.now (state_at book.old waves) number (wave_of wave.old) claim.now.quantity) wave.old.state)
+        → HasRefilled opening.now (at_released (state_at book.old waves) number (wave_of wave.old) claim.now.order claim.now.location claim.now.quantity
+        (write_off opening.now (state_at book.old waves) number (wave_of wave.old) claim.now.quantity) wave.old.state)
         book.old book.new waves number wave.old wave.new claim.now.quantity room) }
     ensures stays { IfErr result (λ why. refills why ≡ false) }
     ensures answered { IfErr result (λ why. (waves : List Wave) → IsAt opening.now book.old waves number wave.old
-        → HasAnswered opening.now (at_released (state_at book.old waves) number (wave_of wave.old) claim.now.order claim.now.location claim.now.quantity (write_off opening.now (state_at book.old waves) number (wave_of wave.old) claim.now.quantity) wave.old.state)
+        → HasAnswered opening.now (at_released (state_at book.old waves) number (wave_of wave.old) claim.now.order claim.now.location claim.now.quantity
+        (write_off opening.now (state_at book.old waves) number (wave_of wave.old) claim.now.quantity) wave.old.state)
         book.old book.new waves number wave.old wave.new why) }
 {
     match claimed(book, number, wave, claim) {
@@ -130,10 +136,12 @@ impl Floor {
         requires row { IsRowAt (state_of self.old).rows claim.now.location claim.now.row }
         requires quantity { 0 < claim.now.quantity }
         requires rooms { HaveRefillSpace (state_of self.old).rows rooms }
-        ensures out { IfOk result (λ room. HasStepped opening.now (command.Missing name.now claim.now.order claim.now.location claim.now.quantity) self.old self.new (replies.Refilled claim.now.quantity)) }
+        ensures out { IfOk result (λ room. HasStepped opening.now
+            (command.Missing name.now claim.now.order claim.now.location claim.now.quantity) self.old self.new (replies.Refilled claim.now.quantity)) }
         ensures told { IfOk result (λ room. TellsRefill (state_of self.old) (state_of self.new) name.now room) }
         ensures stays { IfErr result (λ why. refills why ≡ false) }
-        ensures refused { IfErr result (λ why. HasStepped opening.now (command.Missing name.now claim.now.order claim.now.location claim.now.quantity) self.old self.new why) }
+        ensures refused { IfErr result (λ why. HasStepped opening.now
+            (command.Missing name.now claim.now.order claim.now.location claim.now.quantity) self.old self.new why) }
     {
         let Some(mut found) = self.waves.take_out(name) else {
             return Err(Reply::UnknownWave);

@@ -5,10 +5,10 @@ ghost use Rattle.wp_book.specs.Room.{Content};
 ghost use Rattle.wp_model.specs.State.{Wave};
 ghost use Rattle.wp_model.specs.Step.{is_live, release};
 ghost use Rattle.wp_floor.specs.Floor.{AreWantsOf, HasAnswered, HasStepped, IsAt, IsFloor, state_at, state_of, wave_of};
-ghost use Rattle.wp_floor.specs.Holding.{HaveSpace};
+ghost use Rattle.wp_floor.specs.WaveStock.{HaveSpace};
 ghost use Rattle.wp_model.specs.declared.command.Command.TheVariants as command;
 ghost use Rattle.wp_model.specs.declared.reply.Reply.TheVariants as replies;
-ghost use Rattle.wp_floor.specs.Releasing.{HasListed, HasReleased, TellsHolds, goes_out};
+ghost use Rattle.wp_floor.specs.ReleasedWaves.{HasListed, HasReleased, TellsHolds, goes_out};
 
 use crate::floor::Floor;
 use crate::holding::{Rooms, hold_stock};
@@ -37,9 +37,11 @@ fn list_for_release(
     requires wants { AreWantsOf opening.now wave.old.orders wave.old.wants.items }
     ensures live { IfOk result (λ room. is_live wave.old.state ≡ true) }
     ensures stays { IfErr result (λ why. (goes_out why ≡ false) × (wave.new.state ≡ wave.old.state)) }
-    ensures listed { IfOk result (λ room. (waves : List Wave) → IsAt opening.now book.old waves number wave.old → HasListed opening.now book.old book.new waves number wave.old wave.new room) }
+    ensures listed { IfOk result (λ room. (waves : List Wave) → IsAt opening.now book.old waves number wave.old
+        → HasListed opening.now book.old book.new waves number wave.old wave.new room) }
     ensures refused { IfErr result (λ why. (waves : List Wave) → IsAt opening.now book.old waves number wave.old
-        → HasAnswered opening.now (release opening.now (state_at book.old waves) number (wave_of wave.old) wave.old.state) book.old book.new waves number wave.old wave.new why) }
+        → HasAnswered opening.now (release opening.now (state_at book.old waves) number (wave_of wave.old) wave.old.state) book.old book.new waves number
+        wave.old wave.new why) }
 {
     match wave.state {
         WaveState::Submitted => {
@@ -73,10 +75,12 @@ pub fn release_wave(
     requires sheet { IsRoomFor book.old.rows wave.old.wants.items rooms.sheet }
     requires wants { AreWantsOf opening.now wave.old.orders wave.old.wants.items }
     ensures live { is_live wave.new.state ≡ is_live wave.old.state }
-    ensures out { IfOk result (λ sheet. (waves : List Wave) → IsAt opening.now book.old waves number wave.old → HasReleased opening.now book.old book.new waves number wave.old wave.new sheet) }
+    ensures out { IfOk result (λ sheet. (waves : List Wave) → IsAt opening.now book.old waves number wave.old
+        → HasReleased opening.now book.old book.new waves number wave.old wave.new sheet) }
     ensures stays { IfErr result (λ why. goes_out why ≡ false) }
     ensures refused { IfErr result (λ why. (waves : List Wave) → IsAt opening.now book.old waves number wave.old
-        → HasAnswered opening.now (release opening.now (state_at book.old waves) number (wave_of wave.old) wave.old.state) book.old book.new waves number wave.old wave.new why) }
+        → HasAnswered opening.now (release opening.now (state_at book.old waves) number (wave_of wave.old) wave.old.state) book.old book.new waves number
+        wave.old wave.new why) }
 {
     let room = list_for_release(book, opening, number, wave, rooms)?;
     let orders = wave.copy.take();

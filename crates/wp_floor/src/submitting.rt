@@ -5,14 +5,14 @@ ghost use Rattle.wp_model.specs.Step.{first_order_fault, order_fault};
 ghost use Rattle.wp_model.specs.Tables.{IsReadOpening};
 ghost use Rattle.wp_model.specs.declared.command.Command.TheVariants as command;
 ghost use Rattle.wp_floor.specs.Floor.{AreTakers, HasStepped, IsFloor, wave_count};
-ghost use Rattle.wp_floor.specs.Submitting.{IsNewWave, IsPrepared, size_fault, submit_of};
+ghost use Rattle.wp_floor.specs.NewWaves.{IsNewWave, IsPrepared, size_fault, submit_of};
 
 use crate::floor::{Floor, put_takers};
 use crate::opening::Opening;
 use crate::wanting::wants_of_orders;
 use crate::waves::KeptWave;
 use std::alloc::Global;
-use wp_model::{Cell, Memory, Name, Names, Reply, WaveState};
+use wp_model::{Cell, MOST_WAVE_ORDERS, Memory, Name, Names, Reply, WaveState};
 
 /// A wave that a desk wants to submit, and room for it.
 #[derive(Drop)]
@@ -21,8 +21,6 @@ pub struct NewWave {
     pub(crate) cell: Cell<KeptWave>,
 }
 
-const MOST_ORDERS: u32 = 64;
-
 /// Why orders can't make a wave whatever was submitted before: there are none, or too many.
 pub fn size_fault(orders: &Names) -> Option<Reply>
     ensures { result ≡ size_fault orders.now }
@@ -30,7 +28,7 @@ pub fn size_fault(orders: &Names) -> Option<Reply>
     if orders.is_empty() {
         return Some(Reply::NoOrders);
     }
-    if orders.len() > MOST_ORDERS {
+    if orders.len() > MOST_WAVE_ORDERS {
         return Some(Reply::WaveFull(orders.len()));
     }
     None

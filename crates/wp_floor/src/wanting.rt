@@ -2,10 +2,11 @@
 ghost use Rattle.std.specs.Prelude.{◌≡◌, ◌+◌, ◌<◌, ◌≤◌, ◌^◌, ◌==◌, ◌∷◌, [], length, IfOk};
 ghost use Rattle.std.specs.List.{All, position};
 ghost use Rattle.wp_allot.specs.declared.want.Want.{Want as WantData};
-ghost use Rattle.wp_model.specs.Opening.{IsLine, lines_of, most_lines, most_orders};
+ghost use Rattle.wp_model.specs.Opening.{IsLine, lines_of};
+ghost use Rattle.wp_model.specs.Limits.{most_lines, most_wave_orders};
 ghost use Rattle.wp_model.specs.Tables.{IsReadOpening};
 ghost use Rattle.wp_floor.specs.Floor.{AreWantsOf};
-ghost use Rattle.wp_floor.specs.Wanting.{AreBefore, AreSome, AreSplit, HaveAdded, KeepArticles, all_units, line_units};
+ghost use Rattle.wp_floor.specs.WantLists.{AreBefore, AreSome, AreSplit, HaveAdded, KeepArticles, all_units, line_units};
 
 use crate::opening::Opening;
 use std::alloc::Global;
@@ -81,7 +82,7 @@ pub fn wants_of_orders(
     orders: &[Name],
 ) -> Result<Vec<Want>, Memory>
     requires read { IsReadOpening opening.now }
-    requires few { length orders.now ≤ most_orders }
+    requires few { length orders.now ≤ most_wave_orders }
     ensures { IfOk result (λ wants. AreWantsOf opening.now orders.now wants.items) }
 {
     let mut wants = Vec::new(alloc);

@@ -6,7 +6,7 @@ ghost use Rattle.wp_model.specs.State.{Wave};
 ghost use Rattle.wp_model.specs.Step.{at_released, cancel, give_up, is_live, pick};
 ghost use Rattle.wp_floor.specs.Floor.{HasAnswered, IsAt, state_at, wave_of};
 ghost use Rattle.wp_book.specs.Calls.{HoldsNone};
-ghost use Rattle.wp_floor.specs.Held.{IsRowAt, held_of};
+ghost use Rattle.wp_floor.specs.HeldUnits.{IsRowAt, held_of};
 ghost use Rattle.wp_floor.specs.Takers.{frees};
 
 use crate::held::{Claim, HeldUnits, claimed};
@@ -30,7 +30,8 @@ pub fn cancel_wave(book: &mut StockBook, number: u32, wave: &mut KeptWave) -> Re
     ensures cancelled { frees result ≡ true → (is_live wave.old.state ≡ true) × (wave.new.state ≡ WaveState.Cancelled) }
     ensures same { frees result ≡ false → wave.new ≡ wave.old }
     ensures answered { (opening : OpeningData) (waves : List Wave) → IsAt opening book.old waves number wave.old
-        → HasAnswered opening (cancel (state_at book.old waves) number (wave_of wave.old) wave.old.state) book.old book.new waves number wave.old wave.new result }
+        → HasAnswered opening (cancel (state_at book.old waves) number (wave_of wave.old) wave.old.state) book.old book.new waves number wave.old wave.new
+        result }
 {
     match wave.state {
         WaveState::Submitted => give_up(book, number, wave),
@@ -68,8 +69,10 @@ fn take_picked(
 ) -> Reply
     requires { quantity ≤ held_for book.old number held.order held.row }
     ensures live { wave.old.state ≡ WaveState.Released → is_live wave.new.state ≡ true }
-    ensures answered { (opening : OpeningData) (waves : List Wave) → IsAt opening book.old waves number wave.old → wave.old.state ≡ WaveState.Released → held.order < length wave.old.orders
-        → HasAnswered opening (pick (state_at book.old waves) number (wave_of wave.old) quantity (held_of held)) book.old book.new waves number wave.old wave.new result }
+    ensures answered { (opening : OpeningData) (waves : List Wave) → IsAt opening book.old waves number wave.old → wave.old.state ≡ WaveState.Released
+        → held.order < length wave.old.orders
+        → HasAnswered opening (pick (state_at book.old waves) number (wave_of wave.old) quantity (held_of held)) book.old book.new waves number wave.old
+        wave.new result }
 {
     book.take(number, held.order, held.row, quantity);
     wave.picked = true;
@@ -82,7 +85,8 @@ pub fn pick_wave(book: &mut StockBook, number: u32, wave: &mut KeptWave, claim: 
     requires { IsRowAt book.old.rows claim.now.location claim.now.row }
     ensures live { is_live wave.new.state ≡ is_live wave.old.state }
     ensures answered { (opening : OpeningData) (waves : List Wave) → IsAt opening book.old waves number wave.old
-        → HasAnswered opening (at_released (state_at book.old waves) number (wave_of wave.old) claim.now.order claim.now.location claim.now.quantity (pick (state_at book.old waves) number (wave_of wave.old) claim.now.quantity) wave.old.state)
+        → HasAnswered opening (at_released (state_at book.old waves) number (wave_of wave.old) claim.now.order claim.now.location claim.now.quantity
+        (pick (state_at book.old waves) number (wave_of wave.old) claim.now.quantity) wave.old.state)
         book.old book.new waves number wave.old wave.new result }
 {
     match claimed(book, number, wave, claim) {

@@ -6,9 +6,9 @@ use Rattle.wp_model.specs.declared.point.Point.{Point}
 use Rattle.wp_graph.specs.AisleLengths.{site_ways}
 use Rattle.wp_graph.specs.Copies.{Copies, aisle_walked, all_walked}
 use Rattle.wp_graph.specs.Sites.{IsOnSite, Site, last_place}
-use Rattle.wp_graph.proofs.DownByTwo.{AreFew}
-use Rattle.wp_graph.proofs.EachAisle.{AreTour, IsOnTour}
-use Rattle.wp_graph.proofs.OneWay.{IsWayLength, aisle_becomes_a_way, deep_else, deep_here, in_aisle}
+use Rattle.wp_graph.specs.TourCopies.{AreFew, AreTour, IsOnTour}
+use Rattle.wp_graph.proofs.OneWay.{IsWayLength, aisle_becomes_a_way}
+use Rattle.wp_graph.proofs.AislePieces.{deep_else, deep_here, in_aisle}
 
 -- one of the six ways applies in an aisle, and what is walked of the aisle is as long
 pub record IsWalkedByWay (site : Site) (picks : List Point) (copies : Copies) (aisle : ℕ) : Type 0 where
@@ -59,11 +59,14 @@ one_more site picks n most within by =
       few = few_still by.copies (suc n) next.pieces by.few next.few;
       each = λ a low. ⊎_elim
           (λ e. subst (λ b. IsWalkedByWay site picks (in_aisle by.copies (suc n) next.pieces) (suc b)) (sym e)
-              (record { length = next.length; applies = next.applies; walked = next.length_is }))
+          (record { length = next.length; applies = next.applies; walked = next.length_is }))
           (λ (other : a ≢ n).
           let before = by.each a (omega (arith, low, other)) in
-          record { length = before.length; applies = before.applies;
-              walked = others_walked site by.copies (suc n) next.pieces (suc a) (λ e. other (omega (arith, e))) ∙ before.walked })
+          record {
+            length = before.length;
+            applies = before.applies;
+            walked = others_walked site by.copies (suc n) next.pieces (suc a) (λ e. other (omega (arith, e))) ∙ before.walked;
+          })
           (cases_eq a n);
       least = omega (arith, by.least, all_no_longer site by.copies (suc n) next.pieces (omega (arith, next.length_is, next.least)));
     }

@@ -5,8 +5,9 @@ use Rattle.wp_model.specs.declared.point.Point.{Point}
 use Rattle.wp_model.specs.Warehouse.{Layout, IsMove, Step, back_end}
 use Rattle.wp_model.specs.Warehouse.Step.{deeper, nearer, further, back}
 use Rattle.wp_model.specs.Tours.{IsWalk}
-use Rattle.wp_graph.specs.Sites.{Site, last_place, site_of}
-use Rattle.wp_graph.specs.Copies.{Copies, along_aisle, along_cross, copies_of, sum_moves}
+use Rattle.wp_graph.specs.Sites.{site_of}
+use Rattle.wp_graph.specs.Copies.{along_aisle, along_cross, copies_of, sum_moves}
+use Rattle.wp_graph.specs.TourCopies.{AreEven}
 
 -- the last point of a walk
 abbrev pub last_point : Point → List Point → Point
@@ -25,6 +26,7 @@ changes_even layout each side from (to ∷ points) total changes (step, rest, mo
 abbrev pub within_aisle : ℕ → ℕ → Point → ℕ
 within_aisle aisle place point = if (point.aisle == aisle) && nat_le point.slot place then 1 else 0
 
+-- the side of a point of the cut behind an aisle: 1 up to the aisle, 0 beyond it
 abbrev pub within_first : ℕ → Point → ℕ
 within_first aisle point = if nat_le point.aisle aisle then 1 else 0
 
@@ -97,6 +99,7 @@ through_step layout a s p q t low (further is) = ⊎_elim (λ e. through_front (
 through_step layout a s p q t low (back is) = ⊎_elim (λ e. through_front_back (back_end layout) a s p q low e is.aisle is.slot)
     (λ e. through_behind_back (back_end layout) a s p q low e is.aisle is.slot) is.end
 
+-- two counts together, summed over the moves of a walk, come to both sums
 pub sum_moves-add : (f g : Point → Point → ℕ) (points : List Point) → sum_moves (λ p q. f p q + g p q) points ≡ sum_moves f points + sum_moves g points
 sum_moves-add f g [] = refl
 sum_moves-add f g (p ∷ []) = refl
@@ -132,30 +135,26 @@ behind_step layout b p q t move (nearer is) = behind_nearer b layout.aisles p q 
 behind_step layout b p q t move (further is) = behind_last b layout.aisles p q move.to_point.aisle.1 is.aisle
 behind_step layout b p q t move (back is) = behind_last_back b layout.aisles p q move.from_point.aisle.1 is.aisle
 
--- the copies of a closed walk: each piece of an aisle is walked as often as its cross aisles ask, up to an even number
-pub record AreEven (site : Site) (copies : Copies) : Type 0 where
-  pub across : (a : ℕ) → (copies.behind a + copies.front a) % 2 ≡ 0
-  pub through : (a s : ℕ) → s < last_place site → (copies.deep (suc a) s + copies.front a + copies.front (suc a)) % 2 ≡ 0
-  pub first_behind : copies.behind 0 ≡ 0
-  pub first_front : copies.front 0 ≡ 0
-  pub last_behind : copies.behind site.aisles ≡ 0
-  pub last_front : copies.front site.aisles ≡ 0
-
+-- the copies of a closed walk are even
 pub closed_even : (layout : Layout) (from : Point) (points : List Point) (total : ℕ) → last_point from points ≡ from → IsWalk layout (from ∷ points) total
     → AreEven (site_of layout) (copies_of layout (from ∷ points))
 closed_even layout from points total closes walk = record {
   across = λ a.
       let even = changes_even layout (λ p q. along_cross (back_end layout) a p q + along_cross 0 a p q) (within_first a) from points total
-              (λ p q t move. across_step layout a p q t move.step) walk in
+      (λ p q t move. across_step layout a p q t move.step) walk in
       let ends = ap (within_first a) closes in
       omega (arith, even, ends, sum_moves-add (along_cross (back_end layout) a) (along_cross 0 a) (from ∷ points));
   through = λ a s low.
       let even = changes_even layout (λ p q. along_aisle (suc a) s p q + along_cross 0 a p q + along_cross 0 (suc a) p q)
-              (within_aisle (suc a) s) from points total (λ p q t move. through_step layout a s p q t low move.step) walk in
+      (within_aisle (suc a) s) from points total (λ p q t move. through_step layout a s p q t low move.step) walk in
       let ends = ap (within_aisle (suc a) s) closes in
-      omega
-      (arith, even, ends, sum_moves-add (λ p q. along_aisle (suc a) s p q + along_cross 0 a p q) (along_cross 0 (suc a)) (from ∷ points),
-          sum_moves-add (along_aisle (suc a) s) (along_cross 0 a) (from ∷ points));
+      omega (
+        arith,
+        even,
+        ends,
+        sum_moves-add (λ p q. along_aisle (suc a) s p q + along_cross 0 a p q) (along_cross 0 (suc a)) (from ∷ points),
+        sum_moves-add (along_aisle (suc a) s) (along_cross 0 a) (from ∷ points),
+      );
   first_behind = sum_moves-none layout _ (from ∷ points) total
       (λ p q t move. before_first (back_end layout) p q move.from_point.aisle.0 move.to_point.aisle.0) walk;
   first_front = sum_moves-none layout _ (from ∷ points) total (λ p q t move. before_first 0 p q move.from_point.aisle.0 move.to_point.aisle.0) walk;

@@ -12,6 +12,7 @@ inner_step layout slot low high = grind (arith, nat_tests)
 pub last_step : (layout : Layout) → step_length layout layout.slots ≡ layout.clearance
 last_step layout = grind (arith, nat_tests)
 
+-- the distance of a slot from the front: the clearance, and the pitch for each slot before it
 pub distance_of_slot : (layout : Layout) (n : ℕ) → n < layout.slots → distance layout (suc n) ≡ layout.clearance + n * layout.pitch
 distance_of_slot layout zero within = omega arith
 distance_of_slot layout (suc n) within =
@@ -19,11 +20,13 @@ distance_of_slot layout (suc n) within =
     let step = inner_step layout (suc n) (omega arith) within in
     omega arith
 
+-- the same for a slot of the layout
 pub distance_is : (layout : Layout) (slot : ℕ) → IsUpTo layout.slots slot → distance layout slot ≡ layout.clearance + (slot - 1) * layout.pitch
 distance_is layout zero h = absurd (omega arith)
 distance_is layout (suc n) h =
     let before : suc n - 1 ≡ n = omega arith in rw before (distance_of_slot layout n (omega arith))
 
+-- an aisle is as long as two clearances and the pitches between its slots
 pub aisle_length_is : (layout : Layout) → 1 ≤ layout.slots → aisle_length layout ≡ 2 * layout.clearance + (layout.slots - 1) * layout.pitch
 aisle_length_is layout some =
     let before = distance_is layout layout.slots (some, omega arith) in

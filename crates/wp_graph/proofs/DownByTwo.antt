@@ -10,9 +10,7 @@ use Rattle.wp_model.specs.declared.point.Point.{Point}
 use Rattle.wp_model.specs.Warehouse.{IsUpTo}
 use Rattle.wp_graph.specs.Copies.{Copies, aisle_walked, all_walked, cross_walked}
 use Rattle.wp_graph.specs.Sites.{Site, last_place}
-use Rattle.wp_graph.proofs.Circuits.{AreEven}
-use Rattle.wp_graph.proofs.EachAisle.{AreTour}
-use Rattle.wp_graph.proofs.Joining.{IsKept}
+use Rattle.wp_graph.specs.TourCopies.{AreEven, AreFew, AreTour, IsKept}
 
 -- a number of copies made smaller by twos: as odd or even as before, and not 0 if it was not
 pub record IsLowered (lower number : ℕ) : Type 0 where
@@ -28,8 +26,11 @@ same_number : (number : ℕ) → IsLowered number number
 same_number number = record { least = omega arith; same = refl; used = λ some. some }
 
 then_lowered : (low middle number : ℕ) → IsLowered low middle → IsLowered middle number → IsLowered low number
-then_lowered low middle number first next = record { least = omega (arith, first.least, next.least); same = first.same ∙ next.same;
-    used = λ some. first.used (next.used some) }
+then_lowered low middle number first next = record {
+  least = omega (arith, first.least, next.least);
+  same = first.same ∙ next.same;
+  used = λ some. first.used (next.used some);
+}
 
 -- each number of copies made smaller by twos
 pub record AreLowered (lower copies : Copies) : Type 0 where
@@ -70,11 +71,11 @@ lowered_tour site picks lower copies less are = record {
 pub lowered_walked : (site : Site) (lower copies : Copies) → AreLowered lower copies → all_walked site lower ≤ all_walked site copies
 lowered_walked site lower copies less = sum-le site.aisles _ _ (λ a within.
     let inner = sum-le (last_place site) (λ s. lower.deep (suc a) s * site.step s) (λ s. copies.deep (suc a) s * site.step s)
-            (λ s low. mul-le (lower.deep (suc a) s) (site.step s) (copies.deep (suc a) s) (site.step s) (less.deep (suc a) s).least (omega arith)) in
+    (λ s low. mul-le (lower.deep (suc a) s) (site.step s) (copies.deep (suc a) s) (site.step s) (less.deep (suc a) s).least (omega arith)) in
     let sum : lower.behind (suc a) + lower.front (suc a) ≤ copies.behind (suc a) + copies.front (suc a) =
-            omega (arith, (less.behind (suc a)).least, (less.front (suc a)).least) in
+    omega (arith, (less.behind (suc a)).least, (less.front (suc a)).least) in
     let crossing = mul-le (lower.behind (suc a) + lower.front (suc a)) (site.spacing (suc a)) (copies.behind (suc a) + copies.front (suc a))
-            (site.spacing (suc a)) sum (omega arith) in
+    (site.spacing (suc a)) sum (omega arith) in
     omega (arith, inner, crossing))
 
 -- one piece: of an aisle from a place to the next, or from an aisle to the next at the back or at the front
@@ -119,12 +120,13 @@ less_lowered copies (front_piece a) most = record {
   front = λ a'. lowered_where (a' == a) (copies.front a') (λ e. omega (arith, ap copies.front (eqb-true _ _ e), most));
 }
 
--- a piece of the site, and its length
+-- a piece of the site
 abbrev pub IsPiece : Site → Piece → Type 0
 IsPiece site (deep_piece a s) = IsUpTo site.aisles a × (s < last_place site)
 IsPiece site (behind_piece a) = IsUpTo site.aisles a
 IsPiece site (front_piece a) = IsUpTo site.aisles a
 
+-- the length of a piece
 abbrev pub piece_length : Site → Piece → ℕ
 piece_length site (deep_piece a s) = site.step s
 piece_length site (behind_piece a) = site.spacing a
@@ -165,12 +167,12 @@ less_sum n f g at less within same there = omega (arith, sum-one_changed n f g a
 less_walked : (site : Site) (lower copies : Copies) (a less : ℕ) → IsUpTo site.aisles a
     → ((a' : ℕ) → a' ≢ a → aisle_walked site lower a' + cross_walked site lower a' ≡ aisle_walked site copies a' + cross_walked site copies a') →
     aisle_walked site lower a + cross_walked site lower a + less ≡ aisle_walked site copies a + cross_walked site copies a
-        → all_walked site lower + less ≡ all_walked site copies
+    → all_walked site lower + less ≡ all_walked site copies
 less_walked site lower copies zero less within same there = absurd (omega arith)
 less_walked site lower copies (suc a) less within same there =
     less_sum site.aisles (λ k. aisle_walked site lower (suc k) + cross_walked site lower (suc k))
-        (λ k. aisle_walked site copies (suc k) + cross_walked site copies (suc k)) a less (omega arith)
-        (λ k other. same (suc k) (λ e. other (omega (arith, e)))) there
+    (λ k. aisle_walked site copies (suc k) + cross_walked site copies (suc k)) a less (omega arith)
+    (λ k other. same (suc k) (λ e. other (omega (arith, e)))) there
 
 -- what is walked gets shorter by the piece, two times
 less_falls : (site : Site) (copies : Copies) (piece : Piece) → IsPiece site piece → 3 ≤ copies_at copies piece
@@ -178,30 +180,30 @@ less_falls : (site : Site) (copies : Copies) (piece : Piece) → IsPiece site pi
 less_falls site copies (deep_piece a s) is most =
     let lower = less_two copies (deep_piece a s) in
     let there : lower.deep a s * site.step s + 2 * site.step s ≡ copies.deep a s * site.step s =
-            ap (λ x. x * site.step s + 2 * site.step s) (deep_there copies a s) ∙ two_less (copies.deep a s) (site.step s) (omega arith) in
+    ap (λ x. x * site.step s + 2 * site.step s) (deep_there copies a s) ∙ two_less (copies.deep a s) (site.step s) (omega arith) in
     let inner = less_sum (last_place site) (λ k. lower.deep a k * site.step k) (λ k. copies.deep a k * site.step k) s (2 * site.step s) is.1
-            (λ k other. ap (λ x. x * site.step k) (place_else copies a s a k other)) there in
+    (λ k other. ap (λ x. x * site.step k) (place_else copies a s a k other)) there in
     less_walked site lower copies a (2 * site.step s) is.0
     (λ a' other. let same = sum-agree (last_place site) (λ k. lower.deep a' k * site.step k) (λ k. copies.deep a' k * site.step k)
-        (λ k low. ap (λ x. x * site.step k) (deep_else copies a s a' k other)) in omega (arith, same))
+    (λ k low. ap (λ x. x * site.step k) (deep_else copies a s a' k other)) in omega (arith, same))
     (omega (arith, inner))
 less_falls site copies (behind_piece a) is most =
     let lower = less_two copies (behind_piece a) in
     let sum : lower.behind a + lower.front a ≡ (copies.behind a + copies.front a) - 2 = omega (arith, behind_there copies a, most) in
     let there : cross_walked site lower a + 2 * site.spacing a ≡ cross_walked site copies a =
-            ap (λ x. x * site.spacing a + 2 * site.spacing a) sum ∙ two_less (copies.behind a + copies.front a) (site.spacing a) (omega arith) in
+    ap (λ x. x * site.spacing a + 2 * site.spacing a) sum ∙ two_less (copies.behind a + copies.front a) (site.spacing a) (omega arith) in
     less_walked site lower copies a (2 * site.spacing a) is (λ a' other. ap (λ x. aisle_walked site copies a' + (x + copies.front a') * site.spacing a')
-        (behind_else copies a a' other)) (omega (arith, there))
+    (behind_else copies a a' other)) (omega (arith, there))
 less_falls site copies (front_piece a) is most =
     let lower = less_two copies (front_piece a) in
     let sum : lower.behind a + lower.front a ≡ (copies.behind a + copies.front a) - 2 = omega (arith, front_there copies a, most) in
     let there : cross_walked site lower a + 2 * site.spacing a ≡ cross_walked site copies a =
-            ap (λ x. x * site.spacing a + 2 * site.spacing a) sum ∙ two_less (copies.behind a + copies.front a) (site.spacing a) (omega arith) in
+    ap (λ x. x * site.spacing a + 2 * site.spacing a) sum ∙ two_less (copies.behind a + copies.front a) (site.spacing a) (omega arith) in
     less_walked site lower copies a (2 * site.spacing a) is (λ a' other. ap (λ x. aisle_walked site copies a' + (copies.behind a' + x) * site.spacing a')
-        (front_else copies a a' other)) (omega (arith, there))
+    (front_else copies a a' other)) (omega (arith, there))
 
--- Three or more copies of a piece go down by two: all degrees are even still, and all that is walked hangs together with
--- the depot and passes the picks. It is shorter by twice the piece.
+-- Three or more copies of a piece go down by two: all degrees are even still, and all that is walked hangs together
+-- with the depot and passes the picks. It is shorter by twice the piece.
 pub three_or_more_go_down_by_two : (site : Site) (picks : List Point) (copies : Copies) (piece : Piece) → AreTour site picks copies → IsPiece site piece
     → 3 ≤ copies_at copies piece →
     AreTour site picks (less_two copies piece) × (all_walked site (less_two copies piece) + 2 * piece_length site piece ≡ all_walked site copies)
@@ -219,12 +221,6 @@ lowered_to_two (suc (suc (suc number))) =
     let step = down_by_two (suc (suc (suc number))) (omega arith) in
     (rest.0, then_lowered rest.0 (suc number) (suc (suc (suc number))) rest.1 (rw less at step), rest.2)
 
--- no piece is walked three times
-pub record AreFew (copies : Copies) : Type 0 where
-  pub deep : (a s : ℕ) → copies.deep a s ≤ 2
-  pub behind : (a : ℕ) → copies.behind a ≤ 2
-  pub front : (a : ℕ) → copies.front a ≤ 2
-
 -- the copies of a tour that walks no piece three times, and is no longer
 pub record FewerCopies (site : Site) (picks : List Point) (most : ℕ) : Type 1 where
   pub copies : Copies
@@ -235,14 +231,23 @@ pub record FewerCopies (site : Site) (picks : List Point) (most : ℕ) : Type 1 
 -- all pieces together: each number goes down by two, again and again, to 0, 1 or 2
 pub all_go_down_to_two : (site : Site) (picks : List Point) (copies : Copies) → AreTour site picks copies → FewerCopies site picks (all_walked site copies)
 all_go_down_to_two site picks copies are =
-    let lower : Copies = record { deep = λ a s. (lowered_to_two (copies.deep a s)).0; behind = λ a. (lowered_to_two (copies.behind a)).0;
-            front = λ a. (lowered_to_two (copies.front a)).0 } in
-    let less : AreLowered lower copies = record { deep = λ a s. (lowered_to_two (copies.deep a s)).1; behind = λ a. (lowered_to_two (copies.behind a)).1;
-            front = λ a. (lowered_to_two (copies.front a)).1 } in
+    let lower : Copies = record {
+      deep = λ a s. (lowered_to_two (copies.deep a s)).0;
+      behind = λ a. (lowered_to_two (copies.behind a)).0;
+      front = λ a. (lowered_to_two (copies.front a)).0;
+    } in
+    let less : AreLowered lower copies = record {
+      deep = λ a s. (lowered_to_two (copies.deep a s)).1;
+      behind = λ a. (lowered_to_two (copies.behind a)).1;
+      front = λ a. (lowered_to_two (copies.front a)).1;
+    } in
     record {
       copies = lower;
       are = lowered_tour site picks lower copies less are;
-      few = record { deep = λ a s. (lowered_to_two (copies.deep a s)).2; behind = λ a. (lowered_to_two (copies.behind a)).2;
-          front = λ a. (lowered_to_two (copies.front a)).2 };
+      few = record {
+        deep = λ a s. (lowered_to_two (copies.deep a s)).2;
+        behind = λ a. (lowered_to_two (copies.behind a)).2;
+        front = λ a. (lowered_to_two (copies.front a)).2;
+      };
       least = lowered_walked site lower copies less;
     }

@@ -11,28 +11,21 @@ use Rattle.wp_graph.specs.AisleLengths.{site_ways}
 use Rattle.wp_graph.specs.Required.{IsAscending, has_point, site_places}
 use Rattle.wp_graph.specs.Sites.{End, Site, depot_of, end_place, has_depot, is_end, last_place, site_distance}
 use Rattle.wp_graph.specs.Sites.End.{at_front, at_back}
-use Rattle.wp_graph.proofs.Ascending.{passed_ascend}
-use Rattle.wp_graph.proofs.Circuits.{AreEven}
-use Rattle.wp_graph.proofs.Having.{among_has, has_among}
-use Rattle.wp_graph.proofs.Joining.{AreJoined, IsKept}
-use Rattle.wp_graph.proofs.Members.{Among, among-filter, among-range, filter_passed, range_bounds}
-use Rattle.wp_graph.proofs.OneAisle.{IsCut, all_least, cut_least, cut_ways, first_gap, last_gap}
+use Rattle.wp_graph.specs.Members.{Among}
+use Rattle.wp_graph.specs.TourCopies.{AreTour, IsKept, IsOnTour}
+use Rattle.wp_graph.specs.Cuts.{HasCut}
+use Rattle.wp_graph.proofs.AscendingNumbers.{passed_ascend}
+use Rattle.wp_graph.proofs.PointTests.{among_has, has_among}
+use Rattle.wp_graph.proofs.Members.{among-filter, among-range, filter_passed, range_bounds}
+use Rattle.wp_graph.proofs.OneAisle.{all_least, cut_least, cut_ways, first_gap, last_gap}
 
--- what every tour passes: the depot and the picks
-abbrev pub IsOnTour : Site → List Point → Point → Type 0
-IsOnTour site picks p = Among (depot_of site ∷ picks) p
-
--- the copies of some tour of the picks
-pub record AreTour (site : Site) (picks : List Point) (copies : Copies) : Type 1 where
-  pub even : AreEven site copies
-  pub joined : AreJoined site copies (IsOnTour site picks) (depot_of site)
-
--- a required place of an aisle is on every tour, and the other way round
+-- a required place of an aisle is on every tour
 pub place_on_tour : (site : Site) (picks : List Point) (aisle r : ℕ) → Among (site_places site picks aisle) r
     → IsOnTour site picks (record { aisle = aisle; slot = r })
 unfolding site_places
 place_on_tour site picks aisle r h = has_among (depot_of site ∷ picks) aisle r (filter_passed (has_point (depot_of site ∷ picks) aisle) _ r h).1
 
+-- what is on every tour, at a place that an aisle has, is a required place of its aisle
 pub tour_place : (site : Site) (picks : List Point) (p : Point) → IsOnTour site picks p → p.slot ≤ last_place site
     → Among (site_places site picks p.aisle) p.slot
 unfolding site_places
@@ -43,11 +36,13 @@ places_ascend : (site : Site) (picks : List Point) (aisle : ℕ) → IsAscending
 unfolding site_places
 places_ascend site picks aisle = passed_ascend (has_point (depot_of site ∷ picks) aisle) site.slots
 
+-- a required place lies no further than the back end
 pub places_within : (site : Site) (picks : List Point) (aisle r : ℕ) → Among (site_places site picks aisle) r → r ≤ last_place site
 unfolding site_places
 places_within site picks aisle r h = let bounds = range_bounds 0 (site.slots + 2) r (filter_passed (has_point (depot_of site ∷ picks) aisle) _ r h).0 in
     omega (arith, bounds.1)
 
+-- what is walked of an aisle whose pieces are walked an odd number of times is no shorter than a pass
 pub odd_aisle : (site : Site) (picks : List Point) (copies : Copies) (a : ℕ) → AreTour site picks copies → (copies.front a + copies.front (suc a)) % 2 ≡ 1
     → (site_ways site picks (suc a)).pass ≤ aisle_walked site copies (suc a)
 unfolding site_ways
@@ -85,7 +80,7 @@ between_kept site copies aisle z y low high within = record {
   deep = λ a s some. ⊎_elim
       (λ here. ⊎_elim (λ e. absurd (let at = ap (λ x. copies.deep x s) here ∙ ap (copies.deep aisle) e in omega (arith, at, some, low)))
       (λ apart. ⊎_elim (λ e. absurd (let at = ap (λ x. copies.deep x s) here ∙ ap (copies.deep aisle) e in omega (arith, at, some, high)))
-          (λ apart'. between_same aisle z y a s here apart apart') (cases_eq s y))
+      (λ apart'. between_same aisle z y a s here apart apart') (cases_eq s y))
       (cases_eq s z))
       (λ other. between_else aisle z y a s (suc s) other)
       (cases_eq a aisle);
@@ -111,18 +106,6 @@ parts_of site picks copies aisle z y r are low high within h = elim (cases r z) 
 
     apart : true ≡ false → ⊥
     apart e = cc
-
--- an aisle with a piece that isn't walked
-pub record HasCut (site : Site) (picks : List Point) (copies : Copies) (aisle : ℕ) : Type 0 where
-  pub gap : ℕ
-  pub beyond : ℕ
-  pub ordered : gap ≤ beyond
-  pub within : beyond < last_place site
-  pub none : copies.deep aisle gap ≡ 0
-  pub none_beyond : copies.deep aisle beyond ≡ 0
-  pub most : ℕ
-  pub cut : IsCut (site_ways site picks aisle) (site_distance site) (last_place site) (site_places site picks aisle) gap beyond most
-  pub least : most ≤ aisle_walked site copies aisle
 
 same_end : (end other : End) → is_end end other ≡ true → end ≡ other
 same_end at_front at_front e = refl
@@ -158,14 +141,15 @@ has_cut site picks copies a z y are even order within low high before behind = r
   cut = cut_ways (has_depot site (suc a)) (site_distance site) (last_place site) z y (site_places site picks (suc a)) refl
       (λ i j upto. sum-grows i j site.step upto) order within (places_ascend site picks (suc a)) (λ r h. places_within site picks (suc a) r h)
       (λ r h. parts_of site picks copies (suc a) z y r are low high within h) (λ e. (0, depot_required site picks (suc a) at_front e, omega arith))
-          (λ e. (last_place site, depot_required site picks (suc a) at_back e, within));
+      (λ e. (last_place site, depot_required site picks (suc a) at_back e, within));
   least = cut_least (last_place site) z y (copies.deep (suc a)) site.step order within (λ s upto. omega (arith, even, are.even.through a s upto)) before behind;
 }
 
--- an aisle that is walked through an even number of times
+-- an aisle whose pieces are walked an even number of times: each piece is walked, and a double is no longer, or it
+-- has a cut
 pub even_aisle : (site : Site) (picks : List Point) (copies : Copies) (a : ℕ) → AreTour site picks copies → (copies.front a + copies.front (suc a)) % 2 ≡ 0 →
     (((s : ℕ) → s < last_place site → 0 < copies.deep (suc a) s) × ((site_ways site picks (suc a)).double ≤ aisle_walked site copies (suc a)))
-        ⊎ HasCut site picks copies (suc a)
+    ⊎ HasCut site picks copies (suc a)
 unfolding site_ways
 even_aisle site picks copies a are even = elim (first_gap (last_place site) (copies.deep (suc a))) [
   | inl all ↦ inl (all, all_least (last_place site) 2 (copies.deep (suc a)) site.step (λ s low. omega (arith, even, all s low, are.even.through a s low)))

@@ -5,14 +5,16 @@ use Rattle.std.proofs.lemmas.Bool.{cases_eq, le-leb}
 use Rattle.std.proofs.lemmas.Nat.{mul-le}
 use Rattle.wp_model.proofs.Sums.{sum-grows}
 use Rattle.wp_model.specs.Sums.{sum_below}
-use Rattle.wp_graph.specs.declared.ways.AisleWays.{AisleWays}
 use Rattle.wp_graph.specs.AisleLengths.{ways_with}
 use Rattle.wp_graph.specs.Sites.{End}
 use Rattle.wp_graph.specs.Sites.End.{at_front, at_back}
 use Rattle.wp_graph.specs.Required.{IsAscending, largest_gap}
-use Rattle.wp_graph.proofs.Members.{Among, among-append_right}
-use Rattle.wp_graph.proofs.Ascending.{head_below, last_most_from, neighbours_ascend, neighbours_part}
-use Rattle.wp_graph.proofs.Stretching.{last_from}
+use Rattle.wp_graph.specs.Members.{Among}
+use Rattle.wp_graph.specs.Cuts.{HasBeyond, HasUpTo, IsCut, Turning}
+use Rattle.wp_graph.specs.Cuts.IsCut.{backs, fronts, gaps, skips}
+use Rattle.wp_graph.proofs.Members.{among-append_right}
+use Rattle.wp_graph.proofs.AscendingNumbers.{head_below, last_most_from, neighbours_ascend, neighbours_part}
+use Rattle.wp_graph.proofs.Stretches.{last_from}
 use Rattle.wp_graph.proofs.Widest.{widest}
 
 -- each piece walked at least so often
@@ -41,7 +43,7 @@ pub first_gap : (n : ℕ) (d : ℕ → ℕ) → ((s : ℕ) → s < n → 0 < d s
 first_gap zero d = inl (λ s low. absurd (omega arith))
 first_gap (suc n) d = ⊎_elim
     (λ all. ⊎_elim (λ none. inr (n, omega arith, none, all))
-        (λ some. inl (λ s low. ⊎_elim (λ e. subst (λ x. 0 < d x) (sym e) some) (λ other. all s (omega arith)) (cases_eq s n))) (positive (d n)))
+    (λ some. inl (λ s low. ⊎_elim (λ e. subst (λ x. 0 < d x) (sym e) some) (λ other. all s (omega arith)) (cases_eq s n))) (positive (d n)))
     (λ gap. inr (gap.0, omega (arith, gap.1), gap.2, gap.3))
     (first_gap n d)
   where
@@ -63,9 +65,14 @@ last_gap (suc n) d z within none = go (λ low. last_gap n d z low none) (positiv
     go before (inl e) = (n, omega arith, omega arith, e, λ s high low. absurd (omega arith))
     go before (inr some) =
         let other : z ≢ n = λ e. omega (arith, ap d e, none, some) in
-        let rest = before (omega (arith, other)) in
-        (rest.0, rest.1, omega (arith, rest.2), rest.3, λ s high low. ⊎_elim (λ e. subst (λ x. 0 < d x) (sym e) some) (λ apart. rest.4 s high (omega arith))
-            (cases_eq s n))
+        let rest = before (omega (arith, other)) in (
+          rest.0,
+          rest.1,
+          omega (arith, rest.2),
+          rest.3,
+          λ s high low. ⊎_elim (λ e. subst (λ x. 0 < d x) (sym e) some) (λ apart. rest.4 s high (omega arith))
+              (cases_eq s n),
+        )
 
 -- between two gaps of an aisle whose pieces are walked an even number of times
 pub cut_least : (n z y : ℕ) (d w : ℕ → ℕ) → z ≤ y → y < n → ((s : ℕ) → s < n → d s % 2 ≡ 0) → ((s : ℕ) → s < z → 0 < d s)
@@ -85,35 +92,6 @@ gap_least d z y x (r ∷ places) grows low parts high order = ⊎_elim
     (λ near. let rest = gap_least d z y r places grows near (λ q h. parts q (inr h)) high order in omega (arith, rest))
     (λ far. omega (arith, grows x z low, grows (suc y) r (omega arith)))
     (parts r (inl refl))
-
--- some place is at most this, or beyond this
-abbrev pub HasUpTo : List ℕ → ℕ → Type 0
-HasUpTo places z = (x : ℕ) × Among places x × (x ≤ z)
-
-abbrev pub HasBeyond : List ℕ → ℕ → Type 0
-HasBeyond places y = (x : ℕ) × Among places x × (y < x)
-
--- where a way of this length turns in an aisle with two gaps: it goes from the front end to a place and back, and from the
--- back end to another and back. It passes each required place, and leaves an end only for one on its side of the gaps.
-pub record Turning (d : ℕ → ℕ) (b : ℕ) (places : List ℕ) (z y t : ℕ) : Type 0 where
-  pub near : ℕ
-  pub far : ℕ
-  pub ordered : near ≤ far
-  pub within : far ≤ b
-  pub passed : (r : ℕ) → Among places r → ((r ≤ near) × HasUpTo places z) ⊎ ((far ≤ r) × HasBeyond places y)
-  pub near_used : 0 < near → HasUpTo places z
-  pub far_used : far < b → HasBeyond places y
-  pub length_is : t ≡ 2 * d near + 2 * (d b - d far)
-
--- which ways apply where nothing is required between two gaps, by where anything is
-pub data IsCut (ways : AisleWays) (d : ℕ → ℕ) (b : ℕ) (places : List ℕ) (z y most : ℕ) : Type 0 where
-  skips : (places ≡ []) → ways.skip ≡ Some 0 → Turning d b places z y 0 → IsCut ways d b places z y most
-  fronts : (t x : ℕ) → ways.front ≡ Some t → t ≤ most → Among places x → x ≤ z → ((r : ℕ) → Among places r → r ≤ z) → Turning d b places z y t
-      → IsCut ways d b places z y most
-  backs : (t x : ℕ) → ways.back ≡ Some t → t ≤ most → Among places x → y < x → ((r : ℕ) → Among places r → y < r) → Turning d b places z y t
-      → IsCut ways d b places z y most
-  gaps : (t x r : ℕ) → ways.gap ≡ Some t → t ≤ most → Among places x → x ≤ z → Among places r → y < r → Turning d b places z y t
-      → IsCut ways d b places z y most
 
 last_among : (x : ℕ) (xs : List ℕ) → Among (x ∷ xs) (last_from x xs)
 last_among x [] = inl refl
@@ -156,24 +134,34 @@ gap_turning d b z y x (q ∷ places) grows up upto near order high =
       length_is = omega (arith, wide.gap_is, grows wide.near wide.far (omega (arith, ascend)), grows wide.far b within);
     }
 
+-- where nothing is required between two gaps, but something on the depot's side of them if it lies in this aisle, a
+-- way that turns there applies, no longer than two passes of what lies outside the gaps
 pub cut_ways : (depot : End → Bool) (d : ℕ → ℕ) (b z y : ℕ) (places : List ℕ) → (d 0 ≡ 0) → ((i j : ℕ) → i ≤ j → d i ≤ d j) → z ≤ y → y < b
     → IsAscending places → ((r : ℕ) → Among places r → r ≤ b) → ((r : ℕ) → Among places r → (r ≤ z) ⊎ (y < r)) →
     (depot at_front ≡ true → HasUpTo places z) → (depot at_back ≡ true → HasBeyond places y)
-        → IsCut (ways_with depot (d b) (map d places)) d b places z y (2 * d z + 2 * (d b - d (suc y)))
+    → IsCut (ways_with depot (d b) (map d places)) d b places z y (2 * d z + 2 * (d b - d (suc y)))
 cut_ways depot d b z y [] begins grows order within up upto parts near_depot far_depot =
-    skips refl refl (record { near = 0; far = b; ordered = omega arith; within = omega arith; passed = λ r h. absurd h;
-        near_used = λ some. absurd (omega arith); far_used = λ some. absurd (omega arith); length_is = omega (arith, begins) })
+    skips refl refl (record {
+      near = 0;
+      far = b;
+      ordered = omega arith;
+      within = omega arith;
+      passed = λ r h. absurd h;
+      near_used = λ some. absurd (omega arith);
+      far_used = λ some. absurd (omega arith);
+      length_is = omega (arith, begins);
+    })
 cut_ways depot d b z y (x ∷ places) begins grows order within up upto parts near_depot far_depot = ⊎_elim
     (λ low. fronts (2 * d (last_from x places)) (last_from x places) (front_applies (depot at_back) refl low)
-        (omega (arith, grows (last_from x places) z low)) (last_among x places) low
-        (λ r h. let most = last_most_from x places r up h in omega (arith, most, low)) (front_turning low))
+    (omega (arith, grows (last_from x places) z low)) (last_among x places) low
+    (λ r h. let most = last_most_from x places r up h in omega (arith, most, low)) (front_turning low))
     (λ high. ⊎_elim
     (λ near. gaps (2 * (d b - largest_gap (map d (x ∷ places)))) x (last_from x places) (two_or_more d x places y z near order high (d b))
     (let gap = gap_least d z y x places grows near (λ r h. parts r (inr h)) high order in
-        omega (arith, gap, grows z (suc y) (omega arith), grows (suc y) b (omega arith))) (inl refl) near (last_among x places) high
+    omega (arith, gap, grows z (suc y) (omega arith), grows (suc y) b (omega arith))) (inl refl) near (last_among x places) high
     (gap_turning d b z y x places grows up upto near order high))
     (λ far. backs (2 * (d b - d x)) x (back_applies (depot at_front) refl far) (omega (arith, grows (suc y) x (omega arith))) (inl refl) far
-        (λ r h. below r far h) (back_turning far))
+    (λ r h. below r far h) (back_turning far))
     (parts x (inl refl)))
     (parts (last_from x places) (last_among x places))
   where

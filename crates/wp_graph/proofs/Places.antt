@@ -75,12 +75,12 @@ lowest_place first bits some fits =
     (eq-eqb _ _ (ap (λ i. bit_at bits i) (off t) ∙ low.1))
     (λ k upto. ⊎_elim
     (λ (e : k ≡ t). bit_test_off (without_lowest bits) (first + k) first k (off k)
-        (ap (λ i. bit_at (without_lowest bits) i) e ∙ bit_at_clear_same w64 bits t low.0))
+    (ap (λ i. bit_at (without_lowest bits) i) e ∙ bit_at_clear_same w64 bits t low.0))
     (λ (ne : k ≡ t → ⊥). bit_test_off (without_lowest bits) (first + k) first k (off k)
-        (bit_at_clear_other w64 bits t low.0 k (omega arith) ne ∙ low.2 k (omega arith)))
+    (bit_at_clear_other w64 bits t low.0 k (omega arith) ne ∙ low.2 k (omega arith)))
     (cases_eq k t))
     (λ k after small. ap (λ b. b == 1) (ap (λ i. bit_at (without_lowest bits) i) (off k)
-        ∙ bit_at_clear_other w64 bits t low.0 k (omega arith) (λ e. omega arith) ∙ sym (ap (λ i. bit_at bits i) (off k))))
+    ∙ bit_at_clear_other w64 bits t low.0 k (omega arith) (λ e. omega arith) ∙ sym (ap (λ i. bit_at bits i) (off k))))
 
 -- what is left has no further bits
 pub lowest_cleared : (bits k : ℕ) → 0 < bits → bits < 2 ^ 64 → k < 64 → bit_at (without_lowest bits) k ≡ 1 → bit_at bits k ≡ 1
@@ -88,7 +88,7 @@ lowest_cleared bits k some fits small set =
     let low = bit_at-trailing_zeros w64 bits some fits in
     ⊎_elim
     (λ (e : k ≡ trailing_zeros w64 bits). let clear = ap (λ i. bit_at (without_lowest bits) i) e ∙ bit_at_clear_same w64 bits _ low.0 in
-        omega (arith, clear, set))
+    omega (arith, clear, set))
     (λ ne. sym (bit_at_clear_other w64 bits _ low.0 k small ne) ∙ set)
     (cases_eq k (trailing_zeros w64 bits))
 
@@ -105,6 +105,7 @@ lowest_less bits some fits =
     let whole : without_lowest bits ≡ bit_and bits (2 ^ 64 - 1 - 2 ^ t) = ap (λ m. bit_and bits (2 ^ 64 - 1 - m)) one in
     omega (arith, pow_pos t, parts, turned, cut, whole)
 
+-- a word without bits has no places
 pub no_places : (first bits : ℕ) → bits ≡ 0 → bit_places first bits ≡ []
 unfolding bit_places
 no_places first bits none =

@@ -1,5 +1,5 @@
 -- The lengths of the six ways through an aisle.
-use Rattle.std.specs.Prelude.{ℕ, ◌-◌, ◌*◌, ◌==◌, ◌&&◌, nat_le, Bool, List, Some, None, option_map, length, map, slice_get, if◌then◌else◌}
+use Rattle.std.specs.Prelude.{ℕ, ◌-◌, ◌*◌, ◌≤◌, ◌==◌, ◌&&◌, nat_le, Bool, List, Some, None, IfSome, option_map, length, map, slice_get, if◌then◌else◌}
 use Rattle.wp_model.specs.declared.point.Point.{Point}
 use Rattle.wp_model.specs.Warehouse.{Layout}
 use Rattle.wp_graph.specs.declared.ways.AisleWays.{AisleWays}
@@ -7,10 +7,10 @@ use Rattle.wp_graph.specs.Required.{aisle_length, largest_gap, required_distance
 use Rattle.wp_graph.specs.Sites.{End, Site, has_depot, is_end, last_place, site_distance}
 use Rattle.wp_graph.specs.Sites.End.{at_front, at_back}
 
--- The ways through an aisle of a length, given at which end the depot lies, if it lies in this aisle, and the required
--- distances from the front on, those of its ends among them:
--- one pass; from the back to the nearest and back, not where the depot lies in front; from the front to the farthest and
--- back, not where the depot lies at the back; from both ends, leaving the largest gap; two passes; not at all
+-- The ways through an aisle of a length, given at which end the depot lies, if it lies in this aisle, and the
+-- required distances from the front on, those of its ends among them:
+-- one pass; from the back to the nearest and back, not where the depot lies in front; from the front to the farthest
+-- and back, not where the depot lies at the back; from both ends, leaving the largest gap; two passes; not at all
 abbrev pub ways_with : (End → Bool) → ℕ → List ℕ → AisleWays
 ways_with depot whole distances = record {
   pass = whole;
@@ -20,6 +20,15 @@ ways_with depot whole distances = record {
   double = 2 * whole;
   skip = if length distances == 0 then Some 0 else None;
 }
+
+-- each way through an aisle is at most so long
+pub record AreAtMost (most : ℕ) (ways : AisleWays) : Type 0 where
+  pub pass : ways.pass ≤ most
+  pub back : IfSome ways.back (λ t. t ≤ most)
+  pub front : IfSome ways.front (λ t. t ≤ most)
+  pub gap : IfSome ways.gap (λ t. t ≤ most)
+  pub double : ways.double ≤ most
+  pub skip : IfSome ways.skip (λ t. t ≤ most)
 
 -- the ways through an aisle of a site with these picks
 unfoldable pub site_ways : Site → List Point → ℕ → AisleWays

@@ -1,6 +1,9 @@
 pub mod Sites
 pub mod PickSets
+pub mod Members
 pub mod Required
 pub mod AisleLengths
 pub mod Stretches
 pub mod Copies
+pub mod TourCopies
+pub mod Cuts

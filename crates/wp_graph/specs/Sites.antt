@@ -1,5 +1,5 @@
--- A warehouse of one block as the argument on shortness takes it: each crossing has a length of its own, and the depot
--- lies at the front or at the back end of its aisle.
+-- A warehouse of one block as the argument on shortness takes it: each crossing has a length of its own, and the
+-- depot lies at the front or at the back end of its aisle.
 use Rattle.std.specs.Prelude.{ℕ, ◌+◌, ◌≤◌, ◌==◌, ◌&&◌, Bool, true, false}
 use Rattle.wp_model.specs.declared.point.Point.{Point}
 use Rattle.wp_model.specs.Sums.{sum_below}
@@ -10,8 +10,8 @@ pub data End : Type 0 where
   at_front : End
   at_back : End
 
--- the numbers of aisles and of slots in each; the length from each place of an aisle to the next one behind it, and from
--- each aisle to the next; and the aisle and the end of it at which the depot lies
+-- the numbers of aisles and of slots in each; the length from each place of an aisle to the next one behind it, and
+-- from each aisle to the next; and the aisle and the end of it at which the depot lies
 pub record Site : Type 0 where
   pub aisles : ℕ
   pub slots : ℕ

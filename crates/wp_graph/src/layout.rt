@@ -2,16 +2,7 @@ ghost use Rattle.std.specs.Prelude.{◌≡◌, ◌↔◌, IsTrue, IsSome, IfSome
 ghost use Rattle.wp_model.specs.Warehouse.{Layout as Block, IsLayout, IsUpTo};
 
 use std::marker::Model;
-use wp_model::Point;
-
-/// The most aisles of a layout.
-pub const MOST_AISLES: u32 = 64;
-
-/// The most slots of an aisle.
-pub const MOST_SLOTS: u32 = 200;
-
-/// The greatest pitch, clearance and spacing.
-pub const GREATEST_LENGTH: u32 = 10000;
+use wp_model::{GREATEST_LENGTH, MOST_AISLES, MOST_SLOTS, Point};
 
 /// A warehouse of one block: 1 to 64 parallel aisles of 1 to 200 slots, joined by a front and a back cross aisle. The
 /// depot is the front end of one of the aisles.
@@ -32,7 +23,14 @@ impl Model for Layout {
 
     ghost view = { λ l. record { aisles = l.aisles; slots = l.slots; pitch = l.pitch; clearance = l.clearance; spacing = l.spacing; depot = l.depot } };
 
-    ghost invariant = { λ l. IsLayout (record { aisles = l.aisles; slots = l.slots; pitch = l.pitch; clearance = l.clearance; spacing = l.spacing; depot = l.depot }) };
+    ghost invariant = { λ l. IsLayout (record {
+      aisles = l.aisles;
+      slots = l.slots;
+      pitch = l.pitch;
+      clearance = l.clearance;
+      spacing = l.spacing;
+      depot = l.depot;
+    }) };
 
     ghost inverse = { λ l. record { aisles = l.aisles; slots = l.slots; pitch = l.pitch; clearance = l.clearance; spacing = l.spacing; depot = l.depot } };
 }
@@ -54,8 +52,22 @@ impl Layout {
         spacing: u32,
         depot: u32,
     ) -> Option<Layout>
-        ensures exact { IsSome result ↔ IsLayout (record { aisles = aisles; slots = slots; pitch = pitch; clearance = clearance; spacing = spacing; depot = depot }) }
-        ensures value { IfSome result (λ l. l ≡ record { aisles = aisles; slots = slots; pitch = pitch; clearance = clearance; spacing = spacing; depot = depot }) }
+        ensures exact { IsSome result ↔ IsLayout (record {
+          aisles = aisles;
+          slots = slots;
+          pitch = pitch;
+          clearance = clearance;
+          spacing = spacing;
+          depot = depot;
+        }) }
+        ensures value { IfSome result (λ l. l ≡ record {
+          aisles = aisles;
+          slots = slots;
+          pitch = pitch;
+          clearance = clearance;
+          spacing = spacing;
+          depot = depot;
+        }) }
     {
         let counts = is_up_to(MOST_AISLES, aisles) && is_up_to(MOST_SLOTS, slots);
         let lengths = is_up_to(GREATEST_LENGTH, pitch)

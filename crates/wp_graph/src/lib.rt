@@ -8,7 +8,7 @@ mod picks;
 mod walks;
 mod ways;
 
-pub use layout::{GREATEST_LENGTH, Layout, MOST_AISLES, MOST_SLOTS};
+pub use layout::Layout;
 pub use moves::is_move;
 pub use picks::Picks;
 pub use walks::walk_length;

@@ -1,5 +1,6 @@
 ghost use Rattle.std.specs.Prelude.{◌≡◌, ◌+◌, ◌≤◌, ◌↔◌, ◌⊎◌, ℕ, IsTrue, IsSome, IfSome};
-ghost use Rattle.wp_model.specs.Warehouse.{IsMove, IsPoint, back_end, greatest_length, spacing_after, step_length};
+ghost use Rattle.wp_model.specs.Warehouse.{IsMove, IsPoint, back_end, spacing_after, step_length};
+ghost use Rattle.wp_model.specs.Limits.{greatest_length};
 
 use crate::layout::Layout;
 use wp_model::Point;

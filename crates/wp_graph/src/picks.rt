@@ -5,7 +5,7 @@ ghost use Rattle.wp_model.specs.Warehouse.{IsLayout, IsSlot, IsUpTo};
 ghost use Rattle.wp_graph.specs.PickSets.{AreSlots};
 ghost use Rattle.wp_graph.specs.Required.{has_point};
 
-use crate::layout::{Layout, MOST_AISLES};
+use crate::layout::Layout;
 use std::marker::Model;
 use wp_model::Point;
 

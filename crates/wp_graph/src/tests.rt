@@ -65,23 +65,6 @@ fn layouts_have_their_ranges(rt: HostRuntime) {
     assert_eq!(rt; accepted_place(), None);
 }
 
-fn numbers_of(layout: &Layout) -> Numbers {
-    [
-        layout.aisles(),
-        layout.slots(),
-        layout.pitch(),
-        layout.clearance(),
-        layout.spacing(),
-        layout.depot(),
-    ]
-}
-
-/// Each reader gives its own number.
-#[test]
-fn layouts_give_their_numbers(rt: HostRuntime) {
-    assert_eq!(rt; numbers_of(&middle()), MIDDLE);
-}
-
 /// Moves in an aisle, at its ends and along the cross aisles, and pairs of points that are none.
 const MOVES: &[(At, At, Option<u64>)] = &[
     ((1, 0), (1, 1), Some(1)),

@@ -8,7 +8,8 @@ use wp_model::Point;
 
 // Whether the list begins and ends at the depot.
 fn is_round(layout: &Layout, points: &[Point]) -> bool
-    ensures { IsTrue result ↔ ((slice_get points.now 0 ≡ Some (depot_point layout.now)) × (slice_get points.now (length points.now - 1) ≡ Some (depot_point layout.now))) }
+    ensures { IsTrue result ↔ ((slice_get points.now 0 ≡ Some (depot_point layout.now)) ×
+        (slice_get points.now (length points.now - 1) ≡ Some (depot_point layout.now))) }
 {
     let depot = Point {
         aisle: layout.depot(),

@@ -13,7 +13,8 @@ use Rattle.wp_model.specs.Plain.{is_plain}
 use Rattle.wp_model.specs.declared.command.Command.{Command}
 use Rattle.wp_model.specs.declared.entry.Entry.{Entry}
 use Rattle.wp_model.specs.declared.reply.Reply.{Reply}
-use Rattle.wp_journal.specs.Grammar.{IsLineOf, IsNoLine, IsOnlyLineOf, has_names, is_line_entry, is_line_reply}
+use Rattle.wp_journal.specs.Grammar.{IsLineOf, IsNoLine, IsOnlyLineOf, is_line_entry, is_line_reply}
+use Rattle.wp_model.specs.Plain.{has_names}
 use Rattle.wp_journal.specs.Reading.{candidate_of, entry_from, entry_in, wants_memory}
 use Rattle.wp_journal.specs.Splits.{Word, after_arrow, before_arrow, is_arrow, words_of}
 use Rattle.wp_journal.specs.declared.fault.EntryFault.{EntryFault}
@@ -31,10 +32,11 @@ pub record Within (e : Entry) : Type 0 where
   pub names : has_names e.command ≡ true
   pub reply : is_line_reply e.reply ≡ true
 
+-- an entry of the journal is within them
 pub within : (e : Entry) → is_line_entry e ≡ true → Within e
 within e h =
     let halves = both (nat_lt e.number 10000 && (nat_le 1 e.desk && nat_le e.desk 8))
-            ((is_plain e.command && has_names e.command) && is_line_reply e.reply) h in
+    ((is_plain e.command && has_names e.command) && is_line_reply e.reply) h in
     let numbers = both (nat_lt e.number 10000) (nat_le 1 e.desk && nat_le e.desk 8) halves.0 in
     let desks = both (nat_le 1 e.desk) (nat_le e.desk 8) numbers.1 in
     let words = both (is_plain e.command && has_names e.command) (is_line_reply e.reply) halves.1 in

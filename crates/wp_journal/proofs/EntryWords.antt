@@ -6,7 +6,7 @@ use Rattle.std.specs.List.{flat_map, list_all}
 use Rattle.std.proofs.lemmas.Grind.{flat_map-append}
 use Rattle.std.proofs.lemmas.List.{append-nil}
 use Rattle.wp_model.specs.Journal.{after_space, command_text, entry_text, location_text, number_after_space, reply_text, wave_state_text}
-use Rattle.wp_model.specs.Opening.{most_quantity}
+use Rattle.wp_model.specs.Limits.{most_quantity}
 use Rattle.wp_model.specs.Plain.{is_plain, is_plain_quantity}
 use Rattle.wp_model.specs.declared.command.Command.{Command}
 use Rattle.wp_model.specs.declared.command.Command.TheVariants as command
@@ -15,12 +15,13 @@ use Rattle.wp_model.specs.declared.reply.Reply.{Reply}
 use Rattle.wp_model.specs.declared.reply.Reply.TheVariants as reply
 use Rattle.wp_model.specs.declared.reply.WaveState.{WaveState}
 use Rattle.wp_model.specs.declared.reply.WaveState.TheVariants as wave
-use Rattle.wp_journal.specs.Grammar.{has_names, is_line_reply}
+use Rattle.wp_journal.specs.Grammar.{is_line_reply}
+use Rattle.wp_model.specs.Plain.{has_names}
 use Rattle.wp_journal.specs.Splits.{Word}
 use Rattle.wp_journal.proofs.Phrases.{both}
 use Rattle.wp_journal.proofs.WordBytes.{and_true, decimal_plain, is_plain_word, location_plain, name_plain, names_plain, small_is_whole}
 
--- the word of a command, and what stands after it
+-- the word of a command
 abbrev pub command_word : Command → Word
 command_word (command.Submit w orders) = codes "submit"
 command_word (command.Allot w) = codes "allot"
@@ -30,6 +31,7 @@ command_word (command.Pick w order location quantity) = codes "pick"
 command_word (command.Missing w order location quantity) = codes "missing"
 command_word (command.Receive location article quantity) = codes "receive"
 
+-- what stands after it
 abbrev pub command_arguments : Command → List Word
 command_arguments (command.Submit w orders) = w ∷ orders
 command_arguments (command.Allot w) = w ∷ []
@@ -51,7 +53,7 @@ more_words : {text : List ℕ} (first : Word) (rest : List Word) (word : Word) (
 more_words first rest word words so =
     ap (λ t. t ++ after_space (phrase word words)) so
     ∙ (append_assoc first (flat_map after_space rest) (after_space (phrase word words))
-        ∙ ap (λ t. first ++ t) (sym (flat_map-append after_space rest (word ∷ words))))
+    ∙ ap (λ t. first ++ t) (sym (flat_map-append after_space rest (word ∷ words))))
 
 one_more : {text : List ℕ} (first : Word) (rest : List Word) (word : Word) → text ≡ phrase first rest
     → text ++ after_space word ≡ phrase first (rest ++ word ∷ [])
@@ -65,16 +67,16 @@ command_phrase (command.Cancel w) = one_more (codes "cancel") [] w (alone (codes
 command_phrase (command.Pick w order location quantity) =
     one_more (codes "pick") (w ∷ order ∷ location_text location ∷ []) (decimal quantity)
     (one_more (codes "pick") (w ∷ order ∷ []) (location_text location)
-        (one_more (codes "pick") (w ∷ []) order (one_more (codes "pick") [] w (alone (codes "pick")))))
+    (one_more (codes "pick") (w ∷ []) order (one_more (codes "pick") [] w (alone (codes "pick")))))
 command_phrase (command.Missing w order location quantity) =
     one_more (codes "missing") (w ∷ order ∷ location_text location ∷ []) (decimal quantity)
     (one_more (codes "missing") (w ∷ order ∷ []) (location_text location)
-        (one_more (codes "missing") (w ∷ []) order (one_more (codes "missing") [] w (alone (codes "missing")))))
+    (one_more (codes "missing") (w ∷ []) order (one_more (codes "missing") [] w (alone (codes "missing")))))
 command_phrase (command.Receive location article quantity) =
     one_more (codes "receive") (location_text location ∷ article ∷ []) (decimal quantity)
     (one_more (codes "receive") (location_text location ∷ []) article (one_more (codes "receive") [] (location_text location) (alone (codes "receive"))))
 
--- the first word of a reply, and what stands after it
+-- the first word of a reply
 abbrev pub reply_word : Reply → Word
 reply_word reply.Submitted = codes "submitted"
 reply_word reply.Allotted = codes "allotted"
@@ -100,6 +102,7 @@ reply_word reply.NoRow = codes "refused"
 reply_word (reply.OtherArticle article) = codes "refused"
 reply_word (reply.TooMany on_hand) = codes "refused"
 
+-- what stands after it
 abbrev pub reply_told : Reply → List Word
 reply_told reply.Submitted = []
 reply_told reply.Allotted = []
@@ -206,12 +209,12 @@ command_plain (command.Pick w order location quantity) p n =
     let names = both _ _ n in
     let bounds = both _ _ p in
     four_plain w order (location_text location) (decimal quantity) (name_plain w names.0) (name_plain order names.1) (location_plain location bounds.0)
-        (quantity_plain quantity bounds.1)
+    (quantity_plain quantity bounds.1)
 command_plain (command.Missing w order location quantity) p n =
     let names = both _ _ n in
     let bounds = both _ _ p in
     four_plain w order (location_text location) (decimal quantity) (name_plain w names.0) (name_plain order names.1) (location_plain location bounds.0)
-        (quantity_plain quantity bounds.1)
+    (quantity_plain quantity bounds.1)
 command_plain (command.Receive location article quantity) p n =
     let bounds = both _ _ p in
     three_plain (location_text location) article (decimal quantity) (location_plain location bounds.0) (name_plain article n) (quantity_plain quantity bounds.1)

@@ -93,15 +93,19 @@ no_lines l ls e = cc e
 same_first : (a b : List ℕ) (xs ys : List (List ℕ)) → ◌≡◌ {A = List (List ℕ)} (a ∷ xs) (b ∷ ys) → a ≡ b
 same_first a b xs ys e = cc e
 
--- no line, or another than the head
+-- a text without a line shows a bad first line
 pub empty_shows : (opening : Opening) → Shows opening [] (Err (fault.BadLine 1))
 empty_shows opening = inl (refl, λ left same. no_lines (line (codes "journal")) left same)
 
+-- so does one whose first line isn't the head
 pub no_head_shows : (opening : Opening) (text first : List ℕ) (others : List (List ℕ)) → lines_of text ≡ first ∷ others → is_head first ≡ false
     → Shows opening text (Err (fault.BadLine 1))
 no_head_shows opening text first others lines is =
-    inl (refl, λ left same. clash (sym ((bytes_eq-Decides first (line (codes "journal"))).1
-        (same_first first (line (codes "journal")) others left (sym lines ∙ same))) ∙ is))
+    inl (
+      refl,
+      λ left same. clash (sym ((bytes_eq-Decides first (line (codes "journal"))).1
+          (same_first first (line (codes "journal")) others left (sym lines ∙ same))) ∙ is),
+    )
 
 -- the head
 pub head_is : (first : List ℕ) → is_head first ≡ true → first ≡ line (codes "journal")

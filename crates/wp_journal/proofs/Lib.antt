@@ -7,3 +7,10 @@ pub mod Candidates
 pub mod Lines
 pub mod Findings
 pub mod OneFinding
+pub mod JournalLines
+pub mod NamedStates
+pub mod DemandBounds
+pub mod SubmitFaults
+pub mod ReplyBounds
+pub mod DayEntries
+pub mod DayJournals

@@ -111,9 +111,9 @@ align (x ∷ xs) [] left more p q same = inr (inr (x, xs, refl, sym same))
 align (x ∷ xs) (y ∷ ys) left more p q same =
     one_more x y xs ys left more
     (same_entry x y (All-head IsWithin x xs p) (All-head IsWithin y ys q)
-        (same_heads (entry_line x) (entry_line y) (map entry_line xs ++ left) (map entry_line ys ++ more) same))
+    (same_heads (entry_line x) (entry_line y) (map entry_line xs ++ left) (map entry_line ys ++ more) same))
     (align xs ys left more (All-tail IsWithin x xs p) (All-tail IsWithin y ys q)
-        (same_tails (entry_line x) (entry_line y) (map entry_line xs ++ left) (map entry_line ys ++ more) same))
+    (same_tails (entry_line x) (entry_line y) (map entry_line xs ++ left) (map entry_line ys ++ more) same))
 
 -- where a history stands in another, the other's next entry is the one that follows
 state_is : (opening : Opening) (number : ℕ) (state : State) (before : List Entry) (e : Entry) (after : List Entry)
@@ -133,7 +133,7 @@ follows : (opening : Opening) (one other : History) (e : Entry) (es : List Entry
 follows opening one other e es starts begun legal entries =
     let moved = subst (λ (o : Opening). IsLegalFrom o 0 (opening_state o) other.entries) (begun ∙ sym starts) legal in
     let at = state_is one.opening 0 (opening_state one.opening) one.entries e es
-            (subst (IsLegalFrom one.opening 0 (opening_state one.opening)) entries moved) in
+    (subst (IsLegalFrom one.opening 0 (opening_state one.opening)) entries moved) in
     (omega (arith, at.0), at.1)
 
 -- where a journal stops after a history, and at what
@@ -154,9 +154,9 @@ not_both history left (Err (fault.BadLine number)) e more (bad, numbered) within
     (subst (IsBad history) lines bad).1 e (its_line e within) follows.0
 not_both history left (Err (fault.WrongReply number printed right)) e more (next, others, is, wrong) within lines follows =
     let same = one_entry next wrong.entry e wrong.is (subst (λ (text : List ℕ). IsLineOf text e) (same_heads (entry_line e) next more others (sym lines ∙ is))
-            (its_line e within)) in
+    (its_line e within)) in
     wrong.differ (wrong.answered ∙ ap (λ (x : Entry). x.reply) same ∙ follows.1 ∙ sym (ap (λ (x : Entry). (next_entry history x.desk x.command).reply) same)
-        ∙ sym wrong.wanted)
+    ∙ sym wrong.wanted)
 not_both history left (Err fault.Memory) e more stops within lines follows = absurd stops
 
 ok_of : (n m : ℕ) → n ≡ m → ◌≡◌ {A = Result Audit AuditFault} (Ok (record { entries = n })) (Ok (record { entries = m }))
@@ -178,7 +178,7 @@ end_no_wrong : (history : History) (left : List (List ℕ)) (last next : List �
     → IsMisanswered history next number printed right → ⊥
 end_no_wrong history left last next others more number printed right is ends goes wrong =
     ends_differently wrong.entry wrong.is.within (subst (λ (text : List ℕ). is_end text ≡ true)
-        (same_heads last next others more (sym is ∙ goes) ∙ wrong.is.written) ends)
+    (same_heads last next others more (sym is ∙ goes) ∙ wrong.is.written) ends)
 
 bad_no_wrong : (history : History) (left : List (List ℕ)) (next : List ℕ) (more : List (List ℕ)) (number : ℕ) (printed right : Reply) → left ≡ next ∷ more
     → IsBad history left → IsMisanswered history next number printed right → ⊥
@@ -210,7 +210,7 @@ same_place history left (Err (fault.WrongReply n p r)) (Err (fault.BadLine m)) (
     absurd (bad_no_wrong history left next more n p r goes bad wrong)
 same_place history left (Err (fault.WrongReply n p r)) (Err (fault.WrongReply m q s)) (next, more, goes, wrong) (next', more', goes', wrong') =
     one_wrong history next n m p q r s wrong (subst (λ (text : List ℕ). IsMisanswered history text m q s)
-        (same_heads next' next more' more (sym goes' ∙ goes)) wrong')
+    (same_heads next' next more' more (sym goes' ∙ goes)) wrong')
 same_place history left (Err fault.Memory) b stops stops' = absurd stops
 same_place history left (Ok a) (Err fault.Memory) stops stops' = absurd stops'
 same_place history left (Err (fault.BadLine n)) (Err fault.Memory) stops stops' = absurd stops'
@@ -228,14 +228,22 @@ Headless text found = ((left : List (List ℕ)) → lines_of text ≢ line (code
 
 placed : (opening : Opening) (text : List ℕ) (found : Result Audit AuditFault) → Shows opening text found → Headless text found ⊎ IsPlaced opening text found
 placed opening text (Ok audit) shows =
-    inr (record { history = shows.history; left = shows.last ∷ shows.others; begins = shows.begins;
-        stops = (shows.last, shows.others, refl, shows.ends, shows.counted) })
+    inr (record {
+      history = shows.history;
+      left = shows.last ∷ shows.others;
+      begins = shows.begins;
+      stops = (shows.last, shows.others, refl, shows.ends, shows.counted);
+    })
 placed opening text (Err (fault.BadLine number)) (inl (first, none)) = inl (none, bad_of number 1 first)
 placed opening text (Err (fault.BadLine number)) (inr after) =
     inr (record { history = after.history; left = after.left; begins = after.begins; stops = (after.bad, after.numbered) })
 placed opening text (Err (fault.WrongReply number printed right)) shows =
-    inr (record { history = shows.history; left = shows.next ∷ shows.others; begins = shows.begins;
-        stops = (shows.next, shows.others, refl, shows.misanswered) })
+    inr (record {
+      history = shows.history;
+      left = shows.next ∷ shows.others;
+      begins = shows.begins;
+      stops = (shows.next, shows.others, refl, shows.misanswered);
+    })
 placed opening text (Err fault.Memory) shows = absurd shows
 
 same_history : (opening : Opening) (a b : History) → a.opening ≡ opening → b.opening ≡ opening → a.entries ≡ b.entries → a ≡ b
@@ -250,14 +258,14 @@ further : (opening : Opening) (text : List ℕ) (a b : History) (left more : Lis
     → GoesOn a.entries b.entries left more → ⊥
 further opening text a b left more found p q stops (e, es, entries, lines) =
     not_both a left found e (map entry_line es ++ more) stops (within_at a.entries e es (subst (All IsWithin) entries q.within)) lines
-        (follows opening a b e es p.starts q.starts q.legal entries)
+    (follows opening a b e es p.starts q.starts q.legal entries)
 
 together : (opening : Opening) (text : List ℕ) (a b : Result Audit AuditFault) (p : IsPlaced opening text a) (q : IsPlaced opening text b)
     → Aligned p.history.entries q.history.entries p.left q.left → a ≡ b
 together opening text a b p q (inl (entries, lefts)) =
     let same = same_history opening p.history q.history p.begins.starts q.begins.starts entries in
     same_place q.history q.left a b (subst (λ (l : List (List ℕ)). StopsAt q.history l a) lefts (subst (λ (h : History). StopsAt h p.left a) same p.stops))
-        q.stops
+    q.stops
 together opening text a b p q (inr (inl on)) = absurd (further opening text p.history q.history p.left q.left a p.begins q.begins p.stops on)
 together opening text a b p q (inr (inr on)) = absurd (further opening text q.history p.history q.left p.left b q.begins p.begins q.stops on)
 
@@ -270,7 +278,7 @@ both_placed opening text a b (inr p) (inr q) =
     together opening text a b p q
     (align p.history.entries q.history.entries p.left q.left p.begins.within q.begins.within
     (same_tails (line (codes "journal")) (line (codes "journal")) (map entry_line p.history.entries ++ p.left) (map entry_line q.history.entries ++ q.left)
-        (sym p.begins.lines ∙ q.begins.lines)))
+    (sym p.begins.lines ∙ q.begins.lines)))
 
 -- a journal shows one thing
 pub shows_one : (opening : Opening) (text : List ℕ) (a b : Result Audit AuditFault) → Shows opening text a → Shows opening text b → a ≡ b

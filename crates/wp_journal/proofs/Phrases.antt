@@ -9,10 +9,12 @@ use Rattle.std.proofs.lemmas.List.Sums.{AllPass-from_list_all}
 use Rattle.wp_model.specs.Journal.{after_space}
 use Rattle.wp_journal.specs.Splits.{Word, is_space, words_of}
 
+-- two tests that are true together are true each
 pub both : (p q : Bool) → (p && q) ≡ true → (p ≡ true) × (q ≡ true)
 both true q e = (refl, e)
 both false q e = absurd (cc e)
 
+-- a test that can't be true is false
 pub false_from : (b : Bool) → ((b ≡ true) → ⊥) → b ≡ false
 false_from true h = absurd (h refl)
 false_from false h = refl
@@ -35,7 +37,7 @@ split_phrase first [] f r = ap words_of (append-nil first) ∙ slice_split_none 
 split_phrase first (word ∷ rest) f r =
     let parts = both (has_no_space word) (list_all has_no_space rest) r in
     slice_split_at is_space first 32 (word ++ flat_map after_space rest) (no_space first f) refl
-        ∙ ap (λ words. first ∷ words) (split_phrase word rest parts.0 parts.1)
+    ∙ ap (λ words. first ∷ words) (split_phrase word rest parts.0 parts.1)
 
 -- the first that passes, after those that don't
 pub place_at : {X : Type 0} (p : X → Bool) (xs : List X) (y : X) (ys : List X) → list_all (λ x. not (p x)) xs ≡ true → p y ≡ true

@@ -25,7 +25,8 @@ use Rattle.wp_model.specs.declared.reply.Reply.TheVariants as reply
 use Rattle.wp_model.specs.declared.reply.WaveState.{WaveState}
 use Rattle.wp_model.specs.declared.reply.WaveState.TheVariants as wave
 use Rattle.wp_journal.specs.Commands.{command_in, names_in}
-use Rattle.wp_journal.specs.Grammar.{has_names, is_line_reply}
+use Rattle.wp_journal.specs.Grammar.{is_line_reply}
+use Rattle.wp_model.specs.Plain.{has_names}
 use Rattle.wp_journal.specs.Numbers.{if_small, next_whole, small_of, whole_after, whole_of}
 use Rattle.wp_journal.specs.Replies.{reply_in, state_of}
 use Rattle.wp_journal.proofs.Phrases.{after_at, before_at, both}
@@ -45,13 +46,13 @@ next_digit n c digit fits =
     let same : c - 48 ≡ digit_value c = omega (arith, digit_value_digit c range) in
     let small : n * 10 + (c - 48) < 2 ^ 64 = omega arith in
     ap (λ b. if b then Some (n * 10 + (c - 48)) else None) (and_true _ _ (digit_is c range.0 range.1) (lt-ltb (n * 10 + (c - 48)) (2 ^ 64) small))
-        ∙ ap (λ d. Some (n * 10 + d)) same
+    ∙ ap (λ d. Some (n * 10 + d)) same
 
 digits_read : (n : ℕ) (ds : List ℕ) → AllDigits 10 ds → digits_value_after 10 n ds < 2 ^ 64 → whole_after n ds ≡ Some (digits_value_after 10 n ds)
 digits_read n [] d fits = refl
 digits_read n (c ∷ cs) d fits =
     ap (option_and_then (λ m. whole_after m cs)) (next_digit n c d.0 (omega (arith, grows (n * 10 + digit_value c) cs, fits)))
-        ∙ digits_read (n * 10 + digit_value c) cs d.1 fits
+    ∙ digits_read (n * 10 + digit_value c) cs d.1 fits
 
 -- a number of 64 bits
 pub whole_read : (n : ℕ) → n < 2 ^ 64 → whole_of (decimal n) ≡ Some n
@@ -101,7 +102,7 @@ parts_found a s d p q =
     ap location_of (append_assoc (decimal a) (45 ∷ decimal s) (45 ∷ side_text d))
     ∙ ap₂ (λ b r. location_from b (before_first is_dash r) (after_first is_dash r)) before after
     ∙ ap₂ (λ b r. location_from (decimal a) b r) (before_at is_dash (decimal s) 45 (side_text d) (decimal_no_dash s q) refl)
-        (after_at is_dash (decimal s) 45 (side_text d) (decimal_no_dash s q) refl)
+    (after_at is_dash (decimal s) 45 (side_text d) (decimal_no_dash s q) refl)
 
 -- a location
 pub location_read : (l : Location) → is_plain_location l ≡ true → location_of (location_text l) ≡ Some l

@@ -23,6 +23,7 @@ use Rattle.wp_journal.proofs.Phrases.{both, false_from, has_no_space}
 abbrev pub is_plain_word : Word → Bool
 is_plain_word word = list_all is_name_byte word
 
+-- two tests that are true are true together
 pub and_true : (p q : Bool) → p ≡ true → q ≡ true → (p && q) ≡ true
 and_true p q e f = ap₂ (λ a b. a && b) e f
 
@@ -39,6 +40,7 @@ plain_no_space (b ∷ word) e =
     let parts = both (is_name_byte b) (is_plain_word word) e in
     and_true _ _ (not_space b parts.0) (plain_no_space word parts.1)
 
+-- none of such words has
 pub plain_no_spaces : (words : List Word) → list_all is_plain_word words ≡ true → list_all has_no_space words ≡ true
 plain_no_spaces [] e = refl
 plain_no_spaces (word ∷ words) e =
@@ -62,6 +64,7 @@ plain_no_arrow (word ∷ words) e =
 pub name_plain : (text : List ℕ) → is_name text ≡ true → is_plain_word text ≡ true
 name_plain text e = (both _ _ (both _ _ e).1).1
 
+-- so is each of a list of names
 pub names_plain : (names : List (List ℕ)) → list_all is_name names ≡ true → list_all is_plain_word names ≡ true
 names_plain [] e = refl
 names_plain (name ∷ names) e =
@@ -105,6 +108,7 @@ side_plain side.R = refl
 pub place_small : (n : ℕ) → nat_le n 99999 ≡ true → n < 2 ^ 32
 place_small n e = let numeral : 99999 < 2 ^ 32 = lit< tt in omega (arith, leb-true n 99999 e)
 
+-- a number of 32 bits is one of 64
 pub small_is_whole : (n : ℕ) → n < 2 ^ 32 → n < 2 ^ 64
 small_is_whole n small = let numeral : 2 ^ 32 < 2 ^ 64 = lit< tt in omega arith
 
@@ -114,5 +118,5 @@ location_plain l e =
     let parts = both (nat_le l.aisle 99999) (nat_le l.slot 99999) e in
     all_append (decimal l.aisle ++ 45 ∷ decimal l.slot) (45 ∷ side_text l.side)
     (all_append (decimal l.aisle) (45 ∷ decimal l.slot) (decimal_plain l.aisle (small_is_whole l.aisle (place_small l.aisle parts.0)))
-        (decimal_plain l.slot (small_is_whole l.slot (place_small l.slot parts.1))))
+    (decimal_plain l.slot (small_is_whole l.slot (place_small l.slot parts.1))))
     (side_plain l.side)

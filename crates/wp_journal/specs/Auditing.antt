@@ -4,6 +4,7 @@ use Rattle.std.specs.List.{position_or_len}
 use Rattle.std.specs.Str.{bytes_eq}
 use Rattle.wp_model.specs.History.{History, answered, next_entry}
 use Rattle.wp_model.specs.Journal.{line}
+use Rattle.wp_model.specs.Limits.{most_entries}
 use Rattle.wp_model.specs.Opening.{Opening}
 use Rattle.wp_model.specs.declared.command.Command.{Command}
 use Rattle.wp_journal.specs.Grammar.{IsLineOf}
@@ -23,18 +24,19 @@ after_line text = drop (position_or_len is_feed text + 1) text
 abbrev pub is_head : List ℕ → Bool
 is_head text = bytes_eq text (line (codes "journal"))
 
--- what a line leads to after a history: it is that of the next entry, which the history then has too, or it is the first that isn't right;
--- but there may be no memory
+-- what a line leads to after a history: it is that of the next entry, which the history then has too, or it is the
+-- first that isn't right; but there may be no memory
 abbrev pub Judges : {U : Type 0} → History → List ℕ → History → Result U AuditFault → Type 0
 Judges before next after (Ok done) = (desk : ℕ) × (command : Command) × IsLineOf next (next_entry before desk command) × (after ≡ answered before desk command)
 Judges before next after (Err (fault.BadLine number)) = (number ≡ line_number_after before) × IsNotNext before next
 Judges before next after (Err (fault.WrongReply number printed right)) = IsMisanswered before next number printed right
 Judges before next after (Err fault.Memory) = ⊤
 
--- the machine may go on after a line: it is of the same opening, and has as many entries as a journal may have, or fewer
+-- the machine may go on after a line: it is of the same opening, and has as many entries as a journal may have, or
+-- fewer
 pub record MayGoOn (before after : History) : Type 0 where
   pub opening : after.opening ≡ before.opening
-  pub few : length after.entries ≤ 10000
+  pub few : length after.entries ≤ most_entries
 
 -- an audit tells what the journal shows; but there may be no memory
 abbrev pub Tells : Opening → List ℕ → Result Audit AuditFault → Type 0

@@ -2,6 +2,7 @@
 use Rattle.std.specs.Prelude.{ℕ, nat_le, List, [], ◌∷◌, length, codes, Option, Some, None, option_map, if◌then◌else◌}
 use Rattle.std.specs.Option.{option_and_then}
 use Rattle.std.specs.Str.{bytes_eq}
+use Rattle.wp_model.specs.Limits.{most_named}
 use Rattle.wp_model.specs.Location.{location_of}
 use Rattle.wp_model.specs.Name.{name_in}
 use Rattle.wp_model.specs.declared.command.Command.{Command}
@@ -14,11 +15,11 @@ abbrev pub names_in : List Word → Option (List (List ℕ))
 names_in [] = Some []
 names_in (word ∷ words) = option_and_then (λ name. option_map (λ names. name ∷ names) (names_in words)) (name_in word)
 
--- Submit: a wave, and then its orders, at most 100
+-- Submit: a wave, and then its orders, not too many
 abbrev pub submission_in : List Word → Option Command
 submission_in [] = None
 submission_in (wave ∷ orders) =
-    if nat_le (length orders) 100 then option_and_then (λ w. option_map (command.Submit w) (names_in orders)) (name_in wave) else None
+    if nat_le (length orders) most_named then option_and_then (λ w. option_map (command.Submit w) (names_in orders)) (name_in wave) else None
 
 -- a command on a wave, by its word
 abbrev pub wave_command : Word → List ℕ → Option Command
@@ -37,13 +38,13 @@ receipt_in location article quantity =
 abbrev pub pick_in : Word → Word → Word → Word → Option Command
 pick_in wave order location quantity =
     option_and_then (λ w. option_and_then (λ o. option_and_then (λ l. option_map (command.Pick w o l) (small_of quantity)) (location_of location))
-        (name_in order)) (name_in wave)
+    (name_in order)) (name_in wave)
 
 -- Missing: the same
 abbrev pub missing_in : Word → Word → Word → Word → Option Command
 missing_in wave order location quantity =
     option_and_then (λ w. option_and_then (λ o. option_and_then (λ l. option_map (command.Missing w o l) (small_of quantity)) (location_of location))
-        (name_in order)) (name_in wave)
+    (name_in order)) (name_in wave)
 
 -- a command that takes no memory, by its word and its arguments
 abbrev pub other_command : Word → List Word → Option Command

@@ -2,8 +2,9 @@
 use Rattle.std.specs.Prelude.{◌≡◌, ℕ, ◌^◌, ◌&&◌, nat_le, nat_lt, Bool, true, IsTrue, List}
 use Rattle.std.specs.List.{list_all}
 use Rattle.wp_model.specs.Journal.{entry_line}
+use Rattle.wp_model.specs.Limits.{greatest_desk, most_entries}
 use Rattle.wp_model.specs.Name.{is_name}
-use Rattle.wp_model.specs.Plain.{is_plain, is_plain_location, is_plain_quantity}
+use Rattle.wp_model.specs.Plain.{has_names, is_plain, is_plain_location, is_plain_quantity}
 use Rattle.wp_model.specs.declared.command.Command.{Command}
 use Rattle.wp_model.specs.declared.command.Command.TheVariants as command
 use Rattle.wp_model.specs.declared.entry.Entry.{Entry}
@@ -16,16 +17,6 @@ is_u32 n = nat_lt n (2 ^ 32)
 
 abbrev pub is_u64 : ℕ → Bool
 is_u64 n = nat_lt n (2 ^ 64)
-
--- what a command names are names
-abbrev pub has_names : Command → Bool
-has_names (command.Submit wave orders) = is_name wave && list_all is_name orders
-has_names (command.Allot wave) = is_name wave
-has_names (command.Release wave) = is_name wave
-has_names (command.Cancel wave) = is_name wave
-has_names (command.Pick wave order location quantity) = is_name wave && is_name order
-has_names (command.Missing wave order location quantity) = is_name wave && is_name order
-has_names (command.Receive location article quantity) = is_name article
 
 -- a reply names names, places and lost units are within the bounds of a command's, and the other numbers are any
 abbrev pub is_line_reply : Reply → Bool
@@ -53,11 +44,11 @@ is_line_reply reply.NoRow = true
 is_line_reply (reply.OtherArticle article) = is_name article
 is_line_reply (reply.TooMany on_hand) = is_u32 on_hand
 
--- an entry of the journal: its number is below 10,000, the desk is 1 to 8, its command is plain, and its reply is one
+-- an entry of the journal: its number and its desk are within the limits, its command is plain, and its reply is one
 abbrev pub is_line_entry : Entry → Bool
 is_line_entry entry =
-    (nat_lt entry.number 10000 && (nat_le 1 entry.desk && nat_le entry.desk 8)) &&
-        ((is_plain entry.command && has_names entry.command) && is_line_reply entry.reply)
+    (nat_lt entry.number most_entries && (nat_le 1 entry.desk && nat_le entry.desk greatest_desk)) &&
+    ((is_plain entry.command && has_names entry.command) && is_line_reply entry.reply)
 
 -- the line of an entry of the journal
 pub record IsLineOf (line : List ℕ) (entry : Entry) : Type 0 where

@@ -7,3 +7,4 @@ pub mod Reading
 pub mod Auditing
 pub mod FaultTexts
 pub mod Journals
+pub mod Days

@@ -14,7 +14,8 @@ abbrev pub wants_memory : EntryFault → Bool
 wants_memory fault.NotEntry = false
 wants_memory fault.Memory = true
 
--- a part of a reader gives what words write, as contracts see it, or says that they write nothing; but it may want memory
+-- a part of a reader gives what words write, as contracts see it, or says that they write nothing; but it may want
+-- memory
 abbrev pub GivesBy : {A B : Type 0} → (A → B) → Result A EntryFault → Option B → Type 0
 GivesBy view (Ok x) said = said ≡ Some (view x)
 GivesBy view (Err why) said = wants_memory why ≡ false → said ≡ None
@@ -27,7 +28,7 @@ Gives = GivesBy (λ x. x)
 abbrev pub entry_from : ℕ → ℕ → List Word → Option Entry
 entry_from number desk sentence =
     option_and_then (λ c. option_map (λ r. record { number = number; desk = desk; command = c; reply = r }) (reply_in (after_arrow sentence)))
-        (command_in (before_arrow sentence))
+    (command_in (before_arrow sentence))
 
 -- the entry that words write: a number, a desk, a command, an arrow and a reply
 abbrev pub entry_in : List Word → Option Entry

@@ -3,17 +3,13 @@ ghost use Rattle.std.specs.Prelude.{◌≡◌, ◌&&◌};
 ghost use Rattle.std.specs.List.{list_all};
 ghost use Rattle.wp_model.specs.Name.{is_name};
 ghost use Rattle.wp_model.specs.Plain.{is_plain, is_plain_location, is_plain_quantity};
-ghost use Rattle.wp_journal.specs.Grammar.{has_names, is_line_entry, is_line_reply, is_u32, is_u64};
+ghost use Rattle.wp_journal.specs.Grammar.{is_line_entry, is_line_reply, is_u32, is_u64};
+ghost use Rattle.wp_model.specs.Plain.{has_names};
 
-use wp_model::{Command, Entry, Location, Name, Reply};
-
-const MOST_NAMED: u32 = 100;
-
-const MOST_QUANTITY: u32 = 100_000;
-
-const MOST_PLACE: u32 = 99_999;
-
-const MOST_ENTRIES: u64 = 10_000;
+use wp_model::{
+    Command, Entry, GREATEST_DESK, GREATEST_PLACE, Location, MOST_ENTRIES, MOST_NAMED,
+    MOST_QUANTITY, Name, Reply,
+};
 
 fn is_name(name: &Name) -> bool
     ensures { result ≡ is_name name.now }
@@ -42,7 +38,7 @@ fn is_u64(number: u64) -> bool
 fn is_plain_location(location: &Location) -> bool
     ensures { result ≡ is_plain_location location.now }
 {
-    location.aisle <= MOST_PLACE && location.slot <= MOST_PLACE
+    location.aisle <= GREATEST_PLACE && location.slot <= GREATEST_PLACE
 }
 
 fn is_plain_quantity(quantity: u32) -> bool
@@ -120,6 +116,6 @@ fn is_line_reply(reply: &Reply) -> bool
 pub fn is_line_entry(entry: &Entry) -> bool
     ensures { result ≡ is_line_entry entry.now }
 {
-    let numbered = entry.number < MOST_ENTRIES && 1 <= entry.desk && entry.desk <= 8;
+    let numbered = entry.number < MOST_ENTRIES && 1 <= entry.desk && entry.desk <= GREATEST_DESK;
     numbered && is_plain(&entry.command) && has_names(&entry.command) && is_line_reply(&entry.reply)
 }

@@ -7,9 +7,7 @@ ghost use Rattle.wp_journal.specs.Splits.{words_now};
 use crate::fault::EntryFault;
 use crate::number::read_small;
 use std::alloc::Global;
-use wp_model::{Command, Location, Name, Names};
-
-const MOST_NAMED: usize = 100;
+use wp_model::{Command, Location, MOST_NAMED, Name, Names};
 
 fn read_names(alloc: Global, words: &[&[u8]]) -> Result<Vec<Name>, EntryFault>
     ensures names { GivesBy (λ names. names.items) result (names_in (words_now words.now)) }
@@ -29,7 +27,7 @@ fn read_submission(alloc: Global, arguments: &[&[u8]]) -> Result<Command, EntryF
     let [wave, orders @ ..] = arguments else {
         return Err(EntryFault::NotEntry);
     };
-    if orders.len() > MOST_NAMED {
+    if orders.len() > MOST_NAMED as usize {
         return Err(EntryFault::NotEntry);
     }
     let wave = Name::new(wave).ok_or(EntryFault::NotEntry)?;

@@ -5,6 +5,7 @@
 mod bounds;
 mod command;
 mod fault;
+mod laws;
 mod number;
 mod print;
 mod read;
@@ -14,6 +15,7 @@ mod verdict;
 mod words;
 
 pub use fault::EntryFault;
+pub use laws::printed_journals_are_right;
 pub use print::print_entry;
 pub use read::read_entry;
 pub use replay::audit;

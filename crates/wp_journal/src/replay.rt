@@ -3,6 +3,7 @@ ghost use Rattle.std.specs.Prelude.{◌≡◌, ◌↔◌, ◌⊎◌, ◌<◌, �
 ghost use Rattle.std.specs.List.{position_or_len};
 ghost use Rattle.wp_model.specs.History.{answered, next_entry};
 ghost use Rattle.wp_model.specs.Journal.{line};
+ghost use Rattle.wp_model.specs.Limits.{most_entries};
 ghost use Rattle.wp_model.specs.Plain.{is_plain};
 ghost use Rattle.wp_journal.specs.Auditing.{Judges, MayGoOn, Tells, after_line, first_line, is_head};
 ghost use Rattle.wp_journal.specs.Grammar.{IsLineOf, IsOnlyLineOf};
@@ -126,7 +127,7 @@ fn take_entry(
     requires same { opening.now ≡ machine.old.opening }
     requires few { length machine.old.entries < 4294967295 }
     requires plain { IsTrue (is_plain entry.now.command) }
-    requires number { entry.now.number < 10000 }
+    requires number { entry.now.number < most_entries }
     requires is { IsLineOf line.now entry.now }
     requires only { IsOnlyLineOf line.now entry.now }
     ensures judges { Judges machine.old line.now machine.new result }

@@ -8,6 +8,7 @@ use Rattle.serde_json.specs.Read.{read}
 use Rattle.wp_layout.specs.LayoutFile.{value_read}
 use Rattle.wp_layout.specs.declared.fault.LayoutFault.TheVariants as fault
 
+-- bytes that are text and read as a value are that value
 pub value_read-text : (bytes : List ℕ) (value : Data) → IsUtf8 bytes × (read bytes ≡ Some value) → value_read bytes ≡ Ok value
 value_read-text bytes value h = rw (is_utf8-from_IsUtf8 bytes h.0, h.1) refl
 
@@ -15,5 +16,6 @@ no_value : (test : Bool) (found : Option Data) → (test ≡ true → found ≡ 
 no_value true found none = rw (none refl) refl
 no_value false found none = refl
 
+-- bytes that are no text, or text that reads as no value, are no JSON
 pub value_read-none : (bytes : List ℕ) → (IsUtf8 bytes → read bytes ≡ None) → value_read bytes ≡ Err fault.NotJson
 value_read-none bytes none = no_value (is_utf8 bytes) (read bytes) (λ text. none (IsUtf8-from_is_utf8 bytes text))

@@ -6,6 +6,7 @@ use Rattle.serde_json.specs.View.{members_view}
 use Rattle.serde_json.specs.declared.value.Value.{Value}
 use Rattle.wp_layout.specs.LayoutFile.{is_key, names_of}
 
+-- whether the names of an object's members are all keys is whether those in its map are
 pub names_known : (entries : List (String Global × Value)) → list_all is_key (names_of (members_view entries)) ≡ list_all (λ name. is_key (string_bytes name))
     (keys_of entries)
 names_known [] = refl

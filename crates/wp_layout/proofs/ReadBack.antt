@@ -6,7 +6,8 @@ use Rattle.serde_json.proofs.OnLiterals.{serde_json_on_literals}
 use Rattle.serde_json.specs.Data.{Data}
 use Rattle.serde_json.specs.Read.{read}
 use Rattle.serde_json.specs.Written.{compact_text}
-use Rattle.wp_model.specs.Warehouse.{IsLayout, IsUpTo, Layout, greatest_length, most_aisles, most_slots}
+use Rattle.wp_model.specs.Warehouse.{IsLayout, IsUpTo, Layout}
+use Rattle.wp_model.specs.Limits.{greatest_length, most_aisles, most_slots}
 use Rattle.wp_layout.specs.LayoutFile.{layout_said, ranged, value_said}
 use Rattle.wp_layout.specs.LayoutText.{layout_text, layout_value}
 use Rattle.wp_layout.specs.declared.key.Key.{Key}
@@ -34,6 +35,7 @@ compact-with_version layout = refl
 regrouped : (layout : Layout) → text_of_version layout (codes "1") ≡ layout_text layout
 regrouped layout = simp append_assoc
 
+-- the value of a layout, written with nothing between, is the text of the layout
 pub compact-layout_value : (layout : Layout) → compact_text (layout_value layout) ≡ layout_text layout
 compact-layout_value layout = compact-with_version layout ∙ ap (text_of_version layout) decimal-one ∙ regrouped layout
 

@@ -6,7 +6,8 @@ use Rattle.std.specs.Str.{is_utf8}
 use Rattle.serde_json.specs.Data.{Data, Members, no_members, member}
 use Rattle.serde_json.specs.Find.{as_number, as_object, as_u64, get}
 use Rattle.serde_json.specs.Read.{read}
-use Rattle.wp_model.specs.Warehouse.{Layout, greatest_length, most_aisles, most_slots}
+use Rattle.wp_model.specs.Warehouse.{Layout}
+use Rattle.wp_model.specs.Limits.{greatest_length, most_aisles, most_slots}
 use Rattle.wp_layout.specs.Keys.{all_keys, key_text}
 use Rattle.wp_layout.specs.declared.fault.LayoutFault.{LayoutFault}
 use Rattle.wp_layout.specs.declared.fault.LayoutFault.TheVariants as fault

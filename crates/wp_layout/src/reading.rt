@@ -2,7 +2,8 @@ ghost use Rattle.std.specs.Prelude.{◌≡◌, ◌≢◌, IfOk, IfErr, Ok, Err, 
 ghost use Rattle.std.specs.List.{find, list_all};
 ghost use Rattle.serde_json.specs.View.{members_view, view};
 ghost use Rattle.wp_layout.specs.Keys.{all_keys, key_text};
-ghost use Rattle.wp_layout.specs.LayoutFile.{is_key, is_missing, keys_found, keys_known, layout_said, names_of, number_read, numbers_read, value_read, value_said};
+ghost use Rattle.wp_layout.specs.LayoutFile.{is_key, is_missing, keys_found, keys_known, layout_said, names_of, number_read, numbers_read, value_read};
+ghost use Rattle.wp_layout.specs.LayoutFile.{value_said};
 ghost use Rattle.wp_layout.specs.declared.fault.LayoutFault.TheVariants as fault;
 ghost use Rattle.wp_model.specs.Warehouse.{IsUpTo};
 
@@ -10,7 +11,8 @@ use crate::fault::LayoutFault;
 use crate::key::{KEYS, Key};
 use serde_json::{Map, Value};
 use std::alloc::Global;
-use wp_graph::{GREATEST_LENGTH, Layout, MOST_AISLES, MOST_SLOTS};
+use wp_graph::Layout;
+use wp_model::{GREATEST_LENGTH, MOST_AISLES, MOST_SLOTS};
 
 const VERSION: u32 = 1;
 

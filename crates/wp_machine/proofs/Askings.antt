@@ -39,8 +39,11 @@ all_asked history (asking ∷ askings) =
 -- there is an entry for each
 pub as_many_entries : (history : History) (askings : List Asking) → length (asked_all history askings).entries ≡ length history.entries + length askings
 as_many_entries history [] = omega arith
-as_many_entries history (asking ∷ askings) = omega (arith, as_many_entries (answered history asking.desk asking.command) askings,
-    pushed history.entries (next_entry history asking.desk asking.command))
+as_many_entries history (asking ∷ askings) = omega (
+  arith,
+  as_many_entries (answered history asking.desk asking.command) askings,
+  pushed history.entries (next_entry history asking.desk asking.command),
+)
   where
     pushed : (entries : List Entry) (entry : Entry) → length (entries ++ entry ∷ []) ≡ length entries + 1
     pushed [] entry = refl
@@ -81,7 +84,7 @@ legal_told opening askings entries same =
     let history = asked_all (opened opening) askings in
     told entries history.entries (λ es. IsLegal (record { opening = opening; entries = es }))
     (subst (λ (o : Opening). IsLegal (record { opening = o; entries = history.entries })) (opening_stays (opened opening) askings)
-        (all_legal (opened opening) askings tt)) same
+    (all_legal (opened opening) askings tt)) same
 
 -- every state of which is sound
 pub sound_told : (opening : Opening) (askings : List Asking) (entries : Result (List Entry) Memory) → IsReadOpening opening

@@ -1,4 +1,4 @@
 pub mod Answering
 pub mod Machine
 pub mod Outcome
-pub mod Planning
+pub mod Prepared

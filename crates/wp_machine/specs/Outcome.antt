@@ -1,28 +1,41 @@
 -- What a step tells beside its reply.
-use Rattle.std.specs.Prelude.{ℕ, ◌-◌, List, length}
+use Rattle.std.specs.Prelude.{ℕ, ◌+◌, ◌-◌, Bool, true, false, List, [], ◌∷◌, length}
+use Rattle.std.specs.List.{flat_map}
 use Rattle.std.specs.Option.{option_map_or}
 use Rattle.wp_model.specs.Book.{held_list}
-use Rattle.wp_model.specs.State.{State}
-use Rattle.wp_model.specs.Step.{Stepped, wave_from}
+use Rattle.wp_model.specs.History.{History}
+use Rattle.wp_model.specs.Opening.{Opening}
+use Rattle.wp_model.specs.State.{State, opening_state}
+use Rattle.wp_model.specs.Step.{Stepped, step, wave_from}
 use Rattle.wp_model.specs.declared.command.Command.{Command}
 use Rattle.wp_model.specs.declared.command.Command.TheVariants as command
 use Rattle.wp_model.specs.declared.reply.Reply.{Reply}
 use Rattle.wp_model.specs.declared.reply.Reply.TheVariants as reply
+use Rattle.wp_model.specs.declared.entry.Entry.{Entry}
 use Rattle.wp_machine.specs.declared.outcome.Outcome.{Outcome}
 use Rattle.wp_machine.specs.declared.outcome.Outcome.TheVariants as outcome
+use Rattle.wp_machine.specs.declared.outcome.Refill.{Refill}
 
 -- all that the wave of a name holds in a state, by order and then by row
 abbrev pub wave_holds : ℕ → State → List ℕ → Outcome
 wave_holds number state name =
-    option_map_or (λ found. outcome.Released (record { number = number; wave = name; orders = found.1.orders;
-        holds = held_list (length found.1.orders) (length state.rows) (state.held found.0) }))
+    option_map_or (λ found. outcome.Released (record {
+      number = number;
+      wave = name;
+      orders = found.1.orders;
+      holds = held_list (length found.1.orders) (length state.rows) (state.held found.0);
+    }))
     (wave_from 0 state.waves name) outcome.Plain
 
 -- what the wave of a name holds in a state beyond what it held in one before
 abbrev pub refilled_holds : ℕ → State → State → List ℕ → List ℕ → Outcome
 refilled_holds number before after name order =
-    option_map_or (λ found. outcome.Refilled (record { number = number; wave = name; order = order;
-        holds = held_list (length found.1.orders) (length after.rows) (λ o r. after.held found.0 o r - before.held found.0 o r) }))
+    option_map_or (λ found. outcome.Refilled (record {
+      number = number;
+      wave = name;
+      order = order;
+      holds = held_list (length found.1.orders) (length after.rows) (λ o r. after.held found.0 o r - before.held found.0 o r);
+    }))
     (wave_from 0 after.waves name) outcome.Plain
 
 -- a release that is done tells all that the wave holds
@@ -44,3 +57,42 @@ outcome_of number before (command.Allot name) stepped = outcome.Plain
 outcome_of number before (command.Cancel name) stepped = outcome.Plain
 outcome_of number before (command.Pick name order location quantity) stepped = outcome.Plain
 outcome_of number before (command.Receive location article quantity) stepped = outcome.Plain
+
+-- what the steps of entries tell, one after the other, from a state on, where the first entry has this number
+abbrev pub outcomes_from : Opening → ℕ → State → List Entry → List Outcome
+outcomes_from opening number state [] = []
+outcomes_from opening number state (entry ∷ entries) =
+    outcome_of number state entry.command (step opening state entry.command)
+    ∷ outcomes_from opening (number + 1) (step opening state entry.command).state entries
+
+-- the refill that a step tells, if it tells one
+abbrev pub refill_in : Outcome → List Refill
+refill_in outcome.Plain = []
+refill_in (outcome.Released holds) = []
+refill_in (outcome.Refilled refill) = refill ∷ []
+
+-- the refills of a history, in the order of its entries
+abbrev pub refills_of : History → List Refill
+refills_of history = flat_map refill_in (outcomes_from history.opening 0 (opening_state history.opening) history.entries)
+
+-- an outcome tells the holds of a wave that went out
+abbrev pub tells_holds : Outcome → Bool
+tells_holds outcome.Plain = false
+tells_holds (outcome.Released holds) = true
+tells_holds (outcome.Refilled refill) = false
+
+-- an outcome tells a refill
+abbrev pub tells_refill : Outcome → Bool
+tells_refill outcome.Plain = false
+tells_refill (outcome.Released holds) = false
+tells_refill (outcome.Refilled refill) = true
+
+-- a reply says that a wave went out
+abbrev pub says_released : Reply → Bool
+says_released reply.Released = true
+says_released other = false
+
+-- a reply says that lost units are held elsewhere
+abbrev pub says_refilled : Reply → Bool
+says_refilled (reply.Refilled units) = true
+says_refilled other = false

@@ -4,13 +4,13 @@ ghost use Rattle.wp_model.specs.declared.command.Command.{Command as CommandData
 ghost use Rattle.wp_model.specs.declared.command.Command.TheVariants as command;
 ghost use Rattle.wp_machine.specs.Answering.{IsAnswer};
 ghost use Rattle.wp_floor.specs.Floor.{IsFloor, state_of, wave_count};
-ghost use Rattle.wp_floor.specs.Held.{IsRowAt};
-ghost use Rattle.wp_floor.specs.Holding.{HaveSpace};
-ghost use Rattle.wp_machine.specs.Planning.{IsPlanOf};
-ghost use Rattle.wp_floor.specs.Refilling.{HaveRefillSpace};
+ghost use Rattle.wp_floor.specs.HeldUnits.{IsRowAt};
+ghost use Rattle.wp_floor.specs.WaveStock.{HaveSpace};
+ghost use Rattle.wp_machine.specs.Prepared.{IsPreparedFor};
+ghost use Rattle.wp_floor.specs.MissingUnits.{HaveRefillSpace};
 
 use crate::outcome::{Answer, Outcome, Refill, WaveHolds};
-use crate::planning::Plan;
+use crate::prepared::Prepared;
 use wp_book::Room;
 use wp_floor::{Claim, Floor, Opening, Rooms, Sheet};
 use wp_model::{Name, Reply};
@@ -28,7 +28,11 @@ fn plain(number: u64, reply: Reply) -> Answer
 
 // The answer of a wave that went out: it tells all that the wave holds.
 fn released(number: u64, wave: Name, sheet: Sheet) -> Answer
-    ensures { result ≡ record { number = number; reply = Reply.Released; outcome = Outcome.Released (record { number = number; wave = wave; orders = sheet.orders; holds = sheet.room.holds }) } }
+    ensures { result ≡ record {
+      number = number;
+      reply = Reply.Released;
+      outcome = Outcome.Released (record { number = number; wave = wave; orders = sheet.orders; holds = sheet.room.holds });
+    } }
 {
     let Sheet { orders, room } = sheet;
     Answer {
@@ -45,7 +49,11 @@ fn released(number: u64, wave: Name, sheet: Sheet) -> Answer
 
 // The answer of units that are held elsewhere: it tells what is held in their place.
 fn refilled(number: u64, wave: Name, claim: &Claim, room: Room) -> Answer
-    ensures { result ≡ record { number = number; reply = Reply.Refilled claim.now.quantity; outcome = Outcome.Refilled (record { number = number; wave = wave; order = claim.now.order; holds = room.holds }) } }
+    ensures { result ≡ record {
+      number = number;
+      reply = Reply.Refilled claim.now.quantity;
+      outcome = Outcome.Refilled (record { number = number; wave = wave; order = claim.now.order; holds = room.holds });
+    } }
 {
     Answer {
         number,
@@ -100,23 +108,28 @@ fn answer_missing(
 }
 
 /// Answers a command by what was prepared for it, as the entry with a number. It takes no memory.
-pub fn answer_plan(floor: &mut Floor, opening: &Opening, number: u64, plan: Plan) -> Answer
+pub fn answer_prepared(
+    floor: &mut Floor,
+    opening: &Opening,
+    number: u64,
+    prepared: Prepared,
+) -> Answer
     requires floor { IsFloor opening.now floor.old }
-    requires plan { (asked : CommandData) × IsPlanOf opening.now asked plan }
+    requires prepared { (asked : CommandData) × IsPreparedFor opening.now asked prepared }
     requires few { wave_count floor.old + 1 < 2 ^ 32 }
-    ensures { (asked : CommandData) → IsPlanOf opening.now asked plan → IsAnswer opening.now number asked floor.old floor.new result }
+    ensures { (asked : CommandData) → IsPreparedFor opening.now asked prepared → IsAnswer opening.now number asked floor.old floor.new result }
 {
-    match plan {
-        Plan::Refuse(reply) => plain(number, reply),
-        Plan::Submit(new) => plain(number, floor.submit(opening, new)),
-        Plan::Allot(name, rooms) => plain(number, floor.allot(opening, &name, rooms)),
-        Plan::Release(name, rooms) => answer_release(floor, opening, number, name, rooms),
-        Plan::Cancel(name) => plain(number, floor.cancel(opening, &name)),
-        Plan::Pick(name, claim) => plain(number, floor.pick(opening, &name, &claim)),
-        Plan::Missing(name, claim, rooms) => {
+    match prepared {
+        Prepared::Refuse(reply) => plain(number, reply),
+        Prepared::Submit(new) => plain(number, floor.submit(opening, new)),
+        Prepared::Allot(name, rooms) => plain(number, floor.allot(opening, &name, rooms)),
+        Prepared::Release(name, rooms) => answer_release(floor, opening, number, name, rooms),
+        Prepared::Cancel(name) => plain(number, floor.cancel(opening, &name)),
+        Prepared::Pick(name, claim) => plain(number, floor.pick(opening, &name, &claim)),
+        Prepared::Missing(name, claim, rooms) => {
             answer_missing(floor, opening, number, name, &claim, rooms)
         }
-        Plan::Receive {
+        Prepared::Receive {
             location,
             row,
             article,

@@ -3,14 +3,17 @@
 
 mod answers;
 mod asking;
+mod laws;
 mod machine;
 mod outcome;
-mod planning;
+mod prepared;
 
 pub use asking::{Asking, answer_all};
+pub use laws::outcomes_come_with_their_replies;
 pub use machine::{Machine, Ready, prepare};
 pub use outcome::{Answer, Outcome, Refill, WaveHolds};
 pub use wp_floor::Opening;
+pub use wp_model::{Entries, Entry, Reply, Row, WaveState};
 
 #[cfg(test)]
 mod tests;

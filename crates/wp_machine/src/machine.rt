@@ -2,14 +2,15 @@ ghost use Rattle.std.specs.Prelude.{◌≡◌, ◌<◌, ◌≤◌, ◌^◌, leng
 ghost use Rattle.std.specs.Option.{option_map};
 ghost use Rattle.wp_model.specs.History.{IsLegal, answered, opened, state_after};
 ghost use Rattle.wp_model.specs.Plain.{is_plain};
+ghost use Rattle.wp_model.specs.Sound.{IsSound};
 ghost use Rattle.wp_model.specs.Step.{step, wave_from};
 ghost use Rattle.wp_model.specs.Tables.{IsReadOpening};
 ghost use Rattle.wp_machine.specs.Outcome.{outcome_of};
-ghost use Rattle.wp_machine.specs.Planning.{IsPlanOf};
+ghost use Rattle.wp_machine.specs.Prepared.{IsPreparedFor};
 
-use crate::answers::answer_plan;
+use crate::answers::answer_prepared;
 use crate::outcome::Answer;
-use crate::planning::{Plan, plan_command};
+use crate::prepared::{Prepared, prepared_for};
 use std::alloc::Global;
 use std::marker::Model;
 use wp_floor::{Floor, Opening};
@@ -21,33 +22,33 @@ use wp_model::{Cell, Chain, Command, Entries, Entry, Memory, Name, Reply, Row, W
 pub struct Ready<'a> {
     opening: &'a Opening,
     command: Command,
-    plan: Plan,
+    prepared: Prepared,
     cell: Cell<Entry>,
 }
 
 impl<'a> Model for Ready<'a> {
     ghost use Rattle.wp_machine.specs.Machine.{Asked};
-    ghost use Rattle.wp_machine.specs.Planning.{IsPlanOf};
+    ghost use Rattle.wp_machine.specs.Prepared.{IsPreparedFor};
 
     ghost Value = { Asked };
 
     ghost view = { λ r. record { opening = r.opening.now; command = r.command } };
 
-    ghost invariant = { λ r. IsPlanOf r.opening.now r.command r.plan };
+    ghost invariant = { λ r. IsPreparedFor r.opening.now r.command r.prepared };
 }
 
 impl Ready<'_> {
-    fn into_parts(self) -> (Command, Plan, Cell<Entry>)
+    fn into_parts(self) -> (Command, Prepared, Cell<Entry>)
         ensures command { result.0 ≡ self.entry.command }
-        ensures plan { IsPlanOf self.entry.opening result.0 result.1 }
+        ensures prepared { IsPreparedFor self.entry.opening result.0 result.1 }
     {
         let Ready {
             opening: _,
             command,
-            plan,
+            prepared,
             cell,
         } = self;
-        (command, plan, cell)
+        (command, prepared, cell)
     }
 }
 
@@ -56,13 +57,13 @@ fn parts_of(
     alloc: Global,
     opening: &Opening,
     command: &Command,
-) -> Result<(Plan, Cell<Entry>), Memory>
+) -> Result<(Prepared, Cell<Entry>), Memory>
     requires { IsTrue (is_plain command.now) }
-    ensures { IfOk result (λ parts. IsPlanOf opening.now command.now parts.0) }
+    ensures { IfOk result (λ parts. IsPreparedFor opening.now command.now parts.0) }
 {
-    let plan = plan_command(alloc, opening, command)?;
+    let prepared = prepared_for(alloc, opening, command)?;
     let cell = Cell::new(alloc)?;
-    Ok((plan, cell))
+    Ok((prepared, cell))
 }
 
 /// Takes the memory that a command's step needs, and looks its names up.
@@ -74,11 +75,11 @@ pub fn prepare<'a>(
     requires { IsTrue (is_plain command) }
     ensures { IfOk result (λ ready. ready ≡ record { opening = opening.now; command = command }) }
 {
-    let (plan, cell) = parts_of(alloc, opening, &command)?;
+    let (prepared, cell) = parts_of(alloc, opening, &command)?;
     Ok(Ready {
         opening,
         command,
-        plan,
+        prepared,
         cell,
     })
 }
@@ -144,11 +145,12 @@ impl<'a> Machine<'a> {
         })
     }
 
-    /// How many commands it has answered.
+    /// How many commands it has answered. Its history is legal, and its state sound.
     pub fn count(&self) -> u64
         ensures count { result ≡ length self.now.entries }
         ensures legal { IsLegal self.now }
         ensures read { IsReadOpening self.now.opening }
+        ensures sound { IsSound self.now.opening (state_after self.now) }
     {
         self.count
     }
@@ -160,10 +162,11 @@ impl<'a> Machine<'a> {
         ensures history { self.new ≡ answered self.old desk ready.entry.command }
         ensures number { result.number ≡ length self.old.entries }
         ensures reply { result.reply ≡ (step self.old.opening (state_after self.old) ready.entry.command).reply }
-        ensures outcome { result.outcome ≡ outcome_of (length self.old.entries) (state_after self.old) ready.entry.command (step self.old.opening (state_after self.old) ready.entry.command) }
+        ensures outcome { result.outcome ≡ outcome_of (length self.old.entries) (state_after self.old) ready.entry.command
+            (step self.old.opening (state_after self.old) ready.entry.command) }
     {
-        let (command, plan, cell) = ready.into_parts();
-        let answer = answer_plan(&mut self.floor, self.opening, self.count, plan);
+        let (command, prepared, cell) = ready.into_parts();
+        let answer = answer_prepared(&mut self.floor, self.opening, self.count, prepared);
         let entry = entry_of(self.count, desk, command, answer.reply);
         self.entries.push(entry, cell);
         self.count += 1;

@@ -9,7 +9,7 @@ use Rattle.wp_model.proofs.Held.{with_held-same, with_stock}
 use Rattle.wp_model.proofs.Holds.{alike_changed, order_held-same}
 use Rattle.wp_model.proofs.Elements.{All-at, within_some}
 use Rattle.wp_model.proofs.Share.{shares_are_demand}
-use Rattle.wp_model.proofs.Stock.{IsSoundStock}
+use Rattle.wp_model.specs.StockMoves.{IsSoundStock}
 use Rattle.wp_model.proofs.Sums.{sum-le, term-le-sum}
 use Rattle.wp_model.specs.Change.{hold, share}
 use Rattle.wp_model.specs.Demand.{free_units, order_demand}
@@ -39,9 +39,9 @@ pub holds_demand : (demand : ℕ → ℕ → ℕ) (number orders : ℕ) (state :
 holds_demand demand number orders state place article none covered wanted =
     let takes = λ (order row : ℕ). share demand state.rows None order row in
     order_held-same (with_stock state state.rows (λ w. takes)) (hold demand None number orders state) number article place
-        (alike_changed _ state.rows (λ k r. refl))
+    (alike_changed _ state.rows (λ k r. refl))
     (λ order k. with_held-same state number (λ order row. state.held number order row + takes order row) order k ∙ ap (λ n. n + takes order k) (none order k)
-        ∙ zero-add (takes order k))
+    ∙ zero-add (takes order k))
     ∙ shares_are_demand demand state.rows None orders place article covered wanted
 
 -- a wave that holds what its orders want holds something
@@ -53,9 +53,13 @@ units_of-le rows article units k =
 
 order_held-le : (state : State) (number article place orders : ℕ) → place < orders → order_held state number article place ≤ wave_held state number orders
 order_held-le state number article place orders within =
-    sum-le (length state.rows) _ _ (λ k below. omega (arith, units_of-le state.rows article (state.held number place) k,
-        term-le-sum orders (λ order. state.held number order k) place within))
+    sum-le (length state.rows) _ _ (λ k below. omega (
+      arith,
+      units_of-le state.rows article (state.held number place) k,
+      term-le-sum orders (λ order. state.held number order k) place within,
+    ))
 
+-- an allotted wave of some known orders holds at least one unit
 pub holds_something : (opening : Opening) (state : State) (number : ℕ) (w : Wave) → IsOpening opening → 0 < length w.orders
     → All (λ order. IsTrue (is_known_order opening.orders order)) w.orders
     → HoldsAs wave.Allotted opening state number w → 0 < wave_held state number (length w.orders)

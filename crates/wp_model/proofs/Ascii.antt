@@ -18,6 +18,7 @@ name_bytes_small [] e i = omega arith
 name_bytes_small (b ∷ text) e zero = name_byte_small b (both _ _ e).0
 name_bytes_small (b ∷ text) e (suc i) = name_bytes_small text (both (is_name_byte b) _ e).1 i
 
+-- a name is ASCII
 pub name_ascii : (text : List ℕ) → is_name text ≡ true → IsAscii text
 name_ascii text e = name_bytes_small text (both _ _ (both _ _ e).1).1
 

@@ -26,9 +26,9 @@ give_up_keeps_sound : (opening : Opening) (state : State) (number : ℕ) (w : Wa
 give_up_keeps_sound opening state number w sound there live =
     let orders = length w.orders in
     let moved = give_back_moves number orders state (slice_get_within state.waves number w there) (orders_in-at state number w there)
-            (stock_of opening state sound) in
+    (stock_of opening state sound) in
     put_wave_keeps_sound opening state (give_back number orders state) number w wave.Cancelled w.picked there sound moved (λ cancelled. live)
-        (gives_all_back number orders state) tt
+    (gives_all_back number orders state) tt
 
 cancel_wave_keeps_sound : (opening : Opening) (state : State) (number : ℕ) (w : Wave) (s : WaveState) → IsSound opening state
     → slice_get state.waves number ≡ Some w → w.state ≡ s
@@ -37,10 +37,11 @@ cancel_wave_keeps_sound opening state number w wave.Submitted sound there e = gi
 cancel_wave_keeps_sound opening state number w wave.Allotted sound there e = give_up_keeps_sound opening state number w sound there (ap is_live e)
 cancel_wave_keeps_sound opening state number w wave.Released sound there e =
     cond_both w.picked (refuse state reply.Picking) (give_up state number w) (λ (stepped : Stepped). IsSound opening stepped.state) (λ picked. sound)
-        (λ unpicked. give_up_keeps_sound opening state number w sound there (ap is_live e))
+    (λ unpicked. give_up_keeps_sound opening state number w sound there (ap is_live e))
 cancel_wave_keeps_sound opening state number w wave.Cancelled sound there e = sound
 cancel_wave_keeps_sound opening state number w wave.Done sound there e = sound
 
+-- a cancel keeps a state sound
 pub cancel_keeps_sound : (opening : Opening) (state : State) (name : List ℕ) → IsSound opening state
     → IsSound opening (at_wave state name (λ number w. cancel state number w w.state)).state
 cancel_keeps_sound opening state name sound =

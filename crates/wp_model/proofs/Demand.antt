@@ -9,21 +9,10 @@ use Rattle.std.proofs.lemmas.Option.{MatchOption-at_none, get_or_from_slice_get,
 use Rattle.std.specs.Option.{option_map_or}
 use Rattle.wp_model.proofs.Elements.{All-at, within_some}
 use Rattle.wp_model.proofs.Sums.{sum-zero}
-use Rattle.wp_model.specs.Demand.{IsCovered, demand_at, first_short, free_units, order_demand, quantity_of, short_article, wave_demand}
+use Rattle.wp_model.specs.Demand.{AreCovered, IsFirstShort, IsCovered, demand_at, first_short, free_units, order_demand, quantity_of, short_article, wave_demand}
 use Rattle.wp_model.specs.Opening.{IsLine, IsOpening, IsOrder, Opening, Order, is_known_order, lines_of}
 use Rattle.wp_model.specs.declared.row.Line.{Line}
 use Rattle.wp_model.specs.declared.row.Row.{Row}
-
--- of each article from one on no more is wanted than is free
-abbrev pub AreCovered : (ℕ → ℕ) → (ℕ → ℕ) → ℕ → ℕ → Type 0
-AreCovered wanted free from until = (k : ℕ) → from ≤ k → k < until → wanted k ≤ free k
-
--- an article of which more is wanted than is free, and none before it from one on
-pub record IsFirstShort (wanted free : ℕ → ℕ) (from until article : ℕ) : Type 0 where
-  pub after : from ≤ article
-  pub within : article < until
-  pub short : free article < wanted article
-  pub before : AreCovered wanted free from article
 
 -- what is covered, or short, after an article that is covered
 one_covered : (wanted free : ℕ → ℕ) (from until : ℕ) → wanted from ≤ free from → AreCovered wanted free (from + 1) until → AreCovered wanted free from until
@@ -73,19 +62,20 @@ order_demand-other opening order article is past =
     let articles = opening.stock.articles in
     let lines = lines_of opening.orders order in
     let none = All-weaker (IsLine articles) (λ line. quantity_of article line ≤ 0) (λ line. quantity_of-other articles article line past) lines
-            (lines_are articles opening.orders order is.orders) in
+    (lines_are articles opening.orders order is.orders) in
     omega (arith, sum_by-le (quantity_of article) 0 lines none)
 
 option_map_or-zero : {X : Type 0} (f : X → ℕ) (found : Option X) → ((x : X) → f x ≡ 0) → option_map_or f found 0 ≡ 0
 option_map_or-zero f None none = refl
 option_map_or-zero f (Some x) none = none x
 
+-- nothing is wanted of an article that the stock doesn't have
 pub wave_demand-other : (opening : Opening) (orders : List (List ℕ)) (article : ℕ) → IsOpening opening → length opening.stock.articles ≤ article
     → wave_demand opening orders article ≡ 0
 wave_demand-other opening orders article is past =
     sum-zero (length orders) (demand_at opening orders article)
     (λ place within. option_map_or-zero (λ order. order_demand opening order article) (slice_get orders place)
-        (λ order. order_demand-other opening order article is past))
+    (λ order. order_demand-other opening order article is past))
 
 -- what the short article is
 pub short_article_is : (opening : Opening) (rows : List Row) (orders : List (List ℕ)) (except : Option ℕ)
@@ -116,6 +106,7 @@ pub covered_from_none : (opening : Opening) (rows : List Row) (orders : List (Li
 covered_from_none opening rows orders except is none =
     covered_from_listed opening rows orders except is (MatchOption-at_none _ _ none (short_article_is opening rows orders except))
 
+-- where free stock covers what is wanted no article is short
 pub none_from_covered : (opening : Opening) (rows : List Row) (orders : List (List ℕ)) (except : Option ℕ) → IsCovered opening rows orders except
     → short_article opening rows orders except ≡ None
 none_from_covered opening rows orders except covered = none_short _ _ _ _ covered (short_article_is opening rows orders except)

@@ -9,10 +9,12 @@ use Rattle.std.proofs.lemmas.Option.{MatchOption-at_some, get_or_from_slice_get,
 pub at_some : {X : Type 0} (found : Option X) (P : X → Type 0) (x : X) → found ≡ Some x → IfSome found P → P x
 at_some found P x is holds = MatchOption-at_some ⊤ P x is holds
 
+-- what holds of each value that may be found holds of what is found
 pub if_some : {X : Type 0} (found : Option X) (P : X → Type 0) → ((x : X) → found ≡ Some x → P x) → IfSome found P
 if_some None P each = tt
 if_some (Some x) P each = each x refl
 
+-- what holds of what is found goes on to what follows from it
 pub if_some_then : {X : Type 0} (found : Option X) (P Q : X → Type 0) → ((x : X) → P x → Q x) → IfSome found P → IfSome found Q
 if_some_then None P Q then' holds = tt
 if_some_then (Some x) P Q then' holds = then' x holds
@@ -21,6 +23,7 @@ if_some_then (Some x) P Q then' holds = then' x holds
 pub All-at : {X : Type 0} (P : X → Type 0) (xs : List X) (k : ℕ) (x : X) → All P xs → slice_get xs k ≡ Some x → P x
 All-at P xs k x all is = subst P (get_or_from_slice_get xs k x x is) (all k x (slice_get_within xs k x is))
 
+-- what holds at each place of a list holds of all of it
 pub All-from_at : {X : Type 0} (P : X → Type 0) (xs : List X) → ((k : ℕ) (x : X) → slice_get xs k ≡ Some x → P x) → All P xs
 All-from_at P xs each k d within = each k _ (slice_get-get_or xs k d within)
 
@@ -37,6 +40,7 @@ slice_get-set_same [] i y within = absurd (omega arith)
 slice_get-set_same (x ∷ xs) zero y within = refl
 slice_get-set_same (x ∷ xs) (suc i) y within = slice_get-set_same xs i y (omega arith)
 
+-- a place other than the one that is set stays
 pub slice_get-set_other : {X : Type 0} (xs : List X) (i k : ℕ) (y : X) → k ≢ i → slice_get (slice_set xs i y) k ≡ slice_get xs k
 slice_get-set_other [] i k y other = refl
 slice_get-set_other (x ∷ xs) zero zero y other = absurd (other refl)
@@ -44,6 +48,7 @@ slice_get-set_other (x ∷ xs) zero (suc k) y other = refl
 slice_get-set_other (x ∷ xs) (suc i) zero y other = refl
 slice_get-set_other (x ∷ xs) (suc i) (suc k) y other = slice_get-set_other xs i k y (omega arith)
 
+-- what stands at a place after one was set: what was set there, or what stood there
 pub slice_get-set : {X : Type 0} (xs : List X) (i k : ℕ) (x y : X) → slice_get (slice_set xs i y) k ≡ Some x → ((k ≡ i) × (x ≡ y))
     ⊎ ((k ≢ i) × (slice_get xs k ≡ Some x))
 slice_get-set xs i k x y is = elim (cases_eq k i) [
@@ -60,6 +65,7 @@ slice_get-push_before [] k y within = absurd (omega arith)
 slice_get-push_before (x ∷ xs) zero y within = refl
 slice_get-push_before (x ∷ xs) (suc k) y within = slice_get-push_before xs k y (omega arith)
 
+-- what stands at a place after one was appended: what stood there, or the new one, the last
 pub slice_get-push : {X : Type 0} (xs : List X) (k : ℕ) (x y : X) → slice_get (xs ++ y ∷ []) k ≡ Some x → (slice_get xs k ≡ Some x)
     ⊎ ((k ≡ length xs) × (x ≡ y))
 slice_get-push [] zero x y is = inr (refl, cc)

@@ -17,10 +17,12 @@ pub if-none : {X : Type 0} (test : Bool) (x : X) (other : Option X) → (if test
 if-none true x other none = absurd (cc)
 if-none false x other none = (refl, none)
 
+-- a choice of two gives nothing where neither does
 pub option_or-none : {X : Type 0} (a b : Option X) → option_or a b ≡ None → (a ≡ None) × (b ≡ None)
 option_or-none None b none = (refl, none)
 option_or-none (Some x) b none = absurd (cc)
 
+-- a change of what is found gives nothing where nothing is found
 pub option_map-none : {X Y : Type 0} (f : X → Y) (found : Option X) → option_map f found ≡ None → found ≡ None
 option_map-none f None none = refl
 option_map-none f (Some x) none = absurd (cc)
@@ -76,6 +78,7 @@ apart first rest different other zero (suc j) x at_i at_j = absurd (other j x at
 apart first rest different other (suc i) zero x at_i at_j = absurd (other i x at_i (same_Some first x at_j))
 apart first rest different other (suc i) (suc j) x at_i at_j = ap suc (different i j x at_i at_j)
 
+-- orders without a fault are free to join a wave
 pub free_from_no_fault : (opening : Opening) (waves : List Wave) (before orders : List (List ℕ)) → first_order_fault opening waves before orders ≡ None
     → AreFree opening waves before orders
 free_from_no_fault opening waves before [] none = record {
@@ -90,7 +93,7 @@ free_from_no_fault opening waves before (order ∷ orders) none =
     let other = if-none (is_among before order) (reply.OrderTwice order) _ known.1 in
     let rest = free_from_no_fault opening waves (before ++ order ∷ []) orders faults.1 in
     let apart_from = λ (k : ℕ) (x : List ℕ) (is : slice_get orders k ≡ Some x). or_parts (is_among before x) _
-            (sym (list_any-append (λ other. bytes_eq other x) before (order ∷ [])) ∙ rest.others k x is) in
+    (sym (list_any-append (λ other. bytes_eq other x) before (order ∷ [])) ∙ rest.others k x is) in
     record {
       known = each (λ x. is_known_order opening.orders x ≡ true) order orders (not-false _ known.0) rest.known;
       others = each (λ x. is_among before x ≡ false) order orders other.0 (λ k x is. (apart_from k x is).0);

@@ -43,9 +43,9 @@ row_from-at : (number : ℕ) (rows : List Row) (location : Location) (found : �
 row_from-at number [] location found is = absurd (cc)
 row_from-at number (r ∷ rows) location found is = elim (if-some (same_location r.location location) (number, r) found
     (row_from (number + 1) rows location) is) [
-  | inl here ↦ at_first rows number r found here
-  | inr later ↦ at_rest rows number r found (row_from-at (number + 1) rows location found later)
-]
+      | inl here ↦ at_first rows number r found here
+      | inr later ↦ at_rest rows number r found (row_from-at (number + 1) rows location found later)
+    ]
 
 from_start : {X : Type 0} (xs : List X) (found : ℕ × X) → IsAt xs 0 found → slice_get xs found.0 ≡ Some found.1
 from_start xs found at = ap (slice_get xs) (omega (arith, at.1)) ∙ at.2
@@ -54,6 +54,7 @@ from_start xs found at = ap (slice_get xs) (omega (arith, at.1)) ∙ at.2
 pub wave_found : (waves : List Wave) (name : List ℕ) (found : ℕ × Wave) → wave_from 0 waves name ≡ Some found → slice_get waves found.0 ≡ Some found.1
 wave_found waves name found is = from_start waves found (wave_from-at 0 waves name found is)
 
+-- a row that is found at a location stands in the list, under its number
 pub row_found : (rows : List Row) (location : Location) (found : ℕ × Row) → row_from 0 rows location ≡ Some found → slice_get rows found.0 ≡ Some found.1
 row_found rows location found is = from_start rows found (row_from-at 0 rows location found is)
 
@@ -64,13 +65,14 @@ place_from-within place (other ∷ names) name found is = elim (if-some (bytes_e
   | inr later ↦ omega (arith, place_from-within (place + 1) names name found later)
 ]
 
+-- a name that is found in a list has a place in it
 pub place_found : (names : List (List ℕ)) (name : List ℕ) (found : ℕ) → place_from 0 names name ≡ Some found → found < length names
 place_found names name found is = omega (arith, place_from-within 0 names name found is)
 
 -- a command on a wave keeps a state sound where it does at the wave with a number
 pub at_wave_keeps_sound : (opening : Opening) (state : State) (name : List ℕ) (change : ℕ → Wave → Stepped) → IsSound opening state
     → ((number : ℕ) (w : Wave) → slice_get state.waves number ≡ Some w → IsSound opening (change number w).state)
-        → IsSound opening (at_wave state name change).state
+    → IsSound opening (at_wave state name change).state
 at_wave_keeps_sound opening state name change sound each =
     option_map_or-both (λ (stepped : Stepped). IsSound opening stepped.state) (λ (found : ℕ × Wave). change found.0 found.1) (wave_from 0 state.waves name) _
     (λ found is. each found.0 found.1 (wave_found state.waves name found is))

@@ -16,6 +16,7 @@ with_stock state rows held = record state { rows = rows; held = held }
 pub with_held-same : (state : State) (wave : ℕ) (held : ℕ → ℕ → ℕ) (order row : ℕ) → with_held state wave held wave order row ≡ held order row
 with_held-same state wave held order row = cond-true (wave == wave) _ _ (eq-eqb wave wave refl)
 
+-- what other waves hold stays
 pub with_held-other : (state : State) (wave : ℕ) (held : ℕ → ℕ → ℕ) (w order row : ℕ) → w ≢ wave
     → with_held state wave held w order row ≡ state.held w order row
 with_held-other state wave held w order row other = cond-false (w == wave) _ _ (ne_eqb w wave other)
@@ -29,11 +30,11 @@ pub held_at-moved : (state : State) (rows : List Row) (held : ℕ → ℕ → �
     → number < length state.waves → orders_in state number ≡ orders
     → ((w order : ℕ) → w ≢ number → held w order row ≡ state.held w order row)
     → held_at (with_stock state rows held) row + wave_held_at state number orders row ≡ held_at state row + wave_held_at
-        (with_stock state rows held) number orders row
+    (with_stock state rows held) number orders row
 held_at-moved state rows held number orders row within e same =
     let moved = with_stock state rows held in
     let one = sum-one_changed (length state.waves) (λ w. wave_held_at moved w (orders_in state w) row)
-            (λ w. wave_held_at state w (orders_in state w) row) number within
+    (λ w. wave_held_at state w (orders_in state w) row) number within
     (λ w other. sum-agree (orders_in state w) _ _ (λ order below. same w order other)) in
     omega (arith, one, ap (λ n. wave_held_at state number n row) e, ap (λ n. wave_held_at moved number n row) e)
 
@@ -41,5 +42,8 @@ held_at-moved state rows held number orders row within e same =
 pub wave_held_at-le : (state : State) (number orders row : ℕ) → number < length state.waves → orders_in state number ≡ orders
     → wave_held_at state number orders row ≤ held_at state row
 wave_held_at-le state number orders row within e =
-    omega (arith, term-le-sum (length state.waves) (λ w. wave_held_at state w (orders_in state w) row) number within,
-        ap (λ n. wave_held_at state number n row) e)
+    omega (
+      arith,
+      term-le-sum (length state.waves) (λ w. wave_held_at state w (orders_in state w) row) number within,
+      ap (λ n. wave_held_at state number n row) e,
+    )

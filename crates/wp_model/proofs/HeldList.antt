@@ -5,13 +5,9 @@ use Rattle.std.specs.Prelude.{⊤}
 use Rattle.std.proofs.lemmas.Bool.{and_from, and_left, and_right, cases_eq, cases_lt, cond-false, cond-true}
 use Rattle.std.proofs.lemmas.List.Sums.{sum_by-append, sum_by-cons}
 use Rattle.wp_model.specs.Book.{held_list, hold_at, hold_for, hold_of_any, order_held_list, units_at, units_for}
+use Rattle.wp_model.specs.HoldLists.{Each, IsBefore, IsHoldWithin, IsSome, Rises}
 use Rattle.wp_model.specs.Sums.{sum_below}
 use Rattle.wp_model.specs.declared.row.Hold.{Hold}
-
--- what holds of each hold of a list
-abbrev pub Each : (Hold → Type 0) → List Hold → Type 0
-Each P [] = ⊤
-Each P (h ∷ hs) = P h × Each P hs
 
 pub Each-then : (P Q : Hold → Type 0) (hs : List Hold) → ((h : Hold) → P h → Q h) → Each P hs → Each Q hs
 Each-then P Q [] then' each = tt
@@ -21,6 +17,7 @@ Each-both : (P Q R : Hold → Type 0) (hs : List Hold) → ((h : Hold) → P h �
 Each-both P Q R [] then' one two = tt
 Each-both P Q R (h ∷ hs) then' one two = (then' h one.0 two.0, Each-both P Q R hs then' one.1 two.1)
 
+-- what holds at each place of a list of holds holds of each
 pub Each-from_at : (P : Hold → Type 0) (hs : List Hold) → ((k : ℕ) (h : Hold) → slice_get hs k ≡ Some h → P h) → Each P hs
 Each-from_at P [] each = tt
 Each-from_at P (h ∷ hs) each = (each 0 h refl, Each-from_at P hs (λ k g there. each (suc k) g there))
@@ -29,22 +26,9 @@ Each-append : (P : Hold → Type 0) (gs hs : List Hold) → Each P gs → Each P
 Each-append P [] hs one two = two
 Each-append P (g ∷ gs) hs one two = (one.0, Each-append P gs hs one.1 two)
 
--- a hold stands before another
-abbrev pub IsBefore : Hold → Hold → Type 0
-IsBefore g h = (g.order < h.order) ⊎ ((g.order ≡ h.order) × (g.row < h.row))
-
--- each hold stands before all later ones
-abbrev pub Rises : List Hold → Type 0
-Rises [] = ⊤
-Rises (h ∷ hs) = Each (IsBefore h) hs × Rises hs
-
 Rises-append : (gs hs : List Hold) → Rises gs → Rises hs → Each (λ g. Each (IsBefore g) hs) gs → Rises (gs ++ hs)
 Rises-append [] hs one two across = two
 Rises-append (g ∷ gs) hs one two across = (Each-append (IsBefore g) gs hs one.0 across.0, Rises-append gs hs one.1 two across.1)
-
--- a hold is of some units
-abbrev pub IsSome : Hold → Type 0
-IsSome hold = 0 < hold.quantity
 
 hold_for-own : (order row : ℕ) (hold : Hold) → hold.order ≡ order → hold.row ≡ row → hold_for order row hold ≡ hold.quantity
 hold_for-own order row hold o r = cond-true ((hold.order == order) && (hold.row == row)) hold.quantity 0
@@ -190,7 +174,7 @@ order_holds order zero units = tt
 order_holds order (suc row) units =
     Each-append (IsOrderHold order (suc row)) (order_held_list order row units) (hold_of_any order row (units row))
     (Each-then (IsOrderHold order row) (IsOrderHold order (suc row)) _ (λ h is. (is.0, omega (arith, is.1), is.2)) (order_holds order row units))
-        (hold_of_any-is order row (units row)).each
+    (hold_of_any-is order row (units row)).each
 
 -- they rise
 order_rises : (order rows : ℕ) (units : ℕ → ℕ) → Rises (order_held_list order rows units)
@@ -200,7 +184,7 @@ order_rises order (suc row) units =
     Rises-append (order_held_list order row units) (hold_of_any order row (units row)) (order_rises order row units) any.rises
     (Each-then (IsOrderHold order row) (λ g. Each (IsBefore g) (hold_of_any order row (units row))) _
     (λ g is. Each-both (IsOrderHold order (suc row)) (λ h. h.row ≡ row) (IsBefore g) _
-        (λ h has at. inr (is.0 ∙ sym has.0, omega (arith, is.1, at))) any.each any.last) (order_holds order row units))
+    (λ h has at. inr (is.0 ∙ sym has.0, omega (arith, is.1, at))) any.each any.last) (order_holds order row units))
 
 -- what they have for the order, and in all, at a row
 order_units : (order rows : ℕ) (units : ℕ → ℕ) (row : ℕ) → row < rows → units_for (order_held_list order rows units) order row ≡ units row
@@ -223,15 +207,18 @@ order_at order (suc last) units row within =
     let any = hold_of_any-is order last (units last) in
     let split = sum_by-append (hold_at row) list (hold_of_any order last (units last)) in
     elim (cases_eq row last) [
-      | inl here ↦ omega (arith, split, none_at last order row list (order_holds order last units) (omega arith),
-          ap (units_at (hold_of_any order last (units last))) here, any.at, ap units here)
+      | inl here ↦ omega (
+        arith,
+        split,
+        none_at last order row list (order_holds order last units) (omega arith),
+        ap (units_at (hold_of_any order last (units last))) here,
+        any.at,
+        ap units here,
+      )
       | inr other ↦ omega (arith, split, any.other_at row other, order_at order last units row (omega arith))
     ]
 
--- the holds of the first orders
-abbrev pub IsHoldWithin : ℕ → ℕ → Hold → Type 0
-IsHoldWithin orders rows hold = (hold.order < orders) × (hold.row < rows) × (0 < hold.quantity)
-
+-- each hold of the list is of some units, and for one of the orders at one of the rows
 pub held_within : (orders rows : ℕ) (held : ℕ → ℕ → ℕ) → Each (IsHoldWithin orders rows) (held_list orders rows held)
 held_within zero rows held = tt
 held_within (suc order) rows held =
@@ -245,7 +232,7 @@ held_rises (suc order) rows held =
     Rises-append (held_list order rows held) (order_held_list order rows (held order)) (held_rises order rows held) (order_rises order rows (held order))
     (Each-then (IsHoldWithin order rows) (λ g. Each (IsBefore g) (order_held_list order rows (held order))) _
     (λ g is. Each-then (IsOrderHold order rows) (IsBefore g) _ (λ h has. inl (omega (arith, is.0, has.0))) (order_holds order rows (held order)))
-        (held_within order rows held))
+    (held_within order rows held))
 
 -- what they have for an order at a row
 pub held_units : (orders rows : ℕ) (held : ℕ → ℕ → ℕ) (order row : ℕ) → order < orders → row < rows
@@ -256,19 +243,26 @@ held_units (suc last) rows held order row below within =
     elim (cases_eq order last) [
       | inl here ↦
           let none = none_for (IsHoldWithin last rows) order row (held_list last rows held) (held_within last rows held)
-                  (λ h is o r. absurd (omega (arith, is.0))) in
-          omega (arith, split, none, ap (λ o. units_for (order_held_list last rows (held last)) o row) here, order_units last rows (held last) row within,
-              ap (λ o. held o row) here)
+          (λ h is o r. absurd (omega (arith, is.0))) in
+          omega (
+            arith,
+            split,
+            none,
+            ap (λ o. units_for (order_held_list last rows (held last)) o row) here,
+            order_units last rows (held last) row within,
+            ap (λ o. held o row) here,
+          )
       | inr other ↦
           let none = none_for (IsOrderHold last rows) order row (order_held_list last rows (held last)) (order_holds last rows (held last))
-                  (λ h is o r. absurd (other (sym o ∙ is.0))) in
+          (λ h is o r. absurd (other (sym o ∙ is.0))) in
           omega (arith, split, none, held_units last rows held order row (omega arith) within)
     ]
 
+-- the list has no units for an order or a row past the last
 pub held_none : (orders rows : ℕ) (held : ℕ → ℕ → ℕ) (order row : ℕ) → (orders ≤ order) ⊎ (rows ≤ row) → units_for (held_list orders rows held) order row ≡ 0
 held_none orders rows held order row past =
     none_for (IsHoldWithin orders rows) order row (held_list orders rows held) (held_within orders rows held)
-        (λ h is o r. elim past [ inl a ↦ absurd (omega (arith, is.0)) | inr b ↦ absurd (omega (arith, is.1)) ])
+    (λ h is o r. elim past [ inl a ↦ absurd (omega (arith, is.0)) | inr b ↦ absurd (omega (arith, is.1)) ])
 
 -- what they have at a row
 pub held_at_row : (orders rows : ℕ) (held : ℕ → ℕ → ℕ) (row : ℕ) → row < rows
@@ -288,7 +282,7 @@ pub is_held_list : (hs : List Hold) (orders rows : ℕ) (held : ℕ → ℕ → 
     → ((order row : ℕ) → (orders ≤ order) ⊎ (rows ≤ row) → held order row ≡ 0) → hs ≡ held_list orders rows held
 is_held_list hs orders rows held rises some units past =
     same_lists hs (held_list orders rows held) rises (held_rises orders rows held) some
-        (Each-then (IsHoldWithin orders rows) IsSome _ (λ h is. is.2) (held_within orders rows held)) (λ order row. units order row ∙ sym (all order row))
+    (Each-then (IsHoldWithin orders rows) IsSome _ (λ h is. is.2) (held_within orders rows held)) (λ order row. units order row ∙ sym (all order row))
   where
     all : (order row : ℕ) → units_for (held_list orders rows held) order row ≡ held order row
     all order row = elim (cases_lt order orders) [

@@ -22,9 +22,12 @@ legal_more : (opening : Opening) (number : ℕ) (state : State) (entries : List 
     → entry.number ≡ number + length entries
     → entry.reply ≡ (step opening (state_from opening state entries) entry.command).reply → IsLegalFrom opening number state (entries ++ entry ∷ [])
 legal_more opening number state [] entry legal numbered replied = (numbered ∙ add-zero number, replied, tt)
-legal_more opening number state (first ∷ entries) entry legal numbered replied =
-    (legal.0, legal.1, legal_more opening (number + 1) (step opening state first.command).state entries entry legal.2
-        (numbered ∙ shift number (length entries)) replied)
+legal_more opening number state (first ∷ entries) entry legal numbered replied = (
+  legal.0,
+  legal.1,
+  legal_more opening (number + 1) (step opening state first.command).state entries entry legal.2
+      (numbered ∙ shift number (length entries)) replied,
+)
   where
     shift : (n m : ℕ) → n + suc m ≡ (n + 1) + m
     shift n m = omega arith

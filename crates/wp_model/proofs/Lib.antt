@@ -28,3 +28,8 @@ pub mod Cancel
 pub mod Receive
 pub mod Picking
 pub mod Sound
+pub mod Replies
+pub mod WaveNames
+pub mod Coverage
+pub mod LocationOrder
+pub mod Scripts

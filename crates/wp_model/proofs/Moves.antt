@@ -1,19 +1,15 @@
 -- Moves of one wave's units.
 use Rattle.std.proofs.Common.{◌≡◌, ◌≢◌, ℕ, ◌<◌, ◌≤◌, length, Option, refl, ◌∙◌}
 use Rattle.wp_model.proofs.Held.{with_held-other}
-use Rattle.wp_model.proofs.Holds.{AreAlike, alike_changed, alike_itself, alike_then}
+use Rattle.wp_model.proofs.Holds.{alike_changed, alike_itself, alike_then}
+use Rattle.wp_model.specs.StockMoves.{AreAlike}
 use Rattle.wp_model.proofs.Rows.{at_place-article}
-use Rattle.wp_model.proofs.Stock.{IsSoundStock, give_back_keeps_stock, hold_keeps_stock, take_keeps_stock, taken}
+use Rattle.wp_model.proofs.Stock.{give_back_keeps_stock, hold_keeps_stock, take_keeps_stock, taken}
+use Rattle.wp_model.specs.StockMoves.{IsSoundStock}
 use Rattle.wp_model.specs.Change.{give_back, hold, take, take_units}
 use Rattle.wp_model.specs.Sound.{orders_in}
+use Rattle.wp_model.specs.StockMoves.{AreAlike, IsMoved, IsSoundStock}
 use Rattle.wp_model.specs.State.{State}
-
--- another state of sound stock, in which one wave alone may hold something else
-pub record IsMoved (number : ℕ) (old new : State) : Type 0 where
-  pub waves : new.waves ≡ old.waves
-  pub stock : IsSoundStock new
-  pub alike : AreAlike old.rows new.rows
-  pub others : (w order row : ℕ) → w ≢ number → new.held w order row ≡ old.held w order row
 
 -- nothing moves
 pub unmoved : (number : ℕ) (state : State) → IsSoundStock state → IsMoved number state state
@@ -38,6 +34,7 @@ hold_moves demand except number orders state within e wanted sound = record {
   others = with_held-other state number _;
 }
 
+-- what a wave gives back moves units of this wave alone
 pub give_back_moves : (number orders : ℕ) (state : State) → number < length state.waves → orders_in state number ≡ orders → IsSoundStock state
     → IsMoved number state (give_back number orders state)
 give_back_moves number orders state within e sound = record {
@@ -47,6 +44,7 @@ give_back_moves number orders state within e sound = record {
   others = with_held-other state number (λ order row. 0);
 }
 
+-- what is taken of a wave moves units of this wave alone
 pub take_moves : (number order row units orders : ℕ) (state : State) → number < length state.waves → orders_in state number ≡ orders → order < orders
     → units ≤ state.held number order row
     → IsSoundStock state → IsMoved number state (take number order row units state)

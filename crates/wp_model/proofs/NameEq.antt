@@ -38,12 +38,14 @@ name_eq_decides a b = (
   (λ e. ap₂ (λ p q. p && q) ((bytes_eq-Decides (padded_out a) (padded_out b)).1 (ap padded_out e)) (eq-eqb (length a) (length b) (ap length e))),
 )
 
+-- two names are compared as their bytes are
 pub name_eq_is : (a b : List ℕ) → name_eq a b ≡ bytes_eq a b
 name_eq_is a b = same_from_decides (name_eq a b) (bytes_eq a b) (name_eq_decides a b) (bytes_eq-Decides a b)
 
 flipped : (p : Bool) (a b : List ℕ) → Decides p (b ≡ a) → Decides p (a ≡ b)
 flipped p a b d = ((λ e. sym (d.0 e)), (λ e. d.1 (sym e)))
 
+-- it doesn't matter which of two texts is compared with the other
 pub bytes_eq_flips : (a b : List ℕ) → bytes_eq a b ≡ bytes_eq b a
 bytes_eq_flips a b = same_from_decides (bytes_eq a b) (bytes_eq b a) (bytes_eq-Decides a b) (flipped (bytes_eq b a) a b (bytes_eq-Decides b a))
 
@@ -94,7 +96,7 @@ pub number_below : (name : List ℕ) (names : List (List ℕ)) → nat_lt (numbe
 number_below name [] = refl
 number_below name (other ∷ names) =
     rw (← bytes_eq_flips name other) (number_below_if (bytes_eq name other) (number_among names name) (length names) (is_among names name)
-        (number_below name names))
+    (number_below name names))
 
 -- what a look-up in an ordered set gives
 pub number_found : (name : List ℕ) (names : List (List ℕ)) → position (name_eq name) names ≡ article_in names name

@@ -4,14 +4,15 @@ use Rattle.std.specs.Prelude.{if◌then◌else◌, ◌||◌}
 use Rattle.std.specs.List.{AllByRecursion}
 use Rattle.std.specs.Str.{bytes_eq}
 use Rattle.std.proofs.lemmas.List.Elements.{All-nil, All-push}
-use Rattle.wp_model.specs.Opening.{IsLine, IsOrder, Order, is_known_order, lines_of, most_lines}
+use Rattle.wp_model.specs.Opening.{IsLine, IsOrder, Order, is_known_order, lines_of}
+use Rattle.wp_model.specs.Limits.{most_lines}
 use Rattle.wp_model.specs.TableLines.{add_order_line}
 use Rattle.wp_model.specs.declared.line.OrderLine.{OrderLine}
 
 added_if : (b : Bool) (articles : List (List ℕ)) (order : Order) (orders : List Order) (line : OrderLine) → IsLine articles line.line
     → AllByRecursion (IsOrder articles) (order ∷ orders)
     → length (if b then order.lines else lines_of orders line.order) < most_lines
-        → AllByRecursion (IsOrder articles) (if b then orders else add_order_line orders line)
+    → AllByRecursion (IsOrder articles) (if b then orders else add_order_line orders line)
     → AllByRecursion (IsOrder articles) (if b then record order { lines = order.lines ++ line.line ∷ [] } ∷ orders else order ∷ add_order_line orders line)
 added_if true articles order orders line is all room rest = (
   record {
@@ -36,7 +37,7 @@ added_orders articles [] line is all room =
 added_orders articles (order ∷ orders) line is all room =
     added_if (bytes_eq order.name line.order) articles order orders line is all room
     (rest_if (bytes_eq order.name line.order) articles orders (add_order_line orders line) all.1
-        (λ other. added_orders articles orders line is all.1 (rw other at room)))
+    (λ other. added_orders articles orders line is all.1 (rw other at room)))
 
 length_if : (b : Bool) (known : Bool) (orders : List Order) (order next : Order) (line : OrderLine)
     → length (add_order_line orders line) ≡ length orders + (if known then 0 else 1)
@@ -51,4 +52,4 @@ pub added_length : (orders : List Order) (line : OrderLine) → length (add_orde
 added_length [] line = refl
 added_length (order ∷ orders) line =
     length_if (bytes_eq order.name line.order) (is_known_order orders line.order) orders order (record order { lines = order.lines ++ line.line ∷ [] }) line
-        (added_length orders line)
+    (added_length orders line)

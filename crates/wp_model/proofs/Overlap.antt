@@ -28,6 +28,7 @@ row_share demand offer orders row =
 pub overlap-le-demand : (demand offer : ℕ → ℕ) (order row : ℕ) → overlap demand offer order row ≤ demand order
 overlap-le-demand demand offer order row = omega arith
 
+-- an order takes no more of a row than it offers
 pub overlap-le-offer : (demand offer : ℕ → ℕ) (order row : ℕ) → overlap demand offer order row ≤ offer row
 overlap-le-offer demand offer order row = omega arith
 

@@ -5,7 +5,8 @@ use Rattle.std.proofs.lemmas.Bool.{and_right, cases_eq, cond-false, cond_both, l
 use Rattle.std.proofs.lemmas.Option.{same_Some, slice_get_within}
 use Rattle.wp_model.proofs.Found.{at_wave_keeps_sound, option_map_or-both, place_found}
 use Rattle.wp_model.proofs.Held.{orders_in-at}
-use Rattle.wp_model.proofs.Moves.{IsMoved, hold_moves, moved_then, take_moves}
+use Rattle.wp_model.proofs.Moves.{hold_moves, moved_then, take_moves}
+use Rattle.wp_model.specs.StockMoves.{IsMoved}
 use Rattle.wp_model.proofs.Waves.{settle_keeps_sound, stock_of}
 use Rattle.wp_model.specs.Change.{hold, settle, take}
 use Rattle.wp_model.specs.Demand.{free_units}
@@ -41,20 +42,20 @@ held_for-are state number w order location held is =
 at_held_keeps_sound : (opening : Opening) (state : State) (number : ℕ) (w : Wave) (order : List ℕ) (location : Location) (quantity : ℕ)
     (change : Held → Stepped) → IsSound opening state
     → ((held : Held) → AreHeld state number w held → quantity ≤ held.units → IsSound opening (change held).state)
-        → IsSound opening (at_held state number w order location quantity change).state
+    → IsSound opening (at_held state number w order location quantity change).state
 at_held_keeps_sound opening state number w order location quantity change sound each =
     option_map_or-both (λ (stepped : Stepped). IsSound opening stepped.state)
-        (λ held. if nat_lt held.units quantity then refuse state (reply.TooMuch held.units) else change held)
+    (λ held. if nat_lt held.units quantity then refuse state (reply.TooMuch held.units) else change held)
     (held_for state number w order location) (refuse state (reply.NotHeld location))
     (λ held is. cond_both (nat_lt held.units quantity) (refuse state (reply.TooMuch held.units)) (change held)
-        (λ (stepped : Stepped). IsSound opening stepped.state)
+    (λ (stepped : Stepped). IsSound opening stepped.state)
     (λ much. sound) (λ enough. each held (held_for-are state number w order location held is) (ltb-false _ _ enough)))
     (λ none. sound)
 
 at_released_keeps_sound : (opening : Opening) (state : State) (number : ℕ) (w : Wave) (order : List ℕ) (location : Location) (quantity : ℕ)
     (change : Held → Stepped) (s : WaveState) → IsSound opening state
     → (s ≡ wave.Released → (held : Held) → AreHeld state number w held → quantity ≤ held.units → IsSound opening (change held).state)
-        → IsSound opening (at_released state number w order location quantity change s).state
+    → IsSound opening (at_released state number w order location quantity change s).state
 at_released_keeps_sound opening state number w order location quantity change wave.Released sound each =
     at_held_keeps_sound opening state number w order location quantity change sound (each refl)
 at_released_keeps_sound opening state number w order location quantity change wave.Submitted sound each = sound
@@ -68,15 +69,16 @@ held_taken : (opening : Opening) (state : State) (number : ℕ) (w : Wave) (quan
     → IsMoved number state (take number held.order held.row quantity state)
 held_taken opening state number w quantity held sound there are enough =
     take_moves number held.order held.row quantity (length w.orders) state (slice_get_within state.waves number w there)
-        (orders_in-at state number w there) are.order (omega (arith, are.units)) (stock_of opening state sound)
+    (orders_in-at state number w there) are.order (omega (arith, are.units)) (stock_of opening state sound)
 
+-- a pick keeps a state sound
 pub pick_keeps_sound : (opening : Opening) (state : State) (name order : List ℕ) (location : Location) (quantity : ℕ) → IsSound opening state
     → IsSound opening (at_wave state name (λ number w. at_released state number w order location quantity (pick state number w quantity) w.state)).state
 pick_keeps_sound opening state name order location quantity sound =
     at_wave_keeps_sound opening state name _ sound (λ number w there.
     at_released_keeps_sound opening state number w order location quantity (pick state number w quantity) w.state sound (λ released held are enough.
     settle_keeps_sound opening state (take number held.order held.row quantity state) number w true there released sound
-        (held_taken opening state number w quantity held sound there are enough)))
+    (held_taken opening state number w quantity held sound there are enough)))
 
 -- one order's demand is its own
 one_demand-some : (order article units a place : ℕ) → one_demand order article units a place ≢ 0 → place ≡ order
@@ -93,7 +95,7 @@ write_off_keeps_sound opening state number w quantity held sound there released 
     let again = hold (one_demand held.order held.article quantity) (Some held.row) number (length w.orders) rest in
     let taken = held_taken opening state number w quantity held sound there are enough in
     let held_again = hold_moves (one_demand held.order held.article quantity) (Some held.row) number (length w.orders) rest
-            (slice_get_within state.waves number w there) (orders_in-at state number w there)
+    (slice_get_within state.waves number w there) (orders_in-at state number w there)
     (λ article order some. omega (arith, one_demand-some held.order held.article quantity article order some, are.order)) taken.stock in
     cond_both (nat_le quantity (free_units rest.rows held.article (Some held.row)))
     (record { reply = reply.Refilled quantity; state = settle number w again })
@@ -102,11 +104,12 @@ write_off_keeps_sound opening state number w quantity held sound there released 
     (λ refilled. settle_keeps_sound opening state again number w w.picked there released sound (moved_then number state rest again taken held_again))
     (λ lost. settle_keeps_sound opening state rest number w w.picked there released sound taken)
 
+-- a loss keeps a state sound
 pub missing_keeps_sound : (opening : Opening) (state : State) (name order : List ℕ) (location : Location) (quantity : ℕ) → IsSound opening state
     → IsSound opening (at_wave state name (λ number w. at_released state number w order location quantity
-        (write_off opening state number w quantity) w.state)).state
+    (write_off opening state number w quantity) w.state)).state
 missing_keeps_sound opening state name order location quantity sound =
     at_wave_keeps_sound opening state name _ sound (λ number w there.
     at_released_keeps_sound opening state number w order location quantity (write_off opening state number w quantity) w.state sound
-        (λ released held are enough.
+    (λ released held are enough.
     write_off_keeps_sound opening state number w quantity held sound there released are enough))

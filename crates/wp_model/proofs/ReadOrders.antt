@@ -4,9 +4,14 @@ use Rattle.std.specs.Prelude.{if◌then◌else◌, ◌||◌, slice_get}
 use Rattle.std.specs.Str.{bytes_eq}
 use Rattle.std.proofs.lemmas.List.Elements.{All-from_recursion, recursion_from_All}
 use Rattle.std.proofs.lemmas.Slice.Eq.{bytes_eq-Decides}
+use Rattle.std.specs.List.{All}
+use Rattle.std.specs.Prelude.{IsTrue}
+use Rattle.std.proofs.lemmas.List.Elements.{All-cons, All-head, All-nil, All-tail}
+use Rattle.wp_model.specs.Name.{is_name}
 use Rattle.wp_model.specs.Opening.{IsOrder, Order, is_known_order}
 use Rattle.wp_model.specs.TableLines.{MayJoinOrders, add_order_line}
-use Rattle.wp_model.specs.Tables.{AreReadOrders, most_order_names}
+use Rattle.wp_model.specs.Tables.{AreReadOrders}
+use Rattle.wp_model.specs.Limits.{most_file_orders}
 use Rattle.wp_model.specs.declared.line.OrderLine.{OrderLine}
 use Rattle.wp_model.proofs.NameEq.{bytes_eq_flips}
 use Rattle.wp_model.proofs.OrderLists.{added_length, added_orders}
@@ -24,7 +29,7 @@ not_known : (orders : List Order) (name : List ℕ) → ((j : ℕ) (b : Order) �
 not_known [] name other = refl
 not_known (order ∷ orders) name other =
     not_known_if (bytes_eq order.name name) (λ is. other zero order refl ((bytes_eq-Decides order.name name).0 is))
-        (not_known orders name (λ j b at same. other (suc j) b at same))
+    (not_known orders name (λ j b at same. other (suc j) b at same))
   where
     not_known_if : (b : Bool) → (b ≡ true → ⊥) → is_known_order orders name ≡ false → (b || is_known_order orders name) ≡ false
     not_known_if true here rest = absurd (here refl)
@@ -74,7 +79,7 @@ known_after : (orders : List Order) (line : OrderLine) (name : List ℕ) → byt
 known_after [] line name other unknown = rw other refl
 known_after (order ∷ orders) line name other unknown =
     known_if (bytes_eq order.name line.order) order (record order { lines = order.lines ++ line.line ∷ [] }) orders
-        (add_order_line orders line) name refl unknown (known_after orders line name other)
+    (add_order_line orders line) name refl unknown (known_after orders line name other)
 
 apart_if : (b : Bool) (order : Order) (orders : List Order) (line : OrderLine) → bytes_eq order.name line.order ≡ b → AreApart (order ∷ orders)
     → AreApart (add_order_line orders line)
@@ -86,9 +91,28 @@ pub apart_after : (orders : List Order) (line : OrderLine) → AreApart orders �
 apart_after [] line apart = (refl, tt)
 apart_after (order ∷ orders) line apart = apart_if (bytes_eq order.name line.order) order orders line refl apart (apart_after orders line apart.1)
 
-few_if : (known : Bool) (n : ℕ) → n ≤ most_order_names → (known ≡ false → n < most_order_names) → n + (if known then 0 else 1) ≤ most_order_names
+few_if : (known : Bool) (n : ℕ) → n ≤ most_file_orders → (known ≡ false → n < most_file_orders) → n + (if known then 0 else 1) ≤ most_file_orders
 few_if true n most room = omega arith
 few_if false n most room = omega (arith, room refl)
+
+named_if : (b : Bool) (next order : Order) (orders more : List Order) → next.name ≡ order.name → All (λ o. IsTrue (is_name o.name)) (order ∷ orders)
+    → All (λ o. IsTrue (is_name o.name)) more → All (λ o. IsTrue (is_name o.name)) (if b then next ∷ orders else order ∷ more)
+named_if true next order orders more same all rest =
+    let P : Order → Type 0 = λ o. IsTrue (is_name o.name) in
+    All-cons P next orders (rw same (All-head P order orders all)) (All-tail P order orders all)
+named_if false next order orders more same all rest =
+    let P : Order → Type 0 = λ o. IsTrue (is_name o.name) in
+    All-cons P order more (All-head P order orders all) rest
+
+named_after : (orders : List Order) (line : OrderLine) → IsTrue (is_name line.order) → All (λ o. IsTrue (is_name o.name)) orders
+    → All (λ o. IsTrue (is_name o.name)) (add_order_line orders line)
+named_after [] line is all =
+    let P : Order → Type 0 = λ o. IsTrue (is_name o.name) in
+    All-cons P _ [] is (All-nil P)
+named_after (order ∷ orders) line is all =
+    let P : Order → Type 0 = λ o. IsTrue (is_name o.name) in
+    named_if (bytes_eq order.name line.order) (record order { lines = order.lines ++ line.line ∷ [] }) order orders (add_order_line orders line) refl all
+    (named_after orders line is (All-tail P order orders all))
 
 -- a line that may join leaves such orders
 pub kept_by_order_line : (articles : List (List ℕ)) (orders : List Order) (line : OrderLine) → AreReadOrders articles orders
@@ -98,4 +122,5 @@ kept_by_order_line articles orders line read may = record {
       (added_orders articles orders line may.is_line (recursion_from_All (IsOrder articles) orders read.each) may.short);
   most = rw (added_length orders line) (few_if (is_known_order orders line.order) (length orders) read.most may.few);
   different = different_from (add_order_line orders line) (apart_after orders line (apart_from orders read.different));
+  named = named_after orders line may.named read.named;
 }

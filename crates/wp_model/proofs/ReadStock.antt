@@ -1,15 +1,20 @@
 -- A stock keeps what every stock that was read keeps, line by line.
 use Rattle.std.proofs.Common.{◌≡◌, ◌∙◌, refl, sym, ap, subst, ℕ, zero, suc, ◌+◌, ◌<◌, ◌≤◌, Bool, true, false, List, [], ◌∷◌, length, Some, arith, length-append}
-use Rattle.std.specs.Prelude.{if◌then◌else◌, ◌&&◌, ◌||◌, ◌==◌, nat_lt, slice_get}
+use Rattle.std.specs.Prelude.{if◌then◌else◌, ◌++◌, ◌&&◌, ◌||◌, ◌==◌, nat_lt, slice_get}
 use Rattle.std.specs.List.{AllByRecursion, list_any}
 use Rattle.std.proofs.lemmas.Bool.{eqb-true}
 use Rattle.std.proofs.lemmas.Bool.Decides.{nat_tests}
 use Rattle.std.proofs.lemmas.List.Elements.{All-from_recursion, recursion_from_All}
+use Rattle.std.specs.List.{All}
+use Rattle.std.specs.Prelude.{IsTrue}
+use Rattle.std.proofs.lemmas.List.Elements.{All-append, All-cons, All-nil}
 use Rattle.wp_model.specs.Location.{is_before, side_before}
+use Rattle.wp_model.specs.Name.{is_name}
 use Rattle.wp_model.specs.Opening.{IsStockRow, Stock}
 use Rattle.wp_model.specs.Step.{is_among, same_location, same_side}
 use Rattle.wp_model.specs.TableLines.{MayJoin, add_line, join, lies_at, number_among, put_row, row_of}
-use Rattle.wp_model.specs.Tables.{AreRising, IsReadStock, most_places, places_of}
+use Rattle.wp_model.specs.Tables.{AreRising, IsReadStock, places_of}
+use Rattle.wp_model.specs.Limits.{most_places}
 use Rattle.wp_model.specs.declared.line.StockLine.{StockLine}
 use Rattle.wp_model.specs.declared.location.Location.{Location}
 use Rattle.wp_model.specs.declared.location.Side.{Side}
@@ -136,6 +141,13 @@ number_length false names name below among =
     let joined = ap length (join_new names name among) ∙ length-append names (name ∷ []) in
     (omega arith, omega arith)
 
+joined_named : (b : Bool) (names : List (List ℕ)) (name : List ℕ) → IsTrue (is_name name) → All (λ n. IsTrue (is_name n)) names
+    → All (λ n. IsTrue (is_name n)) (if b then names else names ++ name ∷ [])
+joined_named true names name is all = all
+joined_named false names name is all =
+    All-append (λ (n : List ℕ). IsTrue (is_name n)) names (name ∷ []) all
+    (All-cons (λ (n : List ℕ). IsTrue (is_name n)) name [] is (All-nil (λ (n : List ℕ). IsTrue (is_name n))))
+
 -- a line that may join leaves such a stock
 pub kept_by_line : (stock : Stock) (line : StockLine) → IsReadStock stock → MayJoin stock line → IsReadStock (add_line stock line)
 kept_by_line stock line read may =
@@ -146,7 +158,7 @@ kept_by_line stock line read may =
     let same = number_joined line.article names in
     let here : IsStockRow joined row = record { article = omega arith; on_hand = may.on_hand } in
     let others = all_weaker (IsStockRow names) (IsStockRow joined) (λ r is. record { article = omega (arith, is.article); on_hand = is.on_hand }) stock.rows
-            (recursion_from_All (IsStockRow names) stock.rows read.rows) in
+    (recursion_from_All (IsStockRow names) stock.rows read.rows) in
     record {
       rows = All-from_recursion (IsStockRow joined) (put_row row stock.rows) (all_put (IsStockRow joined) row stock.rows here others);
       most = omega (arith, length_put row stock.rows, may.room);
@@ -155,4 +167,5 @@ kept_by_line stock line read may =
       places = λ article. rw (places_put row stock.rows article)
           (some_or_none (row.article == article) (places_of stock.rows article) (places_of stock.rows article) refl
           (λ e. subst (λ (a : ℕ). places_of stock.rows a < most_places) (sym same ∙ eqb-true row.article article e) may.places) (read.places article));
+      named = joined_named (is_among names line.article) names line.article may.named read.named;
     }

@@ -36,7 +36,7 @@ holding_keeps_sound opening state next done number w is sound there submitted ho
     (λ article short. sound)
     (λ covered. put_wave_keeps_sound opening state new number w next w.picked there sound moved (λ live. ap is_live submitted)
     (holds new (λ place article. holds_demand demand number orders state place article none
-        (covered_from_none opening state.rows w.orders None is covered article) (demand_at-some opening w.orders article place)))
+    (covered_from_none opening state.rows w.orders None is covered article) (demand_at-some opening w.orders article place)))
     (picks (subst (λ s. PickedAs s w.picked) submitted was.picked)))
 
 allot_wave_keeps_sound : (opening : Opening) (state : State) (number : ℕ) (w : Wave) (s : WaveState) → IsOpening opening → IsSound opening state
@@ -49,6 +49,7 @@ allot_wave_keeps_sound opening state number w wave.Released is sound there e = s
 allot_wave_keeps_sound opening state number w wave.Cancelled is sound there e = sound
 allot_wave_keeps_sound opening state number w wave.Done is sound there e = sound
 
+-- an allotment keeps a state sound
 pub allot_keeps_sound : (opening : Opening) (state : State) (name : List ℕ) → IsOpening opening → IsSound opening state
     → IsSound opening (at_wave state name (λ number w. allot opening state number w w.state)).state
 allot_keeps_sound opening state name is sound =
@@ -60,16 +61,17 @@ release_wave_keeps_sound : (opening : Opening) (state : State) (number : ℕ) (w
 release_wave_keeps_sound opening state number w wave.Submitted is sound there e =
     let was = wave_at opening state number w sound there in
     holding_keeps_sound opening state wave.Released reply.Released number w is sound there e
-        (λ new holds. holds_something opening new number w is was.some was.known holds) (λ picked. tt)
+    (λ new holds. holds_something opening new number w is was.some was.known holds) (λ picked. tt)
 release_wave_keeps_sound opening state number w wave.Allotted is sound there e =
     let was = wave_at opening state number w sound there in
     let holds = holds_something opening state number w is was.some was.known (subst (λ s. HoldsAs s opening state number w) e was.holds) in
     put_wave_keeps_sound opening state state number w wave.Released w.picked there sound (unmoved number state (stock_of opening state sound))
-        (λ live. ap is_live e) holds tt
+    (λ live. ap is_live e) holds tt
 release_wave_keeps_sound opening state number w wave.Released is sound there e = sound
 release_wave_keeps_sound opening state number w wave.Cancelled is sound there e = sound
 release_wave_keeps_sound opening state number w wave.Done is sound there e = sound
 
+-- a release keeps a state sound
 pub release_keeps_sound : (opening : Opening) (state : State) (name : List ℕ) → IsOpening opening → IsSound opening state
     → IsSound opening (at_wave state name (λ number w. release opening state number w w.state)).state
 release_keeps_sound opening state name is sound =

@@ -22,6 +22,7 @@ all_put P row (r ∷ rows) here rest = all_put_if (is_before row.location r.loca
     all_put_if true P row r rows here rest put = (here, rest)
     all_put_if false P row r rows here rest put = (rest.0, put)
 
+-- what follows from what holds of all rows holds of all of them
 pub all_weaker : (P Q : StockRow → Type 0) (so : (r : StockRow) → P r → Q r) (rows : List StockRow) → AllByRecursion P rows → AllByRecursion Q rows
 all_weaker P Q so [] all = tt
 all_weaker P Q so (r ∷ rows) all = (so r all.0, all_weaker P Q so rows all.1)
@@ -30,11 +31,12 @@ length_if : {A : Type 0} (b : Bool) (xs ys : List A) (n : ℕ) → length xs ≡
 length_if true xs ys n one other = one
 length_if false xs ys n one other = other
 
+-- a row that is put into its place makes the list longer by one
 pub length_put : (row : StockRow) (rows : List StockRow) → length (put_row row rows) ≡ length rows + 1
 length_put row [] = refl
 length_put row (r ∷ rows) =
     length_if (is_before row.location r.location) (row ∷ r ∷ rows) (r ∷ put_row row rows) (length (r ∷ rows) + 1) (omega arith)
-        (omega (arith, length_put row rows))
+    (omega (arith, length_put row rows))
 
 -- the place of a name that isn't there
 pub number_new : (names : List (List ℕ)) (name : List ℕ) → is_among names name ≡ false → number_among names name ≡ length names
@@ -52,6 +54,7 @@ join_if : (b : Bool) (names : List (List ℕ)) (name : List ℕ) → b ≡ false
 join_if true names name new = absurd (cc new)
 join_if false names name new = refl
 
+-- a new name comes last
 pub join_new : (names : List (List ℕ)) (name : List ℕ) → is_among names name ≡ false → join names name ≡ names ++ name ∷ []
 join_new names name new = join_if (is_among names name) names name new
 

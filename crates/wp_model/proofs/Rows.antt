@@ -41,6 +41,7 @@ pub IfSome-change_rows : (change : ℕ → Row → Row) (rows : List Row) (k : �
 IfSome-change_rows change rows k P each =
     subst (λ (found : Option Row). IfSome found P) (sym (slice_get-change_rows change rows k)) (if_some-option_map (slice_get rows k) (change k) P each)
 
+-- what holds of each changed row holds of all of them
 pub All-change_rows : (change : ℕ → Row → Row) (rows : List Row) (P : Row → Type 0) → ((k : ℕ) (r : Row) → slice_get rows k ≡ Some r → P (change k r))
     → All P (change_rows change 0 rows)
 All-change_rows change rows P each =
@@ -50,6 +51,7 @@ All-change_rows change rows P each =
 pub at_place-same : (row k : ℕ) (change : Row → Row) (r : Row) → k ≡ row → at_place row change k r ≡ change r
 at_place-same row k change r here = cond-true (k == row) _ _ (eq-eqb k row here)
 
+-- the other rows stay
 pub at_place-other : (row k : ℕ) (change : Row → Row) (r : Row) → k ≢ row → at_place row change k r ≡ r
 at_place-other row k change r other = cond-false (k == row) _ _ (ne_eqb k row other)
 

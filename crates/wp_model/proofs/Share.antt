@@ -23,6 +23,7 @@ share-at demand rows except order k r is = ap (λ found. option_map_or (λ r. ov
 offer_of-le : (article : ℕ) (except : Option ℕ) (k : ℕ) (r : Row) → offer_of article except k r ≤ r.free
 offer_of-le article except k r = grind arith
 
+-- a row offers no more than it has free
 pub offer_at-le : (rows : List Row) (article : ℕ) (except : Option ℕ) (k : ℕ) (r : Row) → slice_get rows k ≡ Some r → offer_at rows article except k ≤ r.free
 offer_at-le rows article except k r is =
     omega (arith, ap (λ found. option_map_or (offer_of article except k) found 0) is, offer_of-le article except k r)
@@ -37,16 +38,22 @@ pub shares-le-free : (demand : ℕ → ℕ → ℕ) (rows : List Row) (except : 
 shares-le-free demand rows except orders k r is =
     let offer = offer_at rows r.article except in
     let same = sum-agree orders (λ order. share demand rows except order k) (λ order. overlap (demand r.article) offer order k)
-            (λ order within. share-at demand rows except order k r is) in
+    (λ order within. share-at demand rows except order k r is) in
     omega (arith, same, row_share (demand r.article) offer orders k, offer_at-le rows r.article except k r is)
 
 -- an order that takes units from a row wants some of its article
 pub share-some : (demand : ℕ → ℕ → ℕ) (rows : List Row) (except : Option ℕ) (order k : ℕ) → share demand rows except order k ≢ 0
     → (r : Row) × (slice_get rows k ≡ Some r) × (demand r.article order ≢ 0)
 share-some demand rows except order k some = elim (slice_get_cases rows k).1 [
-  | inl found ↦ let r = found.0 in
-      (r, found.2, λ none. some (omega (arith, share-at demand rows except order k r found.2,
-          overlap-le-demand (demand r.article) (offer_at rows r.article except) order k)))
+  | inl found ↦ let r = found.0 in (
+    r,
+    found.2,
+    λ none. some (omega (
+      arith,
+      share-at demand rows except order k r found.2,
+      overlap-le-demand (demand r.article) (offer_at rows r.article except) order k,
+    )),
+  )
   | inr past ↦ absurd (some (ap (λ found. option_map_or (λ r. overlap (demand r.article) (offer_at rows r.article except) order k) found 0) past.1))
 ]
 
@@ -76,8 +83,11 @@ share-of_article demand rows except place article k within =
           ∙ ap (λ a. overlap (demand a) (offer_at rows a except) place k) e
       | inr other ↦
           let nothing = ap (λ found. option_map_or (offer_of article except k) found 0) found.1 ∙ offer_of-other article except k r other in
-          omega (arith, units_of-elsewhere rows article (share demand rows except place) k r found.1 other,
-              overlap-le-offer (demand article) (offer_at rows article except) place k)
+          omega (
+            arith,
+            units_of-elsewhere rows article (share demand rows except place) k r found.1 other,
+            overlap-le-offer (demand article) (offer_at rows article except) place k,
+          )
     ]
 
 -- where free stock covers what orders want of an article, an order gets just what it wants

@@ -11,16 +11,11 @@ use Rattle.wp_model.proofs.Share.{share-some, shares, shares-le-free}
 use Rattle.wp_model.proofs.Sums.{sum-add, sum-agree, sum-one_changed, sum-zero}
 use Rattle.wp_model.specs.Change.{at_place, change_rows, free_held_units, give_back, hold, hold_units, receive, receive_units, share, take, take_units}
 use Rattle.wp_model.specs.Change.{with_held}
-use Rattle.wp_model.specs.Opening.{most_on_hand}
+use Rattle.wp_model.specs.Limits.{most_on_hand}
 use Rattle.wp_model.specs.Sound.{IsBalanced, held_at, orders_in}
+use Rattle.wp_model.specs.StockMoves.{IsSoundStock}
 use Rattle.wp_model.specs.State.{State, wave_held_at}
 use Rattle.wp_model.specs.declared.row.Row.{Row}
-
--- what is true of the rows and the held units of a sound state
-pub record IsSoundStock (state : State) : Type 0 where
-  pub rows : All IsBalanced state.rows
-  pub held : (row : ℕ) → IfSome (slice_get state.rows row) (λ r. r.held ≡ held_at state row)
-  pub nowhere_else : (number order row : ℕ) → state.held number order row ≢ 0 → (order < orders_in state number) × (row < length state.rows)
 
 -- a row balances, and what is held there is held for waves
 abbrev pub IsSoundRow : State → ℕ → Row → Type 0
@@ -32,7 +27,7 @@ sound_row state sound k r is = (All-at IsBalanced state.rows k r sound.rows is, 
 -- changed rows are sound where each is
 pub stock_moved : (state : State) (change : ℕ → Row → Row) (held : ℕ → ℕ → ℕ → ℕ) → IsSoundStock state
     → ((k : ℕ) (r : Row) → slice_get state.rows k ≡ Some r → IsSoundRow state k r → IsSoundRow (with_stock state (change_rows change 0 state.rows) held) k
-        (change k r))
+    (change k r))
     → ((number order row : ℕ) → held number order row ≢ 0 → (order < orders_in state number) × (row < length state.rows))
     → IsSoundStock (with_stock state (change_rows change 0 state.rows) held)
 stock_moved state change held sound each nowhere = record {
@@ -55,14 +50,14 @@ with_held-nowhere state wave held sound nowhere number order row some = elim (ca
 -- holding stock by overlap
 hold_row : (demand : ℕ → ℕ → ℕ) (except : Option ℕ) (wave orders : ℕ) (state : State) → wave < length state.waves → orders_in state wave ≡ orders
     → (k : ℕ) (r : Row) → slice_get state.rows k ≡ Some r → IsSoundRow state k r
-        → IsSoundRow (hold demand except wave orders state) k (hold_units (shares demand state.rows except orders k) r)
+    → IsSoundRow (hold demand except wave orders state) k (hold_units (shares demand state.rows except orders k) r)
 hold_row demand except wave orders state within e k r is sound =
     let more = λ (order row : ℕ). state.held wave order row + share demand state.rows except order row in
     let fits = shares-le-free demand state.rows except orders k r is in
     let moved = held_at-moved state (hold demand except wave orders state).rows (with_held state wave more) wave orders k within e
-            (λ w order other. with_held-other state wave more w order k other) in
+    (λ w order other. with_held-other state wave more w order k other) in
     let now = sum-agree orders _ _ (λ order below. with_held-same state wave more order k)
-            ∙ sum-add orders (λ order. state.held wave order k) (λ order. share demand state.rows except order k) in
+    ∙ sum-add orders (λ order. state.held wave order k) (λ order. share demand state.rows except order k) in
     (record { sum = omega (arith, sound.0.sum); most = sound.0.most }, omega (arith, sound.1))
 
 hold_nowhere : (demand : ℕ → ℕ → ℕ) (except : Option ℕ) (wave orders : ℕ) (state : State) → orders_in state wave ≡ orders
@@ -75,23 +70,25 @@ hold_nowhere demand except wave orders state e wanted sound order row some = eli
   | inr before ↦ sound.nowhere_else wave order row before
 ]
 
+-- stock that is held for a wave stays sound
 pub hold_keeps_stock : (demand : ℕ → ℕ → ℕ) (except : Option ℕ) (wave orders : ℕ) (state : State) → wave < length state.waves → orders_in state wave ≡ orders
     → ((article order : ℕ) → demand article order ≢ 0 → order < orders) → IsSoundStock state → IsSoundStock (hold demand except wave orders state)
 hold_keeps_stock demand except wave orders state within e wanted sound =
     stock_moved state _ _ sound (hold_row demand except wave orders state within e)
-        (with_held-nowhere state wave _ sound (hold_nowhere demand except wave orders state e wanted sound))
+    (with_held-nowhere state wave _ sound (hold_nowhere demand except wave orders state e wanted sound))
 
 -- giving all back that a wave holds
 give_back_row : (wave orders : ℕ) (state : State) → wave < length state.waves → orders_in state wave ≡ orders
     → (k : ℕ) (r : Row) → slice_get state.rows k ≡ Some r → IsSoundRow state k r
-        → IsSoundRow (give_back wave orders state) k (free_held_units (wave_held_at state wave orders k) r)
+    → IsSoundRow (give_back wave orders state) k (free_held_units (wave_held_at state wave orders k) r)
 give_back_row wave orders state within e k r is sound =
     let moved = held_at-moved state (give_back wave orders state).rows (with_held state wave (λ order row. 0)) wave orders k within e
-            (λ w order other. with_held-other state wave (λ order row. 0) w order k other) in
+    (λ w order other. with_held-other state wave (λ order row. 0) w order k other) in
     let none = sum-zero orders _ (λ order below. with_held-same state wave (λ order row. 0) order k) in
     let fits = wave_held_at-le state wave orders k within e in
     (record { sum = omega (arith, sound.0.sum, sound.1); most = sound.0.most }, omega (arith, sound.1))
 
+-- stock that a wave gives back stays sound
 pub give_back_keeps_stock : (wave orders : ℕ) (state : State) → wave < length state.waves → orders_in state wave ≡ orders → IsSoundStock state
     → IsSoundStock (give_back wave orders state)
 give_back_keeps_stock wave orders state within e sound =
@@ -119,7 +116,7 @@ pub wave_held_at-taken : (state : State) (wave order row units orders : ℕ) →
 wave_held_at-taken state wave order row units orders below enough =
     let held = taken state wave order row units in
     let one = sum-one_changed orders (λ o. with_held state wave held wave o row) (λ o. state.held wave o row) order below
-            (λ o other. with_held-same state wave held o row ∙ taken-other_order state wave order row units o row other) in
+    (λ o other. with_held-same state wave held o row ∙ taken-other_order state wave order row units o row other) in
     omega (arith, one, with_held-same state wave held order row, taken-here state wave order row units)
 
 pub wave_held_at-taken_elsewhere : (state : State) (wave order row units orders k : ℕ) → k ≢ row
@@ -130,14 +127,14 @@ wave_held_at-taken_elsewhere state wave order row units orders k other =
 take_row : (wave order row units orders : ℕ) (state : State) → wave < length state.waves → orders_in state wave ≡ orders → order < orders
     → units ≤ state.held wave order row
     → (k : ℕ) (r : Row) → slice_get state.rows k ≡ Some r → IsSoundRow state k r
-        → IsSoundRow (take wave order row units state) k (at_place row (take_units units) k r)
+    → IsSoundRow (take wave order row units state) k (at_place row (take_units units) k r)
 take_row wave order row units orders state within e below enough k r is sound =
     let moved = held_at-moved state (take wave order row units state).rows (take wave order row units state).held wave orders k within e
-            (λ w o other. with_held-other state wave (taken state wave order row units) w o k other) in
+    (λ w o other. with_held-other state wave (taken state wave order row units) w o k other) in
     elim (cases_eq k row) [
       | inl here ↦
           let now = subst (λ x. wave_held_at (take wave order row units state) wave orders x + units ≡ wave_held_at state wave orders x) (sym here)
-                  (wave_held_at-taken state wave order row units orders below enough) in
+          (wave_held_at-taken state wave order row units orders below enough) in
           let fits = wave_held_at-le state wave orders k within e in
           subst (IsSoundRow (take wave order row units state) k) (sym (at_place-same row k (take_units units) r here))
           (record { sum = omega (arith, sound.0.sum, sound.1); most = omega (arith, sound.0.most) }, omega (arith, sound.1))
@@ -150,17 +147,18 @@ take_nowhere : (wave order row units : ℕ) (state : State) → IsSoundStock sta
 take_nowhere wave order row units state sound o k some =
     sound.nowhere_else wave o k (λ none. some (omega (arith, taken-le state wave order row units o k)))
 
+-- stock of which held units are taken stays sound
 pub take_keeps_stock : (wave order row units orders : ℕ) (state : State) → wave < length state.waves → orders_in state wave ≡ orders → order < orders
     → units ≤ state.held wave order row
     → IsSoundStock state → IsSoundStock (take wave order row units state)
 take_keeps_stock wave order row units orders state within e below enough sound =
     stock_moved state _ _ sound (take_row wave order row units orders state within e below enough)
-        (with_held-nowhere state wave _ sound (take_nowhere wave order row units state sound))
+    (with_held-nowhere state wave _ sound (take_nowhere wave order row units state sound))
 
 -- receiving units
 receive_row : (row units : ℕ) (state : State) → ((r : Row) → slice_get state.rows row ≡ Some r → r.on_hand + units ≤ most_on_hand)
     → (k : ℕ) (r : Row) → slice_get state.rows k ≡ Some r → IsSoundRow state k r
-        → IsSoundRow (receive row units state) k (at_place row (receive_units units) k r)
+    → IsSoundRow (receive row units state) k (at_place row (receive_units units) k r)
 receive_row row units state room k r is sound = elim (cases_eq k row) [
   | inl here ↦
       let fits = room r (ap (slice_get state.rows) (sym here) ∙ is) in
@@ -169,6 +167,7 @@ receive_row row units state room k r is sound = elim (cases_eq k row) [
   | inr other ↦ subst (IsSoundRow (receive row units state) k) (sym (at_place-other row k (receive_units units) r other)) sound
 ]
 
+-- stock to which units come stays sound, where there is room for them
 pub receive_keeps_stock : (row units : ℕ) (state : State) → ((r : Row) → slice_get state.rows row ≡ Some r → r.on_hand + units ≤ most_on_hand)
     → IsSoundStock state → IsSoundStock (receive row units state)
 receive_keeps_stock row units state room sound = stock_moved state _ _ sound (receive_row row units state room) sound.nowhere_else

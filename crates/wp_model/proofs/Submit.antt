@@ -9,10 +9,11 @@ use Rattle.wp_model.proofs.Faults.{free_from_no_fault, if-none, option_map-none,
 use Rattle.wp_model.proofs.Found.{option_map_or-both}
 use Rattle.wp_model.proofs.Holds.{HoldsAs-same, alike_itself}
 use Rattle.wp_model.proofs.Elements.{All-from_at, if_some, if_some_then, slice_get-push, slice_get-push_before}
-use Rattle.wp_model.proofs.Stock.{IsSoundStock}
+use Rattle.wp_model.specs.StockMoves.{IsSoundStock}
 use Rattle.wp_model.proofs.Sums.{sum-agree, sum-zero}
 use Rattle.wp_model.proofs.Waves.{still_sound, stock_of, wave_at}
-use Rattle.wp_model.specs.Opening.{Opening, is_known_order, most_orders}
+use Rattle.wp_model.specs.Opening.{Opening, is_known_order}
+use Rattle.wp_model.specs.Limits.{most_wave_orders}
 use Rattle.wp_model.specs.Sound.{AreDifferent, IsSound, IsSoundWave, held_at, orders_in}
 use Rattle.wp_model.specs.State.{State, Wave, wave_held_at}
 use Rattle.wp_model.specs.Step.{Stepped, add_wave, first_order_fault, is_live, refuse, submit, submit_fault, wave_from}
@@ -23,7 +24,7 @@ use Rattle.wp_model.specs.declared.reply.WaveState.TheVariants as wave
 -- what a new wave's name and orders have to be
 record CanJoin (opening : Opening) (state : State) (name : List ℕ) (orders : List (List ℕ)) : Type 0 where
   some : 0 < length orders
-  most : length orders ≤ most_orders
+  most : length orders ≤ most_wave_orders
   unnamed : (i : ℕ) (v : Wave) → slice_get state.waves i ≡ Some v → v.name ≢ name
   different : AreDifferent orders
   known : All (λ order. IsTrue (is_known_order opening.orders order)) orders
@@ -35,9 +36,9 @@ can_join : (opening : Opening) (state : State) (name : List ℕ) (orders : List 
     → CanJoin opening state name orders
 can_join opening state name orders none =
     let some = if-none (length orders == 0) reply.NoOrders _ none in
-    let most = if-none (nat_lt most_orders (length orders)) (reply.WaveFull (length orders)) _ some.1 in
+    let most = if-none (nat_lt most_wave_orders (length orders)) (reply.WaveFull (length orders)) _ some.1 in
     let faults = option_or-none (option_map (λ found. reply.KnownWave) (wave_from 0 state.waves name))
-            (first_order_fault opening state.waves [] orders) most.1 in
+    (first_order_fault opening state.waves [] orders) most.1 in
     let free = free_from_no_fault opening state.waves [] orders faults.1 in
     record {
       some = let no : length orders ≡ 0 → ⊥ = eqb-false _ _ some.0 in omega arith;
@@ -101,7 +102,7 @@ waves_after_add opening state name orders sound can n v there =
           still_sound opening state after n v v refl was same was.picked
       | inr last ↦
           let none = sum-zero _ _ (λ row within. sum-zero _ _
-                  (λ order below. nothing_past state (length state.waves) (le_refl _) (stock_of opening state sound) order row)) in
+          (λ order below. nothing_past state (length state.waves) (le_refl _) (stock_of opening state sound) order row)) in
           subst₂ (IsSoundWave opening after) (sym last.0) (sym last.1)
           (record { some = can.some; most = can.most; different = can.different; known = can.known; holds = none; picked = refl })
     ]
@@ -140,6 +141,7 @@ add_wave_keeps_sound opening state name orders sound can =
       ];
     }
 
+-- a submit keeps a state sound
 pub submit_keeps_sound : (opening : Opening) (state : State) (name : List ℕ) (orders : List (List ℕ)) → IsSound opening state
     → IsSound opening (submit opening state name orders).state
 submit_keeps_sound opening state name orders sound =

@@ -6,12 +6,13 @@ use Rattle.std.proofs.lemmas.Option.{slice_get_within}
 use Rattle.std.specs.Option.{option_map_or}
 use Rattle.wp_model.proofs.Held.{orders_in-at}
 use Rattle.wp_model.proofs.Holds.{HoldsAs-same, alike_itself}
-use Rattle.wp_model.proofs.Moves.{IsMoved}
+use Rattle.wp_model.specs.StockMoves.{IsMoved}
 use Rattle.wp_model.proofs.Elements.{at_some, if_some, if_some_then, slice_get-set, slice_get-set_other, slice_get-set_same}
-use Rattle.wp_model.proofs.Stock.{IsSoundStock}
+use Rattle.wp_model.specs.StockMoves.{IsSoundStock}
 use Rattle.wp_model.proofs.Sums.{sum-agree}
 use Rattle.wp_model.specs.Change.{put_wave, settle}
-use Rattle.wp_model.specs.Opening.{Opening, is_known_order, most_orders}
+use Rattle.wp_model.specs.Opening.{Opening, is_known_order}
+use Rattle.wp_model.specs.Limits.{most_wave_orders}
 use Rattle.wp_model.specs.Sound.{AreDifferent, HoldsAs, IsSound, IsSoundWave, PickedAs, held_at, orders_in}
 use Rattle.wp_model.specs.State.{State, Wave, wave_held, wave_held_at}
 use Rattle.wp_model.specs.Step.{is_live}
@@ -35,7 +36,7 @@ orders_in-put state number v w is e n = elim (cases_eq n number) [
   | inl here ↦
       let now = slice_get-set_same state.waves number w (slice_get_within state.waves number v is) in
       ap (orders_in (put_wave number w state)) here ∙ orders_in-at (put_wave number w state) number w now ∙ e ∙ sym (orders_in-at state number v is)
-          ∙ sym (ap (orders_in state) here)
+      ∙ sym (ap (orders_in state) here)
   | inr other ↦ ap (λ found. option_map_or (λ v. length v.orders) found 0) (slice_get-set_other state.waves number n w other)
 ]
 
@@ -60,7 +61,7 @@ pub still_sound : (opening : Opening) (old new : State) (n : ℕ) (v w : Wave) �
     → HoldsAs w.state opening new n w → PickedAs w.state w.picked → IsSoundWave opening new n w
 still_sound opening old new n v w e sound holds picked = record {
   some = subst (λ orders. 0 < length orders) (sym e) sound.some;
-  most = subst (λ orders. length orders ≤ most_orders) (sym e) sound.most;
+  most = subst (λ orders. length orders ≤ most_wave_orders) (sym e) sound.most;
   different = subst AreDifferent (sym e) sound.different;
   known = subst (All (λ order. IsTrue (is_known_order opening.orders order))) (sym e) sound.known;
   holds = holds;

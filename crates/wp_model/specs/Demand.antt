@@ -1,5 +1,5 @@
 -- What orders and waves want, and whether free stock covers it.
-use Rattle.std.specs.Prelude.{ℕ, zero, suc, ◌+◌, ◌≤◌, ◌&&◌, ◌==◌, not, nat_lt, Bool, false, List, length, Option, Some, None, if◌then◌else◌, slice_get}
+use Rattle.std.specs.Prelude.{ℕ, zero, suc, ◌+◌, ◌<◌, ◌≤◌, ◌&&◌, ◌==◌, not, nat_lt, Bool, false, List, length, Option, Some, None, if◌then◌else◌, slice_get}
 use Rattle.std.specs.List.{sum_by}
 use Rattle.std.specs.Option.{option_map_or}
 use Rattle.wp_model.specs.Opening.{Opening, lines_of}
@@ -43,6 +43,17 @@ free_units rows article except = sum_below (length rows) (offer_at rows article 
 -- free stock covers what the orders want, of every article
 abbrev pub IsCovered : Opening → List Row → List (List ℕ) → Option ℕ → Type 0
 IsCovered opening rows orders except = (article : ℕ) → wave_demand opening orders article ≤ free_units rows article except
+
+-- of each article from one on no more is wanted than is free
+abbrev pub AreCovered : (ℕ → ℕ) → (ℕ → ℕ) → ℕ → ℕ → Type 0
+AreCovered wanted free from until = (k : ℕ) → from ≤ k → k < until → wanted k ≤ free k
+
+-- an article of which more is wanted than is free, and none before it from one on
+pub record IsFirstShort (wanted free : ℕ → ℕ) (from until article : ℕ) : Type 0 where
+  pub after : from ≤ article
+  pub within : article < until
+  pub short : free article < wanted article
+  pub before : AreCovered wanted free from article
 
 -- the first of so many articles from one on of which more is wanted than is free
 abbrev pub first_short : (ℕ → ℕ) → (ℕ → ℕ) → ℕ → ℕ → Option ℕ

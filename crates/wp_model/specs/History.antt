@@ -1,5 +1,5 @@
 -- Legal histories.
-use Rattle.std.specs.Prelude.{◌≡◌, ℕ, ◌+◌, ⊤, List, [], ◌∷◌, ◌++◌, length, map}
+use Rattle.std.specs.Prelude.{◌≡◌, ℕ, ◌+◌, ◌==◌, ⊤, List, [], ◌∷◌, ◌++◌, if◌then◌else◌, length, map}
 use Rattle.wp_model.specs.Opening.{Opening}
 use Rattle.wp_model.specs.State.{State, opening_state}
 use Rattle.wp_model.specs.Step.{step}
@@ -56,3 +56,18 @@ commands_of entries = map (λ entry. entry.command) entries
 abbrev pub answered_all : History → ℕ → List Command → History
 answered_all history desk [] = history
 answered_all history desk (command ∷ commands) = answered_all (answered history desk command) desk commands
+
+-- what a desk asks for, command by command
+pub record Script : Type 0 where
+  pub desk : ℕ
+  pub commands : List Command
+
+-- what scripts have a desk ask for, nothing where none is its script
+abbrev pub script_of : List Script → ℕ → List Command
+script_of [] desk = []
+script_of (script ∷ scripts) desk = if script.desk == desk then script.commands else script_of scripts desk
+
+-- the part of a desk: the commands of its entries, in order
+abbrev pub part_of : ℕ → List Entry → List Command
+part_of desk [] = []
+part_of desk (entry ∷ entries) = if entry.desk == desk then entry.command ∷ part_of desk entries else part_of desk entries

@@ -1,3 +1,4 @@
+pub mod Limits
 pub mod Name
 pub mod Number
 pub mod Location
@@ -11,7 +12,9 @@ pub mod Change
 pub mod Step
 pub mod History
 pub mod Sound
+pub mod StockMoves
 pub mod Book
+pub mod HoldLists
 pub mod Plain
 pub mod Chain
 pub mod TableLines

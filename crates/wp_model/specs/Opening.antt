@@ -2,6 +2,7 @@
 use Rattle.std.specs.Prelude.{ℕ, ◌<◌, ◌≤◌, List, [], ◌∷◌, if◌then◌else◌, length, slice_index_or, Bool, false, ◌||◌}
 use Rattle.std.specs.List.{All}
 use Rattle.std.specs.Str.{bytes_eq}
+use Rattle.wp_model.specs.Limits.{most_lines, most_on_hand, most_quantity}
 use Rattle.wp_model.specs.declared.row.Line.{Line}
 use Rattle.wp_model.specs.declared.row.StockRow.{StockRow}
 
@@ -19,22 +20,6 @@ pub record Order : Type 0 where
 pub record Opening : Type 0 where
   pub stock : Stock
   pub orders : List Order
-
--- the most units that a row may have on hand
-abbrev pub most_on_hand : ℕ
-most_on_hand = 1000000
-
--- the most orders that a wave may have
-abbrev pub most_orders : ℕ
-most_orders = 64
-
--- the most units that a line may want
-abbrev pub most_quantity : ℕ
-most_quantity = 100000
-
--- the most lines that an order may have
-abbrev pub most_lines : ℕ
-most_lines = 50
 
 -- a row has an article of the stock, and no more units than a row may have
 pub record IsStockRow (articles : List (List ℕ)) (row : StockRow) : Type 0 where

@@ -3,7 +3,8 @@ use Rattle.std.specs.Prelude.{◌≡◌, ◌≢◌, ℕ, ◌+◌, ◌≤◌, ◌
 use Rattle.std.specs.List.{All}
 use Rattle.std.specs.Option.{option_map_or}
 use Rattle.wp_model.specs.Demand.{demand_at}
-use Rattle.wp_model.specs.Opening.{Opening, is_known_order, most_on_hand, most_orders}
+use Rattle.wp_model.specs.Opening.{Opening, is_known_order}
+use Rattle.wp_model.specs.Limits.{most_on_hand, most_wave_orders}
 use Rattle.wp_model.specs.State.{State, Wave, wave_held, wave_held_at}
 use Rattle.wp_model.specs.Step.{is_live}
 use Rattle.wp_model.specs.Sums.{sum_below}
@@ -56,7 +57,7 @@ AreDifferent {A} xs = (i j : ℕ) (x : A) → slice_get xs i ≡ Some x → slic
 -- a wave has 1 to 64 different orders of the opening, and holds and has picked what its state allows
 pub record IsSoundWave (opening : Opening) (state : State) (number : ℕ) (w : Wave) : Type 0 where
   pub some : 0 < length w.orders
-  pub most : length w.orders ≤ most_orders
+  pub most : length w.orders ≤ most_wave_orders
   pub different : AreDifferent w.orders
   pub known : All (λ order. IsTrue (is_known_order opening.orders order)) w.orders
   pub holds : HoldsAs w.state opening state number w

@@ -1,10 +1,12 @@
 -- What each command does. The tests are made in the order in which they stand, and a refusal changes nothing.
-use Rattle.std.specs.Prelude.{ℕ, ◌+◌, ◌&&◌, ◌==◌, not, nat_lt, nat_le, Bool, true, false, List, [], ◌∷◌, ◌++◌, length, Option, Some, None, if◌then◌else◌}
+use Rattle.std.specs.Prelude.{◌≡◌, ◌⊎◌, ℕ, ◌+◌, ◌&&◌, ◌==◌, not, nat_lt, nat_le, Bool, true, false, List, [], ◌∷◌, ◌++◌, length, Option, Some, None}
+use Rattle.std.specs.Prelude.{if◌then◌else◌}
 use Rattle.std.specs.Prelude.{option_map}
 use Rattle.std.specs.List.{list_any}
 use Rattle.std.specs.Option.{option_map_or, option_or}
 use Rattle.std.specs.Str.{bytes_eq}
-use Rattle.wp_model.specs.Opening.{Opening, article_name, is_known_order, most_on_hand, most_orders}
+use Rattle.wp_model.specs.Opening.{Opening, article_name, is_known_order}
+use Rattle.wp_model.specs.Limits.{most_on_hand, most_wave_orders}
 use Rattle.wp_model.specs.State.{State, Wave}
 use Rattle.wp_model.specs.Demand.{demand_at, free_units, short_article, wave_demand}
 use Rattle.wp_model.specs.Change.{give_back, hold, put_wave, receive, settle, take}
@@ -23,6 +25,32 @@ use Rattle.wp_model.specs.declared.row.Row.{Row}
 pub record Stepped : Type 0 where
   pub reply : Reply
   pub state : State
+
+-- a reply refuses its command
+abbrev pub is_refusal : Reply → Bool
+is_refusal reply.Submitted = false
+is_refusal reply.Allotted = false
+is_refusal reply.Released = false
+is_refusal reply.Cancelled = false
+is_refusal reply.Picked = false
+is_refusal reply.Received = false
+is_refusal (reply.Refilled units) = false
+is_refusal (reply.Lost article units) = false
+is_refusal reply.NoOrders = true
+is_refusal (reply.WaveFull orders) = true
+is_refusal reply.KnownWave = true
+is_refusal (reply.UnknownOrder order) = true
+is_refusal (reply.OrderTwice order) = true
+is_refusal (reply.OrderTaken order w) = true
+is_refusal reply.UnknownWave = true
+is_refusal (reply.WrongState state) = true
+is_refusal (reply.Short article wanted free) = true
+is_refusal reply.Picking = true
+is_refusal (reply.NotHeld location) = true
+is_refusal (reply.TooMuch held) = true
+is_refusal reply.NoRow = true
+is_refusal (reply.OtherArticle article) = true
+is_refusal (reply.TooMany on_hand) = true
 
 -- a refusal leaves the state as it was
 abbrev pub refuse : State → Reply → Stepped
@@ -71,7 +99,7 @@ first_order_fault opening waves before (order ∷ orders) =
 abbrev pub submit_fault : Opening → State → List ℕ → List (List ℕ) → Option Reply
 submit_fault opening state name orders =
     if length orders == 0 then Some reply.NoOrders
-    else if nat_lt most_orders (length orders) then Some (reply.WaveFull (length orders))
+    else if nat_lt most_wave_orders (length orders) then Some (reply.WaveFull (length orders))
     else option_or (option_map (λ found. reply.KnownWave) (wave_from 0 state.waves name)) (first_order_fault opening state.waves [] orders)
 
 -- a new wave, the last of all
@@ -226,3 +254,14 @@ step opening state (command.Missing name order location quantity) =
     at_wave state name (λ number w. at_released state number w order location quantity (write_off opening state number w quantity) w.state)
 step opening state (command.Receive location article quantity) =
     option_map_or (λ found. receive_at opening state article quantity found.0 found.1) (row_from 0 state.rows location) (refuse state reply.NoRow)
+
+-- the reply says that the command was done
+abbrev pub SaysDone : Command → Reply → Type 0
+SaysDone (command.Submit name orders) answer = answer ≡ reply.Submitted
+SaysDone (command.Allot name) answer = answer ≡ reply.Allotted
+SaysDone (command.Release name) answer = answer ≡ reply.Released
+SaysDone (command.Cancel name) answer = answer ≡ reply.Cancelled
+SaysDone (command.Pick name order location quantity) answer = answer ≡ reply.Picked
+SaysDone (command.Missing name order location quantity) answer =
+    (answer ≡ reply.Refilled quantity) ⊎ ((article : List ℕ) × (answer ≡ reply.Lost article quantity))
+SaysDone (command.Receive location article quantity) answer = answer ≡ reply.Received

@@ -1,11 +1,13 @@
 -- How the lines of tables make a stock and orders.
-use Rattle.std.specs.Prelude.{◌≡◌, ℕ, ◌<◌, ◌≤◌, ◌&&◌, Bool, true, false, List, [], ◌∷◌, ◌++◌, length, Option, Some, None, if◌then◌else◌}
+use Rattle.std.specs.Prelude.{◌≡◌, ℕ, ◌<◌, ◌≤◌, ◌&&◌, Bool, true, false, List, [], ◌∷◌, ◌++◌, length, Option, Some, None, if◌then◌else◌, IsTrue}
 use Rattle.std.specs.List.{list_any, position_or_len}
 use Rattle.std.specs.Str.{bytes_eq}
 use Rattle.wp_model.specs.Location.{is_before}
-use Rattle.wp_model.specs.Opening.{IsLine, Order, Stock, is_known_order, lines_of, most_lines, most_on_hand}
+use Rattle.wp_model.specs.Name.{is_name}
+use Rattle.wp_model.specs.Opening.{IsLine, Order, Stock, is_known_order, lines_of}
+use Rattle.wp_model.specs.Limits.{most_file_orders, most_lines, most_on_hand, most_places, most_rows}
 use Rattle.wp_model.specs.Step.{is_among, same_location}
-use Rattle.wp_model.specs.Tables.{most_order_names, most_places, most_rows, places_of}
+use Rattle.wp_model.specs.Tables.{places_of}
 use Rattle.wp_model.specs.declared.location.Location.{Location}
 use Rattle.wp_model.specs.declared.line.OrderLine.{OrderLine}
 use Rattle.wp_model.specs.declared.line.StockLine.{StockLine}
@@ -66,15 +68,18 @@ add_order_line (order ∷ orders) line =
 abbrev pub places_named : Stock → List ℕ → ℕ
 places_named stock name = places_of stock.rows (number_among stock.articles name)
 
--- a line may join a stock: there is room for a row, none lies at its location, its article hasn't too many, and its units aren't too many
+-- a line may join a stock: there is room for a row, none lies at its location, its article has a name and not too many rows, and its units aren't too many
 pub record MayJoin (stock : Stock) (line : StockLine) : Type 0 where
   pub room : length stock.rows < most_rows
   pub free : list_any (lies_at line.location) stock.rows ≡ false
   pub places : places_named stock line.article < most_places
   pub on_hand : line.on_hand ≤ most_on_hand
+  pub named : IsTrue (is_name line.article)
 
--- a line may join orders: it is a line of the stock's articles, and there is room for it in its order, or for a new order
+-- a line may join orders: it is a line of the stock's articles and of an order with a name, and there is room for it in its order, or for
+-- a new order
 pub record MayJoinOrders (articles : List (List ℕ)) (orders : List Order) (line : OrderLine) : Type 0 where
   pub is_line : IsLine articles line.line
   pub short : length (lines_of orders line.order) < most_lines
-  pub few : is_known_order orders line.order ≡ false → length orders < most_order_names
+  pub few : is_known_order orders line.order ≡ false → length orders < most_file_orders
+  pub named : IsTrue (is_name line.order)

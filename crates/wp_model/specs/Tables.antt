@@ -1,25 +1,15 @@
 -- What every stock and all orders keep that were read from tables.
-use Rattle.std.specs.Prelude.{ℕ, ◌≡◌, ◌+◌, ◌<◌, ◌≤◌, ◌==◌, List, [], ◌∷◌, length, Option, Some, None, if◌then◌else◌, slice_get, IsTrue}
+use Rattle.std.specs.Prelude.{ℕ, ◌≡◌, ◌+◌, ◌<◌, ◌≤◌, ◌==◌, List, [], ◌∷◌, length, Option, Some, None, if◌then◌else◌, slice_get, IfSome, IsTrue}
 use Rattle.std.specs.List.{All, sum_by}
+use Rattle.wp_model.specs.History.{Script}
+use Rattle.wp_model.specs.Limits.{most_commands, most_file_orders, most_places, most_rows}
 use Rattle.wp_model.specs.Location.{is_before}
+use Rattle.wp_model.specs.Name.{is_name}
 use Rattle.wp_model.specs.Opening.{IsOrder, IsStockRow, Opening, Order, Stock}
-use Rattle.wp_model.specs.Plain.{is_plain}
+use Rattle.wp_model.specs.Plain.{has_names, is_plain}
 use Rattle.wp_model.specs.Step.{same_location}
-use Rattle.wp_model.specs.declared.command.Command.{Command}
 use Rattle.wp_model.specs.declared.location.Location.{Location}
 use Rattle.wp_model.specs.declared.row.StockRow.{StockRow}
-
--- the most rows that a stock may have
-abbrev pub most_rows : ℕ
-most_rows = 25600
-
--- the most rows that an article may have
-abbrev pub most_places : ℕ
-most_places = 1000
-
--- the most orders that a file may have
-abbrev pub most_order_names : ℕ
-most_order_names = 10000
 
 -- each row lies before those that come after it
 abbrev pub AreRising : List StockRow → Type 0
@@ -35,31 +25,32 @@ abbrev pub row_number_from : ℕ → List StockRow → Location → Option ℕ
 row_number_from number [] location = None
 row_number_from number (row ∷ rows) location = if same_location row.location location then Some number else row_number_from (number + 1) rows location
 
--- not too many rows, in the order of their locations, no two at one; each is a row of the stock's articles, and no article has too many
+-- not too many rows, in the order of their locations, no two at one; each is a row of the stock's articles, and no article has too many;
+-- articles have names
 pub record IsReadStock (stock : Stock) : Type 0 where
   pub rows : All (IsStockRow stock.articles) stock.rows
   pub most : length stock.rows ≤ most_rows
   pub few : length stock.articles ≤ length stock.rows
   pub rise : AreRising stock.rows
   pub places : (article : ℕ) → places_of stock.rows article ≤ most_places
+  pub named : All (λ article. IsTrue (is_name article)) stock.articles
 
--- not too many orders, each of the stock's articles, and no two of one name
+-- not too many orders, each of the stock's articles, with names of which no two are the same
 pub record AreReadOrders (articles : List (List ℕ)) (orders : List Order) : Type 0 where
   pub each : All (IsOrder articles) orders
-  pub most : length orders ≤ most_order_names
+  pub most : length orders ≤ most_file_orders
   pub different : (i j : ℕ) (a b : Order) → slice_get orders i ≡ Some a → slice_get orders j ≡ Some b → a.name ≡ b.name → i ≡ j
+  pub named : All (λ order. IsTrue (is_name order.name)) orders
 
 -- an opening whose tables were read
 pub record IsReadOpening (opening : Opening) : Type 0 where
   pub stock : IsReadStock opening.stock
   pub orders : AreReadOrders opening.stock.articles opening.orders
 
--- the most commands that the desks have together
-abbrev pub most_commands : ℕ
-most_commands = 10000
-
--- the commands of each desk: one desk, not too many commands, and each is plain
-pub record AreReadScripts (scripts : List (List Command)) : Type 0 where
+-- the scripts of desks 1, 2 and so on: of one desk, not too many commands, and each is plain and names names
+pub record AreReadScripts (scripts : List Script) : Type 0 where
   pub desks : length scripts ≡ 1
-  pub most : sum_by length scripts ≤ most_commands
-  pub plain : All (All (λ command. IsTrue (is_plain command))) scripts
+  pub numbered : (i : ℕ) → IfSome (slice_get scripts i) (λ script. script.desk ≡ i + 1)
+  pub most : sum_by (λ script. length script.commands) scripts ≤ most_commands
+  pub plain : All (λ script. All (λ command. IsTrue (is_plain command)) script.commands) scripts
+  pub named : All (λ script. All (λ command. IsTrue (has_names command)) script.commands) scripts

@@ -1,6 +1,7 @@
 -- A warehouse of one block: parallel aisles, joined at both ends by a front and a back cross aisle. Its layout, its
 -- points and the moves between them.
 use Rattle.std.specs.Prelude.{◌≡◌, ℕ, ◌+◌, ◌≤◌, ◌==◌, ◌||◌, ◌⊎◌, if◌then◌else◌}
+use Rattle.wp_model.specs.Limits.{greatest_length, most_aisles, most_slots}
 use Rattle.wp_model.specs.declared.point.Point.{Point}
 
 -- the numbers of aisles and of slots in each; the lengths between neighbouring slots, from an end of an aisle to its
@@ -12,18 +13,6 @@ pub record Layout : Type 0 where
   pub clearance : ℕ
   pub spacing : ℕ
   pub depot : ℕ
-
--- the most aisles that a layout may have
-abbrev pub most_aisles : ℕ
-most_aisles = 64
-
--- the most slots that an aisle may have
-abbrev pub most_slots : ℕ
-most_slots = 200
-
--- the greatest of the three lengths of a layout
-abbrev pub greatest_length : ℕ
-greatest_length = 10000
 
 -- a number is at least 1 and at most this
 abbrev pub IsUpTo : ℕ → ℕ → Type 0

@@ -1,19 +1,18 @@
 ghost use Rattle.std.specs.Prelude.{◌≡◌, ◌≤◌, length, replicate, IsTrue, Some};
 ghost use Rattle.std.specs.List.{list_all};
+ghost use Rattle.wp_model.specs.Limits.{most_name_bytes};
 ghost use Rattle.wp_model.specs.Name.{is_name, is_name_byte, name_in, padded_out};
 
+use crate::limits::MOST_NAME_BYTES;
 use crate::listing::Listing;
 use std::fmt;
 use std::marker::Model;
-
-/// The most bytes that a name has.
-pub const LONGEST_NAME: usize = 40;
 
 /// A name of a wave, an order or an article: 1 to 40 bytes, each an ASCII letter, an ASCII digit, `-`, `_`
 /// or `.`. Contracts see the list of its bytes.
 #[derive(Clone, Copy, Debug, PartialEq, Eq, Hash)]
 pub struct Name {
-    bytes: [u8; 40],
+    bytes: [u8; MOST_NAME_BYTES],
     len: u8,
 }
 
@@ -38,14 +37,14 @@ impl Model for Name {
     ghost inverse_ok = { λ a h i. record { bytes = sym h.1 i; len = sym h.2 i } };
 }
 
-fn zeros() -> [u8; 40]
-    ensures { result ≡ replicate 40 0 }
+fn zeros() -> [u8; MOST_NAME_BYTES]
+    ensures { result ≡ replicate most_name_bytes 0 }
 {
-    [0; 40]
+    [0; MOST_NAME_BYTES]
 }
 
-fn padded(text: &[u8]) -> [u8; 40]
-    requires { length text.now ≤ 40 }
+fn padded(text: &[u8]) -> [u8; MOST_NAME_BYTES]
+    requires { length text.now ≤ most_name_bytes }
     ensures { result ≡ padded_out text.now }
 {
     let mut bytes = zeros();
@@ -68,7 +67,7 @@ fn all_may_stand(text: &[u8]) -> bool
 fn is_name_text(text: &[u8]) -> bool
     ensures { result ≡ is_name text.now }
 {
-    !text.is_empty() && text.len() <= LONGEST_NAME && all_may_stand(text)
+    !text.is_empty() && text.len() <= MOST_NAME_BYTES && all_may_stand(text)
 }
 
 impl Name {

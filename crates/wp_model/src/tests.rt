@@ -63,36 +63,6 @@ fn names_are_accepted_and_refused(rt: HostRuntime) {
     assert_eq!(rt; misread_name(NO_NAMES, false), None);
 }
 
-const NAME_PAIRS: &[(&str, &str, bool)] = &[
-    ("W1", "W1", true),
-    ("W1", "W2", false),
-    ("W1", "V1", false),
-    ("W1", "w1", false),
-    ("W1", "W10", false),
-    ("W1", "W01", false),
-    (LONG, LONG, true),
-    (LONG, "abcdefghijklmnopqrstuvwxyz0123456789-_.", false),
-    (LONG, "abcdefghijklmnopqrstuvwxyz0123456789-_.z", false),
-];
-
-fn are_equal(first: &str, second: &str) -> Option<bool> {
-    Some(Name::new(first.as_bytes())? == Name::new(second.as_bytes())?)
-}
-
-fn miscompared_names() -> Option<(&'static str, &'static str)> {
-    for (first, second, equal) in NAME_PAIRS {
-        if are_equal(first, second) != Some(*equal) {
-            return Some((*first, *second));
-        }
-    }
-    None
-}
-
-#[test]
-fn names_are_equal_where_their_bytes_are(rt: HostRuntime) {
-    assert_eq!(rt; miscompared_names(), None);
-}
-
 const NUMBERS: &[(&str, usize, Option<u64>)] = &[
     ("0", 1, Some(0)),
     ("7", 5, Some(7)),
@@ -360,13 +330,8 @@ fn commands_and_their_copies_are_printed(rt: HostRuntime) {
     assert_eq!(rt; misprinted_command(rt.alloc(), &commands()), Ok(None));
 }
 
-/// Replies, and how they are printed.
-fn replies(order: Name, wave: Name, article: Name) -> [(Reply, &'static str); 27] {
-    let short = Reply::Short {
-        article,
-        wanted: u64::MAX,
-        free: 0,
-    };
+/// Replies of commands that are done, and how they are printed.
+fn done_replies(article: Name) -> [(Reply, &'static str); 8] {
     [
         (Reply::Submitted, "submitted"),
         (Reply::Allotted, "allotted"),
@@ -376,6 +341,12 @@ fn replies(order: Name, wave: Name, article: Name) -> [(Reply, &'static str); 27
         (Reply::Received, "received"),
         (Reply::Refilled(4), "refilled 4"),
         (Reply::Lost { article, units: 5 }, "lost A_3.x 5"),
+    ]
+}
+
+/// Refusals of submits, and how they are printed.
+fn submit_refusals(order: Name, wave: Name) -> [(Reply, &'static str); 6] {
+    [
         (Reply::NoOrders, "refused no-orders"),
         (Reply::WaveFull(65), "refused wave-full 65"),
         (Reply::KnownWave, "refused known-wave"),
@@ -385,27 +356,45 @@ fn replies(order: Name, wave: Name, article: Name) -> [(Reply, &'static str); 27
             Reply::OrderTaken { order, wave },
             "refused order-taken O-2 W1",
         ),
+    ]
+}
+
+fn wrong_state(state: WaveState) -> Reply {
+    Reply::WrongState(state)
+}
+
+/// Refusals by how far a wave is, and how they are printed.
+fn state_refusals() -> [(Reply, &'static str); 6] {
+    [
         (Reply::UnknownWave, "refused unknown-wave"),
         (
-            Reply::WrongState(WaveState::Submitted),
+            wrong_state(WaveState::Submitted),
             "refused wrong-state submitted",
         ),
         (
-            Reply::WrongState(WaveState::Allotted),
+            wrong_state(WaveState::Allotted),
             "refused wrong-state allotted",
         ),
         (
-            Reply::WrongState(WaveState::Released),
+            wrong_state(WaveState::Released),
             "refused wrong-state released",
         ),
         (
-            Reply::WrongState(WaveState::Cancelled),
+            wrong_state(WaveState::Cancelled),
             "refused wrong-state cancelled",
         ),
-        (
-            Reply::WrongState(WaveState::Done),
-            "refused wrong-state done",
-        ),
+        (wrong_state(WaveState::Done), "refused wrong-state done"),
+    ]
+}
+
+/// Refusals by the stock, and how they are printed.
+fn stock_refusals(article: Name) -> [(Reply, &'static str); 7] {
+    let short = Reply::Short {
+        article,
+        wanted: u64::MAX,
+        free: 0,
+    };
+    [
         (short, "refused short A_3.x 18446744073709551615 0"),
         (Reply::Picking, "refused picking"),
         (Reply::NotHeld(PLACE), "refused not-held 3-17-L"),
@@ -430,8 +419,19 @@ fn misprinted_reply(
 
 #[test]
 fn replies_are_printed(rt: HostRuntime) {
-    let replies = replies(order(), wave(), article());
-    assert_eq!(rt; misprinted_reply(rt.alloc(), &replies), Ok(None));
+    assert_eq!(rt;
+        misprinted_reply(rt.alloc(), &done_replies(article())),
+        Ok(None)
+    );
+    assert_eq!(rt;
+        misprinted_reply(rt.alloc(), &submit_refusals(order(), wave())),
+        Ok(None)
+    );
+    assert_eq!(rt; misprinted_reply(rt.alloc(), &state_refusals()), Ok(None));
+    assert_eq!(rt;
+        misprinted_reply(rt.alloc(), &stock_refusals(article())),
+        Ok(None)
+    );
 }
 
 fn entry(number: u64, desk: u32, reply: Reply) -> Entry {
@@ -476,6 +476,6 @@ fn entries_and_their_copies_are_printed(rt: HostRuntime) {
 }
 
 #[test]
-fn want_of_memory_is_told(rt: HostRuntime) {
+fn lack_of_memory_is_told(rt: HostRuntime) {
     assert_eq!(rt; prints(rt.alloc(), &Memory, "out of memory"), Ok(true));
 }

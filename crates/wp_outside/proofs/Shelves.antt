@@ -18,8 +18,8 @@ beside_first (n ∷ ns) [] name same = refl
 beside_first (n ∷ ns) (c ∷ cs) name same =
     let rest = beside_first ns cs name (omega arith) in
     let Is : Bool → Type 0 = λ b. option_map (λ file. file.1)
-            (cond b (Some (string_bytes n, c.items)) (find (λ file. bytes_eq file.0 name) (files_of ns cs))) ≡ option_map (λ bytes. bytes.items)
-            (slice_get (c ∷ cs) (cond (not b) (1 + position_or_len (λ known. bytes_eq (string_bytes known) name) ns) 0)) in
+    (cond b (Some (string_bytes n, c.items)) (find (λ file. bytes_eq file.0 name) (files_of ns cs))) ≡ option_map (λ bytes. bytes.items)
+    (slice_get (c ∷ cs) (cond (not b) (1 + position_or_len (λ known. bytes_eq (string_bytes known) name) ns) 0)) in
     elim (bytes_eq (string_bytes n) name) as Is [ true ↦ refl | false ↦ rw one-add rest ]
 
 -- a name that a search of the names doesn't find holds nothing

@@ -1,10 +1,10 @@
 -- What reading and writing promise, over the meanings that an implementation gives.
 use Rattle.std.specs.Prelude.{◌≡◌, ℕ, ◌<◌, ◌≤◌, List, ◌++◌, length, take, Option, option_map}
-use Rattle.wp_outside.specs.declared.files.TheConstants.{MAX_FILE_BYTES}
+use Rattle.wp_model.specs.Limits.{most_file_bytes}
 
 -- a file has more bytes than a file may have
 abbrev pub IsTooLong : List ℕ → Type 0
-IsTooLong bytes = MAX_FILE_BYTES < length bytes
+IsTooLong bytes = most_file_bytes < length bytes
 
 -- each name holds what it held, told or not
 abbrev pub SameBytes : (List ℕ → Option (List ℕ)) → (List ℕ → Option (List ℕ)) → Type 0

@@ -35,7 +35,7 @@ impl Calls {
     }
 
     /// Numbers the next call, and tells whether it fails: because its number says so, or because it
-    /// is lost in any case. There is no number after 2^64 - 1, which is answered as want of memory.
+    /// is lost in any case. There is no number after 2^64 - 1, which is answered as out of memory.
     pub(crate) fn next_fails(&mut self, is_lost: bool) -> Result<bool, Memory>
         ensures numbered { is_ok result ≡ has_number self.old }
         ensures fails { IfOk result (λ fails. fails ≡ (is_to_fail self.old || is_lost)) }

@@ -24,7 +24,7 @@ impl FaultCount {
         FaultCount { count: 0 }
     }
 
-    /// One fault more. A count at its end cannot rise, which is answered as want of memory.
+    /// One fault more. A count at its end cannot rise, which is answered as out of memory.
     pub(crate) fn raise(&mut self) -> Result<(), Memory>
         ensures risen { OnOk result (self.new ≡ self.old + 1) }
         ensures at_its_end { OnErr result ((self.old ≡ u64.MAX) × (self.new ≡ self.old)) }

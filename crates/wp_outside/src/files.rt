@@ -8,15 +8,12 @@ use std::error::Error;
 use std::fmt;
 use wp_model::Memory;
 
-/// The most bytes that a file may have.
-pub const MAX_FILE_BYTES: usize = 16_777_216;
-
 /// Why a file was not read.
 #[derive(Clone, Copy, Debug, PartialEq, Eq)]
 pub enum FileFault {
     /// The file is not there, or the device failed.
     Failed,
-    /// The file has more than `MAX_FILE_BYTES` bytes.
+    /// The file has more than `MOST_FILE_BYTES` bytes.
     TooLong,
     /// There was no memory for its bytes.
     Memory,
@@ -62,8 +59,8 @@ pub trait Files {
 
     /// All the bytes of the file of this name. No read changes what a name holds, nor whether that is
     /// told, and no count falls. `Failed` comes only where the count of this name rose in this call.
-    /// Where the bytes are told, `TooLong` comes exactly where they are more than `MAX_FILE_BYTES`
-    /// and that count did not rise, want of memory apart.
+    /// Where the bytes are told, `TooLong` comes exactly where they are more than `MOST_FILE_BYTES`
+    /// and that count did not rise, unless memory runs out.
     fn read(&mut self, alloc: Global, name: &str) -> Result<Vec<u8>, FileFault>
         ensures bytes { IfOk result (λ read.
             IfSome (holds self.old name.now) (λ told. read.items ≡ told)) }

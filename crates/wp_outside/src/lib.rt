@@ -1,5 +1,5 @@
 //! What a program meets outside itself: files that are read whole, a sink that takes text, and the
-//! answer for want of memory.
+//! answer where memory runs out.
 //!
 //! Files and a sink are traits with a written meaning: the bytes that each name holds, the bytes
 //! that a sink has taken, and counts of faults that never fall. Code that is generic over them is
@@ -21,7 +21,7 @@ mod sink;
 mod std_sink;
 mod writing;
 
-pub use files::{FileFault, Files, MAX_FILE_BYTES};
+pub use files::{FileFault, Files};
 pub use flushing::Tells;
 pub use mem_files::MemFiles;
 pub use mem_sink::MemSink;
@@ -30,7 +30,7 @@ pub use opener::{Opens, SystemFiles};
 pub use real_files::RealFiles;
 pub use sink::{Sink, SinkFault};
 pub use std_sink::StdSink;
-pub use wp_model::Memory;
+pub use wp_model::{MOST_FILE_BYTES, Memory};
 pub use writing::write_text;
 
 #[cfg(test)]

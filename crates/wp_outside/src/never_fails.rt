@@ -1,8 +1,9 @@
 ghost use Rattle.std.specs.Prelude.{◌≡◌, ◌≤◌, ◌++◌, [], Some, length, vec_len, IfOk, OnOk, OnErr, IsErrOf};
+ghost use Rattle.wp_model.specs.Limits.{most_file_bytes};
 ghost use Rattle.wp_outside.specs.Outside.{IsTooLong};
 ghost use Rattle.wp_outside.specs.InMemory.{files_of, bytes_or_empty};
 
-use crate::files::{FileFault, Files, MAX_FILE_BYTES};
+use crate::files::{FileFault, Files};
 use crate::shelf::{Shelf, whole_copy};
 use crate::sink::{Sink, SinkFault};
 use std::alloc::Global;
@@ -54,7 +55,7 @@ impl Files for NeverFails {
     fn read(&mut self, alloc: Global, name: &str) -> Result<Vec<u8>, FileFault>
         ensures bytes { IfOk result (λ read. read.items ≡ bytes_or_empty self.old.files name.now) }
         ensures fits { OnOk result
-            (length (bytes_or_empty self.old.files name.now) ≤ MAX_FILE_BYTES) }
+            (length (bytes_or_empty self.old.files name.now) ≤ most_file_bytes) }
         ensures too_long { IsErrOf result FileFault.TooLong
             → IsTooLong (bytes_or_empty self.old.files name.now) }
         ensures no_fault { ¬ IsErrOf result FileFault.Failed }

@@ -1,16 +1,18 @@
 ghost use Rattle.std.specs.Prelude.{◌≡◌, ◌≢◌, ◌≤◌, ◌+◌, ◌⊎◌, vec_len, IfOk, IfSome, IsErrOf};
 ghost use Rattle.std.specs.IoError.{error_kind};
 ghost use Rattle.std.specs.declared.io.ErrorKind.TheVariants.{OutOfMemory};
+ghost use Rattle.wp_model.specs.Limits.{most_file_bytes};
 ghost use Rattle.wp_outside.specs.Outside.{IsTooLong};
 ghost use Rattle.wp_outside.specs.declared.files.FileFault.TheVariants.{Failed, Memory as MemoryFault};
 
 use crate::fault_count::FaultCount;
-use crate::files::{FileFault, Files, MAX_FILE_BYTES};
+use crate::files::{FileFault, Files};
 use crate::opener::Opens;
 use std::alloc::{AllocError, Global};
 use std::io;
 use std::io::Read;
 use std::marker::Model;
+use wp_model::MOST_FILE_BYTES;
 
 /// How many bytes one read asks for.
 const PIECE_BYTES: usize = 65_536;
@@ -88,7 +90,7 @@ impl From<io::Error> for FileFault {
 fn open_and_read<O: Opens>(opener: &O, alloc: Global, name: &str) -> Result<Vec<u8>, FileFault>
     ensures bytes { IfOk result (λ bytes.
         IfSome (O.holds opener.now name.now) (λ told. bytes.items ≡ told)) }
-    ensures fits { IfOk result (λ bytes. vec_len bytes ≤ MAX_FILE_BYTES) }
+    ensures fits { IfOk result (λ bytes. vec_len bytes ≤ most_file_bytes) }
     ensures too_long { IsErrOf result FileFault.TooLong
         → IfSome (O.holds opener.now name.now) IsTooLong }
 {
@@ -100,14 +102,14 @@ fn open_and_read<O: Opens>(opener: &O, alloc: Global, name: &str) -> Result<Vec<
 fn read_to_limit<F: Read>(file: &mut F, alloc: Global) -> Result<Vec<u8>, FileFault>
     ensures bytes { IfOk result (λ bytes.
         IfSome (F.remaining file.old) (λ told. bytes.items ≡ told)) }
-    ensures fits { IfOk result (λ bytes. vec_len bytes ≤ MAX_FILE_BYTES) }
+    ensures fits { IfOk result (λ bytes. vec_len bytes ≤ most_file_bytes) }
     ensures too_long { IsErrOf result FileFault.TooLong
         → IfSome (F.remaining file.old) IsTooLong }
 {
     let mut bytes = Vec::new(alloc);
     let mut piece = room_for_a_piece(alloc)?;
-    while bytes.len() <= MAX_FILE_BYTES {
-        let room = PIECE_BYTES.min(MAX_FILE_BYTES + 1 - bytes.len());
+    while bytes.len() <= MOST_FILE_BYTES {
+        let room = PIECE_BYTES.min(MOST_FILE_BYTES + 1 - bytes.len());
         let part = &mut piece[..room];
         let count = file.read(part)?;
         if count == 0 {

@@ -1,11 +1,13 @@
 ghost use Rattle.std.specs.Prelude.{◌≡◌, ◌≤◌, length, vec_len, position, string_bytes, option_copied, IfOk, OnOk, IsErrOf};
 ghost use Rattle.std.specs.Str.{bytes_eq};
+ghost use Rattle.wp_model.specs.Limits.{most_file_bytes};
 ghost use Rattle.wp_outside.specs.Outside.{IsTooLong};
 ghost use Rattle.wp_outside.specs.InMemory.{files_of, bytes_of};
 
-use crate::files::{FileFault, MAX_FILE_BYTES};
+use crate::files::FileFault;
 use std::alloc::Global;
 use std::marker::Model;
+use wp_model::MOST_FILE_BYTES;
 
 /// Names, and beside each its bytes. Clauses see a list of pairs.
 #[derive(Drop)]
@@ -53,11 +55,11 @@ fn first_place(names: &Vec<String>, name: &str) -> Option<usize>
 /// A copy of a file's bytes, unless they are too many.
 pub(crate) fn whole_copy(alloc: Global, bytes: &[u8]) -> Result<Vec<u8>, FileFault>
     ensures copy { IfOk result (λ copy. copy.items ≡ bytes.now) }
-    ensures fits { OnOk result (length bytes.now ≤ MAX_FILE_BYTES) }
+    ensures fits { OnOk result (length bytes.now ≤ most_file_bytes) }
     ensures too_long { IsErrOf result FileFault.TooLong → IsTooLong bytes.now }
     ensures no_fault { ¬ IsErrOf result FileFault.Failed }
 {
-    if bytes.len() > MAX_FILE_BYTES {
+    if bytes.len() > MOST_FILE_BYTES {
         return Err(FileFault::TooLong);
     }
     Ok(bytes.to_vec(alloc)?)

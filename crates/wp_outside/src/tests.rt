@@ -10,8 +10,8 @@ const TEXT: &[u8] = b"first\nsecond\n";
 
 /// Lengths of files, and why they aren't read.
 const LENGTHS: &[(usize, Option<FileFault>)] = &[
-    (MAX_FILE_BYTES, None),
-    (MAX_FILE_BYTES + 1, Some(FileFault::TooLong)),
+    (MOST_FILE_BYTES, None),
+    (MOST_FILE_BYTES + 1, Some(FileFault::TooLong)),
 ];
 
 /// Names, each with a content of its own.

@@ -37,6 +37,7 @@ drop_got (y ∷ xs) (suc i) x at = let e : suc i + 1 ≡ suc (i + 1) = omega ari
 pub all_but_first : {A : Type 0} (test : A → Bool) (x : A) (xs : List A) → test x ≡ false → list_all test (x ∷ xs) ≡ false
 all_but_first test x xs fails = rw fails refl
 
+-- where the first item passes, all do where the others do
 pub all_from_first : {A : Type 0} (test : A → Bool) (x : A) (xs : List A) → test x ≡ true → list_all test (x ∷ xs) ≡ list_all test xs
 all_from_first test x xs passes = rw passes refl
 
@@ -54,12 +55,12 @@ pub three_left : {A : Type 0} (xs : List A) (at : ℕ) (a b c : A) → length xs
 three_left xs at a b c three within first second third =
     drop_got xs at a first
     ∙ ap (λ rest. a ∷ rest) (drop_then xs (at + 1) (at + 2) b (omega arith) second
-        ∙ ap (λ rest. b ∷ rest) (drop_then xs (at + 2) (at + 3) c (omega arith) third ∙ ap (λ rest. c ∷ rest) (drop_all (at + 3) xs (omega arith))))
+    ∙ ap (λ rest. b ∷ rest) (drop_then xs (at + 2) (at + 3) c (omega arith) third ∙ ap (λ rest. c ∷ rest) (drop_all (at + 3) xs (omega arith))))
 
 -- and the last four
 pub four_left : {A : Type 0} (xs : List A) (at : ℕ) (a b c d : A) → length xs - at ≡ 4 → at ≤ length xs
     → slice_get xs at ≡ Some a → slice_get xs (at + 1) ≡ Some b → slice_get xs (at + 2) ≡ Some c → slice_get xs (at + 3) ≡ Some d
-        → drop at xs ≡ a ∷ b ∷ c ∷ d ∷ []
+    → drop at xs ≡ a ∷ b ∷ c ∷ d ∷ []
 four_left xs at a b c d four within first second third fourth =
     drop_got xs at a first
     ∙ ap (λ rest. a ∷ rest) (drop_then xs (at + 1) (at + 2) b (omega arith) second
@@ -90,9 +91,11 @@ four_else (a ∷ b ∷ c ∷ d ∷ e ∷ rest) other = refl
 pub not_one_left : (xs : List (List ℕ)) (at : ℕ) → length xs - at ≢ 1 → one_of (drop at xs) ≡ Err why.Columns
 not_one_left xs at other = one_else (drop at xs) (λ e. other (sym (length-drop at xs) ∙ e))
 
+-- fields of which not three are left have the wrong number
 pub not_three_left : (xs : List (List ℕ)) (at : ℕ) → length xs - at ≢ 3 → three_of (drop at xs) ≡ Err why.Columns
 not_three_left xs at other = three_else (drop at xs) (λ e. other (sym (length-drop at xs) ∙ e))
 
+-- and so have those of which not four are left
 pub not_four_left : (xs : List (List ℕ)) (at : ℕ) → length xs - at ≢ 4 → four_of (drop at xs) ≡ Err why.Columns
 not_four_left xs at other = four_else (drop at xs) (λ e. other (sym (length-drop at xs) ∙ e))
 

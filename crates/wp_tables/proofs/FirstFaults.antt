@@ -13,7 +13,7 @@ use Rattle.wp_tables.specs.declared.fault.Why.{Why}
 first_or_later : {A : Type 0} (next : A → Record → Result A Why) (nothing : A) (kept : Kept) (more : List Kept) (fault : RowFault) (given : Result A Why)
     → next nothing kept.fields ≡ given
     → and_then (at_row kept.number given) (λ made. made_by next made more) ≡ Err fault
-        → ((made : A) → made_by next made more ≡ Err fault → IsFirstFault next made more fault) → IsFirstFault next nothing (kept ∷ more) fault
+    → ((made : A) → made_by next made more ≡ Err fault → IsFirstFault next made more fault) → IsFirstFault next nothing (kept ∷ more) fault
 first_or_later next nothing kept more fault (Err why) is e later =
     let same : fault_at kept.number why ≡ fault = cc e in
     record {
@@ -71,7 +71,7 @@ numbered_from : (n : ℕ) (records : List Record) → AllByRecursion (IsAmongFro
 numbered_from n [] = tt
 numbered_from n (first ∷ records) =
     kept_or_not n first records (trimmed first) (kept_from (n + 1) records) refl
-        (later_too n first records (kept_from (n + 1) records) (numbered_from (n + 1) records))
+    (later_too n first records (kept_from (n + 1) records) (numbered_from (n + 1) records))
 
 from_one : (records : List Record) (kept : List Kept) → AllByRecursion (IsAmongFrom 1 records) kept → AllByRecursion (IsAmong records) kept
 from_one records [] all = tt

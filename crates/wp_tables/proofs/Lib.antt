@@ -8,3 +8,5 @@ pub mod RowSearch
 pub mod Parts
 pub mod Arguments
 pub mod FirstFaults
+pub mod DeskScripts
+pub mod ReadNames

@@ -14,11 +14,13 @@ use Rattle.wp_model.specs.declared.row.Line.{Line}
 use Rattle.wp_model.proofs.NameEq.{bytes_eq_flips, found_there}
 use Rattle.wp_tables.specs.Orders.{lines_in, name_of, orders_of_parts}
 
+-- there is an order for each name
 pub parts_length : (names : List (List ℕ)) (lines : List (Vec Line Global)) → length lines ≡ length names → length (orders_of_parts names lines) ≡ length names
 parts_length [] lines same = refl
 parts_length (name ∷ names) [] same = absurd (omega arith)
 parts_length (name ∷ names) (v ∷ lines) same = omega (arith, parts_length names lines (omega arith))
 
+-- an order of a name is known where the name is among the names
 pub parts_known : (names : List (List ℕ)) (lines : List (Vec Line Global)) (order : List ℕ) → length lines ≡ length names
     → is_known_order (orders_of_parts names lines) order ≡ is_among names order
 parts_known [] lines order same = refl
@@ -35,7 +37,7 @@ neither true q e = absurd (cc e)
 parts_lines_if : (b : Bool) (i : ℕ) (order : List ℕ) (names : List (List ℕ)) (lines : List (Vec Line Global)) (v w : Vec Line Global)
     → slice_get (v ∷ lines) (if not b then 1 + i else 0) ≡ Some w
     → (slice_get lines i ≡ Some w → lines_of (orders_of_parts names lines) order ≡ w.items)
-        → (if b then v.items else lines_of (orders_of_parts names lines) order) ≡ w.items
+    → (if b then v.items else lines_of (orders_of_parts names lines) order) ≡ w.items
 parts_lines_if true i order names lines v w at rest = let same : v ≡ w = cc in ap (λ (x : Vec Line Global). x.items) same
 parts_lines_if false i order names lines v w at rest = rest (after_first lines v w i at)
 
@@ -84,7 +86,7 @@ parts_added (name ∷ names) [] line old new at more same = absurd (omega arith)
 parts_added (name ∷ names) (v ∷ lines) line old new at more same =
     rw (bytes_eq_flips name line.order)
     (parts_added_if (bytes_eq line.order name) (number_among names line.order) line name names v lines old new at more
-        (λ there. parts_added names lines line old new there more (omega arith)))
+    (λ there. parts_added names lines line old new there more (omega arith)))
 
 -- a line of a new order comes last
 pub parts_new : (names : List (List ℕ)) (lines : List (Vec Line Global)) (line : OrderLine) (first : Vec Line Global)

@@ -52,7 +52,7 @@ longer false names name among =
 pub places_joined : (stock : Stock) (line : StockLine) (places counts : List ℕ) (place : ℕ) → ArePlaces stock places
     → place ≡ number_among stock.articles line.article
     → ((article : ℕ) → slice_index counts article ≡ slice_index places article + (if place == article then 1 else 0))
-        → length counts ≡ max (length places) (place + 1) → ArePlaces (add_line stock line) counts
+    → length counts ≡ max (length places) (place + 1) → ArePlaces (add_line stock line) counts
 places_joined stock line places counts place are number more length_is =
     let names = stock.articles in
     let row = row_of (join names line.article) line in

@@ -66,7 +66,7 @@ no_longer (a ∷ b ∷ c ∷ rest) = no_longer_if (is_bom a b c) a b c rest
 -- a reader that took a record
 pub took : (before after : Records) (fields : List (List ℕ)) → IsReading before
     → ReadRecord (λ (text : Bor (List ℕ)). Some text.now) before.reader after.reader true fields → is_flexible after.reader ≡ is_flexible before.reader
-        → took_first after.reader ≡ true → after.number ≡ before.number + 1
+    → took_first after.reader ≡ true → after.number ≡ before.number + 1
     → TakesRecord before fields after
 unfolding Reached
 took before after fields reading read flexible first number =

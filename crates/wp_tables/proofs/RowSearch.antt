@@ -17,7 +17,8 @@ use Rattle.wp_model.specs.declared.location.Side.TheVariants as side
 use Rattle.wp_model.specs.declared.row.StockRow.{StockRow}
 use Rattle.wp_model.proofs.Elements.{within_some}
 use Rattle.wp_model.proofs.ReadStock.{before_trans}
-use Rattle.wp_tables.proofs.ByLocation.{before_by_cmp, location_cmp, same_by_cmp}
+use Rattle.wp_model.proofs.LocationOrder.{before_by_cmp, same_by_cmp}
+use Rattle.wp_model.specs.Location.{location_cmp}
 
 -- the same by the first number and the rest
 lex_apart : (p q s : ℕ) (u v w : Bool) → (nat_lt p q || ((p == q) && u)) ≡ true → ((q == s) && v) ≡ true → (u ≡ true → v ≡ true → w ≡ false)
@@ -150,7 +151,7 @@ not_same cmp agrees a b o answer other = same_flips a b ∙ sym (same_by_cmp a b
 pub searched : (cmp : Location → Location → Ordering) (agrees : (a b : Location) → cmp a b ≡ location_cmp a b) (rows : List StockRow) (location : Location)
     (r : Result ℕ ℕ) → AreRising rows
     → IsSearchInRange r (length rows) → IsBinarySearchResult (λ row. cmp row.location location) rows r
-        → MatchResult r (λ i. Some i ≡ row_number_from 0 rows location) (λ i. None ≡ row_number_from 0 rows location)
+    → MatchResult r (λ i. Some i ≡ row_number_from 0 rows location) (λ i. None ≡ row_number_from 0 rows location)
 searched cmp agrees rows location (Ok i) rising within is =
     let (x, at) = within_some rows i within in
     let got = get_or_from_slice_get rows i x x at in

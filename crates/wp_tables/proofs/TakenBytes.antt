@@ -65,26 +65,28 @@ record_at_end s fields field c p e =
       | inr none ↦ absurd (cc (none.1))
     ]
 
+-- the next record takes at least the first byte
 pub record_takes : (s : State) (fields : List (List ℕ)) (field : List ℕ) (c : ℕ) (rest : List ℕ) (p : Read)
     → next_record default_config s fields field (c ∷ rest) ≡ Some p → TakesBytes (c ∷ rest) p
 unfolding next_record
 record_takes s fields field c [] p e =
     let next = step default_config s c in
     elim (took (is_end next.1) (fields_after next.1 fields field, next.0, []) p
-        (next_record default_config next.0 (fields_after next.1 fields field) (field_after next.1 c field) []) e) [
+    (next_record default_config next.0 (fields_after next.1 fields field) (field_after next.1 c field) []) e) [
       | inl found ↦ subst (TakesBytes (c ∷ [])) found.1 (omega arith, rests_after_byte s c found.0)
       | inr more ↦ record_at_end next.0 (fields_after next.1 fields field) (field_after next.1 c field) c p more.1
     ]
 record_takes s fields field c (d ∷ rest) p e =
     let next = step default_config s c in
     elim (took (is_end next.1) (fields_after next.1 fields field, next.0, d ∷ rest) p
-        (next_record default_config next.0 (fields_after next.1 fields field) (field_after next.1 c field) (d ∷ rest)) e) [
+    (next_record default_config next.0 (fields_after next.1 fields field) (field_after next.1 c field) (d ∷ rest)) e) [
       | inl found ↦ subst (TakesBytes (c ∷ d ∷ rest)) found.1 (omega arith, rests_after_byte s c found.0)
       | inr more ↦
           let (shorter, rests) = record_takes next.0 (fields_after next.1 fields field) (field_after next.1 c field) d rest p more.1 in
           (omega arith, rests)
     ]
 
+-- at the end of the bytes there is no further record, unless one had begun
 pub no_record_at_end : (s : State) → ends_at_end s ≡ false → next_record default_config s [] [] [] ≡ None
 unfolding next_record
 no_record_at_end s rests = rw rests refl

@@ -5,7 +5,8 @@ use Rattle.std.specs.List.{count_by}
 use Rattle.std.specs.Option.{ok_or}
 use Rattle.std.specs.Str.{bytes_eq}
 use Rattle.wp_model.specs.TableLines.{Record}
-use Rattle.wp_model.specs.Tables.{most_commands}
+use Rattle.wp_model.specs.History.{Script}
+use Rattle.wp_model.specs.Limits.{most_commands, most_named, most_submissions}
 use Rattle.wp_model.specs.declared.command.Command.{Command}
 use Rattle.wp_model.specs.declared.command.Command.TheVariants as command
 use Rattle.wp_model.specs.declared.location.Location.{Location}
@@ -17,17 +18,9 @@ use Rattle.wp_tables.specs.Records.{kept_in}
 use Rattle.wp_tables.specs.declared.fault.RowFault.{RowFault}
 use Rattle.wp_tables.specs.declared.fault.Why.{Why}
 use Rattle.wp_tables.specs.declared.fault.Why.TheVariants as why
-use Rattle.wp_tables.specs.declared.scripts.HeldUnits.{HeldUnits}
+use Rattle.wp_tables.specs.declared.scripts.NamedHold.{NamedHold}
 use Rattle.wp_tables.specs.declared.word.Word.{Word}
 use Rattle.wp_tables.specs.declared.word.Word.TheVariants as word
-
--- the most records of a desk file that submit a wave
-abbrev pub most_submissions : ℕ
-most_submissions = 500
-
--- the most orders that such a record may name
-abbrev pub most_named : ℕ
-most_named = 100
 
 -- the command that a word names
 abbrev pub word_of : List ℕ → Option Word
@@ -66,7 +59,7 @@ abbrev pub of_wave : (List ℕ → Command) → Record → Result Command Why
 of_wave make arguments = and_then (wave_of arguments) (λ wave. Ok (make wave))
 
 -- the units that four arguments name: a wave, an order, a location and a quantity
-abbrev pub hold_of : Record → Result HeldUnits Why
+abbrev pub hold_of : Record → Result NamedHold Why
 hold_of arguments = and_then (four_of arguments)
     (λ four. and_then (name_read four.0)
     (λ wave. and_then (name_read four.1)
@@ -145,6 +138,6 @@ script_after commands fields = and_then (command_after commands fields) (λ c. O
 abbrev pub desks_heading : Record
 desks_heading = codes "desk" ∷ codes "command" ∷ codes "arguments" ∷ []
 
--- the scripts that a desk file says, that of the one desk; or the first record that fails and its first failing test
-abbrev pub scripts_said : List ℕ → Result (List (List Command)) RowFault
-scripts_said text = and_then (table_of desks_heading script_after [] (kept_in text)) (λ commands. Ok (commands ∷ []))
+-- the scripts that a desk file says, that of desk 1 alone; or the first record that fails and its first failing test
+abbrev pub scripts_said : List ℕ → Result (List Script) RowFault
+scripts_said text = and_then (table_of desks_heading script_after [] (kept_in text)) (λ commands. Ok (record { desk = 1; commands = commands } ∷ []))

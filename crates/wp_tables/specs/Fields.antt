@@ -7,7 +7,7 @@ use Rattle.std.specs.Str.{is_utf8}
 use Rattle.wp_model.specs.Location.{location_of}
 use Rattle.wp_model.specs.Name.{name_in}
 use Rattle.wp_model.specs.Number.{number_of}
-use Rattle.wp_model.specs.Opening.{most_quantity}
+use Rattle.wp_model.specs.Limits.{most_quantity}
 use Rattle.wp_model.specs.TableLines.{Record}
 use Rattle.wp_model.specs.declared.location.Location.{Location}
 use Rattle.wp_model.specs.Outcomes.{and_then}

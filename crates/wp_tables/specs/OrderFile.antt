@@ -1,9 +1,9 @@
 -- What an order file says.
 use Rattle.std.specs.Prelude.{ℕ, nat_lt, List, [], ◌∷◌, length, codes, if◌then◌else◌, Result, Ok, Err}
 use Rattle.std.specs.Option.{ok_or}
-use Rattle.wp_model.specs.Opening.{Order, Stock, is_known_order, lines_of, most_lines}
+use Rattle.wp_model.specs.Opening.{Order, Stock, is_known_order, lines_of}
+use Rattle.wp_model.specs.Limits.{most_file_orders, most_lines}
 use Rattle.wp_model.specs.TableLines.{Record, add_order_line, article_in}
-use Rattle.wp_model.specs.Tables.{most_order_names}
 use Rattle.wp_model.specs.declared.line.OrderLine.{OrderLine}
 use Rattle.wp_tables.specs.Fields.{Three, name_read, quantity_read, three_texts}
 use Rattle.wp_tables.specs.Reading.{table_of}
@@ -17,7 +17,7 @@ use Rattle.wp_tables.specs.declared.fault.Why.TheVariants as why
 abbrev pub order_with_room : List Order → List ℕ → Result (List ℕ) Why
 order_with_room orders name =
     if is_known_order orders name then (if nat_lt (length (lines_of orders name)) most_lines then Ok name else Err why.TooManyLines)
-    else if nat_lt (length orders) most_order_names then Ok name else Err why.TooManyOrders
+    else if nat_lt (length orders) most_file_orders then Ok name else Err why.TooManyOrders
 
 -- the order of a further line
 abbrev pub order_read : List Order → List ℕ → Result (List ℕ) Why

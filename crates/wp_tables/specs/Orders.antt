@@ -1,8 +1,8 @@
 -- Orders by their names and their lines.
 use Rattle.std.specs.Prelude.{◌≡◌, ℕ, ◌<◌, false, List, [], ◌∷◌, Vec, length}
 use Rattle.std.specs.declared.alloc.Global.{Global}
-use Rattle.wp_model.specs.Opening.{Order, is_known_order, lines_of, most_lines}
-use Rattle.wp_model.specs.Tables.{most_order_names}
+use Rattle.wp_model.specs.Opening.{Order, is_known_order, lines_of}
+use Rattle.wp_model.specs.Limits.{most_file_orders, most_lines}
 use Rattle.wp_model.specs.declared.row.Line.{Line}
 
 -- the orders of these names with these lines, one by one
@@ -22,4 +22,4 @@ lines_in order = order.lines
 -- there is room for a line of the order with a name
 pub record HasRoom (orders : List Order) (name : List ℕ) : Type 0 where
   pub short : length (lines_of orders name) < most_lines
-  pub few : is_known_order orders name ≡ false → length orders < most_order_names
+  pub few : is_known_order orders name ≡ false → length orders < most_file_orders

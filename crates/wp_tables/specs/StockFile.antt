@@ -1,9 +1,9 @@
 -- What a stock file says.
 use Rattle.std.specs.Prelude.{ℕ, ◌&&◌, nat_le, nat_lt, Bool, List, [], ◌∷◌, length, codes, if◌then◌else◌, Result, Ok, Err}
 use Rattle.std.specs.List.{list_any}
-use Rattle.wp_model.specs.Opening.{Stock, most_on_hand}
+use Rattle.wp_model.specs.Opening.{Stock}
+use Rattle.wp_model.specs.Limits.{most_on_hand, most_places, most_rows}
 use Rattle.wp_model.specs.TableLines.{Record, add_line, empty_stock, lies_at, places_named}
-use Rattle.wp_model.specs.Tables.{most_places, most_rows}
 use Rattle.wp_model.specs.Warehouse.{Layout}
 use Rattle.wp_model.specs.declared.line.StockLine.{StockLine}
 use Rattle.wp_model.specs.declared.location.Location.{Location}
@@ -23,7 +23,7 @@ is_inside layout location = nat_le 1 location.aisle && nat_le location.aisle lay
 abbrev pub free_location : Layout → Stock → List ℕ → Result Location Why
 free_location layout stock field = and_then (location_read field)
     (λ location. if is_inside layout location then (if list_any (lies_at location) stock.rows then Err why.LocationTwice else Ok location) else Err
-        why.UnknownLocation)
+    why.UnknownLocation)
 
 -- the article of a further row
 abbrev pub article_with_room : Stock → List ℕ → Result (List ℕ) Why

@@ -4,15 +4,14 @@ ghost use Rattle.std.specs.List.{list_all};
 ghost use Rattle.std.specs.Result.{result_map_both};
 ghost use Rattle.std.specs.Str.{is_utf8};
 ghost use Rattle.csv.specs.Records.{fields_of};
-ghost use Rattle.wp_model.specs.Opening.{most_quantity};
+ghost use Rattle.wp_model.specs.Limits.{most_quantity};
 ghost use Rattle.wp_model.specs.Plain.{is_plain_location};
-ghost use Rattle.wp_tables.specs.Fields.{four_now, four_of, location_read, name_read, number_read, one_of, quantity_read, same_fault, three_now, three_of, three_texts};
+ghost use Rattle.wp_tables.specs.Fields.{four_now, four_of, location_read, name_read, number_read, one_of, quantity_read, same_fault, three_now, three_of};
+ghost use Rattle.wp_tables.specs.Fields.{three_texts};
 
 use crate::fault::Why;
 use csv::ByteRecord;
-use wp_model::{Location, Name, read_number};
-
-const MOST_QUANTITY: u32 = 100_000;
+use wp_model::{Location, MOST_QUANTITY, Name, read_number};
 
 /// The field at a place of a record, counted from 0.
 pub fn field_of(fields: &ByteRecord, i: usize) -> &[u8]

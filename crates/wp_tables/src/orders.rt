@@ -16,11 +16,7 @@ use csv::ByteRecord;
 use indexmap::IndexSet;
 use std::alloc::Global;
 use std::marker::Model;
-use wp_model::{Line, Memory, Name, OrderLine};
-
-const MOST_ORDERS: u32 = 10_000;
-
-const MOST_LINES: usize = 50;
+use wp_model::{Line, MOST_FILE_ORDERS, MOST_LINES, Memory, Name, OrderLine};
 
 /// The orders of a warehouse in the order of their first appearance in the order file, numbered from 0. Contracts
 /// see the list of the orders, each with its name and its lines.
@@ -77,8 +73,8 @@ impl Orders {
         ensures room { IfOk result (HasRoom self.now) }
     {
         match self.lines_of(&name) {
-            Some(lines) if lines >= MOST_LINES => Err(Why::TooManyLines),
-            None if self.count() >= MOST_ORDERS => Err(Why::TooManyOrders),
+            Some(lines) if lines >= MOST_LINES as usize => Err(Why::TooManyLines),
+            None if self.count() >= MOST_FILE_ORDERS => Err(Why::TooManyOrders),
             _ => Ok(name),
         }
     }

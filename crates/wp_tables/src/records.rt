@@ -79,7 +79,8 @@ impl<'a> Records<'a> {
     /// comes exactly where there is none.
     pub fn next(&mut self, fields: &mut ByteRecord) -> Result<Option<u64>, Memory>
         requires { IsReading self.old }
-        ensures next { IfOk result (λ number. MatchOption number (kept_left self.old ≡ []) (λ n. kept_left self.old ≡ record { number = n; fields = fields_of fields.new } ∷ kept_left self.new)) }
+        ensures next { IfOk result (λ number. MatchOption number (kept_left self.old ≡ [])
+            (λ n. kept_left self.old ≡ record { number = n; fields = fields_of fields.new } ∷ kept_left self.new)) }
         ensures reading { IfOk result (λ number. MatchOption number (Unit {0}) (λ n. IsReading self.new)) }
     {
         loop {

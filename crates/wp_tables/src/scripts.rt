@@ -1,10 +1,12 @@
-ghost use Rattle.std.specs.Prelude.{◌≡◌, ◌<◌, ◌≤◌, ◌-◌, ◌+◌, [], ◌∷◌, ◌++◌, Some, Ok, length, slice_get, drop, map, vec_len, IfOk, IsTrue};
+ghost use Rattle.std.specs.Prelude.{◌≡◌, ◌<◌, ◌≤◌, ◌+◌, [], ◌∷◌, ◌++◌, Some, Ok, length, slice_get, drop, map, vec_len, IfOk, IsTrue};
 ghost use Rattle.std.specs.List.{All};
 ghost use Rattle.csv.specs.Records.{fields_of};
+ghost use Rattle.wp_model.specs.History.{script_of};
 ghost use Rattle.wp_model.specs.Plain.{is_plain, is_plain_location, is_plain_quantity};
 ghost use Rattle.wp_model.specs.Tables.{AreReadScripts};
 ghost use Rattle.wp_model.specs.declared.command.Command.TheVariants as command;
-ghost use Rattle.wp_tables.specs.DeskFile.{command_after, command_in_fields, command_of, desk_read, has_room, hold_of, is_submission, names_read, of_hold, receipt_of, script_after, scripts_said, submission_of, wave_of, word_read};
+ghost use Rattle.wp_tables.specs.DeskFile.{command_after, command_in_fields, command_of, desk_read, has_room, hold_of, is_submission, names_read, of_hold};
+ghost use Rattle.wp_tables.specs.DeskFile.{receipt_of, script_after, scripts_said, submission_of, wave_of, word_read};
 ghost use Rattle.wp_tables.specs.Reading.{Gives, GivesBy, Reads, TakesIn, at_row, made_by};
 ghost use Rattle.wp_tables.specs.RecordsLeft.{IsReading, kept_left};
 ghost use Rattle.wp_tables.specs.Scripts.{MayFollow};
@@ -18,30 +20,35 @@ use crate::word::Word;
 use csv::ByteRecord;
 use std::alloc::Global;
 use std::marker::Model;
-use wp_model::{Command, Location, Memory, Name, Names, read_number};
+use wp_model::{
+    Command, Location, MOST_COMMANDS, MOST_NAMED, MOST_SUBMISSIONS, Memory, Name, Names,
+    read_number,
+};
 
-const MOST_COMMANDS: usize = 10_000;
+/// A desk, counted from 1, and its commands, in order.
+#[derive(Drop)]
+struct DeskScript {
+    desk: u32,
+    commands: Vec<Command>,
+}
 
-const MOST_SUBMISSIONS: u32 = 500;
-
-const MOST_NAMED: usize = 100;
-
-/// The commands of each desk, in order. Contracts see the list of the desks' lists.
+/// The scripts of the desks 1, 2 and so on. Contracts see the list of them.
 #[derive(Drop)]
 pub struct Scripts {
-    scripts: Vec<Vec<Command>>,
+    scripts: Vec<DeskScript>,
 }
 
 impl Model for Scripts {
     ghost use Rattle.std.specs.Prelude.{List, map};
-    ghost use Rattle.wp_model.specs.declared.command.Command.{Command};
+    ghost use Rattle.wp_model.specs.History.{Script};
     ghost use Rattle.wp_model.specs.Tables.{AreReadScripts};
+    ghost use Rattle.wp_tables.specs.Scripts.{script_in};
 
-    ghost Value = { List (List Command) };
+    ghost Value = { List Script };
 
-    ghost view = { λ s. map (λ v. v.items) s.scripts.items };
+    ghost view = { λ s. map script_in s.scripts.items };
 
-    ghost invariant = { λ s. AreReadScripts (map (λ v. v.items) s.scripts.items) };
+    ghost invariant = { λ s. AreReadScripts (map script_in s.scripts.items) };
 }
 
 impl Scripts {
@@ -57,10 +64,10 @@ impl Scripts {
     pub fn script(&self, desk: u32) -> &[Command]
         requires first { 1 ≤ desk }
         requires last { desk ≤ length self.now }
-        ensures script { slice_get self.now (desk - 1) ≡ Some result.now }
+        ensures script { result.now ≡ script_of self.now desk }
         ensures plain { All (λ command. IsTrue (is_plain command)) result.now }
     {
-        self.scripts[desk as usize - 1].as_slice()
+        self.scripts[desk as usize - 1].commands.as_slice()
     }
 }
 
@@ -94,7 +101,7 @@ fn read_submission(alloc: Global, fields: &ByteRecord) -> Result<Command, Why>
     ensures gives { Gives result (submission_of (drop 2 (fields_of fields.now))) }
     ensures plain { IfOk result (λ command. IsTrue (is_plain command)) }
 {
-    if fields.len() < 3 || fields.len() > 3 + MOST_NAMED {
+    if fields.len() < 3 || fields.len() > 3 + MOST_NAMED as usize {
         return Err(Why::Columns);
     }
     let wave = read_name(field_of(fields, 2))?;
@@ -111,14 +118,14 @@ fn read_wave(fields: &ByteRecord) -> Result<Name, Why>
 }
 
 /// Units that are held for an order of a wave at a location.
-struct HeldUnits {
+struct NamedHold {
     wave: Name,
     order: Name,
     location: Location,
     quantity: u32,
 }
 
-fn read_held(fields: &ByteRecord) -> Result<HeldUnits, Why>
+fn read_held(fields: &ByteRecord) -> Result<NamedHold, Why>
     requires { 2 ≤ length (fields_of fields.now) }
     ensures held { result ≡ hold_of (drop 2 (fields_of fields.now)) }
     ensures plain { IfOk result (λ held. IsTrue (is_plain_location held.location) × IsTrue (is_plain_quantity held.quantity)) }
@@ -128,7 +135,7 @@ fn read_held(fields: &ByteRecord) -> Result<HeldUnits, Why>
     let order = read_name(order)?;
     let location = read_location(location)?;
     let quantity = read_quantity(quantity)?;
-    Ok(HeldUnits {
+    Ok(NamedHold {
         wave,
         order,
         location,
@@ -141,7 +148,7 @@ fn read_pick(fields: &ByteRecord) -> Result<Command, Why>
     ensures command { result ≡ of_hold command.Pick (drop 2 (fields_of fields.now)) }
     ensures plain { IfOk result (λ c. IsTrue (is_plain c)) }
 {
-    let HeldUnits {
+    let NamedHold {
         wave,
         order,
         location,
@@ -160,7 +167,7 @@ fn read_missing(fields: &ByteRecord) -> Result<Command, Why>
     ensures command { result ≡ of_hold command.Missing (drop 2 (fields_of fields.now)) }
     ensures plain { IfOk result (λ c. IsTrue (is_plain c)) }
 {
-    let HeldUnits {
+    let NamedHold {
         wave,
         order,
         location,
@@ -312,10 +319,13 @@ impl ScriptSoFar {
     }
 
     fn finish(self, alloc: Global) -> Result<Scripts, Memory>
-        ensures { IfOk result (λ scripts. scripts ≡ self ∷ []) }
+        ensures { IfOk result (λ scripts. scripts ≡ record { desk = 1; commands = self } ∷ []) }
     {
         let mut scripts = Vec::with_capacity(alloc, 1)?;
-        scripts.push(self.commands)?;
+        scripts.push(DeskScript {
+            desk: 1,
+            commands: self.commands,
+        })?;
         Ok(Scripts { scripts })
     }
 }

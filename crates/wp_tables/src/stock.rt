@@ -1,4 +1,5 @@
-ghost use Rattle.std.specs.Prelude.{◌≡◌, ℕ, ◌+◌, ◌-◌, ◌<◌, ◌≤◌, ◌^◌, ◌==◌, if◌then◌else◌, max, Some, true, false, length, slice_get, slice_index, map, IfOk, IfSome, Ok};
+ghost use Rattle.std.specs.Prelude.{◌≡◌, ℕ, ◌+◌, ◌-◌, ◌<◌, ◌≤◌, ◌^◌, ◌==◌, if◌then◌else◌, max, Some, true, false, length, slice_get, slice_index, map, IfOk};
+ghost use Rattle.std.specs.Prelude.{IfSome, Ok};
 ghost use Rattle.std.specs.List.{list_any};
 ghost use Rattle.csv.specs.Records.{fields_of};
 ghost use Rattle.wp_model.specs.TableLines.{MayJoin, add_line, article_in, empty_stock, lies_at, places_named};
@@ -16,13 +17,7 @@ use std::alloc::Global;
 use std::collections::BTreeMap;
 use std::marker::Model;
 use wp_graph::Layout;
-use wp_model::{Location, Memory, Name, StockLine, StockRow};
-
-const MOST_ON_HAND: u32 = 1_000_000;
-
-const MOST_ROWS: usize = 25_600;
-
-const MOST_PLACES: u32 = 1_000;
+use wp_model::{Location, MOST_ON_HAND, MOST_PLACES, MOST_ROWS, Memory, Name, StockLine, StockRow};
 
 fn is_inside(layout: &Layout, location: &Location) -> bool
     ensures { result ≡ is_inside layout.now location.now }
@@ -47,7 +42,8 @@ impl Model for StockSoFar {
 
     ghost view = { λ s. record { rows = map (λ e. e.1) s.rows.entries; articles = s.articles.keys } };
 
-    ghost invariant = { λ s. (s.rows.entries ≡ by_location (map (λ e. e.1) s.rows.entries)) × IsKeptStock (record { rows = map (λ e. e.1) s.rows.entries; articles = s.articles.keys }) s.places.items };
+    ghost invariant = { λ s. (s.rows.entries ≡ by_location (map (λ e. e.1) s.rows.entries)) × IsKeptStock
+        (record { rows = map (λ e. e.1) s.rows.entries; articles = s.articles.keys }) s.places.items };
 }
 
 /// One more at a place of numbers, or a first at the place after them.
@@ -131,7 +127,7 @@ impl StockSoFar {
     {
         let location = self.read_location(layout, location)?;
         let article = self.read_article(article)?;
-        let on_hand = read_number_in(on_hand, 0, MOST_ON_HAND)?;
+        let on_hand = read_number_in(on_hand, 0, MOST_ON_HAND as u32)?;
         Ok(StockLine {
             location,
             article,

@@ -17,9 +17,11 @@ use Rattle.wp_top.specs.declared.input.Input.{Input}
 use Rattle.wp_top.specs.declared.input.Input.TheVariants as input
 use Rattle.wp_top.specs.declared.input.Refusal.{Refusal}
 
+-- what each name holds, where that is told
 abbrev pub Holding : Type 0
 Holding = List ℕ → Option (List ℕ)
 
+-- how often reading each name has failed
 abbrev pub Counts : Type 0
 Counts = List ℕ → ℕ
 
@@ -90,32 +92,32 @@ stops_among_more holds files more before after stop.Memory stops = tt
 pub stops_there : {A : Type 0} (says : List ℕ → Result A Refusal) (holds held : Holding) (files later : List File) (said : Said) (kind : Input)
     (name : List ℕ) (before first last after : Counts) (s : Stop)
     → ((text : List ℕ) (why : Refusal) → says text ≡ Err why → said_with said kind text ≡ Err why) → SameBytes holds held → HaveSaid holds files said
-        → NoneFalls before first → NoneFalls last after
+    → NoneFalls before first → NoneFalls last after
     → IsUnsaid says held name (first name) (last name) kind s → StopsAmong holds (files ++ file_of kind name ∷ later) before after s
 stops_there says holds held files later said kind name before first last after (stop.Complaint (complaint.Words why)) refuses same so_far up to nothing =
     absurd nothing
 stops_there says holds held files later said kind name before first last after (stop.Complaint (complaint.Refused f why)) refuses same so_far up to
     (is, text, here, none) = record {
-  before = files;
-  name = name;
-  later = later;
-  place = ap (λ k. files ++ file_of k name ∷ later) (sym is);
-  said = said;
-  accepted = so_far;
-  text = text;
-  held = held_before holds held name text (same name) here;
-  refused = ap (λ k. said_with said k text) is ∙ refuses text why none;
-}
+      before = files;
+      name = name;
+      later = later;
+      place = ap (λ k. files ++ file_of k name ∷ later) (sym is);
+      said = said;
+      accepted = so_far;
+      text = text;
+      held = held_before holds held name text (same name) here;
+      refused = ap (λ k. said_with said k text) is ∙ refuses text why none;
+    }
 stops_there says holds held files later said kind name before first last after (stop.Complaint (complaint.Fault f)) refuses same so_far up to (is, less) =
     record {
-  before = files;
-  name = name;
-  later = later;
-  place = ap (λ k. files ++ file_of k name ∷ later) (sym is);
-  said = said;
-  accepted = so_far;
-  rose = omega (arith, less, up name, to name);
-}
+      before = files;
+      name = name;
+      later = later;
+      place = ap (λ k. files ++ file_of k name ∷ later) (sym is);
+      said = said;
+      accepted = so_far;
+      rose = omega (arith, less, up name, to name);
+    }
 stops_there says holds held files later said kind name before first last after (stop.Complaint (complaint.Wrong found)) refuses same so_far up to nothing =
     absurd nothing
 stops_there says holds held files later said kind name before first last after stop.Memory refuses same so_far up to nothing = tt
@@ -124,7 +126,7 @@ stops_there says holds held files later said kind name before first last after s
 pub say_there : {A : Type 0} (says : List ℕ → Result A Refusal) (holds held : Holding) (files : List File) (said more : Said) (kind : Input) (name : List ℕ)
     (x : A)
     → ((text : List ℕ) → says text ≡ Ok x → said_with said kind text ≡ Ok more) → SameBytes holds held → HaveSaid holds files said → IsSaid says held name x
-        → HaveSaid holds (files ++ file_of kind name ∷ []) more
+    → HaveSaid holds (files ++ file_of kind name ∷ []) more
 say_there says holds held files said more kind name x takes same so_far (text, here, is) =
     have_next holds files said more kind name text so_far (held_before holds held name text (same name) here) (takes text is)
 
@@ -144,28 +146,30 @@ same_twice old held new p q = λ name. q name ∙ p name
 abbrev pub layout_file : List ℕ → List File
 layout_file layout = file_of input.Layout layout ∷ []
 
+-- what is said once the layout file was read
 pub after_layout : (holds : Holding) (layout : List ℕ) (space : Layout) → IsSaid layout_in holds layout space
     → HaveSaid holds (layout_file layout) (record nothing_said { layout = space })
 after_layout holds layout space is =
     say_there layout_in holds holds [] nothing_said (record nothing_said { layout = space }) input.Layout layout space (λ text said. rw said refl)
-        (λ name. refl) (nothing_read holds) is
+    (λ name. refl) (nothing_read holds) is
 
 -- and the stock file
 abbrev pub stock_files : List ℕ → List ℕ → List File
 stock_files layout stock = file_of input.Layout layout ∷ file_of input.Stock stock ∷ []
 
+-- and what is said once the stock file was read too
 pub after_stock : (holds held : Holding) (layout stock : List ℕ) (space : Layout) (rows : Stock) → SameBytes holds held
     → HaveSaid holds (layout_file layout) (record nothing_said { layout = space }) → IsSaid (stock_in space) held stock rows
     → HaveSaid holds (stock_files layout stock) (opening_said space (record { stock = rows; orders = [] }))
 after_stock holds held layout stock space rows same so_far is =
     say_there (stock_in space) holds held (layout_file layout) (record nothing_said { layout = space })
-        (opening_said space (record { stock = rows; orders = [] })) input.Stock stock rows (λ text said. rw said refl) same so_far is
+    (opening_said space (record { stock = rows; orders = [] })) input.Stock stock rows (λ text said. rw said refl) same so_far is
 
 -- and the order file
 pub after_orders : (holds held : Holding) (layout stock orders : List ℕ) (space : Layout) (opening : Opening) → SameBytes holds held
     → HaveSaid holds (stock_files layout stock) (opening_said space (record { stock = opening.stock; orders = [] }))
-        → IsSaid (orders_in opening.stock) held orders opening.orders
+    → IsSaid (orders_in opening.stock) held orders opening.orders
     → HaveSaid holds (opening_files layout stock orders) (opening_said space opening)
 after_orders holds held layout stock orders space opening same so_far is =
     say_there (orders_in opening.stock) holds held (stock_files layout stock) (opening_said space (record { stock = opening.stock; orders = [] }))
-        (opening_said space opening) input.Orders orders opening.orders (λ text said. rw said refl) same so_far is
+    (opening_said space opening) input.Orders orders opening.orders (λ text said. rw said refl) same so_far is

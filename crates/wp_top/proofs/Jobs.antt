@@ -9,9 +9,9 @@ use Rattle.wp_model.specs.Tables.{IsReadOpening}
 use Rattle.wp_model.specs.Warehouse.{Layout}
 use Rattle.wp_outside.specs.Outside.{NoneFalls, SameBytes}
 use Rattle.wp_top.proofs.FilesRead.{Counts, Holding, held_before, have_next, none_fell, say_there, stops_among_more, stops_there}
-use Rattle.wp_top.proofs.Script.{parts_are}
+use Rattle.wp_top.proofs.OneDesk.{parts_are}
 use Rattle.wp_top.specs.Ends.{HaveSaid, IsOutput}
-use Rattle.wp_top.specs.Parts.{desk_history}
+use Rattle.wp_top.specs.OneDesk.{desk_history, only_script}
 use Rattle.wp_top.specs.Runs.{audit_line}
 use Rattle.wp_top.specs.Stops.{IsDay, IsRead, IsRightJournal, IsStop, IsUnsaid, StopsAmong, StopsAudit, StopsFinding, opening_files, opening_said}
 use Rattle.wp_top.specs.Texts.{File, Said, files_of, scripts_in, text_in}
@@ -36,7 +36,7 @@ pub stop_at_opening : (holds : Holding) (job : JobNames) (files : List File) (la
     → files_of job ≡ files ++ last ∷ [] → StopsAmong holds files before after s → IsStop holds (Ok job) before after s
 stop_at_opening holds job files last before after s are stops =
     stop_of holds job before after s (subst (λ fs. StopsAmong holds fs before after s) (sym are)
-        (stops_among_more holds files (last ∷ []) before after s stops))
+    (stops_among_more holds files (last ∷ []) before after s stops))
 
 -- nothing came of the desk file
 pub stop_at_desks : (holds held : Holding) (names : PlanNames) (before first after : Counts) (layout : Layout) (opening : Opening) (s : Stop)
@@ -45,8 +45,8 @@ pub stop_at_desks : (holds held : Holding) (names : PlanNames) (before first aft
 stop_at_desks holds held names before first after layout opening s same said so_far nothing =
     stop_of holds (plan names) before after s
     (stops_there scripts_in holds held (opening_files names.layout names.stock names.orders) []
-        (opening_said layout opening) input.Desks names.desks before first after after s (λ text why none. rw none refl) same said so_far
-        (none_fell after) nothing)
+    (opening_said layout opening) input.Desks names.desks before first after after s (λ text why none. rw none refl) same said so_far
+    (none_fell after) nothing)
 
 -- nothing came of the journal
 stop_at_journal : (holds held : Holding) (names : AuditNames) (before first after : Counts) (layout : Layout) (opening : Opening) (s : Stop)
@@ -55,8 +55,8 @@ stop_at_journal : (holds held : Holding) (names : AuditNames) (before first afte
 stop_at_journal holds held names before first after layout opening s same said so_far nothing =
     stop_of holds (audit names) before after s
     (stops_there text_in holds held (opening_files names.layout names.stock names.orders) []
-        (opening_said layout opening) input.Journal names.journal before first after after s (λ text why none. rw none refl) same said so_far
-        (none_fell after) nothing)
+    (opening_said layout opening) input.Journal names.journal before first after after s (λ text why none. rw none refl) same said so_far
+    (none_fell after) nothing)
 
 -- what the files of an audit say
 abbrev with_journal : Layout → Opening → List ℕ → Said
@@ -67,7 +67,7 @@ audit_files : (holds held : Holding) (names : AuditNames) (layout : Layout) (ope
     → IsRead held names.journal text → HaveSaid holds (files_of (audit names)) (with_journal layout opening text)
 audit_files holds held names layout opening text same said read =
     have_next holds (opening_files names.layout names.stock names.orders) (opening_said layout opening)
-        (with_journal layout opening text) input.Journal names.journal text said
+    (with_journal layout opening text) input.Journal names.journal text said
     (held_before holds held names.journal text (same names.journal) read.held) (rw read.short refl)
 
 -- the journal isn't right
@@ -98,19 +98,19 @@ stop_at_finding holds held names before first after layout opening s same said s
 -- the output of a plan
 pub plan_is : (holds held : Holding) (names : PlanNames) (layout : Layout) (opening : Opening) (output : List ℕ)
     → SameBytes holds held → HaveSaid holds (opening_files names.layout names.stock names.orders) (opening_said layout opening) → IsReadOpening opening
-        → IsDay held opening names.desks output
+    → IsDay held opening names.desks output
     → IsOutput holds (Ok (plan names)) output
 plan_is holds held names layout opening output same said read day =
     let script = day.script in
     let history = desk_history opening script in
     let begun = answered_all-opening (opened opening) 1 script in
-    let all : Said = record (opening_said layout opening) { scripts = script ∷ [] } in
+    let all : Said = record (opening_said layout opening) { scripts = only_script script } in
     record {
       job = plan names;
       asked_for = refl;
       said = all;
       accepted = say_there scripts_in holds held (opening_files names.layout names.stock names.orders)
-          (opening_said layout opening) all input.Desks names.desks (script ∷ []) (λ text is. rw is refl) same said day.desk_file;
+          (opening_said layout opening) all input.Desks names.desks (only_script script) (λ text is. rw is refl) same said day.desk_file;
       comes = record {
         history = history;
         starts = begun;
@@ -124,7 +124,7 @@ plan_is holds held names layout opening output same said read day =
 -- the output of an audit
 pub audit_is : (holds held : Holding) (names : AuditNames) (layout : Layout) (opening : Opening) (entries : ℕ) (output : List ℕ)
     → SameBytes holds held → HaveSaid holds (opening_files names.layout names.stock names.orders) (opening_said layout opening)
-        → IsRightJournal held opening names.journal entries
+    → IsRightJournal held opening names.journal entries
     → output ≡ audit_line entries → IsOutput holds (Ok (audit names)) output
 audit_is holds held names layout opening entries output same said right is = record {
   job = audit names;

@@ -1,9 +1,13 @@
 pub mod FilesRead
-pub mod Script
+pub mod OneDesk
 pub mod RowsKept
 pub mod Taken
 pub mod Writing
 pub mod Output
 pub mod Jobs
-pub mod Endings
+pub mod Statuses
+pub mod ToldFiles
+pub mod RisenCounts
+pub mod KeptPromise
 pub mod LongTexts
+pub mod PlanJournals

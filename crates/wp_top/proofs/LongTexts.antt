@@ -4,7 +4,7 @@ use Rattle.std.specs.Prelude.{IfSome, nat_lt, replicate}
 use Rattle.std.proofs.lemmas.Bool.Decides.{nat_tests}
 use Rattle.std.proofs.lemmas.List.{length-replicate}
 use Rattle.wp_outside.specs.Outside.{IsTooLong}
-use Rattle.wp_outside.specs.declared.files.TheConstants.{MAX_FILE_BYTES}
+use Rattle.wp_model.specs.Limits.{most_file_bytes}
 use Rattle.wp_top.specs.Texts.{IsHeld, text_in}
 use Rattle.wp_top.specs.declared.input.Refusal.TheVariants as refusal
 
@@ -18,8 +18,8 @@ length-zeros : (n : ℕ) → length (zeros n) ≡ n
 unfolding zeros
 length-zeros n = length-replicate n 0
 
-is_refused : (text : List ℕ) → MAX_FILE_BYTES < length text → text_in text ≡ Err refusal.TooLong
-is_refused text long = rw (above MAX_FILE_BYTES (length text) long) refl
+is_refused : (text : List ℕ) → most_file_bytes < length text → text_in text ≡ Err refusal.TooLong
+is_refused text long = rw (above most_file_bytes (length text) long) refl
 
 long_told : (holds : List ℕ → Option (List ℕ)) (name : List ℕ) (o : Option (List ℕ)) (P : List ℕ → Type 0) → holds name ≡ o
     → IfSome o (λ told. IsTooLong told × P told)

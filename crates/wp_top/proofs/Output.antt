@@ -1,27 +1,32 @@
 -- What a run comes to.
 use Rattle.std.proofs.Common.{◌≡◌, sym, ap, subst, ◌<◌, ◌≤◌, List, [], ◌∷◌, length, Some, slice_get, arith}
+use Rattle.std.proofs.Common.{◌∙◌, refl, eq-eqb}
+use Rattle.std.proofs.lemmas.Bool.{cond-true}
 use Rattle.std.specs.List.{All}
+use Rattle.std.specs.Prelude.{◌==◌}
 use Rattle.std.proofs.lemmas.List.Sums.{sum_by-cons}
 use Rattle.wp_model.proofs.Histories.{answered_all-opening}
-use Rattle.wp_model.specs.History.{opened, state_after}
+use Rattle.wp_model.specs.History.{Script, opened, script_of, state_after}
 use Rattle.wp_model.specs.Opening.{Opening}
 use Rattle.wp_model.specs.State.{opening_state}
-use Rattle.wp_model.specs.Tables.{AreReadScripts, IsReadOpening, most_commands}
+use Rattle.wp_model.specs.Tables.{AreReadScripts, IsReadOpening}
+use Rattle.wp_model.specs.Limits.{most_commands}
 use Rattle.wp_model.specs.declared.command.Command.{Command}
 use Rattle.wp_top.proofs.RowsKept.{AreRowsOf, entries_keep_rows, opening_rows}
 use Rattle.wp_top.proofs.Taken.{IsWithin, refills_within}
-use Rattle.wp_top.specs.Refills.{refills_of}
-use Rattle.wp_top.specs.Parts.{desk_history}
+use Rattle.wp_machine.specs.Outcome.{refills_of}
+use Rattle.wp_top.specs.OneDesk.{desk_history, only_script}
 
--- the one script
-pub one_script : (scripts : List (List Command)) (script : List Command) → AreReadScripts scripts → slice_get scripts 0 ≡ Some script
-    → (scripts ≡ script ∷ []) × (length script ≤ most_commands)
-one_script [] script read is = absurd (cc)
-one_script (first ∷ []) script read is =
-    let same : first ≡ script = cc in
-    let first_few : length first ≤ most_commands = omega (arith, read.most, sum_by-cons (λ (commands : List Command). length commands) first []) in
-    (ap (λ (commands : List Command). commands ∷ []) same, subst (λ (commands : List Command). length commands ≤ most_commands) same first_few)
-one_script (first ∷ second ∷ more) script read is = absurd (omega (arith, read.desks))
+-- where there is one desk its script is all there is, and is short enough
+pub one_script : (scripts : List Script) (commands : List Command) → AreReadScripts scripts → commands ≡ script_of scripts 1
+    → (scripts ≡ only_script commands) × (length commands ≤ most_commands)
+one_script [] commands read is = absurd (cc (read.desks))
+one_script (first ∷ []) commands read is =
+    let own : first.desk ≡ 1 = read.numbered 0 in
+    let same : commands ≡ first.commands = is ∙ cond-true (first.desk == 1) first.commands [] (eq-eqb first.desk 1 own) in
+    let few : length first.commands ≤ most_commands = omega (arith, read.most, sum_by-cons (λ (s : Script). length s.commands) first []) in
+    (rw (same, ← own) refl, rw same few)
+one_script (first ∷ second ∷ more) commands read is = absurd (omega (arith, read.desks))
 
 -- the rows after a script
 pub rows_after : (opening : Opening) (script : List Command) → IsReadOpening opening
@@ -31,7 +36,7 @@ rows_after opening script read =
     let same = answered_all-opening (opened opening) 1 script in
     let kept : (o : Opening) → o ≡ opening → AreRowsOf opening.stock (state_after (record history { opening = o })).rows =
     λ o is. subst (λ o. AreRowsOf opening.stock (state_after (record history { opening = o })).rows) (sym is)
-        (entries_keep_rows opening opening.stock (opening_state opening) history.entries (opening_rows opening read.stock)) in
+    (entries_keep_rows opening opening.stock (opening_state opening) history.entries (opening_rows opening read.stock)) in
     (kept history.opening same).articles
 
 -- the refills of a script
@@ -41,4 +46,4 @@ refills_after opening script read =
     let history = desk_history opening script in
     let same = answered_all-opening (opened opening) 1 script in
     subst (λ o. All (IsWithin (length opening.stock.rows)) (refills_of (record history { opening = o }))) (sym same)
-        (refills_within opening 0 (opening_state opening) history.entries (opening_rows opening read.stock))
+    (refills_within opening 0 (opening_state opening) history.entries (opening_rows opening read.stock))

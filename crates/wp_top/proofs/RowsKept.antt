@@ -10,7 +10,8 @@ use Rattle.wp_model.proofs.Rows.{All-change_rows, at_place-article, length-chang
 use Rattle.wp_model.specs.Change.{at_place, change_rows, free_held_units, give_back, hold, hold_units, receive, receive_units, share, take, take_units}
 use Rattle.wp_model.specs.Demand.{demand_at, short_article}
 use Rattle.wp_model.specs.History.{state_from}
-use Rattle.wp_model.specs.Opening.{IsStockRow, Opening, Stock, article_name, most_on_hand}
+use Rattle.wp_model.specs.Opening.{IsStockRow, Opening, Stock, article_name}
+use Rattle.wp_model.specs.Limits.{most_on_hand}
 use Rattle.wp_model.specs.State.{State, Wave, opening_row, opening_state, wave_held_at}
 use Rattle.wp_model.specs.Step.{Held, Stepped, allot, at_released, cancel, give_up, held_for, hold_for, one_demand, pick, receive_at, refill, refuse}
 use Rattle.wp_model.specs.Step.{refuse_short, release, row_from, step, submit_fault, wave_from, write_off}
@@ -72,7 +73,7 @@ for_hold : (opening : Opening) (stock : Stock) (state : State) (next : WaveState
     → Keeps stock (hold_for opening state next done number w)
 for_hold opening stock state next done number w are =
     by_option stock (refuse_short opening state w) (short_article opening state.rows w.orders None) _ (λ article. are)
-        (held stock (demand_at opening w.orders) None number (length w.orders) state are)
+    (held stock (demand_at opening w.orders) None number (length w.orders) state are)
 
 for_allot : (opening : Opening) (stock : Stock) (state : State) (number : ℕ) (w : Wave) (s : WaveState) → AreRowsOf stock state.rows
     → Keeps stock (allot opening state number w s)
@@ -119,7 +120,7 @@ for_receive opening stock state article quantity number row are =
     let full = nat_lt most_on_hand (row.on_hand + quantity) in
     let too_many = refuse state (reply.TooMany row.on_hand) in
     by_test stock (not (bytes_eq (article_name opening row.article) article)) (refuse state (reply.OtherArticle (article_name opening row.article)))
-        (if full then too_many else done) are
+    (if full then too_many else done) are
     (by_test stock full too_many done are (received stock number quantity state are))
 
 for_wave : (stock : Stock) (state : State) (name : List ℕ) (change : ℕ → Wave → Stepped) → ((number : ℕ) (w : Wave) → Keeps stock (change number w))
@@ -139,15 +140,15 @@ step_keeps_rows opening stock state (command.Release name) are =
 step_keeps_rows opening stock state (command.Cancel name) are = for_wave stock state name _ (λ number w. for_cancel stock state number w w.state are) are
 step_keeps_rows opening stock state (command.Pick name order location quantity) are =
     for_wave stock state name _ (λ number w. for_held stock state number w order location quantity (pick state number w quantity) w.state
-        (λ h. taken stock number h.order h.row quantity state are) are) are
+    (λ h. taken stock number h.order h.row quantity state are) are) are
 step_keeps_rows opening stock state (command.Missing name order location quantity) are =
     for_wave stock state name _
     (λ number w. for_held stock state number w order location quantity (write_off opening state number w quantity) w.state
     (λ h. for_refill opening stock number w quantity h (take number h.order h.row quantity state) (taken stock number h.order h.row quantity state are)) are)
-        are
+    are
 step_keeps_rows opening stock state (command.Receive location article quantity) are =
     by_option stock (λ found. receive_at opening state article quantity found.0 found.1) (row_from 0 state.rows location) _
-        (λ found. for_receive opening stock state article quantity found.0 found.1 are) are
+    (λ found. for_receive opening stock state article quantity found.0 found.1 are) are
 
 -- entries, one after the other
 pub entries_keep_rows : (opening : Opening) (stock : Stock) (state : State) (entries : List Entry) → AreRowsOf stock state.rows

@@ -20,7 +20,7 @@ use Rattle.wp_machine.specs.declared.outcome.Outcome.{Outcome}
 use Rattle.wp_machine.specs.declared.outcome.Outcome.TheVariants as outcome
 use Rattle.wp_machine.specs.declared.outcome.Refill.{Refill}
 use Rattle.wp_top.proofs.RowsKept.{AreRowsOf, step_keeps_rows}
-use Rattle.wp_top.specs.Refills.{outcomes_from, refill_in}
+use Rattle.wp_machine.specs.Outcome.{outcomes_from, refill_in}
 
 -- each hold of a refill is at one of so many rows
 abbrev pub IsWithin : ℕ → Refill → Type 0
@@ -35,13 +35,13 @@ order_within : (order rows most : ℕ) (units : ℕ → ℕ) → rows < suc most
 order_within order zero most units few = All-nil (λ (h : Hold). h.row < most)
 order_within order (suc row) most units few =
     All-append (λ (h : Hold). h.row < most) (order_held_list order row units) _ (order_within order row most units (omega arith))
-        (one_hold most row order (units row) (units row == 0) (omega arith))
+    (one_hold most row order (units row) (units row == 0) (omega arith))
 
 list_within : (orders rows : ℕ) (held : ℕ → ℕ → ℕ) → All (λ (h : Hold). h.row < rows) (held_list orders rows held)
 list_within zero rows held = All-nil (λ (h : Hold). h.row < rows)
 list_within (suc order) rows held =
     All-append (λ (h : Hold). h.row < rows) (held_list order rows held) _ (list_within order rows held)
-        (order_within order rows rows (held order) (omega arith))
+    (order_within order rows rows (held order) (omega arith))
 
 abbrev Within : ℕ → Outcome → Type 0
 Within rows told = All (IsWithin rows) (refill_in told)
@@ -51,20 +51,28 @@ none_within rows = All-nil (IsWithin rows)
 
 by_found : (n number rows : ℕ) (before after : State) (name order : List ℕ) (found : Option (ℕ × Wave)) → length after.rows ≡ n
     → Within n (option_map_or (λ (found : ℕ × Wave). outcome.Refilled
-        (record { number = number; wave = name; order = order;
-        holds = held_list (length found.1.orders) (length after.rows) (λ o r. after.held found.0 o r - before.held found.0 o r) })) found outcome.Plain)
+    (record {
+      number = number;
+      wave = name;
+      order = order;
+      holds = held_list (length found.1.orders) (length after.rows) (λ o r. after.held found.0 o r - before.held found.0 o r);
+    })) found outcome.Plain)
 by_found n number rows before after name order None same = none_within n
 by_found n number rows before after name order (Some found) same =
     All-cons (IsWithin n) _ []
     (subst (λ m. All (λ (h : Hold). h.row < m) (held_list (length found.1.orders) (length after.rows)
-        (λ o r. after.held found.0 o r - before.held found.0 o r))) same
+    (λ o r. after.held found.0 o r - before.held found.0 o r))) same
     (list_within (length found.1.orders) (length after.rows) (λ o r. after.held found.0 o r - before.held found.0 o r)))
     (none_within n)
 
 no_refill : (n number : ℕ) (after : State) (name : List ℕ) (found : Option (ℕ × Wave))
     → Within n (option_map_or (λ (found : ℕ × Wave). outcome.Released
-        (record { number = number; wave = name; orders = found.1.orders;
-        holds = held_list (length found.1.orders) (length after.rows) (after.held found.0) })) found outcome.Plain)
+    (record {
+      number = number;
+      wave = name;
+      orders = found.1.orders;
+      holds = held_list (length found.1.orders) (length after.rows) (after.held found.0);
+    })) found outcome.Plain)
 no_refill n number after name None = none_within n
 no_refill n number after name (Some found) = none_within n
 
@@ -100,4 +108,4 @@ refills_within opening number state (entry ∷ entries) are =
     let later = outcomes_from opening (number + 1) stepped.state entries in
     subst (All (IsWithin n)) (sym (flat_map-cons refill_in told later))
     (All-append (IsWithin n) (refill_in told) (flat_map refill_in later) (outcome_within n number state entry.command stepped after.count)
-        (refills_within opening (number + 1) stepped.state entries after))
+    (refills_within opening (number + 1) stepped.state entries after))

@@ -24,4 +24,4 @@ pub grown : (old text new heading items item more : List ℕ) → text ≡ old +
     → new ≡ old ++ (heading ++ more)
 grown old text new heading items item more so_far next is =
     next ∙ (ap (λ text. text ++ item) so_far ∙ (append_assoc old (heading ++ items) item
-        ∙ ap (λ text. old ++ text) (append_assoc heading items item ∙ ap (λ text. heading ++ text) (sym is))))
+    ∙ ap (λ text. old ++ text) (append_assoc heading items item ∙ ap (λ text. heading ++ text) (sym is))))

@@ -1,7 +1,6 @@
 pub mod Ends
-pub mod Parts
+pub mod OneDesk
 pub mod Promise
-pub mod Refills
 pub mod Runs
 pub mod Sections
 pub mod Stops

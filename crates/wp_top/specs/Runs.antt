@@ -4,7 +4,7 @@ use Rattle.wp_journal.specs.Journals.{IsJournalOf, Shows}
 use Rattle.wp_machine.specs.Machine.{EachStateIsSound}
 use Rattle.wp_model.specs.History.{History, IsLegal}
 use Rattle.wp_model.specs.Journal.{line, number_after_space}
-use Rattle.wp_top.specs.Parts.{part_of, script_of}
+use Rattle.wp_model.specs.History.{part_of, script_of}
 use Rattle.wp_top.specs.Sections.{output_of}
 use Rattle.wp_top.specs.Texts.{Said}
 use Rattle.wp_top.specs.declared.complaint.Finding.{Finding}

@@ -8,7 +8,7 @@ use Rattle.wp_model.specs.Opening.{Opening, article_name}
 use Rattle.wp_model.specs.declared.row.Hold.{Hold}
 use Rattle.wp_model.specs.declared.row.Row.{Row}
 use Rattle.wp_machine.specs.declared.outcome.Refill.{Refill}
-use Rattle.wp_top.specs.Refills.{refills_of}
+use Rattle.wp_machine.specs.Outcome.{refills_of}
 
 -- where the row with a number lies, after a space
 abbrev pub location_after_space : Opening → ℕ → List ℕ
@@ -18,7 +18,7 @@ location_after_space opening number = option_map_or (λ row. after_space (locati
 abbrev pub refill_line : Opening → Refill → Hold → List ℕ
 refill_line opening refill hold =
     line (codes "refill" ++ number_after_space refill.number ++ after_space refill.wave ++ after_space refill.order ++ location_after_space opening hold.row
-        ++ number_after_space hold.quantity)
+    ++ number_after_space hold.quantity)
 
 -- the lines of a refill, by row
 abbrev pub refill_lines : Opening → Refill → List ℕ
@@ -45,4 +45,4 @@ stock_section opening rows = line (codes "stock") ++ flat_map (row_line opening)
 abbrev pub output_of : History → List ℕ
 output_of history =
     journal history.entries ++ refills_section history.opening (refills_of history) ++ stock_section history.opening (state_after history).rows
-        ++ line (codes "end")
+    ++ line (codes "end")

@@ -9,7 +9,7 @@ use Rattle.wp_model.specs.Warehouse.{Layout}
 use Rattle.wp_model.specs.declared.command.Command.{Command}
 use Rattle.wp_outside.specs.Outside.{Grows, TookPrefix}
 use Rattle.wp_top.specs.Ends.{Asked, HasRisen, IsCause, IsFirstRefused, IsOutput, complaint_line}
-use Rattle.wp_top.specs.Parts.{desk_history}
+use Rattle.wp_top.specs.OneDesk.{desk_history, only_script}
 use Rattle.wp_top.specs.Sections.{output_of}
 use Rattle.wp_top.specs.Texts.{File, IsHeld, Said, file_of, nothing_said, scripts_in, text_in}
 use Rattle.wp_top.specs.declared.complaint.Complaint.TheVariants as complaint
@@ -82,7 +82,7 @@ IsStop holds asked before after stop.Memory = ⊤
 -- the output of an opening and of the desk file of this name
 pub record IsDay (holds : List ℕ → Option (List ℕ)) (opening : Opening) (name output : List ℕ) : Type 0 where
   pub script : List Command
-  pub desk_file : IsSaid scripts_in holds name (script ∷ [])
+  pub desk_file : IsSaid scripts_in holds name (only_script script)
   pub is : output ≡ output_of (desk_history opening script)
 
 -- a journal stops a run where it isn't right

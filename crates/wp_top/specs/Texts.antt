@@ -5,8 +5,8 @@ use Rattle.wp_layout.specs.Keys.{fault_text}
 use Rattle.wp_layout.specs.LayoutFile.{layout_said}
 use Rattle.wp_model.specs.Opening.{Opening, Order, Stock}
 use Rattle.wp_model.specs.Warehouse.{Layout}
-use Rattle.wp_model.specs.declared.command.Command.{Command}
-use Rattle.wp_outside.specs.declared.files.TheConstants.{MAX_FILE_BYTES}
+use Rattle.wp_model.specs.History.{Script}
+use Rattle.wp_model.specs.Limits.{most_file_bytes}
 use Rattle.wp_tables.specs.DeskFile.{scripts_said}
 use Rattle.wp_tables.specs.Faults.{row_fault_text}
 use Rattle.wp_tables.specs.OrderFile.{orders_said}
@@ -54,7 +54,7 @@ AreTold holds files = All (λ read. holds read.file.name ≡ Some read.text) fil
 pub record Said : Type 0 where
   pub layout : Layout
   pub opening : Opening
-  pub scripts : List (List Command)
+  pub scripts : List Script
   pub journal : List ℕ
 
 -- nothing yet
@@ -73,7 +73,7 @@ refused_by refusal (Err fault) = Err (refusal fault)
 
 -- a text that isn't too long
 abbrev pub text_in : List ℕ → Result (List ℕ) Refusal
-text_in text = if nat_lt MAX_FILE_BYTES (length text) then Err refusal.TooLong else Ok text
+text_in text = if nat_lt most_file_bytes (length text) then Err refusal.TooLong else Ok text
 
 -- what a text says that isn't too long
 abbrev pub said_in : {A F : Type 0} → (F → Refusal) → (List ℕ → Result A F) → List ℕ → Result A Refusal
@@ -92,7 +92,7 @@ abbrev pub orders_in : Stock → List ℕ → Result (List Order) Refusal
 orders_in stock = said_in refusal.Row (orders_said stock)
 
 -- the scripts that a desk file says
-abbrev pub scripts_in : List ℕ → Result (List (List Command)) Refusal
+abbrev pub scripts_in : List ℕ → Result (List Script) Refusal
 scripts_in = said_in refusal.Row scripts_said
 
 -- what is said with a further file, or why that file is refused: the stock lies in the layout, and the orders want its articles

@@ -3,9 +3,10 @@ ghost use Rattle.std.specs.List.{All};
 ghost use Rattle.wp_model.specs.History.{answered, opened, state_after};
 ghost use Rattle.wp_model.specs.Journal.{journal};
 ghost use Rattle.wp_model.specs.Plain.{is_plain};
-ghost use Rattle.wp_model.specs.Tables.{IsReadOpening, most_commands};
-ghost use Rattle.wp_top.specs.Refills.{refill_in, refills_of};
-ghost use Rattle.wp_top.specs.Parts.{desk_history};
+ghost use Rattle.wp_model.specs.Tables.{IsReadOpening};
+ghost use Rattle.wp_model.specs.Limits.{most_commands};
+ghost use Rattle.wp_machine.specs.Outcome.{refill_in, refills_of};
+ghost use Rattle.wp_top.specs.OneDesk.{desk_history};
 ghost use Rattle.wp_top.specs.Sections.{output_of};
 
 use crate::print::{print_journal, print_refills, print_stock};

@@ -5,9 +5,9 @@ ghost use Rattle.wp_top.specs.Ends.{IsOutput, asked_by, audit_job, complaint_lin
 ghost use Rattle.wp_top.specs.declared.status.Status.TheVariants as status;
 ghost use Rattle.wp_top.specs.Stops.{Finishes, IsEndOf, IsEnding, IsStop, status_of, text_of};
 
-use crate::auditing::audit_output;
+use crate::audit::audit_output;
 use crate::complaint::{Complaint, Stop};
-use crate::planning::plan_output;
+use crate::plan::plan_output;
 use crate::status::Status;
 use std::alloc::Global;
 use std::fmt::Write;

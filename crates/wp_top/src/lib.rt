@@ -5,11 +5,12 @@
 #![tactic(auto)]
 
 mod answering;
-mod auditing;
+mod audit;
 mod complaint;
 mod ending;
 mod input;
-mod planning;
+mod laws;
+mod plan;
 mod print;
 mod reading;
 mod status;
@@ -19,6 +20,7 @@ ghost use Rattle.wp_top.specs.Ends.{asked_by, audit_job};
 ghost use Rattle.wp_top.specs.Promise.{Keeps, course};
 
 use crate::ending::{audit_ending, ending_of, finish};
+pub use laws::plans_print_right_journals;
 use std::alloc::Global;
 use wp_outside::{Files, Sink};
 pub use wp_words::AuditWords;
@@ -33,7 +35,8 @@ pub fn run<R: Sync, F: Files, K: Sink>(
     files: &mut F,
     out: &mut K,
 ) -> u8
-    ensures { Keeps (asked_by words.now.items) (course (F.holds files.old) (F.holds files.new) (F.faults files.old) (F.faults files.new) (K.taken out.old) (K.taken out.new) (K.faults out.old) (K.faults out.new)) result }
+    ensures { Keeps (asked_by words.now.items) (course (F.holds files.old) (F.holds files.new) (F.faults files.old) (F.faults files.new) (K.taken out.old)
+        (K.taken out.new) (K.faults out.old) (K.faults out.new)) result }
 {
     let ending = ending_of(alloc, words, files);
     finish(alloc, ending, out).number()
@@ -46,7 +49,8 @@ pub fn run_audit<F: Files, K: Sink>(
     files: &mut F,
     out: &mut K,
 ) -> u8
-    ensures { Keeps (Ok (audit_job words.now)) (course (F.holds files.old) (F.holds files.new) (F.faults files.old) (F.faults files.new) (K.taken out.old) (K.taken out.new) (K.faults out.old) (K.faults out.new)) result }
+    ensures { Keeps (Ok (audit_job words.now)) (course (F.holds files.old) (F.holds files.new) (F.faults files.old) (F.faults files.new) (K.taken out.old)
+        (K.taken out.new) (K.faults out.old) (K.faults out.new)) result }
 {
     let ending = audit_ending(alloc, words, files);
     finish(alloc, ending, out).number()

@@ -16,7 +16,7 @@ use std::alloc::Global;
 use wp_graph::Layout;
 use wp_layout::{LayoutFault, read_layout};
 use wp_machine::Opening;
-use wp_outside::{FileFault, Files, MAX_FILE_BYTES};
+use wp_outside::{FileFault, Files, MOST_FILE_BYTES};
 use wp_tables::{Orders, RowFault, Scripts, Stock, Why, read_desks, read_orders, read_stock};
 
 fn too_long(file: Input) -> Stop
@@ -38,7 +38,7 @@ pub fn read_text<F: Files>(
     ensures counts { NoneFalls (F.faults files.old) (F.faults files.new) }
 {
     match files.read(alloc, name) {
-        Ok(text) if text.len() > MAX_FILE_BYTES => Err(too_long(file)),
+        Ok(text) if text.len() > MOST_FILE_BYTES => Err(too_long(file)),
         Ok(text) => Ok(text),
         Err(FileFault::Failed) => Err(Stop::Complaint(Complaint::Fault(file))),
         Err(FileFault::TooLong) => Err(too_long(file)),
@@ -87,7 +87,8 @@ fn stock_from<F: Files>(
 ) -> Result<Stock, Stop>
     ensures said { IfOk result (IsSaid (stock_in layout.now) (F.holds files.old) name.now) }
     ensures read { IfOk result IsReadStock }
-    ensures stops { IfErr result (IsUnsaid (stock_in layout.now) (F.holds files.old) name.now (F.faults files.old name.now) (F.faults files.new name.now) Input.Stock) }
+    ensures stops { IfErr result (IsUnsaid (stock_in layout.now) (F.holds files.old) name.now (F.faults files.old name.now)
+        (F.faults files.new name.now) Input.Stock) }
     ensures same { SameBytes (F.holds files.old) (F.holds files.new) }
     ensures counts { NoneFalls (F.faults files.old) (F.faults files.new) }
 {
@@ -106,7 +107,8 @@ fn orders_from<F: Files>(
 ) -> Result<Orders, Stop>
     ensures said { IfOk result (IsSaid (orders_in stock.now) (F.holds files.old) name.now) }
     ensures read { IfOk result (AreReadOrders stock.now.articles) }
-    ensures stops { IfErr result (IsUnsaid (orders_in stock.now) (F.holds files.old) name.now (F.faults files.old name.now) (F.faults files.new name.now) Input.Orders) }
+    ensures stops { IfErr result (IsUnsaid (orders_in stock.now) (F.holds files.old) name.now (F.faults files.old name.now)
+        (F.faults files.new name.now) Input.Orders) }
     ensures same { SameBytes (F.holds files.old) (F.holds files.new) }
     ensures counts { NoneFalls (F.faults files.old) (F.faults files.new) }
 {
@@ -147,9 +149,11 @@ pub fn read_warehouse<F: Files>(
     stock_name: &str,
     orders_name: &str,
 ) -> Result<Warehouse, Stop>
-    ensures said { IfOk result (λ warehouse. HaveSaid (F.holds files.old) (opening_files layout_name.now stock_name.now orders_name.now) (opening_said warehouse.layout warehouse.opening)) }
+    ensures said { IfOk result (λ warehouse. HaveSaid (F.holds files.old) (opening_files layout_name.now stock_name.now orders_name.now)
+        (opening_said warehouse.layout warehouse.opening)) }
     ensures read { IfOk result (λ warehouse. IsReadOpening warehouse.opening) }
-    ensures stops { IfErr result (StopsAmong (F.holds files.old) (opening_files layout_name.now stock_name.now orders_name.now) (F.faults files.old) (F.faults files.new)) }
+    ensures stops { IfErr result (StopsAmong (F.holds files.old) (opening_files layout_name.now stock_name.now orders_name.now) (F.faults files.old)
+        (F.faults files.new)) }
     ensures same { SameBytes (F.holds files.old) (F.holds files.new) }
     ensures counts { NoneFalls (F.faults files.old) (F.faults files.new) }
 {

@@ -1,4 +1,4 @@
 pub mod Places
-pub mod Reaching
-pub mod Moving
+pub mod TurnPlaces
+pub mod PathPoints
 pub mod Walks

@@ -4,6 +4,7 @@ use Rattle.std.proofs.lemmas.List.{append-nil}
 use Rattle.wp_model.specs.declared.point.Point.{Point}
 use Rattle.wp_classes.specs.Paths.{ahead, at, behind}
 
+-- so many places on in an aisle, with the next one behind them, are one more
 pub ahead_more : (aisle place n : ℕ) → ahead aisle place n ++ at aisle (place + n + 1) ∷ [] ≡ ahead aisle place (n + 1)
 ahead_more aisle place zero = ap (λ s. at aisle s ∷ []) (omega arith)
 ahead_more aisle place (suc n) =
@@ -11,6 +12,7 @@ ahead_more aisle place (suc n) =
     let last : place + suc n + 1 ≡ suc place + n + 1 = omega arith in
     rw (more, last) (ap (λ ps. at aisle (suc place) ∷ ps) (ahead_more aisle (suc place) n))
 
+-- the places back so far with the next one, and those then left, are still all places back
 pub behind_more : (aisle place count i : ℕ) (points : List Point) → i < count → points ++ behind aisle place (count - i) ≡ behind aisle place count →
     (points ++ at aisle (place + (count - 1 - i)) ∷ []) ++ behind aisle place (count - (i + 1)) ≡ behind aisle place count
 behind_more aisle place count i points within so_far =
@@ -18,6 +20,7 @@ behind_more aisle place count i points within so_far =
     let here : count - 1 - i ≡ count - (i + 1) = omega arith in
     rw here (append_assoc points (at aisle (place + (count - (i + 1))) ∷ []) (behind aisle place (count - (i + 1))) ∙ (rw next at so_far))
 
+-- where none is left, the places back so far are all
 pub behind_done : (aisle place count i : ℕ) (points : List Point) → count ≤ i → points ++ behind aisle place (count - i) ≡ behind aisle place count
     → points ≡ behind aisle place count
 behind_done aisle place count i points done so_far =

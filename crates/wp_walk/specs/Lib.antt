@@ -1,2 +1,2 @@
-pub mod Turning
-pub mod Walking
+pub mod ReachedPlaces
+pub mod WalkedParts

@@ -1,6 +1,8 @@
 ghost use Rattle.std.specs.Prelude.{◌≡◌, suc, ◌≤◌, ◌<◌, ◌^◌, [], ◌∷◌, ◌++◌, IfOk};
 ghost use Rattle.wp_model.specs.Warehouse.{Layout as LayoutData, back_end, depot_point};
-ghost use Rattle.wp_classes.specs.Parts.{class_with_back, class_with_pass, round_points, round_start, with_back as part_with_back, with_cross as part_with_cross, with_front as part_with_front, with_pass as part_with_pass, with_way as part_with_way};
+ghost use Rattle.wp_classes.specs.Parts.{class_with_back, class_with_pass, round_points, round_start, with_back as part_with_back};
+ghost use Rattle.wp_classes.specs.Parts.{with_cross as part_with_cross, with_front as part_with_front, with_pass as part_with_pass};
+ghost use Rattle.wp_classes.specs.Parts.{with_way as part_with_way};
 ghost use Rattle.wp_classes.specs.Paths.{at as point_at};
 ghost use Rattle.wp_classes.specs.declared.class.Class.TheVariants.{E01, EE1, Z00, ZE1};
 
@@ -260,7 +262,11 @@ impl Paths {
     // On from class UU1: the path goes along both cross aisles.
     fn on_from_odd(self, alloc: Global, ends: Ends) -> Result<Paths, Memory>
         requires { ends.aisle < 2 ^ 31 }
-        ensures { IfOk result (λ p. p ≡ record { start = self.start; first = point_at ends.aisle ends.back ∷ self.first ++ point_at (suc ends.aisle) 0 ∷ []; second = self.second }) }
+        ensures { IfOk result (λ p. p ≡ record {
+          start = self.start;
+          first = point_at ends.aisle ends.back ∷ self.first ++ point_at (suc ends.aisle) 0 ∷ [];
+          second = self.second;
+        }) }
     {
         let Paths {
             start,
@@ -277,7 +283,12 @@ impl Paths {
     // On from class EE2: each path goes along its cross aisle there and back.
     fn on_from_two(self, alloc: Global, ends: Ends) -> Result<Paths, Memory>
         requires { ends.aisle < 2 ^ 31 }
-        ensures { IfOk result (λ p. p ≡ record { start = self.start; first = point_at ends.aisle ends.back ∷ self.first ++ point_at (suc ends.aisle) ends.back ∷ []; second = point_at ends.aisle 0 ∷ self.second ++ point_at (suc ends.aisle) 0 ∷ [] }) }
+        ensures { IfOk result (λ p. p ≡ record {
+          start = self.start;
+          first = point_at ends.aisle ends.back ∷ self.first ++ point_at (suc ends.aisle) ends.back
+              ∷ [];
+          second = point_at ends.aisle 0 ∷ self.second ++ point_at (suc ends.aisle) 0 ∷ [];
+        }) }
     {
         let Paths {
             start,

@@ -5,7 +5,7 @@ ghost use Rattle.wp_graph.specs.PickSets.{AreSlots};
 ghost use Rattle.wp_graph.specs.Required.{distance, is_required as needs_place, required_places};
 ghost use Rattle.wp_classes.specs.Parts.{AreTurns};
 ghost use Rattle.wp_classes.specs.Tables.{way_length};
-ghost use Rattle.wp_walk.specs.Turning.{IsReached, reach_place};
+ghost use Rattle.wp_walk.specs.ReachedPlaces.{IsReached, reach_place};
 
 use wp_classes::Way;
 use wp_graph::{Layout, Picks, Point};
@@ -59,9 +59,11 @@ fn is_required(layout: &Layout, picks: &Picks, aisle: u32, place: u32) -> bool
 // One more place, behind the others.
 fn reach(layout: &Layout, before: Option<Reached>, place: u32) -> Option<Reached>
     requires place { place ≤ back_end layout.now }
-    requires before { IfSome before (λ r. (r.first ≤ back_end layout.now) × (r.last ≤ back_end layout.now) × (r.near ≤ back_end layout.now) × (r.far ≤ back_end layout.now)) }
+    requires before { IfSome before (λ r. (r.first ≤ back_end layout.now) × (r.last ≤ back_end layout.now) × (r.near ≤ back_end layout.now) ×
+        (r.far ≤ back_end layout.now)) }
     ensures value { result ≡ reach_place layout.now before place }
-    ensures within { IfSome result (λ r. (r.first ≤ back_end layout.now) × (r.last ≤ back_end layout.now) × (r.near ≤ back_end layout.now) × (r.far ≤ back_end layout.now)) }
+    ensures within { IfSome result (λ r. (r.first ≤ back_end layout.now) × (r.last ≤ back_end layout.now) × (r.near ≤ back_end layout.now) ×
+        (r.far ≤ back_end layout.now)) }
 {
     let Some(reached) = before else {
         return Some(Reached {
@@ -98,7 +100,8 @@ fn reach_all(layout: &Layout, picks: &Picks, aisle: u32) -> Option<Reached>
     requires { picks.now.layout ≡ layout.now }
     ensures slots { AreSlots layout.now picks.now.points }
     ensures value { IsReached layout.now (required_places layout.now picks.now.points aisle) result }
-    ensures within { IfSome result (λ r. (r.first ≤ back_end layout.now) × (r.last ≤ back_end layout.now) × (r.near ≤ back_end layout.now) × (r.far ≤ back_end layout.now)) }
+    ensures within { IfSome result (λ r. (r.first ≤ back_end layout.now) × (r.last ≤ back_end layout.now) × (r.near ≤ back_end layout.now) ×
+        (r.far ≤ back_end layout.now)) }
 {
     let mut reached = None;
     for place in 0..layout.slots() + 2 {

@@ -10,7 +10,7 @@ ghost use Rattle.wp_classes.specs.Paths.{On, after_moves};
 ghost use Rattle.wp_classes.specs.declared.class.Class.{Class as ClassData};
 ghost use Rattle.wp_classes.specs.declared.class.Class.TheVariants.{Z00};
 ghost use Rattle.wp_classes.specs.Tables.{class_after_cross, class_after_way, way_length};
-ghost use Rattle.wp_walk.specs.Walking.{IsStep, IsStepped, IsWalked, TakesAisle};
+ghost use Rattle.wp_walk.specs.WalkedParts.{IsStep, IsStepped, IsWalked, TakesAisle};
 
 use crate::paths::Paths;
 use crate::turns::turns_of;
@@ -127,7 +127,8 @@ pub fn walk_of(
 ) -> Result<Vec<Point>, Memory>
     requires picks { picks.now.layout ≡ layout.now }
     requires choice { (total : ℕ) × IsChoiceOf layout.now picks.now.points choice.now total }
-    ensures { (total : ℕ) → IsChoiceOf layout.now picks.now.points choice.now total → IfOk result (λ walk. IsTour layout.now picks.now.points walk.items total) }
+    ensures { (total : ℕ) → IsChoiceOf layout.now picks.now.points choice.now total → IfOk result
+        (λ walk. IsTour layout.now picks.now.points walk.items total) }
 {
     let mut walked = begin(alloc, layout, picks, choice.way(1))?;
     for left in 1..layout.aisles() {

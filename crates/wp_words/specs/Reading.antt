@@ -44,7 +44,7 @@ wants_memory fault.UnknownMode = false
 wants_memory fault.BadWords = false
 wants_memory fault.Memory = true
 
--- a fault is the one that the words say; but it may be want of memory
+-- a fault is the one that the words say; but memory may have run out
 abbrev pub IsFaultOf : {A : Type 0} → Result A WordsFault → WordsFault → Type 0
 IsFaultOf said why = wants_memory why ≡ false → said ≡ Err why
 

@@ -1,6 +1,6 @@
 use Rattle.wp_top.specs.Ends.{asked_by}
 use Rattle.std.proofs.Common.{sym, subst}
-use Rattle.wp_top.proofs.Endings.{run_keeps}
+use Rattle.wp_top.proofs.KeptPromise.{run_keeps}
 use Rattle.wp_top.proofs.run.Goals as goal
 use Rattle.wp_top.specs.Promise.{Keeps, course}
 

@@ -1,7 +1,7 @@
 use Rattle.std.proofs.Common.{Ok}
 use Rattle.wp_top.specs.Ends.{audit_job}
 use Rattle.std.proofs.Common.{sym, subst}
-use Rattle.wp_top.proofs.Endings.{run_keeps}
+use Rattle.wp_top.proofs.KeptPromise.{run_keeps}
 use Rattle.wp_top.proofs.run_audit.Goals as goal
 use Rattle.wp_top.specs.Promise.{Keeps, course}
 

@@ -1,6 +1,6 @@
 use Rattle.std.proofs.Common.{arith, subst}
 use Rattle.std.proofs.lemmas.Option.{slice_get-get_or}
-use Rattle.wp_allot.proofs.Enough.{short_from_all}
+use Rattle.wp_allot.proofs.FirstShortArticle.{short_from_all}
 use Rattle.wp_allot.specs.Cover.{IsFirstAmong}
 use Rattle.wp_allot.specs.declared.want.Want.{Want}
 use Rattle.wp_allot.proofs.cover.short_article.Goals as goal

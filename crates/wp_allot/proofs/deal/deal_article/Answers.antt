@@ -1,8 +1,8 @@
 use Rattle.std.proofs.Common.{◌+◌, sym, subst, get_or, arith}
 use Rattle.std.proofs.lemmas.Option.{slice_get-get_or}
 use Rattle.wp_book.specs.Room.{Content}
-use Rattle.wp_allot.proofs.Articles.{IsDealing, all_dealt, can_serve_of, dealing_more_of, dealing_other, dealing_start}
-use Rattle.wp_allot.specs.Dealing.{IsServed}
+use Rattle.wp_allot.proofs.DealtArticle.{IsDealing, all_dealt, can_serve_of, dealing_more_of, dealing_other, dealing_start}
+use Rattle.wp_allot.specs.DealtUnits.{IsServed}
 use Rattle.wp_allot.specs.declared.mark.Mark.{Mark}
 use Rattle.wp_allot.specs.declared.want.Want.{Want}
 use Rattle.wp_allot.proofs.deal.deal_article.Goals as goal
@@ -14,14 +14,14 @@ none = record { order = 0; article = 0; quantity = 0 }
 pub loop-want-init : goal.loop-want-init
 loop-want-init c =
     subst (λ (mark : Mark). IsDealing c.args.book.now.rows c.args.wants.now c.args.article c.args.except 0 mark c.args.room.now c.args.room.now)
-        (sym c.start-mark.ensures)
+    (sym c.start-mark.ensures)
     (dealing_start c.args.book.now.rows c.args.wants.now c.args.article c.args.except c.args.room.now c.requires)
 
 pub serve-requires : goal.serve-requires
 serve-requires c =
     let there = slice_get-get_or c.args.wants.now c.loop-want.want-index none c.loop-want-test.true in
     can_serve_of c.args.book.now.rows c.args.wants.now c.args.article c.args.except c.loop-want.want-index _ c.loop-want.mark c.args.room.now c.loop-want.room
-        c.if-want-article.true c.requires there c.loop-want-test.true c.loop-want.invariant
+    c.if-want-article.true c.requires there c.loop-want-test.true c.loop-want.invariant
 
 pub loop-want-preserved : goal.loop-want-preserved
 loop-want-preserved c =
@@ -32,19 +32,19 @@ loop-want-preserved c =
     elim c.if-want-article.branch [
       | then-want-article w ↦
           let served = subst (λ (mark : Mark). IsServed rows
-                  (get_or wants place none) c.args.except 0 c.loop-want.mark mark c.loop-want.room c.if-want-article.room) (sym w.mark-is)
+          (get_or wants place none) c.args.except 0 c.loop-want.mark mark c.loop-want.room c.if-want-article.room) (sym w.mark-is)
           (subst (λ (room : Content). IsServed rows (get_or wants place none) c.args.except 0 c.loop-want.mark w.serve.new.mark c.loop-want.room room)
-              (sym w.room-is) w.serve.ensures) in
+          (sym w.room-is) w.serve.ensures) in
           dealing_more_of rows wants c.args.article c.args.except place
-              (get_or wants place none) c.loop-want.mark c.if-want-article.mark c.args.room.now c.loop-want.room c.if-want-article.room w.if-want-article.true
-              c.requires there
+          (get_or wants place none) c.loop-want.mark c.if-want-article.mark c.args.room.now c.loop-want.room c.if-want-article.room w.if-want-article.true
+          c.requires there
           c.loop-want-test.true c.loop-want.invariant served
       | else-want-article w ↦
           subst (λ (mark : Mark). IsDealing rows wants c.args.article c.args.except (place + 1) mark c.args.room.now c.if-want-article.room) (sym w.mark-is)
           (subst (λ (room : Content). IsDealing rows wants c.args.article c.args.except (place + 1) c.loop-want.mark c.args.room.now room) (sym w.room-is)
           (dealing_other rows wants c.args.article c.args.except place
-              (get_or wants place none) c.loop-want.mark c.args.room.now c.loop-want.room there c.loop-want-test.true w.if-want-article.false
-              c.loop-want.invariant))
+          (get_or wants place none) c.loop-want.mark c.args.room.now c.loop-want.room there c.loop-want-test.true w.if-want-article.false
+          c.loop-want.invariant))
     ]
 
 pub returns : goal.returns

@@ -1,4 +1,4 @@
-use Rattle.wp_allot.proofs.Articles.{IsDealing}
+use Rattle.wp_allot.proofs.DealtArticle.{IsDealing}
 use Rattle.wp_allot.proofs.deal.deal_article.Given as goal
 
 abbrev pub invariant-loop-want : goal.invariant-loop-want

@@ -1,5 +1,5 @@
 use Rattle.std.proofs.Common.{◌≡◌}
-use Rattle.wp_allot.specs.Dealing.{AreDealt}
+use Rattle.wp_allot.specs.DealtUnits.{AreDealt}
 use Rattle.wp_allot.proofs.deal.holds_by_overlap.Given as goal
 
 abbrev pub invariant-loop-place : goal.invariant-loop-place

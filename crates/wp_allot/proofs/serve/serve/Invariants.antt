@@ -1,5 +1,5 @@
 use Rattle.std.proofs.Common.{◌+◌, ◌-◌, length}
-use Rattle.wp_allot.proofs.Serving.{IsServing}
+use Rattle.wp_allot.proofs.ServedOrder.{IsServing}
 use Rattle.wp_allot.proofs.serve.serve.Given as goal
 
 abbrev pub invariant-loop-wanted : goal.invariant-loop-wanted

@@ -16,8 +16,11 @@ regular_from wants few follow moderate = record {
   ordered = λ i j v w before at there. (follow j i v w before at there).0;
   once = λ i j v w at there o a. elim (cases_order i j) [
     | inl same ↦ same
-    | inr other ↦ elim other [ inl before ↦ absurd ((follow j i v w before at there).1 o a) | inr after ↦ absurd
-        ((follow i j w v after there at).1 (sym o) (sym a)) ]
+    | inr other ↦ elim other [
+      | inl before ↦ absurd ((follow j i v w before at there).1 o a)
+      | inr after ↦ absurd
+          ((follow i j w v after there at).1 (sym o) (sym a))
+    ]
   ];
   some = λ k d within. (moderate k d within).0;
   small = omega (arith, sum_by-le (λ (want : Want). want.quantity) 1000000 wants (λ k d within. (moderate k d within).1));

@@ -7,7 +7,7 @@ returns-in_err-sum-clause-none c =
     let sum = c.loop.sum + c.tour_length.result in
     let before = c.loop.invariant in
     let more = tour_more c.loop.counter c.loop.generator.state c.loop.sum c.tour_length.result sum c.in_ok-layout.layout c.made_batch-picks.result.points
-            before.state c.in_ok-layout.ensures.numbers c.made_batch-picks.ensures.points c.tour_length.ensures.shortest before.sum refl in
+    before.state c.in_ok-layout.ensures.numbers c.made_batch-picks.ensures.points c.tour_length.ensures.shortest before.sum refl in
     let past = c.in_err-sum.ensures in
     inr (c.loop.counter + 1, sum, omega arith, omega (arith, past), more)
 

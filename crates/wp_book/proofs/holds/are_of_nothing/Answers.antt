@@ -8,5 +8,5 @@ use Rattle.wp_book.proofs.holds.are_of_nothing.Goals as goal
 pub returns : goal.returns
 returns c =
     all_from_yields_List (λ (hold : Hold). hold.quantity == 0) _ _ _ c.all.ensures.ran (YieldsList-from_slice c.args.holds.now cc)
-        (λ x b q k. search (rules, tests))
+    (λ x b q k. search (rules, tests))
     ∙ sym (sum_by-zero (λ (hold : Hold). hold.quantity) c.args.holds.now)

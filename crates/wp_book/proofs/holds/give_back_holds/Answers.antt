@@ -25,8 +25,13 @@ give_back_hold-requires-clause-within c = λ some.
     let own = sums_are (hold_at hold.row) c.loop-hold.holds c.loop-hold.hold-index none none (omega arith) in
     elim (cases_lt hold.row (length c.loop-hold.rows)) [
       | inl within ↦ within
-      | inr past ↦ absurd (omega (arith, own.rest, hold_at-own hold, c.loop-hold.invariant.rest hold.row,
-          c.requires.within hold.row (omega (arith, ap length c.loop-hold.invariant.rows ∙ length-change_rows _ _))))
+      | inr past ↦ absurd (omega (
+        arith,
+        own.rest,
+        hold_at-own hold,
+        c.loop-hold.invariant.rest hold.row,
+        c.requires.within hold.row (omega (arith, ap length c.loop-hold.invariant.rows ∙ length-change_rows _ _)),
+      ))
     ]
 
 pub give_back_hold-requires-clause-held : goal.give_back_hold-requires-clause-held
@@ -35,9 +40,10 @@ give_back_hold-requires-clause-held c =
     let own = sums_are (hold_at hold.row) c.loop-hold.holds c.loop-hold.hold-index none none (omega arith) in
     subst (λ (rows : List Row). IfSome (slice_get rows hold.row) (λ r. (hold.quantity ≤ r.held) × (r.free + r.held < 2 ^ 32))) (sym c.loop-hold.invariant.rows)
     (IfSome-change_rows _ c.args.rows.now hold.row _ (λ r there.
-    let enough = at_some _ _ r there (c.requires.held hold.row) in
-    (omega (arith, own.rest, hold_at-own hold, c.loop-hold.invariant.rest hold.row, enough.0),
-        omega (arith, c.loop-hold.invariant.rest hold.row, enough.0, enough.1))))
+    let enough = at_some _ _ r there (c.requires.held hold.row) in (
+      omega (arith, own.rest, hold_at-own hold, c.loop-hold.invariant.rest hold.row, enough.0),
+      omega (arith, c.loop-hold.invariant.rest hold.row, enough.0, enough.1),
+    )))
 
 pub loop-hold-preserved : goal.loop-hold-preserved
 loop-hold-preserved c =
@@ -51,6 +57,11 @@ loop-hold-preserved c =
           ∙ freed_more _ (λ row. hold_at row hold) _ c.args.rows.now (λ row. omega (arith, (own row).rest, c.loop-hold.invariant.rest row));
       none = λ passes wave.
           let all = sums_are (hold_units_where passes wave) c.loop-hold.holds i none new (omega arith) in
-          omega (arith, all.all, all.rest, c.loop-hold.invariant.none passes wave,
-              hold_of_nothing passes wave new (ap (λ (h : Hold). h.quantity) c.give_back_hold.ensures.hold));
+          omega (
+            arith,
+            all.all,
+            all.rest,
+            c.loop-hold.invariant.none passes wave,
+            hold_of_nothing passes wave new (ap (λ (h : Hold). h.quantity) c.give_back_hold.ensures.hold),
+          );
     }

@@ -14,20 +14,20 @@ pub give_back_holds-requires-clause-held : goal.give_back_holds-requires-clause-
 give_back_holds-requires-clause-held c = λ row.
     let own = same_wave-at c.args.node.now.wave c.args.wave row c.args.node.now.holds.items c.if-node-wave.true in
     subst (λ (units : ℕ). IfSome (slice_get c.args.rows.now row) (λ r. (units ≤ r.held) × (r.free + r.held < 2 ^ 32)))
-        (own ∙ sym (ap (λ holds. units_at holds row) c.deref_mut.ensures.value)) (c.requires.held row)
+    (own ∙ sym (ap (λ holds. units_at holds row) c.deref_mut.ensures.value)) (c.requires.held row)
 
 pub returns-then-node-wave-clause-rows : goal.returns-then-node-wave-clause-rows
 returns-then-node-wave-clause-rows c =
     c.give_back_holds.ensures.rows
     ∙ freed_same _ _ c.args.rows.now (λ row. ap (λ holds. units_at holds row) c.deref_mut.ensures.value
-        ∙ sym (same_wave-at c.args.node.now.wave c.args.wave row c.args.node.now.holds.items c.if-node-wave.true))
+    ∙ sym (same_wave-at c.args.node.now.wave c.args.wave row c.args.node.now.holds.items c.if-node-wave.true))
 
 pub returns-then-node-wave-clause-others : goal.returns-then-node-wave-clause-others
 returns-then-node-wave-clause-others c = λ passes.
     let f = hold_units_where passes c.args.node.now.wave in
     ap (sum_by f) (with_items_is c.args.node.now.holds c.give_back_holds.new.holds (omega arith))
     ∙ c.give_back_holds.ensures.none passes c.args.node.now.wave
-        ∙ sym (but_of-own c.args.node.now.wave c.args.wave passes c.args.node.now.holds.items c.if-node-wave.true)
+    ∙ sym (but_of-own c.args.node.now.wave c.args.wave passes c.args.node.now.holds.items c.if-node-wave.true)
 
 pub returns-else-node-wave-clause-rows : goal.returns-else-node-wave-clause-rows
 returns-else-node-wave-clause-rows c = sym (freed_none _ c.args.rows.now

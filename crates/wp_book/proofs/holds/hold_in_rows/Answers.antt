@@ -21,8 +21,12 @@ hold_once-requires-clause-within c = λ some.
     let hold = slice_index_or c.args.holds.now c.loop-hold.hold-index none in
     elim (cases_lt hold.row (length c.loop-hold.rows)) [
       | inl within ↦ within
-      | inr past ↦ absurd (omega (arith, get_or-le-sum_by (hold_at hold.row) c.args.holds.now c.loop-hold.hold-index none c.loop-hold-test.true,
-          hold_at-own hold, c.requires.within hold.row (omega (arith, ap length c.loop-hold.invariant ∙ length-change_rows _ _))))
+      | inr past ↦ absurd (omega (
+        arith,
+        get_or-le-sum_by (hold_at hold.row) c.args.holds.now c.loop-hold.hold-index none c.loop-hold-test.true,
+        hold_at-own hold,
+        c.requires.within hold.row (omega (arith, ap length c.loop-hold.invariant ∙ length-change_rows _ _)),
+      ))
     ]
 
 pub hold_once-requires-clause-free : goal.hold_once-requires-clause-free
@@ -41,4 +45,4 @@ loop-hold-preserved c =
     let hold = slice_index_or c.args.holds.now i none in
     c.hold_once.ensures ∙ ap (λ rows. change_rows (λ row. hold_units (hold_at row hold)) 0 rows) c.loop-hold.invariant
     ∙ held_more (λ row. units_at (take i c.args.holds.now) row) (λ row. hold_at row hold) _ c.args.rows.now
-        (λ row. sum_by_more (hold_at row) c.args.holds.now i none c.loop-hold-test.true)
+    (λ row. sum_by_more (hold_at row) c.args.holds.now i none c.loop-hold-test.true)

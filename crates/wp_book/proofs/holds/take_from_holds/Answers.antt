@@ -7,14 +7,14 @@ pub loop-hold-preserved : goal.loop-hold-preserved
 loop-hold-preserved c =
     let i = c.loop-hold.hold-index in
     let own = sums_are (hold_for c.args.order c.args.row) c.loop-hold.holds i (record { order = 0; row = 0; quantity = 0 }) c.take_from_hold-left.new.hold
-            (omega arith) in
+    (omega arith) in
     record {
       most = omega arith;
       rest = omega (arith, own.rest);
       left = omega (arith, own.rest);
       taken = λ passes wave.
           let all = sums_are (hold_units_where passes wave) c.loop-hold.holds i (record { order = 0; row = 0; quantity = 0 }) c.take_from_hold-left.new.hold
-                  (omega arith) in
+          (omega arith) in
           omega (
             arith,
             all.all,

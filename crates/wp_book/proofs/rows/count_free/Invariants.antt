@@ -1,5 +1,5 @@
 use Rattle.std.proofs.Common.{◌≡◌, length}
-use Rattle.wp_book.proofs.Counting.{CountsFirst}
+use Rattle.wp_book.proofs.FreeCounts.{CountsFirst}
 use Rattle.wp_book.proofs.rows.count_free.Given as goal
 
 abbrev pub invariant-loop-row : goal.invariant-loop-row

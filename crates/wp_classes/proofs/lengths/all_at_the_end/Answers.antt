@@ -8,4 +8,4 @@ use Rattle.wp_classes.proofs.lengths.all_at_the_end.Goals as goal
 pub returns-clause-each : goal.returns-clause-each
 returns-clause-each c = λ k d class within.
     subst (λ (l : Lengths). length_at l class ≡ (if is_whole class then Some 0 else None)) (sym (get_or-replicate 64 k c.at_the_end.result d within))
-        (c.at_the_end.ensures class)
+    (c.at_the_end.ensures class)

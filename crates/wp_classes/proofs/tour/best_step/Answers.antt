@@ -4,13 +4,13 @@ use Rattle.wp_classes.specs.Choices.{block_of}
 use Rattle.wp_classes.specs.Onward.{AreOnward, Onward}
 use Rattle.wp_classes.specs.Steps.{IsBestStep}
 use Rattle.wp_classes.proofs.Small.{lengths_within, through_within, ways_within}
-use Rattle.wp_classes.proofs.Stepping.{IsChoosing, best_crosses, best_leads, best_step_made, cross_some, leads_some}
+use Rattle.wp_classes.proofs.BestSteps.{IsChoosing, best_crosses, best_leads, best_step_made, cross_some, leads_some}
 use Rattle.wp_classes.proofs.tour.best_step.Goals as goal
 use Rattle.wp_classes.proofs.tour.best_step.Goals.{After-before_way-through}
 
 choosing : (c : After-before_way-through) →
     IsChoosing (block_of c.args.layout.now c.args.picks.now.points) (c.args.layout.now.aisles - c.args.aisle)
-        (c.args.aisle - 1) c.aisle_ways-ways.result c.from-spacing.result c.args.after.now c.before_way-through.result c.args.class
+    (c.args.aisle - 1) c.aisle_ways-ways.result c.from-spacing.result c.args.after.now c.before_way-through.result c.args.class
 choosing c =
     let block = block_of c.args.layout.now c.args.picks.now.points in
     let left = c.args.layout.now.aisles - c.args.aisle in
@@ -34,12 +34,12 @@ before_way-through-requires-clause-after c = λ class.
 pub best_cross-cross-requires-clause-after : goal.best_cross-cross-requires-clause-after
 best_cross-cross-requires-clause-after c = λ class.
     through_within _ _ _ _ _ _ _ c.spacing.ensures.valid (omega (arith, c.spacing.ensures.valid.aisles)) c.requires.after c.aisle_ways-ways.ensures.value
-        c.before_way-through.ensures class
+    c.before_way-through.ensures class
 
 pub unwrap-between-requires : goal.unwrap-between-requires
 unwrap-between-requires c =
     rw c.after_cross.ensures (cross_some (best_crosses (choosing (goal.at.unwrap-between-requires c).After-before_way-through) c.best_cross-cross.result
-        c.best_cross-cross.ensures))
+    c.best_cross-cross.ensures))
 
 pub best_way-way-requires-clause-ways : goal.best_way-way-requires-clause-ways
 best_way-way-requires-clause-ways c = λ way. ways_within _ _ _ _ c.spacing.ensures.valid c.aisle_ways-ways.ensures.value way
@@ -53,7 +53,7 @@ unwrap-requires c =
     let h = choosing (goal.at.unwrap-requires c).After-before_way-through in
     let crossed = best_crosses h c.best_cross-cross.result c.best_cross-cross.ensures in
     rw c.after_way.ensures (leads_some (best_leads h crossed c.unwrap-between.result c.best_way-way.result
-        (sym c.after_cross.ensures ∙ c.unwrap-between.ensures) c.best_way-way.ensures))
+    (sym c.after_cross.ensures ∙ c.unwrap-between.ensures) c.best_way-way.ensures))
 
 pub returns : goal.returns
 returns c =
@@ -63,6 +63,6 @@ returns c =
     let more : c.args.layout.now.aisles - (c.args.aisle - 1) ≡ suc left = omega (arith, c.requires.first, c.requires.last) in
     let step : Step = record { cross = c.best_cross-cross.result; way = c.best_way-way.result; class = c.unwrap.result } in
     let made = best_step_made (choosing (goal.at.returns c).After-before_way-through) step c.unwrap-between.result c.best_cross-cross.ensures
-            (sym c.after_cross.ensures ∙ c.unwrap-between.ensures) c.best_way-way.ensures (sym c.after_way.ensures ∙ c.unwrap.ensures) in
+    (sym c.after_cross.ensures ∙ c.unwrap-between.ensures) c.best_way-way.ensures (sym c.after_way.ensures ∙ c.unwrap.ensures) in
     subst (λ (n : ℕ). IsBestStep block n c.args.aisle c.args.after.now c.args.class step) (sym more)
     (subst (λ (a : ℕ). IsBestStep block (suc left) a c.args.after.now c.args.class step) (sym next) made)

@@ -12,9 +12,9 @@ before_way-through-requires-clause-after c = λ class.
 pub before_cross-requires-clause-after : goal.before_cross-requires-clause-after
 before_cross-requires-clause-after c = λ class.
     through_within _ _ _ _ _ _ _ c.spacing.ensures.valid (omega (arith, c.spacing.ensures.valid.aisles)) c.requires.after c.aisle_ways.ensures.value
-        c.before_way-through.ensures class
+    c.before_way-through.ensures class
 
 pub returns : goal.returns
 returns c =
     onward_one_left _ _ _ _ _ _ _ _ c.requires.first c.requires.last c.requires.after c.aisle_ways.ensures.value
-        (c.from-spacing.ensures ∙ c.spacing.ensures.value) c.before_way-through.ensures c.before_cross.ensures
+    (c.from-spacing.ensures ∙ c.spacing.ensures.value) c.before_way-through.ensures c.before_cross.ensures

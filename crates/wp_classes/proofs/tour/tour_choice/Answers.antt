@@ -1,6 +1,6 @@
 use Rattle.std.proofs.Common.{◌≡◌, ℕ, suc, ◌+◌, ◌-◌, ◌∙◌, arith, get_or, length-set, None, set, subst, sym}
 use Rattle.wp_classes.specs.declared.lengths.Lengths.{Lengths}
-use Rattle.wp_classes.specs.Choices.{block_of, plan_of}
+use Rattle.wp_classes.specs.Choices.{block_of, route_of}
 use Rattle.wp_classes.specs.Onward.{AreOnward, Onward}
 use Rattle.wp_classes.specs.Steps.{IsBestStep}
 use Rattle.wp_classes.proofs.Progress.{Progress, arrays_alike, progress_done, progress_first, progress_on}
@@ -33,15 +33,17 @@ pub best_step-step-requires-clause-after : goal.best_step-step-requires-clause-a
 best_step-step-requires-clause-after c =
     let back : c.loop-left.left + 1 - 1 ≡ c.loop-left.left = omega arith in
     subst (λ (i : ℕ). AreOnward (block_of c.args.layout.now c.args.picks.now.points) (c.args.layout.now.aisles - (c.loop-left.left + 1))
-        (c.loop-left.left + 1) (get_or c.onward_table-table.result i nothing)) back
+    (c.loop-left.left + 1) (get_or c.onward_table-table.result i nothing)) back
     (c.onward_table-table.ensures.each (c.loop-left.left + 1) nothing (omega arith, omega arith))
 
 pub best_step-step-requires-clause-goes_on : goal.best_step-step-requires-clause-goes_on
 best_step-step-requires-clause-goes_on c =
     let back : c.loop-left.left ≡ c.loop-left.left + 1 - 1 = omega arith in
-    let on = c.loop-left.invariant.progress in
-    (on.rest, subst (λ (a : ℕ). Onward (block_of c.args.layout.now c.args.picks.now.points) (c.args.layout.now.aisles - a) a c.loop-left.class on.rest) back
-        on.least_on.0)
+    let on = c.loop-left.invariant.progress in (
+      on.rest,
+      subst (λ (a : ℕ). Onward (block_of c.args.layout.now c.args.picks.now.points) (c.args.layout.now.aisles - a) a c.loop-left.class on.rest) back
+          on.least_on.0,
+    )
 
 pub loop-left-preserved : goal.loop-left-preserved
 loop-left-preserved c =
@@ -61,11 +63,11 @@ loop-left-preserved c =
     subst (λ (a : ℕ). IsBestStep block (all - left) a after c.loop-left.class step) more
     (subst (λ (a : ℕ). IsBestStep block (all - a) (left + 1) after c.loop-left.class step) back c.best_step-step.ensures) in
     let alike = arrays_alike c.loop-left.ways c.loop-left.crosses left step.cross step.way (omega arith)
-            (omega (arith, c.loop-left.invariant.ways_whole, valid.aisles)) (omega (arith, c.loop-left.invariant.crosses_whole, valid.aisles)) in
+    (omega (arith, c.loop-left.invariant.ways_whole, valid.aisles)) (omega (arith, c.loop-left.invariant.crosses_whole, valid.aisles)) in
     record {
       ways_whole = length-set _ left _ ∙ c.loop-left.invariant.ways_whole;
       crosses_whole = length-set _ (left - 1) _ ∙ c.loop-left.invariant.crosses_whole;
-      progress = subst (λ (a : ℕ). Progress block all a (plan_of
+      progress = subst (λ (a : ℕ). Progress block all a (route_of
           (record { ways = set c.loop-left.ways left step.way; crosses = set c.loop-left.crosses (left - 1) step.cross })) step.class) (sym more)
           (progress_on block all left _ _ c.loop-left.class after step (omega arith) (omega arith) c.loop-left.invariant.progress are best alike);
     }
@@ -74,6 +76,6 @@ pub returns : goal.returns
 returns c =
     let valid = c.onward_table-table.ensures.valid in
     let done = progress_done _ _ c.loop-left.left c.loop-left.ways c.loop-left.crosses c.loop-left.class _ (omega arith) (omega (arith, valid.aisles))
-            (omega (arith, c.loop-left.invariant.ways_whole, valid.aisles)) (omega (arith, c.loop-left.invariant.crosses_whole, valid.aisles))
+    (omega (arith, c.loop-left.invariant.ways_whole, valid.aisles)) (omega (arith, c.loop-left.invariant.crosses_whole, valid.aisles))
     (rw c.aisles.ensures.value at c.of.ensures.ways) (rw c.aisles.ensures.value at c.of.ensures.crosses) c.loop-left.invariant.progress in
     (done.0, done.1, shortest _ _ _ c.aisle_ways.ensures.slots done.2)

@@ -1,7 +1,7 @@
 use Rattle.std.proofs.Common.{◌-◌, arith}
 use Rattle.wp_classes.specs.Choices.{block_of}
 use Rattle.wp_classes.specs.Onward.{AreOnward}
-use Rattle.wp_classes.proofs.Planning.{IsLeastFirst, at_first, least_first, least_plan, some_way_on}
+use Rattle.wp_classes.proofs.Routes.{IsLeastFirst, at_first, least_first, least_route, some_way_on}
 use Rattle.wp_classes.proofs.Shortest.{shortest}
 use Rattle.wp_classes.proofs.Small.{lengths_within, ways_within}
 use Rattle.wp_classes.proofs.tour.tour_length.Goals as goal
@@ -25,15 +25,15 @@ least_length_by_way-requires-clause-ways c = λ way. ways_within _ _ _ _ c.aisle
 pub least_length_by_way-requires-clause-after : goal.least_length_by_way-requires-clause-after
 least_length_by_way-requires-clause-after c = λ class.
     lengths_within _ _ _ _ _ c.aisles-done-end.ensures.valid (omega (arith, c.aisles-done-end.ensures.valid.aisles))
-        (on_from_first (goal.at.least_length_by_way-requires-clause-after c).After-aisle_ways) class
+    (on_from_first (goal.at.least_length_by_way-requires-clause-after c).After-aisle_ways) class
 
 pub unwrap-requires : goal.unwrap-requires
 unwrap-requires c = some_way_on _ _ _ (least (goal.at.unwrap-requires c).After-least_length_by_way)
 
 pub returns-clause-least : goal.returns-clause-least
-returns-clause-least c = least_plan _ _ _ (rw c.unwrap.ensures at (least (goal.at.returns-clause-least c).After-least_length_by_way))
+returns-clause-least c = least_route _ _ _ (rw c.unwrap.ensures at (least (goal.at.returns-clause-least c).After-least_length_by_way))
 
 pub returns-clause-shortest : goal.returns-clause-shortest
 returns-clause-shortest c =
-    let plan = least_plan _ _ _ (rw c.unwrap.ensures at (least (goal.at.returns-clause-shortest c).After-least_length_by_way)) in
-    shortest _ _ _ c.aisle_ways.ensures.slots plan
+    let route = least_route _ _ _ (rw c.unwrap.ensures at (least (goal.at.returns-clause-shortest c).After-least_length_by_way)) in
+    shortest _ _ _ c.aisle_ways.ensures.slots route

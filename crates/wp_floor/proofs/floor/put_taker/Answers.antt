@@ -9,5 +9,5 @@ pub bounds-takers-number : goal.bounds-takers-number
 bounds-takers-number c =
     let orders = c.args.opening.now.orders in
     let found : article_in (map name_of orders) c.args.order.now ≡ Some c.in-Some.number =
-            ap (λ os. article_in (map name_of os) c.args.order.now) (sym c.orders.ensures) ∙ (sym c.find.ensures ∙ c.in-Some.is) in
+    ap (λ os. article_in (map name_of os) c.args.order.now) (sym c.orders.ensures) ∙ (sym c.find.ensures ∙ c.in-Some.is) in
     omega (arith, (found_there c.args.order.now (map name_of orders) c.in-Some.number found).1, length-map orders name_of, c.requires)

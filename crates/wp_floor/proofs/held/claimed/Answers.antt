@@ -1,5 +1,5 @@
 use Rattle.std.proofs.Common.{◌∙◌, sym}
-use Rattle.wp_floor.proofs.Claims.{claimed_is, is_released, wrong_state}
+use Rattle.wp_floor.proofs.ClaimedUnits.{claimed_is, is_released, wrong_state}
 use Rattle.wp_floor.proofs.held.claimed.Goals as goal
 
 pub returns-in-Some : goal.returns-in-Some
@@ -13,5 +13,5 @@ pub returns-in-None : goal.returns-in-None
 returns-in-None c =
     let claim = c.args.claim.now in
     let is = claimed_is c.args.book.now c.args.number c.args.wave.now claim.order claim.location claim.quantity c.enough_held.result
-            (is_released c.args.wave.now.state (sym c.wrong_state.ensures ∙ c.in-None.is)) c.enough_held.ensures in
+    (is_released c.args.wave.now.state (sym c.wrong_state.ensures ∙ c.in-None.is)) c.enough_held.ensures in
     record { found = is.0; refused = is.1 }

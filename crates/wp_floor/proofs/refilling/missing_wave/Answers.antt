@@ -5,19 +5,23 @@ use Rattle.wp_model.specs.State.{Wave}
 use Rattle.wp_model.specs.Step.{Stepped, write_off}
 use Rattle.wp_model.specs.declared.row.Row.{Row}
 use Rattle.wp_floor.specs.Floor.{HasAnswered, state_at, wave_of}
-use Rattle.wp_floor.specs.Held.{held_of}
-use Rattle.wp_floor.specs.Refilling.{HasRefilled}
-use Rattle.wp_floor.proofs.Backs.{refused}
-use Rattle.wp_floor.proofs.Claims.{enough_by, holder}
-use Rattle.wp_floor.proofs.Missings.{refusal_stays}
+use Rattle.wp_floor.specs.HeldUnits.{held_of}
+use Rattle.wp_floor.specs.MissingUnits.{HasRefilled}
+use Rattle.wp_floor.proofs.BookStates.{refused}
+use Rattle.wp_floor.proofs.ClaimedUnits.{enough_by, holder}
+use Rattle.wp_floor.proofs.MissingUnits.{refusal_stays}
 use Rattle.wp_floor.proofs.refilling.missing_wave.Goals as goal
 
 pub write_off-requires-clause-article : goal.write_off-requires-clause-article
 write_off-requires-clause-article c =
     let claim = c.args.claim.now in
     let holds = holder c.args.book.now c.args.number c.args.wave.now claim.order claim.location (held_of c.in-Ok.held) c.in-Ok.ensures.found.held in
-    omega (arith, holds.article, All-at (λ (row : Row). row.article < length c.args.opening.now.stock.articles) c.args.book.now.rows c.in-Ok.held.row
-        holds.row c.requires.articles holds.there)
+    omega (
+      arith,
+      holds.article,
+      All-at (λ (row : Row). row.article < length c.args.opening.now.stock.articles) c.args.book.now.rows c.in-Ok.held.row
+          holds.row c.requires.articles holds.there,
+    )
 
 pub returns-in-Ok-clause-refilled : goal.returns-in-Ok-clause-refilled
 returns-in-Ok-clause-refilled c =
@@ -28,9 +32,9 @@ returns-in-Ok-clause-refilled c =
     let holds = holder book c.args.number was claim.order claim.location (held_of c.in-Ok.held) is.held in
     IfOk-weaker c.write_off.result _ _ (λ room done. λ (waves : List Wave) at.
     subst (λ (stepped : Stepped). HasRefilled c.args.opening.now stepped book c.write_off.new.book waves c.args.number was c.write_off.new.wave claim.quantity
-        room)
+    room)
     (sym (enough_by book waves c.args.number was claim.order claim.location claim.quantity
-        (write_off c.args.opening.now (state_at book waves) c.args.number (wave_of was) claim.quantity) c.in-Ok.held is))
+    (write_off c.args.opening.now (state_at book waves) c.args.number (wave_of was) claim.quantity) c.in-Ok.held is))
     (done waves at is.released holds.order)) c.write_off.ensures.refilled
 
 pub returns-in-Ok-clause-answered : goal.returns-in-Ok-clause-answered
@@ -43,7 +47,7 @@ returns-in-Ok-clause-answered c =
     IfErr-weaker c.write_off.result _ _ (λ why done. λ (waves : List Wave) at.
     subst (λ (stepped : Stepped). HasAnswered c.args.opening.now stepped book c.write_off.new.book waves c.args.number was c.write_off.new.wave why)
     (sym (enough_by book waves c.args.number was claim.order claim.location claim.quantity
-        (write_off c.args.opening.now (state_at book waves) c.args.number (wave_of was) claim.quantity) c.in-Ok.held is))
+    (write_off c.args.opening.now (state_at book waves) c.args.number (wave_of was) claim.quantity) c.in-Ok.held is))
     (done waves at is.released holds.order)) c.write_off.ensures.lost
 
 pub returns-in-Err-clause-stays : goal.returns-in-Err-clause-stays
@@ -55,4 +59,4 @@ pub returns-in-Err-clause-answered : goal.returns-in-Err-clause-answered
 returns-in-Err-clause-answered c waves at =
     refused c.args.opening.now c.args.book.now waves c.args.number c.args.wave.now _ c.in-Err.refusal at
     (c.in-Err.ensures.refused waves (write_off c.args.opening.now (state_at c.args.book.now waves) c.args.number
-        (wave_of c.args.wave.now) c.args.claim.now.quantity))
+    (wave_of c.args.wave.now) c.args.claim.now.quantity))

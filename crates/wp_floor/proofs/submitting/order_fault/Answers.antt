@@ -4,43 +4,43 @@ use Rattle.wp_model.proofs.NameEq.{contains_name}
 use Rattle.wp_model.specs.Step.{is_among}
 use Rattle.wp_model.specs.TableLines.{article_in}
 use Rattle.wp_tables.specs.Orders.{name_of}
-use Rattle.wp_floor.proofs.Submits.{by_taker, found_in, found_within, not_found, twice}
+use Rattle.wp_floor.proofs.OrderFaults.{by_taker, found_in, found_within, not_found, twice}
 use Rattle.wp_floor.proofs.submitting.order_fault.Goals as goal
 
 pub returns-in_default : goal.returns-in_default
 returns-in_default c waves are =
     let none : article_in (map name_of c.args.opening.now.orders) c.args.order.now ≡ None =
-            ap (λ os. article_in (map name_of os) c.args.order.now) (sym c.orders.ensures) ∙ sym c.in_default.ensures in
+    ap (λ os. article_in (map name_of os) c.args.order.now) (sym c.orders.ensures) ∙ sym c.in_default.ensures in
     not_found c.args.opening.now waves c.args.before.now c.args.order.now none
 
 pub returns-then-contains : goal.returns-then-contains
 returns-then-contains c waves are =
     let found = found_in c.args.opening.now c.orders.result.now c.args.order.now c.find.result c.in-Some.number c.orders.ensures c.find.ensures c.in-Some.is in
     let among : is_among c.args.before.now c.args.order.now ≡ true =
-            sym (contains_name c.args.order.now c.args.before.now) ∙ (sym c.contains.ensures.value ∙ c.if-contains.true) in
+    sym (contains_name c.args.order.now c.args.before.now) ∙ (sym c.contains.ensures.value ∙ c.if-contains.true) in
     twice c.args.opening.now waves c.args.before.now c.args.order.now c.in-Some.number found among
 
 pub bounds-takers-number : goal.bounds-takers-number
 bounds-takers-number c =
     found_within c.args.opening.now c.args.order.now c.in-Some.number _
-        (found_in c.args.opening.now c.orders.result.now c.args.order.now c.find.result c.in-Some.number c.orders.ensures c.find.ensures c.in-Some.is)
-        c.requires
+    (found_in c.args.opening.now c.orders.result.now c.args.order.now c.find.result c.in-Some.number c.orders.ensures c.find.ensures c.in-Some.is)
+    c.requires
 
 pub returns-in-Some-taker : goal.returns-in-Some-taker
 returns-in-Some-taker c waves are =
     let found = found_in c.args.opening.now c.orders.result.now c.args.order.now c.find.result c.in-Some.number c.orders.ensures c.find.ensures c.in-Some.is in
     let among : is_among c.args.before.now c.args.order.now ≡ false =
-            sym (contains_name c.args.order.now c.args.before.now) ∙ (sym c.contains.ensures.value ∙ c.if-contains.false) in
+    sym (contains_name c.args.order.now c.args.before.now) ∙ (sym c.contains.ensures.value ∙ c.if-contains.false) in
     let there = slice_get-get_or c.args.takers.now c.in-Some.number c.index-takers-number.result
-            (found_within c.args.opening.now c.args.order.now c.in-Some.number _ found c.requires)
-            ∙ ap Some (sym c.index-takers-number.is ∙ c.in-Some-taker.is) in
+    (found_within c.args.opening.now c.args.order.now c.in-Some.number _ found c.requires)
+    ∙ ap Some (sym c.index-takers-number.is ∙ c.in-Some-taker.is) in
     by_taker c.args.opening.now waves c.args.takers.now c.args.before.now c.args.order.now c.in-Some.number (Some c.in-Some-taker.wave) are found among there
 
 pub returns-in-None : goal.returns-in-None
 returns-in-None c waves are =
     let found = found_in c.args.opening.now c.orders.result.now c.args.order.now c.find.result c.in-Some.number c.orders.ensures c.find.ensures c.in-Some.is in
     let among : is_among c.args.before.now c.args.order.now ≡ false =
-            sym (contains_name c.args.order.now c.args.before.now) ∙ (sym c.contains.ensures.value ∙ c.if-contains.false) in
+    sym (contains_name c.args.order.now c.args.before.now) ∙ (sym c.contains.ensures.value ∙ c.if-contains.false) in
     let there = slice_get-get_or c.args.takers.now c.in-Some.number c.index-takers-number.result
-            (found_within c.args.opening.now c.args.order.now c.in-Some.number _ found c.requires) ∙ ap Some (sym c.index-takers-number.is ∙ c.in-None.is) in
+    (found_within c.args.opening.now c.args.order.now c.in-Some.number _ found c.requires) ∙ ap Some (sym c.index-takers-number.is ∙ c.in-None.is) in
     by_taker c.args.opening.now waves c.args.takers.now c.args.before.now c.args.order.now c.in-Some.number None are found among there

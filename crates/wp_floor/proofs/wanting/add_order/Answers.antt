@@ -1,7 +1,7 @@
 use Rattle.std.proofs.Common.{arith, subst}
 use Rattle.std.proofs.lemmas.List.{take_all}
-use Rattle.wp_floor.specs.Wanting.{AreSplit, HaveAdded}
-use Rattle.wp_floor.proofs.Gathered.{added_more, added_none, articles_more, before_next, fits_more}
+use Rattle.wp_floor.specs.WantLists.{AreSplit, HaveAdded}
+use Rattle.wp_floor.proofs.OrderWants.{added_more, added_none, articles_more, before_next, fits_more}
 use Rattle.wp_floor.proofs.wanting.add_order.Goals as goal
 
 pub loop-line-init : goal.loop-line-init
@@ -14,7 +14,7 @@ loop-line-init c = record {
 pub add_line-requires-clause-small : goal.add_line-requires-clause-small
 add_line-requires-clause-small c =
     fits_more c.args.place c.args.lines.now c.loop-line.line-index _ c.args.wants.now.items c.loop-line.wants.items c.loop-line-test.true c.requires.small
-        c.loop-line.invariant.added
+    c.loop-line.invariant.added
 
 pub loop-line-preserved : goal.loop-line-preserved
 loop-line-preserved c =
@@ -34,4 +34,4 @@ returns-clause-before c = before_next c.len-start.result c.args.place c.loop-lin
 pub returns-clause-added : goal.returns-clause-added
 returns-clause-added c =
     subst (λ lines. HaveAdded c.args.place lines c.args.wants.now.items c.loop-line.wants.items)
-        (take_all c.loop-line.line-index c.args.lines.now (omega arith)) c.loop-line.invariant.added
+    (take_all c.loop-line.line-index c.args.lines.now (omega arith)) c.loop-line.invariant.added

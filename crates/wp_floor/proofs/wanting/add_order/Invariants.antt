@@ -1,5 +1,5 @@
 use Rattle.std.proofs.Common.{take}
-use Rattle.wp_floor.specs.Wanting.{AreSplit, HaveAdded, KeepArticles}
+use Rattle.wp_floor.specs.WantLists.{AreSplit, HaveAdded, KeepArticles}
 use Rattle.wp_floor.proofs.wanting.add_order.Given as goal
 
 -- the lines so far were added

@@ -1,4 +1,4 @@
-use Rattle.wp_floor.specs.Wanting.{AreWantsBefore}
+use Rattle.wp_floor.specs.WantLists.{AreWantsBefore}
 use Rattle.wp_floor.proofs.wanting.wants_of_orders.Given as goal
 
 -- the orders so far have their wants

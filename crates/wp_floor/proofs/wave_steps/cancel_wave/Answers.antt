@@ -2,7 +2,7 @@ use Rattle.std.proofs.Common.{◌≡◌, ◌∙◌, sym, ap, true, false, if◌t
 use Rattle.wp_model.specs.Step.{cancel, give_up, is_live, refuse}
 use Rattle.wp_model.specs.declared.reply.Reply.TheVariants as reply
 use Rattle.wp_floor.specs.Floor.{state_at, wave_of}
-use Rattle.wp_floor.proofs.Backs.{refused}
+use Rattle.wp_floor.proofs.BookStates.{refused}
 use Rattle.wp_floor.proofs.wave_steps.cancel_wave.Goals as goal
 
 pub returns-then-wave-clause-answered : goal.returns-then-wave-clause-answered
@@ -10,17 +10,17 @@ returns-then-wave-clause-answered c opening waves at =
     let state = state_at c.args.book.now waves in
     refused opening c.args.book.now waves c.args.number c.args.wave.now _ reply.Picking at
     (ap (cancel state c.args.number (wave_of c.args.wave.now)) c.in-Released.is
-        ∙ ap (λ b. if b then refuse state reply.Picking else give_up state c.args.number (wave_of c.args.wave.now)) c.if-wave.true)
+    ∙ ap (λ b. if b then refuse state reply.Picking else give_up state c.args.number (wave_of c.args.wave.now)) c.if-wave.true)
 
 pub returns-in-Cancelled-clause-answered : goal.returns-in-Cancelled-clause-answered
 returns-in-Cancelled-clause-answered c opening waves at =
     refused opening c.args.book.now waves c.args.number c.args.wave.now _ _ at
-        (ap (cancel (state_at c.args.book.now waves) c.args.number (wave_of c.args.wave.now)) c.in-Cancelled.is)
+    (ap (cancel (state_at c.args.book.now waves) c.args.number (wave_of c.args.wave.now)) c.in-Cancelled.is)
 
 pub returns-in-Done-clause-answered : goal.returns-in-Done-clause-answered
 returns-in-Done-clause-answered c opening waves at =
     refused opening c.args.book.now waves c.args.number c.args.wave.now _ _ at
-        (ap (cancel (state_at c.args.book.now waves) c.args.number (wave_of c.args.wave.now)) c.in-Done.is)
+    (ap (cancel (state_at c.args.book.now waves) c.args.number (wave_of c.args.wave.now)) c.in-Done.is)
 
 pub returns-in-Submitted-clause-same : goal.returns-in-Submitted-clause-same
 returns-in-Submitted-clause-same c not_freed = let both : true ≡ false = sym c.give_up.ensures.cancelled.0 ∙ not_freed in absurd (cc)

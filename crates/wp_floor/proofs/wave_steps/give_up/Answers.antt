@@ -1,4 +1,4 @@
-use Rattle.wp_floor.proofs.Backs.{given_up}
+use Rattle.wp_floor.proofs.GivenUpWaves.{given_up}
 use Rattle.wp_floor.proofs.wave_steps.give_up.Goals as goal
 
 pub returns-clause-answered : goal.returns-clause-answered

@@ -1,4 +1,4 @@
-use Rattle.wp_floor.proofs.Picks.{picked}
+use Rattle.wp_floor.proofs.TakenUnits.{picked}
 use Rattle.wp_floor.proofs.wave_steps.take_picked.Goals as goal
 
 pub returns-clause-answered : goal.returns-clause-answered

@@ -1,6 +1,6 @@
 use Rattle.std.proofs.Common.{arith}
 use Rattle.std.proofs.lemmas.Bool.{false≢true}
-use Rattle.wp_graph.proofs.Walking.{move_to, walk_more}
+use Rattle.wp_graph.proofs.WalkMoves.{move_to, walk_more}
 use Rattle.wp_graph.proofs.walks.sum_of_moves.Goals as goal
 
 pub returns-in_err-total-clause-exact : goal.returns-in_err-total-clause-exact

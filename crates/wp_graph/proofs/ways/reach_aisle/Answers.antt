@@ -5,7 +5,7 @@ use Rattle.std.proofs.lemmas.List.Sums.{fold-append}
 use Rattle.wp_graph.specs.PickSets.{AreSlots}
 use Rattle.wp_graph.specs.Required.{distance, has_point}
 use Rattle.wp_graph.specs.Stretches.{reach_to}
-use Rattle.wp_graph.proofs.Requiring.{depot_distances, required_parts, slot_had, words_more}
+use Rattle.wp_graph.proofs.RequiredPlaces.{depot_distances, required_parts, slot_had, words_more}
 use Rattle.wp_graph.proofs.ways.reach_aisle.Goals as goal
 use Rattle.wp_graph.proofs.ways.reach_aisle.Goals.{After-word}
 
@@ -15,7 +15,7 @@ slots c = record { ranges = c.reach_depot-stretch.ensures.valid; slots = λ p ha
 pub reach_word-stretch-requires-clause-slots : goal.reach_word-stretch-requires-clause-slots
 reach_word-stretch-requires-clause-slots c = λ k small set.
     (slot_had c.args.layout.now c.args.picks.now.points c.args.aisle _ (slots (goal.at.reach_word-stretch-requires-clause-slots c).After-word)
-        (sym (c.word.ensures.bits k small) ∙ eq-eqb _ _ set)).slot
+    (sym (c.word.ensures.bits k small) ∙ eq-eqb _ _ set)).slot
 
 pub loop-index-preserved : goal.loop-index-preserved
 loop-index-preserved c = record {

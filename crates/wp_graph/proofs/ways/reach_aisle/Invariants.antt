@@ -4,7 +4,7 @@ use Rattle.wp_model.specs.declared.point.Point.{Point}
 use Rattle.wp_model.specs.Warehouse.{IsSlot}
 use Rattle.wp_graph.specs.Required.{distance, has_point}
 use Rattle.wp_graph.specs.Stretches.{reach_to}
-use Rattle.wp_graph.proofs.Requiring.{depot_distances}
+use Rattle.wp_graph.proofs.RequiredPlaces.{depot_distances}
 use Rattle.wp_graph.proofs.ways.reach_aisle.Given as goal
 
 abbrev pub invariant-loop-index : goal.invariant-loop-index

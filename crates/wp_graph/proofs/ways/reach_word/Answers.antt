@@ -26,7 +26,7 @@ pub loop-rest-preserved : goal.loop-rest-preserved
 loop-rest-preserved c = record {
   value = rw (c.reach-stretch.ensures.value, c.slot_distance.ensures.value)
       (sym (ap (λ places. fold reach_to c.loop-rest.stretch (map (distance c.args.layout.now) places))
-          (lowest_place c.args.first c.loop-rest.rest (omega arith) (omega arith))) ∙ c.loop-rest.invariant.value);
+      (lowest_place c.args.first c.loop-rest.rest (omega arith) (omega arith))) ∙ c.loop-rest.invariant.value);
   slots = λ k small set. c.loop-rest.invariant.slots k small (lowest_cleared c.loop-rest.rest k (omega arith) (omega arith) small set);
   last = IfSome_then c.reach-stretch.result c.reach-stretch.ensures.last (λ s e. omega (arith, e, c.slot_distance.ensures.small));
 }
@@ -34,4 +34,4 @@ loop-rest-preserved c = record {
 pub returns-clause-value : goal.returns-clause-value
 returns-clause-value c =
     sym (ap (λ places. fold reach_to c.loop-rest.stretch (map (distance c.args.layout.now) places))
-        (no_places c.args.first c.loop-rest.rest c.loop-rest-test.false)) ∙ c.loop-rest.invariant.value
+    (no_places c.args.first c.loop-rest.rest c.loop-rest-test.false)) ∙ c.loop-rest.invariant.value

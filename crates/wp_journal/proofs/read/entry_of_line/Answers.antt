@@ -15,7 +15,7 @@ returns-then-is_its_line-clause-entry c =
 pub returns-then-is_its_line-clause-only : goal.returns-then-is_its_line-clause-only
 returns-then-is_its_line-clause-only c = λ other is.
     one_entry c.args.line.now other c.in_ok-entry.entry is (is_line c.args.line.now c.in_ok-entry.entry
-        (sym c.in_ok-is_its_line.ensures ∙ c.if-is_its_line.true))
+    (sym c.in_ok-is_its_line.ensures ∙ c.if-is_its_line.true))
 
 pub returns-else-is_its_line-clause-refusal : goal.returns-else-is_its_line-clause-refusal
 returns-else-is_its_line-clause-refusal c = λ said.

@@ -16,7 +16,7 @@ returns-then-is_end c = λ whole lines.
     let ends = ap is_end (sym c.split_line.ensures.first) ∙ (sym c.is_end.ensures ∙ c.if-is_end.true) in
     audit_of c.args.opening.now whole c.loop-rest.machine c.count.result c.count.ensures.count
     (ends_well c.args.opening.now whole c.loop-rest.machine (first_line rest) _
-        (begins_at c.args.opening.now whole c.loop-rest.machine rest some (c.loop-rest.invariant.0 whole lines)) ends)
+    (begins_at c.args.opening.now whole c.loop-rest.machine rest some (c.loop-rest.invariant.0 whole lines)) ends)
 
 pub returns-in_err-take_line : goal.returns-in_err-take_line
 returns-in_err-take_line c = λ whole lines.
@@ -28,7 +28,7 @@ returns-in_err-take_line c = λ whole lines.
     (stops (Unit {0}) c.args.opening.now whole c.loop-rest.machine c.take_line.new.machine (first_line rest) _ c.in_err-take_line.field-0.0
     (begins_at c.args.opening.now whole c.loop-rest.machine rest some (c.loop-rest.invariant.0 whole lines)) goes
     (subst (λ (next : List ℕ). Judges {U = Unit {0}} c.loop-rest.machine next c.take_line.new.machine (Err c.in_err-take_line.field-0.0))
-        c.split_line.ensures.first c.in_err-take_line.ensures.judges))
+    c.split_line.ensures.first c.in_err-take_line.ensures.judges))
 
 pub loop-rest-preserved : goal.loop-rest-preserved
 loop-rest-preserved c =
@@ -48,4 +48,4 @@ returns c = λ whole lines.
     let none = no_bytes c.loop-rest.rest.now c.is_empty.result c.is_empty.ensures c.loop-rest-test.false in
     subst (λ (why : AuditFault). Tells c.args.opening.now whole (Err why)) (sym c.bad_line.ensures)
     (ends_early c.args.opening.now whole c.loop-rest.machine
-        (subst (λ (left : List ℕ). Begins c.args.opening.now whole c.loop-rest.machine (lines_of left)) none (c.loop-rest.invariant.0 whole lines)))
+    (subst (λ (left : List ℕ). Begins c.args.opening.now whole c.loop-rest.machine (lines_of left)) none (c.loop-rest.invariant.0 whole lines)))

@@ -8,7 +8,7 @@ use Rattle.wp_journal.proofs.replay.audit_entries.Given as goal
 abbrev pub invariant-loop-rest : goal.invariant-loop-rest
 invariant-loop-rest l =
     ((whole : List ℕ) → lines_of whole ≡ line (codes "journal") ∷ lines_of l.text → Begins l.opening whole l.machine (lines_of l.rest))
-        × (l.machine.opening ≡ l.opening) × (length l.machine.entries ≤ 10000)
+    × (l.machine.opening ≡ l.opening) × (length l.machine.entries ≤ 10000)
 
 abbrev pub decreases-loop-rest : goal.decreases-loop-rest
 decreases-loop-rest l = length l.rest

@@ -11,4 +11,4 @@ pub returns-clause-reads_back : goal.returns-clause-reads_back
 returns-clause-reads_back c =
     let read = c.in_ok-to_vec.ensures.reads_back in
     layout_said-read _ _ c.in_ok-to_vec.ensures.utf8 ((rw c.in_ok-value.ensures.value at read) (omega arith))
-        ∙ value_said-layout_value c.args.layout.now c.in_ok-value.ensures.valid
+    ∙ value_said-layout_value c.args.layout.now c.in_ok-value.ensures.valid

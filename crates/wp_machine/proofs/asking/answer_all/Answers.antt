@@ -16,4 +16,4 @@ pub returns-clause-sound : goal.returns-clause-sound
 returns-clause-sound c =
     let same = ap (λ (h : History). h.opening) (c.machine.view_is ∙ c.in_ok-machine.ensures) ∙ opening_stays (opened c.args.opening.now) c.args.askings.now in
     sound_told c.args.opening.now c.args.askings.now c.entries.result (subst IsReadOpening same c.machine.invariant.1.floor.read)
-        (rw c.in_ok-machine.ensures at c.entries.ensures)
+    (rw c.in_ok-machine.ensures at c.entries.ensures)

@@ -12,12 +12,18 @@ answer_asking-requires-clause-same c =
 pub answer_asking-requires-clause-few : goal.answer_asking-requires-clause-few
 answer_asking-requires-clause-few c =
     let count = ap (λ (h : History). length h.entries) c.loop-asking.invariant in
-    omega (arith, count, as_many_entries (opened c.args.opening.now) (take c.loop-asking.asking-index c.args.askings.now),
-        length-take c.loop-asking.asking-index c.args.askings.now, c.requires.few, c.loop-asking-test.true)
+    omega (
+      arith,
+      count,
+      as_many_entries (opened c.args.opening.now) (take c.loop-asking.asking-index c.args.askings.now),
+      length-take c.loop-asking.asking-index c.args.askings.now,
+      c.requires.few,
+      c.loop-asking-test.true,
+    )
 
 pub loop-asking-preserved : goal.loop-asking-preserved
 loop-asking-preserved c =
     let at = slice_get_read c.args.askings.now (length c.args.askings.now) c.loop-asking.asking-index c.asking-item.result refl c.loop-asking-test.true
-            c.asking-item.is in
+    c.asking-item.is in
     let next = asked_all-next (opened c.args.opening.now) c.args.askings.now c.loop-asking.asking-index c.asking-item.result at in
     c.in_ok-answer_asking.ensures ∙ (ap (λ h. answered h c.asking-item.result.desk c.asking-item.result.command) c.loop-asking.invariant ∙ sym next)

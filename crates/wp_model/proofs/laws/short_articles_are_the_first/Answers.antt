@@ -1,6 +1,7 @@
 use Rattle.std.proofs.Common.{length, arith}
 use Rattle.std.proofs.lemmas.Option.{MatchOption-at_some}
-use Rattle.wp_model.proofs.Demand.{IsFirstShort, covered_from_none, none_from_covered, short_article_is}
+use Rattle.wp_model.proofs.Demand.{covered_from_none, none_from_covered, short_article_is}
+use Rattle.wp_model.specs.Demand.{IsFirstShort}
 use Rattle.wp_model.specs.Demand.{free_units, wave_demand}
 use Rattle.wp_model.proofs.laws.short_articles_are_the_first.Goals as goal
 

@@ -11,4 +11,4 @@ returns-then-byte-eq45 c =
 pub returns : goal.returns
 returns c =
     sym (position_or_len_is is_dash c.args.text.now (length c.args.text.now) 0 (omega arith) (λ k h. c.loop-at.invariant k (omega arith))
-        (λ h. absurd (omega arith)))
+    (λ h. absurd (omega arith)))

@@ -10,5 +10,5 @@ returns-then-len-at-ne4 c = sym (not_four_left (fields_of c.args.fields.now) c.a
 pub returns : goal.returns
 returns c =
     ap four_of (sym (four_left (fields_of c.args.fields.now) c.args.at c.field_of.result.now c.field_of-2.result.now c.field_of-3.result.now
-        c.field_of-4.result.now (omega arith) c.requires
+    c.field_of-4.result.now (omega arith) c.requires
     c.field_of.ensures c.field_of-2.ensures c.field_of-3.ensures c.field_of-4.ensures))

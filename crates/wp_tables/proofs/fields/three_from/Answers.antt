@@ -10,5 +10,5 @@ returns-then-len-at-ne3 c = sym (not_three_left (fields_of c.args.fields.now) c.
 pub returns : goal.returns
 returns c =
     ap three_of (sym (three_left (fields_of c.args.fields.now) c.args.at c.field_of.result.now c.field_of-2.result.now c.field_of-3.result.now
-        (omega arith) c.requires
+    (omega arith) c.requires
     c.field_of.ensures c.field_of-2.ensures c.field_of-3.ensures))

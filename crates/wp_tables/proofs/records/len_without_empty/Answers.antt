@@ -20,4 +20,4 @@ returns-else-is_empty c =
     let before = c.loop-len.len - 1 in
     let last = take_got fields before c.loop-len.len c.field_of.result.now (omega arith) c.field_of.ensures in
     last ∙ sym (trimmed_end (take before fields) c.field_of.result.now (sym c.is_empty.ensures ∙ c.if-is_empty.false)) ∙ ap trimmed (sym last)
-        ∙ c.loop-len.invariant.0
+    ∙ c.loop-len.invariant.0

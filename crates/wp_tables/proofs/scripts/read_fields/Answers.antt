@@ -15,5 +15,5 @@ returns-clause-command c =
     let cons = first_two fields desk text c.field_of.ensures c.field_of-2.ensures in
     let texts = ap (list_all is_utf8) (sym cons) ∙ sym c.are_texts.ensures ∙ c.if-not-are_texts.false in
     let said = ap command_in_fields cons ∙ command_then desk text (drop 2 fields) c.in_ok-read_desk.field-0 c.in_ok-word.word texts
-            (sym c.read_desk.ensures ∙ c.in_ok-read_desk.was) (sym c.read_word.ensures ∙ c.in_ok-word.was) in
+    (sym c.read_desk.ensures ∙ c.in_ok-read_desk.was) (sym c.read_word.ensures ∙ c.in_ok-word.was) in
     rw said c.read_command.ensures.command

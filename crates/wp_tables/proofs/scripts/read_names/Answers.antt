@@ -18,7 +18,8 @@ pub loop-i-preserved : goal.loop-i-preserved
 loop-i-preserved c =
     let fields = fields_of c.args.fields.now in
     let cons = drop_got fields c.loop-i.i c.field_of.result.now c.field_of.ensures in
-    let more = names_more c.loop-i.names.items (drop (c.loop-i.i + 1) fields) c.field_of.result.now c.in_ok-name.name (sym c.in_ok-name.ensures) in
-    (c.loop-i.invariant.0 ∙ ap (λ xs. names_then c.loop-i.names.items (names_read xs)) cons ∙ more
-        ∙ ap (λ names. names_then names (names_read (drop (c.loop-i.i + 1) fields))) (sym c.in_ok-push.ensures.items),
-        omega (arith, c.in_ok-push.ensures.len, c.loop-i.invariant.1))
+    let more = names_more c.loop-i.names.items (drop (c.loop-i.i + 1) fields) c.field_of.result.now c.in_ok-name.name (sym c.in_ok-name.ensures) in (
+      c.loop-i.invariant.0 ∙ ap (λ xs. names_then c.loop-i.names.items (names_read xs)) cons ∙ more
+          ∙ ap (λ names. names_then names (names_read (drop (c.loop-i.i + 1) fields))) (sym c.in_ok-push.ensures.items),
+      omega (arith, c.in_ok-push.ensures.len, c.loop-i.invariant.1),
+    )

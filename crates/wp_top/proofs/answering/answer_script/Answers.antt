@@ -3,24 +3,29 @@ use Rattle.std.proofs.lemmas.List.{length-take}
 use Rattle.std.proofs.lemmas.Option.{slice_get_read}
 use Rattle.wp_model.proofs.Histories.{answered_all-opening}
 use Rattle.wp_model.specs.History.{History, answered, opened}
-use Rattle.wp_top.proofs.Script.{answered_all-next, entries_answered}
+use Rattle.wp_top.proofs.OneDesk.{answered_all-next, entries_answered}
 use Rattle.wp_top.proofs.answering.answer_script.Goals as goal
 
 pub answer-requires-clause-same : goal.answer-requires-clause-same
 answer-requires-clause-same c =
     ap (λ (h : History). h.opening) c.loop-command.invariant.machine
-        ∙ answered_all-opening (opened c.args.opening.now) 1 (take c.loop-command.command-index c.args.script.now)
+    ∙ answered_all-opening (opened c.args.opening.now) 1 (take c.loop-command.command-index c.args.script.now)
 
 pub answer-requires-clause-few : goal.answer-requires-clause-few
 answer-requires-clause-few c =
     let count = ap (λ (h : History). length h.entries) c.loop-command.invariant.machine in
-    omega (arith, count, entries_answered (opened c.args.opening.now) 1 (take c.loop-command.command-index c.args.script.now),
-        length-take c.loop-command.command-index c.args.script.now, c.requires.few)
+    omega (
+      arith,
+      count,
+      entries_answered (opened c.args.opening.now) 1 (take c.loop-command.command-index c.args.script.now),
+      length-take c.loop-command.command-index c.args.script.now,
+      c.requires.few,
+    )
 
 pub loop-command-preserved : goal.loop-command-preserved
 loop-command-preserved c =
     let at = slice_get_read c.args.script.now (length c.args.script.now) c.loop-command.command-index c.command-item.result refl c.loop-command-test.true
-            c.command-item.is in
+    c.command-item.is in
     let next = answered_all-next (opened c.args.opening.now) 1 c.args.script.now c.loop-command.command-index c.command-item.result at in
     record {
       machine = c.in_ok-answer.ensures.machine ∙ (ap (λ h. answered h 1 c.command-item.result) c.loop-command.invariant.machine ∙ sym next);

@@ -1,6 +1,6 @@
 use Rattle.std.proofs.Common.{◌≡◌, take}
 use Rattle.wp_model.specs.History.{answered_all, opened}
-use Rattle.wp_top.specs.Refills.{refills_of}
+use Rattle.wp_machine.specs.Outcome.{refills_of}
 use Rattle.wp_top.proofs.answering.answer_script.Given as goal
 
 -- the commands so far were answered, and their refills kept

@@ -14,7 +14,7 @@ pub print_output-requires-clause-rows : goal.print_output-requires-clause-rows
 print_output-requires-clause-rows c =
     let opening = c.args.opening.now in
     subst (λ (h : History). All (λ row. row.article < length opening.stock.articles) (state_after h).rows) (sym c.in_ok-answered.ensures.machine)
-        (rows_after opening c.args.script.now c.requires.read)
+    (rows_after opening c.args.script.now c.requires.read)
 
 pub print_output-requires-clause-refills : goal.print_output-requires-clause-refills
 print_output-requires-clause-refills c =

@@ -17,4 +17,4 @@ pub returns : goal.returns
 returns c =
     let r = c.args.row in
     words (string_bytes c.args.text.now) (string_bytes c.writeln.new.self) (location_text r.location) c.args.article (decimal r.on_hand) (decimal r.free)
-        (decimal r.held) c.in_ok-writeln.ensures.bytes
+    (decimal r.held) c.in_ok-writeln.ensures.bytes

@@ -1,5 +1,5 @@
 use Rattle.std.proofs.Common.{◌∙◌, sym, ⊎_elim}
-use Rattle.wp_walk.proofs.Reaching.{depot_required, pick_required}
+use Rattle.wp_walk.proofs.TurnPlaces.{depot_required, pick_required}
 use Rattle.wp_walk.proofs.turns.is_required.Goals as goal
 
 pub returns-then-place-eq0-clause-value : goal.returns-then-place-eq0-clause-value

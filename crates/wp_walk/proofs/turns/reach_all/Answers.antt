@@ -1,5 +1,5 @@
 use Rattle.std.proofs.Common.{arith, sym, ◌∙◌}
-use Rattle.wp_walk.proofs.Reaching.{looked_all, looked_no, looked_yes}
+use Rattle.wp_walk.proofs.TurnPlaces.{looked_all, looked_no, looked_yes}
 use Rattle.wp_walk.proofs.turns.reach_all.Goals as goal
 use Rattle.wp_walk.proofs.turns.reach_all.Goals.{else-is_required, then-is_required}
 

@@ -1,7 +1,7 @@
 use Rattle.std.proofs.Common.{◌<◌, ◌≤◌, IfSome}
 use Rattle.wp_model.specs.Warehouse.{back_end}
 use Rattle.wp_graph.specs.PickSets.{AreSlots}
-use Rattle.wp_walk.specs.Turning.{IsReached, first_required}
+use Rattle.wp_walk.specs.ReachedPlaces.{IsReached, first_required}
 use Rattle.wp_walk.proofs.turns.reach_all.Given as goal
 
 abbrev pub invariant-loop-place : goal.invariant-loop-place

@@ -3,7 +3,7 @@ use Rattle.wp_graph.specs.AisleLengths.{ways_of}
 use Rattle.wp_classes.specs.declared.class.Way.{Way}
 use Rattle.wp_classes.specs.Parts.{AreTurns}
 use Rattle.wp_classes.specs.Tables.{way_length}
-use Rattle.wp_walk.proofs.Reaching.{turns_ends, turns_gap, turns_none}
+use Rattle.wp_walk.proofs.TurnPlaces.{turns_ends, turns_gap, turns_none}
 use Rattle.wp_walk.proofs.turns.turns_of.Goals as goal
 
 pub returns-in_default-clause-turns : goal.returns-in_default-clause-turns
@@ -13,7 +13,7 @@ returns-in_default-clause-turns c = turns_none c.args.layout.now c.args.picks.no
 pub returns-in-Gap-clause-turns : goal.returns-in-Gap-clause-turns
 returns-in-Gap-clause-turns c =
     let applies = subst (λ (w : Way). way_length (ways_of c.args.layout.now c.args.picks.now.points c.args.aisle) w ≡ Some c.requires.applies.0) c.in-Gap.is
-            c.requires.applies.1 in
+    c.requires.applies.1 in
     subst (λ (w : Way). AreTurns c.args.layout.now c.args.picks.now.points c.args.aisle w c.in-Some.reached.near c.in-Some.reached.far) (sym c.in-Gap.is)
     (turns_gap c.args.layout.now c.args.picks.now.points c.args.aisle c.in-Some.reached c.requires.applies.0 c.in-Some.ensures.value applies)
 

@@ -10,8 +10,11 @@ units_in_chain-requires c =
     let rows = c.self.inside.rows in
     let chains = c.self.inside.chains.items in
     let found = chain_found chains c.args.wave c.chain_of.result c.index-chain.result.now c.self.invariant.count c.chain_of.ensures c.index-chain.ensures in
-    omega (arith, ap (chain_units (is_for c.args.wave c.args.order c.args.row)) found,
-        order_fits rows chains c.args.wave c.args.order c.args.row c.self.invariant)
+    omega (
+      arith,
+      ap (chain_units (is_for c.args.wave c.args.order c.args.row)) found,
+      order_fits rows chains c.args.wave c.args.order c.args.row c.self.invariant,
+    )
 
 pub returns : goal.returns
 returns c =
@@ -20,5 +23,5 @@ returns c =
     let passes = is_for c.args.wave c.args.order c.args.row in
     let found = chain_found chains c.args.wave c.chain_of.result c.index-chain.result.now c.self.invariant.count c.chain_of.ensures c.index-chain.ensures in
     c.units_in_chain.ensures ∙ (ap (chain_units passes) found
-        ∙ (sym (wave_held rows chains c.args.wave passes c.self.invariant (is_for-of c.args.wave c.args.order c.args.row))
+    ∙ (sym (wave_held rows chains c.args.wave passes c.self.invariant (is_for-of c.args.wave c.args.order c.args.row))
     ∙ ap (λ (book : Book). held_for book c.args.wave c.args.order c.args.row) c.self.view_is))

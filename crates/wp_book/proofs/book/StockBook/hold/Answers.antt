@@ -6,7 +6,7 @@ use Rattle.wp_model.specs.declared.row.Hold.{Hold}
 use Rattle.wp_model.specs.declared.row.Row.{Row}
 use Rattle.wp_book.specs.Calls.{CanHold, HasHeld}
 use Rattle.wp_book.specs.Kept.{IsKept, book_of}
-use Rattle.wp_book.specs.declared.room.WaveHolds.{WaveHolds}
+use Rattle.wp_book.specs.declared.room.KeptHolds.{KeptHolds}
 use Rattle.wp_book.proofs.Books.{CanAdd, hold_does, hold_keeps, no_units_past, rows_held, with_node}
 use Rattle.wp_book.proofs.Totals.{chain_for, chain_found, row_is}
 use Rattle.wp_book.proofs.book.StockBook.hold.Goals as goal
@@ -27,7 +27,7 @@ hold_in_rows-requires-clause-free c = λ row.
     (omega (arith, same, free), omega (arith, is.balance.sum, is.balance.most)))
 
 -- the holds that were put in, as the chain keeps them
-abbrev node_of : (c : goal.After-self-1) → WaveHolds
+abbrev node_of : (c : goal.After-self-1) → KeptHolds
 node_of c = record { wave = c.args.wave; holds = c.into_parts-holds.result.0 }
 
 -- what is known of them
@@ -49,14 +49,14 @@ chains_after : (c : goal.After-self-1) → set c.self.inside.chains.items c.chai
 chains_after c =
     let chains = c.self.inside.chains.items in
     let found = chain_found chains c.args.wave c.chain_of.result c.index_mut-chain.result.now c.self.invariant.count c.chain_of.ensures
-            c.index_mut-chain.ensures.value in
-    ap (λ (new : List WaveHolds). set chains c.chain_of.result new) (c.push.ensures ∙ ap (λ (nodes : List WaveHolds). nodes ++ node_of c ∷ []) found)
+    c.index_mut-chain.ensures.value in
+    ap (λ (new : List KeptHolds). set chains c.chain_of.result new) (c.push.ensures ∙ ap (λ (nodes : List KeptHolds). nodes ++ node_of c ∷ []) found)
     ∙ ap (λ i. set chains i (chain_for chains c.args.wave ++ node_of c ∷ [])) c.chain_of.ensures
 
 pub invariant_of-self : goal.invariant_of-self
 invariant_of-self c =
     subst (λ (rows : List Row). IsKept rows (set c.self.inside.chains.items c.chain_of.result c.push.new.self)) (sym (rows_after c))
-    (subst (λ (chains : List (List WaveHolds)). IsKept (rows_held c.self.inside.rows (node_of c).holds.items) chains) (sym (chains_after c))
+    (subst (λ (chains : List (List KeptHolds)). IsKept (rows_held c.self.inside.rows (node_of c).holds.items) chains) (sym (chains_after c))
     (hold_keeps c.self.inside.rows c.self.inside.chains.items c.args.wave (node_of c) (may_add c)))
 
 pub returns : goal.returns
@@ -65,10 +65,10 @@ returns c =
     let chains = c.self.inside.chains.items in
     let does = hold_does rows chains c.args.wave (node_of c) (may_add c) in
     subst (λ (old : Book). HasHeld c.args.wave c.args.room.holds old (book_of c.hold_in_rows.new.rows (set chains c.chain_of.result c.push.new.self)))
-        c.self.view_is
+    c.self.view_is
     (subst (λ (new : List Row). HasHeld c.args.wave c.args.room.holds (book_of rows chains) (book_of new (set chains c.chain_of.result c.push.new.self)))
-        (sym (rows_after c))
-    (subst (λ (new : List (List WaveHolds)). HasHeld c.args.wave c.args.room.holds (book_of rows chains)
-        (book_of (rows_held rows (node_of c).holds.items) new)) (sym (chains_after c))
+    (sym (rows_after c))
+    (subst (λ (new : List (List KeptHolds)). HasHeld c.args.wave c.args.room.holds (book_of rows chains)
+    (book_of (rows_held rows (node_of c).holds.items) new)) (sym (chains_after c))
     (subst (λ (holds : List Hold). HasHeld c.args.wave holds (book_of rows chains)
-        (book_of (rows_held rows (node_of c).holds.items) (with_node chains c.args.wave (node_of c)))) c.into_parts-holds.ensures does)))
+    (book_of (rows_held rows (node_of c).holds.items) (with_node chains c.args.wave (node_of c)))) c.into_parts-holds.ensures does)))

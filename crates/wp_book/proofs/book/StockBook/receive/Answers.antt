@@ -1,9 +1,9 @@
 use Rattle.std.proofs.Common.{◌+◌, ◌≤◌, sym, subst, List, IfSome, slice_get}
 use Rattle.wp_model.specs.Book.{Book}
-use Rattle.wp_model.specs.Opening.{most_on_hand}
+use Rattle.wp_model.specs.Limits.{most_on_hand}
 use Rattle.wp_model.specs.declared.row.Row.{Row}
 use Rattle.wp_book.specs.Kept.{IsKept}
-use Rattle.wp_book.proofs.Taking.{receive_keeps}
+use Rattle.wp_book.proofs.ReceivedUnits.{receive_keeps}
 use Rattle.wp_book.proofs.book.StockBook.receive.Goals as goal
 
 pub invariant_of-self : goal.invariant_of-self

@@ -7,15 +7,15 @@ use Rattle.wp_model.specs.declared.row.Row.{Row}
 use Rattle.wp_book.specs.Calls.{HasTaken}
 use Rattle.wp_book.specs.Chains.{chain_units}
 use Rattle.wp_book.specs.Kept.{IsKept, book_of}
-use Rattle.wp_book.specs.declared.room.WaveHolds.{WaveHolds}
-use Rattle.wp_book.proofs.Back.{with_chain}
+use Rattle.wp_book.specs.declared.room.KeptHolds.{KeptHolds}
+use Rattle.wp_book.proofs.ReturnedUnits.{with_chain}
 use Rattle.wp_book.proofs.Books.{chain_order-le-wave, wave_nowhere}
-use Rattle.wp_book.proofs.Taking.{IsTaken, row_has_units, rows_taken, take_does, take_keeps, take_nothing}
+use Rattle.wp_book.proofs.TakenUnits.{IsTaken, row_has_units, rows_taken, take_does, take_keeps, take_nothing}
 use Rattle.wp_book.proofs.Totals.{chain_for, chain_found, is_for-of, wave_held}
 use Rattle.wp_book.proofs.book.StockBook.take.Goals as goal
 
 -- what the wave's chain has is enough
-enough_in : (rows : List Row) (chains : List (List WaveHolds)) (book : Book) (wave order row units : ℕ) → IsKept rows chains → book_of rows chains ≡ book
+enough_in : (rows : List Row) (chains : List (List KeptHolds)) (book : Book) (wave order row units : ℕ) → IsKept rows chains → book_of rows chains ≡ book
     → units ≤ held_for book wave order row
     → units ≤ chain_units (is_for wave order row) (chain_for chains wave)
 enough_in rows chains book wave order row units kept is enough =
@@ -29,8 +29,11 @@ take-requires-clause-row c =
     let enough = enough_in rows chains c.args.self.now c.args.wave c.args.order c.args.row c.args.quantity c.self.invariant c.self.view_is c.requires in
     elim (cases_lt c.args.row (length rows)) [
       | inl within ↦ within
-      | inr past ↦ absurd (omega (arith, chain_order-le-wave c.args.wave c.args.order c.args.row (chain_for chains c.args.wave),
-          wave_nowhere rows chains c.args.wave c.args.row c.self.invariant past))
+      | inr past ↦ absurd (omega (
+        arith,
+        chain_order-le-wave c.args.wave c.args.order c.args.row (chain_for chains c.args.wave),
+        wave_nowhere rows chains c.args.wave c.args.row c.self.invariant past,
+      ))
     ]
 
 pub take-requires-clause-held : goal.take-requires-clause-held
@@ -47,7 +50,7 @@ take_from_chain-requires c =
     let rows = c.self.inside.rows in
     let chains = c.self.inside.chains.items in
     let found = chain_found chains c.args.wave c.chain_of.result c.index_mut-chain.result.now c.self.invariant.count c.chain_of.ensures
-            c.index_mut-chain.ensures.value in
+    c.index_mut-chain.ensures.value in
     let enough = enough_in rows chains c.args.self.now c.args.wave c.args.order c.args.row c.args.quantity c.self.invariant c.self.view_is c.requires in
     omega (arith, enough, ap (chain_units (is_for c.args.wave c.args.order c.args.row)) found)
 
@@ -58,7 +61,7 @@ is_taken c =
     let rows = c.self.inside.rows in
     let chains = c.self.inside.chains.items in
     let found = chain_found chains c.args.wave c.chain_of.result c.index_mut-chain.result.now c.self.invariant.count c.chain_of.ensures
-            c.index_mut-chain.ensures.value in
+    c.index_mut-chain.ensures.value in
     record {
       kept = c.self.invariant;
       enough = enough_in rows chains c.args.self.now c.args.wave c.args.order c.args.row c.args.quantity c.self.invariant c.self.view_is c.requires;
@@ -72,7 +75,7 @@ chains_after c = ap (λ i. set c.self.inside.chains.items i c.take_from_chain.ne
 pub invariant_of-self : goal.invariant_of-self
 invariant_of-self c =
     subst (λ (rows : List Row). IsKept rows (set c.self.inside.chains.items c.chain_of.result c.take_from_chain.new.chain)) (sym c.take.ensures)
-    (subst (λ (chains : List (List WaveHolds)). IsKept (rows_taken c.self.inside.rows c.args.row c.args.quantity) chains) (sym (chains_after c))
+    (subst (λ (chains : List (List KeptHolds)). IsKept (rows_taken c.self.inside.rows c.args.row c.args.quantity) chains) (sym (chains_after c))
     (take_keeps c.self.inside.rows c.self.inside.chains.items c.args.wave c.args.order c.args.row c.args.quantity c.take_from_chain.new.chain (is_taken c)))
 
 pub returns-then-quantity-gt0 : goal.returns-then-quantity-gt0
@@ -80,11 +83,11 @@ returns-then-quantity-gt0 c =
     let rows = c.self.inside.rows in
     let chains = c.self.inside.chains.items in
     subst (λ (old : Book). HasTaken c.args.wave c.args.order c.args.row c.args.quantity old
-        (book_of c.take.new.self (set chains c.chain_of.result c.take_from_chain.new.chain))) c.self.view_is
+    (book_of c.take.new.self (set chains c.chain_of.result c.take_from_chain.new.chain))) c.self.view_is
     (subst (λ (new : List Row). HasTaken c.args.wave c.args.order c.args.row c.args.quantity (book_of rows chains)
-        (book_of new (set chains c.chain_of.result c.take_from_chain.new.chain))) (sym c.take.ensures)
-    (subst (λ (new : List (List WaveHolds)). HasTaken c.args.wave c.args.order c.args.row c.args.quantity (book_of rows chains)
-        (book_of (rows_taken rows c.args.row c.args.quantity) new)) (sym (chains_after c))
+    (book_of new (set chains c.chain_of.result c.take_from_chain.new.chain))) (sym c.take.ensures)
+    (subst (λ (new : List (List KeptHolds)). HasTaken c.args.wave c.args.order c.args.row c.args.quantity (book_of rows chains)
+    (book_of (rows_taken rows c.args.row c.args.quantity) new)) (sym (chains_after c))
     (take_does rows chains c.args.wave c.args.order c.args.row c.args.quantity c.take_from_chain.new.chain (is_taken c))))
 
 pub returns-else-quantity-gt0 : goal.returns-else-quantity-gt0

@@ -2,7 +2,7 @@ use Rattle.std.proofs.Common.{◌≡◌, subst, refl, rules}
 use Rattle.std.proofs.lemmas.List.Sorted.{answers_always}
 use Rattle.wp_model.specs.declared.row.Hold.{Hold}
 use Rattle.wp_book.specs.Room.{Content, IsInOrder}
-use Rattle.wp_book.proofs.Sorting.{in_order}
+use Rattle.wp_book.proofs.SortedHolds.{in_order}
 use Rattle.wp_book.proofs.room.Room.sort.Goals as goal
 
 pub returns : goal.returns

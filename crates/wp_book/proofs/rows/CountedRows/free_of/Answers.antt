@@ -1,6 +1,6 @@
 use Rattle.std.proofs.Common.{ap, arith}
 use Rattle.wp_model.specs.Demand.{free_units}
-use Rattle.wp_book.proofs.Free.{free_but}
+use Rattle.wp_book.proofs.FreeUnits.{free_but}
 use Rattle.wp_book.proofs.rows.CountedRows.free_of.Goals as goal
 
 pub overflow_sub-result : goal.overflow_sub-result

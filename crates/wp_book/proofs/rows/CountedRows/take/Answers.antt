@@ -1,6 +1,6 @@
 use Rattle.std.proofs.Common.{refl, ap, length, arith}
 use Rattle.wp_model.specs.Change.{take_units}
-use Rattle.wp_book.proofs.Counting.{count_kept, row_read}
+use Rattle.wp_book.proofs.FreeCounts.{count_kept, row_read}
 use Rattle.wp_book.proofs.RowChanges.{write_is_change}
 use Rattle.wp_book.proofs.rows.CountedRows.take.Goals as goal
 

@@ -3,15 +3,15 @@ use Rattle.wp_model.specs.Step.{allot}
 use Rattle.wp_model.specs.declared.command.Command.TheVariants as command
 use Rattle.wp_floor.specs.Floor.{state_of}
 use Rattle.wp_floor.proofs.Floors.{answered, found_at, takers_same, unknown_wave}
-use Rattle.wp_floor.proofs.Holdings.{fits}
+use Rattle.wp_floor.proofs.WaveStock.{fits}
 use Rattle.wp_floor.proofs.floor.Floor.allot.Goals as goal
 
 pub returns-in_default : goal.returns-in_default
 returns-in_default c =
     let state = state_of c.args.self.now in
     unknown_wave c.args.opening.now (command.Allot c.args.name.now) c.args.name.now
-        (λ number w. allot c.args.opening.now state number w w.state) c.args.self.now c.take_out.new.self c.requires.floor refl c.in_default.ensures.none
-        c.in_default.ensures.nobody
+    (λ number w. allot c.args.opening.now state number w w.state) c.args.self.now c.take_out.new.self c.requires.floor refl c.in_default.ensures.none
+    c.in_default.ensures.nobody
 
 pub allot_wave-reply-requires-clause-room : goal.allot_wave-reply-requires-clause-room
 allot_wave-reply-requires-clause-room c =

@@ -12,7 +12,7 @@ pub returns-in_default : goal.returns-in_default
 returns-in_default c =
     let state = state_of c.args.self.now in
     unknown_wave c.args.opening.now (command.Cancel c.args.name.now) c.args.name.now
-        (λ number w. cancel state number w w.state) c.args.self.now c.take_out.new.self c.requires refl c.in_default.ensures.none c.in_default.ensures.nobody
+    (λ number w. cancel state number w w.state) c.args.self.now c.take_out.new.self c.requires refl c.in_default.ensures.none c.in_default.ensures.nobody
 
 pub returns : goal.returns
 returns c =
@@ -27,7 +27,7 @@ returns c =
     let now = with_items_is old.takers takers (omega arith) in
     let before = c.deref_mut.ensures.value in
     let freed = takers_after_cancel c.args.opening.now c.args.name.now old c.put_back.new.self c.take_out.new.self found left takers
-            c.cancel_wave-reply.result c.requires is c.put_back.ensures answers.orders
+    c.cancel_wave-reply.result c.requires is c.put_back.ensures answers.orders
     c.cancel_wave-reply.ensures.cancelled c.cancel_wave-reply.ensures.same
     (λ e. subst (λ (ts : List (Option (List ℕ))). HasPut c.args.opening.now left.orders None ts takers) before (c.free_orders.ensures.freed e))
     (λ e. c.free_orders.ensures.same e ∙ before) in

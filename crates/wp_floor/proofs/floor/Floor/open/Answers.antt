@@ -1,6 +1,6 @@
 use Rattle.std.proofs.Common.{◌∙◌, ap, length, None, replicate}
 use Rattle.wp_book.specs.Calls.{free_book}
-use Rattle.wp_floor.proofs.Opens.{floor_opens}
+use Rattle.wp_floor.proofs.NewFloor.{floor_opens}
 use Rattle.wp_floor.proofs.floor.Floor.open.Goals as goal
 
 pub returns-clause-floor : goal.returns-clause-floor

@@ -11,7 +11,7 @@ returns-in_default c =
     let state = state_of c.args.self.now in
     unknown_wave c.args.opening.now (command.Pick c.args.name.now claim.order claim.location claim.quantity) c.args.name.now
     (λ number w. at_released state number w claim.order claim.location claim.quantity (pick state number w claim.quantity) w.state) c.args.self.now
-        c.take_out.new.self c.requires.floor refl c.in_default.ensures.none c.in_default.ensures.nobody
+    c.take_out.new.self c.requires.floor refl c.in_default.ensures.none c.in_default.ensures.nobody
 
 pub returns : goal.returns
 returns c =
@@ -25,7 +25,7 @@ returns c =
     let answers = c.pick_wave-reply.ensures.answered c.args.opening.now _ at in
     answered c.args.opening.now (command.Pick c.args.name.now claim.order claim.location claim.quantity) c.args.name.now
     (λ number w. at_released state number w claim.order claim.location claim.quantity (pick state number w claim.quantity) w.state) old c.take_out.new.self
-        found
+    found
     (record { book = c.pick_wave-reply.new.book; waves = c.put_back.new.self; takers = old.takers }) left c.pick_wave-reply.result refl
     (record {
       floor = c.requires.floor;

@@ -1,5 +1,5 @@
-use Rattle.wp_floor.proofs.Heldunits.{row_is_found}
-use Rattle.wp_floor.proofs.Receives.{all_have_articles, received}
+use Rattle.wp_floor.proofs.HeldUnits.{row_is_found}
+use Rattle.wp_floor.proofs.ReceivedUnits.{all_have_articles, received}
 use Rattle.wp_floor.proofs.floor.Floor.receive.Goals as goal
 
 pub receive_at-requires-clause-rows : goal.receive_at-requires-clause-rows

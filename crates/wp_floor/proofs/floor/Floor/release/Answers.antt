@@ -3,8 +3,8 @@ use Rattle.wp_model.specs.Step.{release}
 use Rattle.wp_model.specs.declared.command.Command.TheVariants as command
 use Rattle.wp_floor.specs.Floor.{state_of}
 use Rattle.wp_floor.proofs.Floors.{found_at, unknown_wave}
-use Rattle.wp_floor.proofs.Holdings.{fits}
-use Rattle.wp_floor.proofs.Releases.{release_out, release_refused, release_told}
+use Rattle.wp_floor.proofs.WaveStock.{fits}
+use Rattle.wp_floor.proofs.ReleasedWaves.{release_out, release_refused, release_told}
 use Rattle.wp_floor.proofs.floor.Floor.release.Goals as goal
 
 pub returns-in_default : goal.returns-in_default
@@ -41,22 +41,37 @@ pub returns-clause-out : goal.returns-clause-out
 returns-clause-out c =
     release_out c.args.opening.now c.args.name.now c.args.self.now c.take_out.new.self c.in-Some.found
     (record { book = c.release_wave-done.new.book; waves = c.put_back.new.self; takers = c.args.self.now.takers }) c.release_wave-done.new.wave
-        c.release_wave-done.result
-    (record { floor = c.requires.floor; is_found = c.in-Some.ensures.some; waves = c.put_back.ensures; takers = refl;
-        live = c.release_wave-done.ensures.live }) c.release_wave-done.ensures.out
+    c.release_wave-done.result
+    (record {
+      floor = c.requires.floor;
+      is_found = c.in-Some.ensures.some;
+      waves = c.put_back.ensures;
+      takers = refl;
+      live = c.release_wave-done.ensures.live;
+    }) c.release_wave-done.ensures.out
 
 pub returns-clause-told : goal.returns-clause-told
 returns-clause-told c =
     release_told c.args.opening.now c.args.name.now c.args.self.now c.take_out.new.self c.in-Some.found
     (record { book = c.release_wave-done.new.book; waves = c.put_back.new.self; takers = c.args.self.now.takers }) c.release_wave-done.new.wave
-        c.release_wave-done.result
-    (record { floor = c.requires.floor; is_found = c.in-Some.ensures.some; waves = c.put_back.ensures; takers = refl;
-        live = c.release_wave-done.ensures.live }) c.release_wave-done.ensures.out
+    c.release_wave-done.result
+    (record {
+      floor = c.requires.floor;
+      is_found = c.in-Some.ensures.some;
+      waves = c.put_back.ensures;
+      takers = refl;
+      live = c.release_wave-done.ensures.live;
+    }) c.release_wave-done.ensures.out
 
 pub returns-clause-refused : goal.returns-clause-refused
 returns-clause-refused c =
     release_refused c.args.opening.now c.args.name.now c.args.self.now c.take_out.new.self c.in-Some.found
     (record { book = c.release_wave-done.new.book; waves = c.put_back.new.self; takers = c.args.self.now.takers }) c.release_wave-done.new.wave
-        c.release_wave-done.result
-    (record { floor = c.requires.floor; is_found = c.in-Some.ensures.some; waves = c.put_back.ensures; takers = refl;
-        live = c.release_wave-done.ensures.live }) c.release_wave-done.ensures.refused
+    c.release_wave-done.result
+    (record {
+      floor = c.requires.floor;
+      is_found = c.in-Some.ensures.some;
+      waves = c.put_back.ensures;
+      takers = refl;
+      live = c.release_wave-done.ensures.live;
+    }) c.release_wave-done.ensures.refused

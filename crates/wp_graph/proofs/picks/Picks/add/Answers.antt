@@ -1,4 +1,4 @@
-use Rattle.wp_graph.proofs.Picking.{AddsBit, added_points, added_slots}
+use Rattle.wp_graph.proofs.PickSets.{AddsBit, added_points, added_slots}
 use Rattle.wp_graph.proofs.picks.Picks.add.Goals as goal
 use Rattle.wp_graph.proofs.picks.Picks.add.Goals.{After-word_of-word}
 

@@ -2,7 +2,7 @@ use Rattle.std.proofs.Common.{◌≡◌, ◌==◌, ◌∙◌, ap, slice_index, �
 use Rattle.std.specs.Int.{bit_at}
 use Rattle.std.proofs.lemmas.Bool.{both_ways}
 use Rattle.wp_graph.specs.PickSets.{is_marked}
-use Rattle.wp_graph.proofs.Picking.{contained_marked, marked_contained}
+use Rattle.wp_graph.proofs.PickSets.{contained_marked, marked_contained}
 use Rattle.wp_graph.proofs.picks.Picks.has.Goals as goal
 
 pub returns-then-is_slot-clause-exact : goal.returns-then-is_slot-clause-exact

@@ -1,6 +1,6 @@
 use Rattle.std.proofs.Common.{ap, ◌∙◌, sym}
 use Rattle.wp_graph.specs.PickSets.{PickSet}
-use Rattle.wp_graph.proofs.Picking.{JoinsBits, joined_points, joined_slots}
+use Rattle.wp_graph.proofs.PickSets.{JoinsBits, joined_points, joined_slots}
 use Rattle.wp_graph.proofs.picks.Picks.join.Goals as goal
 use Rattle.wp_graph.proofs.picks.Picks.join.Goals.{After-join_words}
 

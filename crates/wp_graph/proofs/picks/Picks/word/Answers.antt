@@ -1,5 +1,5 @@
-use Rattle.wp_graph.proofs.Having.{word_tells}
-use Rattle.wp_graph.proofs.Picking.{contained_marked}
+use Rattle.wp_graph.proofs.PointTests.{word_tells}
+use Rattle.wp_graph.proofs.PickSets.{contained_marked}
 use Rattle.wp_graph.proofs.picks.Picks.word.Goals as goal
 
 pub returns-clause-bits : goal.returns-clause-bits

@@ -14,5 +14,5 @@ returns-in_err-count-clause-nothing g c =
 pub returns-clause-takes : goal.returns-clause-takes
 returns-clause-takes g c =
     subst (λ (told : Option (List ℕ)). Grows told (g.W.Write.contents c.write.new.self) (take c.in_ok-count.count c.args.piece.now))
-        (ap (λ (w : Written). w.contents) c.self.view_is)
+    (ap (λ (w : Written). w.contents) c.self.view_is)
     (appended_grows _ _ _ (g.met.W.Tells.alike c.self.inside.out c.write.new.self) c.in_ok-count.ensures.bytes)

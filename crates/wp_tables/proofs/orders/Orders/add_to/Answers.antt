@@ -5,7 +5,7 @@ use Rattle.wp_tables.proofs.orders.Orders.add_to.Goals as goal
 pub index_mut-requires : goal.index_mut-requires
 index_mut-requires c =
     let there = order_there c.self.inside.names.keys c.self.inside.lines.items c.args.line.order c.args.order c.self.invariant.0
-            (rw (← c.self.view_is) at c.requires) in
+    (rw (← c.self.view_is) at c.requires) in
     omega (arith, there.1)
 
 pub returns : goal.returns

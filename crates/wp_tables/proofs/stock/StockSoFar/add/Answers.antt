@@ -3,7 +3,8 @@ use Rattle.wp_model.specs.Opening.{Stock}
 use Rattle.wp_model.proofs.NameEq.{joins, number_joined, number_of_name}
 use Rattle.wp_model.proofs.ReadStock.{kept_by_line}
 use Rattle.wp_tables.specs.Stock.{IsKeptStock}
-use Rattle.wp_tables.proofs.ByLocation.{cmp_is, kept_by_location, put_by_location, rows_back}
+use Rattle.wp_model.proofs.LocationOrder.{cmp_is}
+use Rattle.wp_tables.proofs.ByLocation.{kept_by_location, put_by_location, rows_back}
 use Rattle.wp_tables.proofs.Places.{places_joined}
 use Rattle.wp_tables.proofs.stock.StockSoFar.add.Goals as goal
 
@@ -34,5 +35,5 @@ returns c =
     let rows = ap (map (λ e. e.1)) put ∙ rows_back _ in
     let names = c.in_ok-article.ensures.keys ∙ joins c.args.line.article c.self.inside.articles.keys in
     let number = c.in_ok-article.ensures.index ∙ number_of_name c.args.line.article c.self.inside.articles.keys
-            ∙ sym (number_joined c.args.line.article c.self.inside.articles.keys) in
+    ∙ sym (number_joined c.args.line.article c.self.inside.articles.keys) in
     rw (← c.self.view_is) (ap₂ (λ r a. record { rows = r; articles = a }) (rw number at rows) names)

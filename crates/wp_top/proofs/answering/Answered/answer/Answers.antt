@@ -1,8 +1,8 @@
 use Rattle.std.proofs.Common.{◌∙◌, sym, ap, ap₂, ◌++◌}
 use Rattle.std.proofs.lemmas.Result.{IfOk-equal}
-use Rattle.wp_top.proofs.Script.{refills_of-answered}
+use Rattle.wp_top.proofs.OneDesk.{refills_of-answered}
 use Rattle.wp_top.proofs.answering.Answered.answer.Goals as goal
-use Rattle.wp_top.specs.Refills.{refill_in, refills_of}
+use Rattle.wp_machine.specs.Outcome.{refill_in, refills_of}
 
 pub returns-clause-told : goal.returns-clause-told
 returns-clause-told c =

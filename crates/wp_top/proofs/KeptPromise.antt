@@ -1,0 +1,181 @@
+-- A run keeps its promise, however it ended.
+use Rattle.std.proofs.Common.{◌≡◌, ◌∙◌, refl, sym, ap, ap₂, subst, ℕ, ◌<◌, ◌≤◌, ◌⊎◌, inl, inr, List, [], ◌∷◌, ◌++◌, map, append_assoc, Option, Some, None}
+use Rattle.std.proofs.Common.{Result, Ok, Err, arith, string_bytes}
+use Rattle.std.specs.Prelude.{IfOk, IfErr, OnErr, String}
+use Rattle.wp_model.specs.declared.memory.Memory.{Memory}
+use Rattle.std.specs.List.{All}
+use Rattle.std.specs.declared.alloc.Global.{Global}
+use Rattle.std.proofs.lemmas.List.{append-nil}
+use Rattle.std.proofs.lemmas.List.Elements.{All-cons, All-head, All-nil, All-tail}
+use Rattle.wp_journal.proofs.OneFinding.{shows_one}
+use Rattle.wp_journal.specs.declared.verdict.Audit.{Audit}
+use Rattle.wp_journal.specs.declared.verdict.AuditFault.{AuditFault}
+use Rattle.wp_model.specs.Outcomes.{and_then}
+use Rattle.wp_outside.specs.Outside.{Grows, NoneFalls, SameBytes, TookPrefix}
+use Rattle.wp_top.proofs.FilesRead.{Counts, Holding, say_further}
+use Rattle.wp_top.specs.Ends.{Asked, HasRisen, HaveSaid, IsFirstRefused, IsOutput}
+use Rattle.wp_top.specs.Promise.{AreGoodFiles, AreToldToSay, Complains, Course, EndsWith, FilesStand, IsBadFile, IsDue, Keeps, SinkStands, Took}
+use Rattle.wp_top.specs.Runs.{ComesTo, IsRight, IsWrong}
+use Rattle.wp_top.specs.Stops.{Finishes, IsEndOf, IsEnding, IsStop, number_of, status_of, text_of}
+use Rattle.wp_top.specs.Texts.{AreHeld, AreTold, File, IsHeld, ReadFile, Said, Say, file_of, files_of, nothing_said, said_after, said_with}
+use Rattle.wp_top.specs.declared.complaint.Complaint.TheVariants as complaint
+use Rattle.wp_top.specs.declared.complaint.Finding.{Finding}
+use Rattle.wp_top.specs.declared.complaint.Finding.TheVariants as finding
+use Rattle.wp_top.specs.declared.complaint.Stop.{Stop}
+use Rattle.wp_top.specs.declared.complaint.Stop.TheVariants as stop
+use Rattle.wp_top.specs.declared.ending.Ending.{Ending}
+use Rattle.wp_top.specs.declared.ending.Ending.TheVariants as ending
+use Rattle.wp_top.specs.declared.input.Input.{Input}
+use Rattle.wp_top.specs.declared.input.Refusal.{Refusal}
+use Rattle.wp_top.specs.declared.status.Status.{Status}
+use Rattle.wp_top.specs.declared.status.Status.TheVariants as status
+use Rattle.wp_words.specs.Words.{JobNames, audit, plan}
+use Rattle.wp_words.specs.declared.fault.WordsFault.{WordsFault}
+use Rattle.wp_top.proofs.RisenCounts.{bad_before_rise, none_rose}
+use Rattle.wp_top.proofs.Statuses.{HasEnded, due, few_statuses, part_taken, sink_rose, stands, when_done, when_fault, when_refused, when_words, when_wrong}
+use Rattle.wp_top.proofs.Statuses.{whole}
+use Rattle.wp_top.proofs.ToldFiles.{none_refused, none_told, one_said}
+
+-- what is asked for is a job or a fault of words, and not both
+pub not_both : {A E : Type 0} (o : Result A E) (a : A) (e : E) → o ≡ Ok a → o ≡ Err e → ⊥
+not_both o a e ok err = let same : Ok a ≡ Err e = sym ok ∙ err in cc same
+
+ends_for_words : (asked : Asked) (run : Course) (e : Ending) (why : WordsFault) → IsEnding run.holds asked run.faults run.faults' e → asked ≡ Err why
+    → number_of (status_of e) ≡ 1
+ends_for_words asked run (ending.Done text) w is bad = absurd (not_both asked is.job w is.asked_for bad)
+ends_for_words asked run (ending.Complaint (complaint.Words why)) w is bad = refl
+ends_for_words asked run (ending.Complaint (complaint.Refused f why)) w is bad = absurd (not_both asked is.0 w is.1 bad)
+ends_for_words asked run (ending.Complaint (complaint.Fault f)) w is bad = absurd (not_both asked is.0 w is.1 bad)
+ends_for_words asked run (ending.Complaint (complaint.Wrong found)) w is bad = absurd (not_both asked is.job w is.asked_for bad)
+
+job_is : (asked : Asked) (a b : JobNames) → asked ≡ Ok a → asked ≡ Ok b → a ≡ b
+job_is asked a b p q = let same : ◌≡◌ {A = Asked} (Ok a) (Ok b) = sym p ∙ q in cc same
+
+ends_for_bad_file : (asked : Asked) (run : Course) (e : Ending) → IsEnding run.holds asked run.faults run.faults' e → IsBadFile asked run
+    → number_of (status_of e) ≡ 2
+ends_for_bad_file asked run (ending.Done text) is bad =
+    absurd (none_told run.holds (files_of bad.job) bad.before bad.file bad.later is.said bad.said bad.text bad.why
+    (subst (λ (j : JobNames). HaveSaid run.holds (files_of j) is.said) (job_is asked is.job bad.job is.asked_for bad.asked_for) is.accepted) bad.place
+    bad.accepted bad.told bad.refused)
+ends_for_bad_file asked run (ending.Complaint (complaint.Words why)) is bad = absurd (not_both asked bad.job why bad.asked_for is)
+ends_for_bad_file asked run (ending.Complaint (complaint.Refused f why)) is bad = refl
+ends_for_bad_file asked run (ending.Complaint (complaint.Fault f)) is bad =
+    absurd (bad_before_rise asked run bad f (subst (λ (j : JobNames). HasRisen run.holds (files_of j) run.faults run.faults' f)
+    (job_is asked is.0 bad.job is.1 bad.asked_for) is.2))
+ends_for_bad_file asked run (ending.Complaint (complaint.Wrong found)) is bad =
+    absurd (none_told run.holds (files_of bad.job) bad.before bad.file bad.later is.said bad.said bad.text bad.why
+    (subst (λ (j : JobNames). HaveSaid run.holds (files_of j) is.said) (job_is asked is.job bad.job is.asked_for bad.asked_for) is.accepted) bad.place
+    bad.accepted bad.told bad.refused)
+
+ok_no_err : (a : Audit) (fault : AuditFault) → ◌≡◌ {A = Result Audit AuditFault} (Ok a) (Err fault) → ⊥
+ok_no_err a fault e = cc e
+
+-- what a job holds against its files isn't both right and wrong
+right_no_wrong : (job : JobNames) (said : Said) (found : Finding) → IsRight job said → IsWrong job said found → ⊥
+right_no_wrong (plan names) said found right wrong = wrong
+right_no_wrong (audit names) said (finding.Journal fault) (entries, right) wrong =
+    ok_no_err (record { entries = entries }) fault (shows_one said.opening said.journal (Ok (record { entries = entries })) (Err fault) right wrong)
+
+-- an output is what right files come to
+right_output : (job : JobNames) (said : Said) (output : List ℕ) → ComesTo job said output → IsRight job said
+right_output (plan names) said output comes = tt
+right_output (audit names) said output comes = (comes.entries, comes.shows)
+
+-- what the files of the job say is what they are told to say
+said_is : (asked : Asked) (run : Course) (job other : JobNames) (said more : Said) → AreGoodFiles asked run job said → asked ≡ Ok other
+    → HaveSaid run.holds (files_of other) more → (other ≡ job) × (more ≡ said)
+said_is asked run job other said more good asked_for have =
+    let same = job_is asked other job asked_for good.asked_for in
+    (same, one_said run.holds (files_of job) more said (subst (λ (j : JobNames). HaveSaid run.holds (files_of j) more) same have) good.accepted)
+
+ends_for_wrong : (asked : Asked) (run : Course) (e : Ending) (job : JobNames) (said : Said) (found : Finding)
+    → IsEnding run.holds asked run.faults run.faults' e → AreGoodFiles asked run job said → IsWrong job said found → number_of (status_of e) ≡ 6
+ends_for_wrong asked run (ending.Done text) job said found is good wrong =
+    let same = said_is asked run job is.job said is.said good is.asked_for is.accepted in
+    absurd (right_no_wrong job said found (right_output job said (string_bytes text)
+    (subst (λ (s : Said). ComesTo job s (string_bytes text)) same.1 (subst (λ (j : JobNames). ComesTo j is.said (string_bytes text)) same.0 is.comes)))
+    wrong)
+ends_for_wrong asked run (ending.Complaint (complaint.Words why)) job said found is good wrong = absurd (not_both asked job why good.asked_for is)
+ends_for_wrong asked run (ending.Complaint (complaint.Refused f why)) job said found is good wrong =
+    absurd (none_refused run.holds (files_of job) said f why good.accepted
+    (subst (λ (j : JobNames). IsFirstRefused run.holds (files_of j) f why) (job_is asked is.0 job is.1 good.asked_for) is.2))
+ends_for_wrong asked run (ending.Complaint (complaint.Fault f)) job said found is good wrong =
+    absurd (none_rose run.holds (files_of job) run f good.stand
+    (subst (λ (j : JobNames). HasRisen run.holds (files_of j) run.faults run.faults' f) (job_is asked is.0 job is.1 good.asked_for) is.2))
+ends_for_wrong asked run (ending.Complaint (complaint.Wrong other)) job said found is good wrong = refl
+
+ends_for_good : (asked : Asked) (run : Course) (e : Ending) (job : JobNames) (said : Said) → IsEnding run.holds asked run.faults run.faults' e
+    → AreGoodFiles asked run job said → IsRight job said → number_of (status_of e) ≡ 0
+ends_for_good asked run (ending.Done text) job said is good right = refl
+ends_for_good asked run (ending.Complaint (complaint.Words why)) job said is good right = absurd (not_both asked job why good.asked_for is)
+ends_for_good asked run (ending.Complaint (complaint.Refused f why)) job said is good right =
+    absurd (none_refused run.holds (files_of job) said f why good.accepted
+    (subst (λ (j : JobNames). IsFirstRefused run.holds (files_of j) f why) (job_is asked is.0 job is.1 good.asked_for) is.2))
+ends_for_good asked run (ending.Complaint (complaint.Fault f)) job said is good right =
+    absurd (none_rose run.holds (files_of job) run f good.stand
+    (subst (λ (j : JobNames). HasRisen run.holds (files_of j) run.faults run.faults' f) (job_is asked is.0 job is.1 good.asked_for) is.2))
+ends_for_good asked run (ending.Complaint (complaint.Wrong found)) job said is good right =
+    let same = said_is asked run job is.job said is.said good is.asked_for is.accepted in
+    absurd (right_no_wrong job said found right (subst (λ (s : Said). IsWrong job s found) same.1
+    (subst (λ (j : JobNames). IsWrong j is.said found) same.0 is.wrong)))
+
+-- what a run left as it was
+pub record IsFrame (run : Course) : Type 0 where
+  pub same : SameBytes run.holds run.held
+  pub counts : NoneFalls run.faults run.faults'
+  pub sink : run.sink ≤ run.sink'
+
+-- a run that ended so keeps its promise
+pub keeps : (asked : Asked) (run : Course) (ended : Status) → IsFrame run → HasEnded asked run ended → Keeps asked run (number_of ended)
+keeps asked run ended frame so =
+    let e = so.ending in
+    record {
+      done = λ status. let t = whole asked run ended 0 e so.finishes status (inl (omega arith)) in when_done asked run e so.cause t.0 t.1;
+      words = λ status. let t = whole asked run ended 1 e so.finishes status (inl (omega arith)) in when_words asked run e so.cause t.0 t.1;
+      refused = λ status. let t = whole asked run ended 2 e so.finishes status (inl (omega arith)) in when_refused asked run e so.cause t.0 t.1;
+      fault = λ status. let t = whole asked run ended 3 e so.finishes status (inl (omega arith)) in when_fault asked run e so.cause t.0 t.1;
+      sink = sink_rose asked run ended e so.finishes;
+      partial = λ status. inr (text_of e, due asked run e so.cause, part_taken run ended e so.finishes status);
+      wrong = λ status. let t = whole asked run ended 6 e so.finishes status (inr refl) in when_wrong asked run e so.cause t.0 t.1;
+      most = few_statuses ended;
+      bad_words = λ why bad stand. stands run ended 1 e so.finishes stand (ends_for_words asked run e why so.cause bad);
+      bad_file = λ bad stand. stands run ended 2 e so.finishes stand (ends_for_bad_file asked run e so.cause bad);
+      bad_journal = λ job said found good wrong stand. stands run ended 6 e so.finishes stand (ends_for_wrong asked run e job said found so.cause good wrong);
+      complete = λ job said good right stand. stands run ended 0 e so.finishes stand (ends_for_good asked run e job said so.cause good right);
+      same = frame.same;
+      counts = frame.counts;
+      sink_count = frame.sink;
+    }
+
+nothing_more : (taken taken' : Option (List ℕ)) → taken' ≡ taken → Grows taken taken' []
+nothing_more None taken' same = same
+nothing_more (Some bytes) taken' same = same ∙ ap Some (sym (append-nil bytes))
+
+-- so does one that had no memory before it could end
+pub keeps_nothing : (asked : Asked) (run : Course) → IsFrame run → run.taken' ≡ run.taken → Keeps asked run 5
+keeps_nothing asked run frame took = record {
+  done = λ status. absurd (omega (arith, status));
+  words = λ status. absurd (omega (arith, status));
+  refused = λ status. absurd (omega (arith, status));
+  fault = λ status. absurd (omega (arith, status));
+  sink = λ status. absurd (omega (arith, status));
+  partial = λ status. inl (nothing_more run.taken run.taken' took);
+  wrong = λ status. absurd (omega (arith, status));
+  most = omega arith;
+  bad_words = λ why bad stand. inr refl;
+  bad_file = λ bad stand. inr refl;
+  bad_journal = λ job said found good wrong stand. inr refl;
+  complete = λ job said good right stand. inr refl;
+  same = frame.same;
+  counts = frame.counts;
+  sink_count = frame.sink;
+}
+
+-- a run with its ending, or without
+pub run_keeps : (asked : Asked) (run : Course) (made : Result Ending Memory) (ended : Status) → IsFrame run
+    → IfOk made (IsEnding run.holds asked run.faults run.faults')
+    → IfOk made (λ (e : Ending). Finishes e run.taken run.taken' run.sink run.sink' ended)
+    → OnErr made ((ended ≡ status.OutOfMemory) × (run.taken' ≡ run.taken)) → Keeps asked run (number_of ended)
+run_keeps asked run (Ok e) ended frame cause finishes nothing = keeps asked run ended frame (record { ending = e; cause = cause; finishes = finishes })
+run_keeps asked run (Err memory) ended frame cause finishes nothing =
+    subst (Keeps asked run) (ap number_of (sym nothing.0)) (keeps_nothing asked run frame nothing.1)

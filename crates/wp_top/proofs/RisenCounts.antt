@@ -1,0 +1,88 @@
+-- Counts of faults that stand, and those that rose.
+use Rattle.std.proofs.Common.{◌≡◌, ◌∙◌, refl, sym, ap, ap₂, subst, ℕ, ◌<◌, ◌≤◌, ◌⊎◌, inl, inr, List, [], ◌∷◌, ◌++◌, map, append_assoc, Option, Some, None}
+use Rattle.std.proofs.Common.{Result, Ok, Err, arith, string_bytes}
+use Rattle.std.specs.Prelude.{IfOk, IfErr, OnErr, String}
+use Rattle.wp_model.specs.declared.memory.Memory.{Memory}
+use Rattle.std.specs.List.{All}
+use Rattle.std.specs.declared.alloc.Global.{Global}
+use Rattle.std.proofs.lemmas.List.{append-nil}
+use Rattle.std.proofs.lemmas.List.Elements.{All-cons, All-head, All-nil, All-tail}
+use Rattle.wp_journal.proofs.OneFinding.{shows_one}
+use Rattle.wp_journal.specs.declared.verdict.Audit.{Audit}
+use Rattle.wp_journal.specs.declared.verdict.AuditFault.{AuditFault}
+use Rattle.wp_model.specs.Outcomes.{and_then}
+use Rattle.wp_outside.specs.Outside.{Grows, NoneFalls, SameBytes, TookPrefix}
+use Rattle.wp_top.proofs.FilesRead.{Counts, Holding, say_further}
+use Rattle.wp_top.specs.Ends.{Asked, HasRisen, HaveSaid, IsFirstRefused, IsOutput}
+use Rattle.wp_top.specs.Promise.{AreGoodFiles, AreToldToSay, Complains, Course, EndsWith, FilesStand, IsBadFile, IsDue, Keeps, SinkStands, Took}
+use Rattle.wp_top.specs.Runs.{ComesTo, IsRight, IsWrong}
+use Rattle.wp_top.specs.Stops.{Finishes, IsEndOf, IsEnding, IsStop, number_of, status_of, text_of}
+use Rattle.wp_top.specs.Texts.{AreHeld, AreTold, File, IsHeld, ReadFile, Said, Say, file_of, files_of, nothing_said, said_after, said_with}
+use Rattle.wp_top.specs.declared.complaint.Complaint.TheVariants as complaint
+use Rattle.wp_top.specs.declared.complaint.Finding.{Finding}
+use Rattle.wp_top.specs.declared.complaint.Finding.TheVariants as finding
+use Rattle.wp_top.specs.declared.complaint.Stop.{Stop}
+use Rattle.wp_top.specs.declared.complaint.Stop.TheVariants as stop
+use Rattle.wp_top.specs.declared.ending.Ending.{Ending}
+use Rattle.wp_top.specs.declared.ending.Ending.TheVariants as ending
+use Rattle.wp_top.specs.declared.input.Input.{Input}
+use Rattle.wp_top.specs.declared.input.Refusal.{Refusal}
+use Rattle.wp_top.specs.declared.status.Status.{Status}
+use Rattle.wp_top.specs.declared.status.Status.TheVariants as status
+use Rattle.wp_words.specs.Words.{JobNames, audit, plan}
+use Rattle.wp_words.specs.declared.fault.WordsFault.{WordsFault}
+use Rattle.wp_top.proofs.ToldFiles.{all_first, all_here, first_file, none_told, other_files}
+
+-- no count rose of a name that stands
+pub none_rose : (holds : Holding) (files : List File) (run : Course) (kind : Input) → FilesStand run files → HasRisen holds files run.faults run.faults' kind
+    → ⊥
+none_rose holds files run kind stand risen =
+    let at : run.faults' risen.name ≡ run.faults risen.name =
+    all_here (λ (f : File). run.faults' f.name ≡ run.faults f.name) risen.before (file_of kind risen.name) risen.later
+    (subst (FilesStand run) risen.place stand) in
+    omega (arith, risen.rose, at)
+
+-- two places in one list: the same, or one before the other
+abbrev Comes : List File → File → List File → Type 0
+Comes xs x ys = (zs : List File) × (ys ≡ xs ++ x ∷ zs)
+
+abbrev Places : List File → File → List File → File → Type 0
+Places xs x ys y = ((xs ≡ ys) × (x ≡ y)) ⊎ Comes xs x ys ⊎ Comes ys y xs
+
+one_on : (f g : File) (xs : List File) (x : File) (ys : List File) (y : File) → f ≡ g → Places xs x ys y → Places (f ∷ xs) x (g ∷ ys) y
+one_on f g xs x ys y same (inl (a, b)) = inl (ap₂ (λ (h : File) (hs : List File). h ∷ hs) same a, b)
+one_on f g xs x ys y same (inr (inl (zs, a))) = inr (inl (zs, ap₂ (λ (h : File) (hs : List File). h ∷ hs) (sym same) a))
+one_on f g xs x ys y same (inr (inr (zs, a))) = inr (inr (zs, ap₂ (λ (h : File) (hs : List File). h ∷ hs) same a))
+
+places : (xs : List File) (x : File) (xs' ys : List File) (y : File) (ys' : List File) → xs ++ x ∷ xs' ≡ ys ++ y ∷ ys' → Places xs x ys y
+places [] x xs' [] y ys' same = inl (refl, first_file x y xs' ys' same)
+places [] x xs' (g ∷ ys) y ys' same = inr (inl (ys, ap (λ (h : File). h ∷ ys) (sym (first_file x g xs' (ys ++ y ∷ ys') same))))
+places (f ∷ xs) x xs' [] y ys' same = inr (inr (xs, ap (λ (h : File). h ∷ xs) (first_file f y (xs ++ x ∷ xs') ys' same)))
+places (f ∷ xs) x xs' (g ∷ ys) y ys' same =
+    one_on f g xs x ys y (first_file f g (xs ++ x ∷ xs') (ys ++ y ∷ ys') same) (places xs x xs' ys y ys' (other_files f g (xs ++ x ∷ xs') (ys ++ y ∷ ys') same))
+
+up_to_file : (before : List File) (file : File) (later : List File) → before ++ file ∷ later ≡ (before ++ file ∷ []) ++ later
+up_to_file before file later = sym (append_assoc before (file ∷ []) later)
+
+-- where a file is told and refused, no count rose of a file behind it
+pub bad_before_rise : (asked : Asked) (run : Course) (bad : IsBadFile asked run) (kind : Input)
+    → HasRisen run.holds (files_of bad.job) run.faults run.faults' kind → ⊥
+bad_before_rise asked run bad kind risen =
+    elim (places risen.before (file_of kind risen.name) risen.later bad.before bad.file bad.later (sym risen.place ∙ bad.place)) as (λ _. ⊥) [
+      | inl same ↦
+          (let at : run.faults' bad.file.name ≡ run.faults bad.file.name = all_here
+          (λ (f : File). run.faults' f.name ≡ run.faults f.name) bad.before bad.file [] bad.stand in
+          let name = ap (λ (f : File). f.name) same.1 in
+          omega (arith, subst (λ (n : List ℕ). run.faults n < run.faults' n) name risen.rose, at))
+      | inr other ↦ elim other as (λ _. ⊥) [
+        | inl earlier ↦
+            (let stand : FilesStand run ((risen.before ++ file_of kind risen.name ∷ earlier.0) ++ bad.file ∷ []) = subst
+            (λ (fs : List File). FilesStand run (fs ++ bad.file ∷ [])) earlier.1 bad.stand in
+            let at : run.faults' risen.name ≡ run.faults risen.name =
+            all_here (λ (f : File). run.faults' f.name ≡ run.faults f.name) risen.before (file_of kind risen.name) earlier.0
+            (all_first (λ (f : File). run.faults' f.name ≡ run.faults f.name) (risen.before ++ file_of kind risen.name ∷ earlier.0) (bad.file ∷ []) stand) in
+            omega (arith, risen.rose, at))
+        | inr later ↦ none_told run.holds risen.before bad.before bad.file later.0 risen.said bad.said bad.text bad.why risen.accepted later.1 bad.accepted
+            bad.told bad.refused
+      ]
+    ]

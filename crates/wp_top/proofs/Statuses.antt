@@ -1,0 +1,142 @@
+-- What the status says of a run, by the ending that it had.
+use Rattle.std.proofs.Common.{◌≡◌, ◌∙◌, refl, sym, ap, ap₂, subst, ℕ, ◌<◌, ◌≤◌, ◌⊎◌, inl, inr, List, [], ◌∷◌, ◌++◌, map, append_assoc, Option, Some, None}
+use Rattle.std.proofs.Common.{Result, Ok, Err, arith, string_bytes}
+use Rattle.std.specs.Prelude.{IfOk, IfErr, OnErr, String}
+use Rattle.wp_model.specs.declared.memory.Memory.{Memory}
+use Rattle.std.specs.List.{All}
+use Rattle.std.specs.declared.alloc.Global.{Global}
+use Rattle.std.proofs.lemmas.List.{append-nil}
+use Rattle.std.proofs.lemmas.List.Elements.{All-cons, All-head, All-nil, All-tail}
+use Rattle.wp_journal.proofs.OneFinding.{shows_one}
+use Rattle.wp_journal.specs.declared.verdict.Audit.{Audit}
+use Rattle.wp_journal.specs.declared.verdict.AuditFault.{AuditFault}
+use Rattle.wp_model.specs.Outcomes.{and_then}
+use Rattle.wp_outside.specs.Outside.{Grows, NoneFalls, SameBytes, TookPrefix}
+use Rattle.wp_top.proofs.FilesRead.{Counts, Holding, say_further}
+use Rattle.wp_top.specs.Ends.{Asked, HasRisen, HaveSaid, IsFirstRefused, IsOutput}
+use Rattle.wp_top.specs.Promise.{AreGoodFiles, AreToldToSay, Complains, Course, EndsWith, FilesStand, IsBadFile, IsDue, Keeps, SinkStands, Took}
+use Rattle.wp_top.specs.Runs.{ComesTo, IsRight, IsWrong}
+use Rattle.wp_top.specs.Stops.{Finishes, IsEndOf, IsEnding, IsStop, number_of, status_of, text_of}
+use Rattle.wp_top.specs.Texts.{AreHeld, AreTold, File, IsHeld, ReadFile, Said, Say, file_of, files_of, nothing_said, said_after, said_with}
+use Rattle.wp_top.specs.declared.complaint.Complaint.TheVariants as complaint
+use Rattle.wp_top.specs.declared.complaint.Finding.{Finding}
+use Rattle.wp_top.specs.declared.complaint.Finding.TheVariants as finding
+use Rattle.wp_top.specs.declared.complaint.Stop.{Stop}
+use Rattle.wp_top.specs.declared.complaint.Stop.TheVariants as stop
+use Rattle.wp_top.specs.declared.ending.Ending.{Ending}
+use Rattle.wp_top.specs.declared.ending.Ending.TheVariants as ending
+use Rattle.wp_top.specs.declared.input.Input.{Input}
+use Rattle.wp_top.specs.declared.input.Refusal.{Refusal}
+use Rattle.wp_top.specs.declared.status.Status.{Status}
+use Rattle.wp_top.specs.declared.status.Status.TheVariants as status
+use Rattle.wp_words.specs.Words.{JobNames, audit, plan}
+use Rattle.wp_words.specs.declared.fault.WordsFault.{WordsFault}
+
+-- a run ended so
+pub record HasEnded (asked : Asked) (run : Course) (ended : Status) : Type 0 where
+  pub ending : Ending
+  pub cause : IsEnding run.holds asked run.faults run.faults' ending
+  pub finishes : Finishes ending run.taken run.taken' run.sink run.sink' ended
+
+-- the status of an ending is its own
+own : (e : Ending) → (number_of (status_of e) < 4) ⊎ (number_of (status_of e) ≡ 6)
+own (ending.Done text) = inl (omega arith)
+own (ending.Complaint (complaint.Words why)) = inl (omega arith)
+own (ending.Complaint (complaint.Refused f why)) = inl (omega arith)
+own (ending.Complaint (complaint.Fault f)) = inl (omega arith)
+own (ending.Complaint (complaint.Wrong found)) = inr refl
+
+neither : (n : ℕ) → (n < 4) ⊎ (n ≡ 6) → (n ≡ 4) ⊎ (n ≡ 5) → ⊥
+neither n (inl few) (inl is) = omega (arith, few, is)
+neither n (inl few) (inr is) = omega (arith, few, is)
+neither n (inr six) (inl is) = omega (arith, six, is)
+neither n (inr six) (inr is) = omega (arith, six, is)
+
+-- with another status than 4 and 5 the whole text was taken
+pub whole : (asked : Asked) (run : Course) (ended : Status) (n : ℕ) (e : Ending) → Finishes e run.taken run.taken' run.sink run.sink' ended
+    → number_of ended ≡ n
+    → (n < 4) ⊎ (n ≡ 6) → (number_of (status_of e) ≡ n) × Took run (text_of e)
+whole asked run ended n e (inl (is, grows)) same other = (ap number_of (sym is) ∙ same, grows)
+whole asked run ended n e (inr (inl (is, rose, took))) same other = absurd (neither n other (inl (sym same ∙ ap number_of is)))
+whole asked run ended n e (inr (inr (is, took))) same other = absurd (neither n other (inr (sym same ∙ ap number_of is)))
+
+-- a run that ended with 0 gave its output
+pub when_done : (asked : Asked) (run : Course) (e : Ending) → IsEnding run.holds asked run.faults run.faults' e → number_of (status_of e) ≡ 0
+    → Took run (text_of e) → (output : List ℕ) × IsOutput run.holds asked output × Took run output
+when_done asked run (ending.Done text) is status took = (string_bytes text, is, took)
+when_done asked run (ending.Complaint (complaint.Words why)) is status took = absurd (omega (arith, status))
+when_done asked run (ending.Complaint (complaint.Refused f why)) is status took = absurd (omega (arith, status))
+when_done asked run (ending.Complaint (complaint.Fault f)) is status took = absurd (omega (arith, status))
+when_done asked run (ending.Complaint (complaint.Wrong found)) is status took = absurd (omega (arith, status))
+
+-- one that ended with 1 complained of its words
+pub when_words : (asked : Asked) (run : Course) (e : Ending) → IsEnding run.holds asked run.faults run.faults' e → number_of (status_of e) ≡ 1
+    → Took run (text_of e) → (why : WordsFault) × Complains asked run (complaint.Words why)
+when_words asked run (ending.Done text) is status took = absurd (omega (arith, status))
+when_words asked run (ending.Complaint (complaint.Words why)) is status took = (why, (is, took))
+when_words asked run (ending.Complaint (complaint.Refused f why)) is status took = absurd (omega (arith, status))
+when_words asked run (ending.Complaint (complaint.Fault f)) is status took = absurd (omega (arith, status))
+when_words asked run (ending.Complaint (complaint.Wrong found)) is status took = absurd (omega (arith, status))
+
+-- one that ended with 2 complained of a refused file
+pub when_refused : (asked : Asked) (run : Course) (e : Ending) → IsEnding run.holds asked run.faults run.faults' e → number_of (status_of e) ≡ 2
+    → Took run (text_of e) → (file : Input) × (why : Refusal) × Complains asked run (complaint.Refused file why)
+when_refused asked run (ending.Done text) is status took = absurd (omega (arith, status))
+when_refused asked run (ending.Complaint (complaint.Words why)) is status took = absurd (omega (arith, status))
+when_refused asked run (ending.Complaint (complaint.Refused f why)) is status took = (f, why, (is, took))
+when_refused asked run (ending.Complaint (complaint.Fault f)) is status took = absurd (omega (arith, status))
+when_refused asked run (ending.Complaint (complaint.Wrong found)) is status took = absurd (omega (arith, status))
+
+-- one that ended with 3 complained of a file that could not be read
+pub when_fault : (asked : Asked) (run : Course) (e : Ending) → IsEnding run.holds asked run.faults run.faults' e → number_of (status_of e) ≡ 3
+    → Took run (text_of e) → (file : Input) × Complains asked run (complaint.Fault file)
+when_fault asked run (ending.Done text) is status took = absurd (omega (arith, status))
+when_fault asked run (ending.Complaint (complaint.Words why)) is status took = absurd (omega (arith, status))
+when_fault asked run (ending.Complaint (complaint.Refused f why)) is status took = absurd (omega (arith, status))
+when_fault asked run (ending.Complaint (complaint.Fault f)) is status took = (f, (is, took))
+when_fault asked run (ending.Complaint (complaint.Wrong found)) is status took = absurd (omega (arith, status))
+
+-- one that ended with 6 complained of what it found
+pub when_wrong : (asked : Asked) (run : Course) (e : Ending) → IsEnding run.holds asked run.faults run.faults' e → number_of (status_of e) ≡ 6
+    → Took run (text_of e) → (found : Finding) × Complains asked run (complaint.Wrong found)
+when_wrong asked run (ending.Done text) is status took = absurd (omega (arith, status))
+when_wrong asked run (ending.Complaint (complaint.Words why)) is status took = absurd (omega (arith, status))
+when_wrong asked run (ending.Complaint (complaint.Refused f why)) is status took = absurd (omega (arith, status))
+when_wrong asked run (ending.Complaint (complaint.Fault f)) is status took = absurd (omega (arith, status))
+when_wrong asked run (ending.Complaint (complaint.Wrong found)) is status took = (found, (is, took))
+
+-- with 4 the sink failed
+pub sink_rose : (asked : Asked) (run : Course) (ended : Status) (e : Ending) → Finishes e run.taken run.taken' run.sink run.sink' ended → number_of ended ≡ 4
+    → run.sink < run.sink'
+sink_rose asked run ended e (inl (is, grows)) same = absurd (neither (number_of (status_of e)) (own e) (inl (ap number_of (sym is) ∙ same)))
+sink_rose asked run ended e (inr (inl (is, rose, took))) same = rose
+sink_rose asked run ended e (inr (inr (is, took))) same = absurd (omega (arith, ap number_of is, same))
+
+-- the text of an ending is one that was due
+pub due : (asked : Asked) (run : Course) (e : Ending) → IsEnding run.holds asked run.faults run.faults' e → IsDue asked run (text_of e)
+due asked run (ending.Done text) is = inl is
+due asked run (ending.Complaint why) is = inr (why, is, refl)
+
+-- with 4 and 5 a beginning of it was taken
+pub part_taken : (run : Course) (ended : Status) (e : Ending) → Finishes e run.taken run.taken' run.sink run.sink' ended → (number_of ended ≡ 4)
+    ⊎ (number_of ended ≡ 5) → TookPrefix run.taken run.taken' (text_of e)
+part_taken run ended e (inl (is, grows)) same = absurd (neither (number_of (status_of e)) (own e) (rw is at same))
+part_taken run ended e (inr (inl (is, rose, took))) same = took
+part_taken run ended e (inr (inr (is, took))) same = took
+
+-- there is no status above 6
+pub few_statuses : (s : Status) → number_of s ≤ 6
+few_statuses status.Done = omega arith
+few_statuses status.BadWords = omega arith
+few_statuses status.Refused = omega arith
+few_statuses status.ReadFault = omega arith
+few_statuses status.WriteFault = omega arith
+few_statuses status.OutOfMemory = omega arith
+few_statuses status.Wrong = omega arith
+
+-- while the sink's count stands the status is the ending's, or memory ran out
+pub stands : (run : Course) (ended : Status) (n : ℕ) (e : Ending) → Finishes e run.taken run.taken' run.sink run.sink' ended → SinkStands run
+    → number_of (status_of e) ≡ n → EndsWith n (number_of ended)
+stands run ended n e (inl (is, grows)) same ends = inl (ap number_of is ∙ ends)
+stands run ended n e (inr (inl (is, rose, took))) same ends = absurd (omega (arith, rose, same))
+stands run ended n e (inr (inr (is, took))) same ends = inr (ap number_of is)

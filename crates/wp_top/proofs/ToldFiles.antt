@@ -1,0 +1,158 @@
+-- Files whose texts are told say one thing, or one of them is the first that is refused.
+use Rattle.std.proofs.Common.{◌≡◌, ◌∙◌, refl, sym, ap, ap₂, subst, ℕ, ◌<◌, ◌≤◌, ◌⊎◌, inl, inr, List, [], ◌∷◌, ◌++◌, map, append_assoc, Option, Some, None}
+use Rattle.std.proofs.Common.{Result, Ok, Err, arith, string_bytes}
+use Rattle.std.specs.Prelude.{IfOk, IfErr, OnErr, String}
+use Rattle.wp_model.specs.declared.memory.Memory.{Memory}
+use Rattle.std.specs.List.{All}
+use Rattle.std.specs.declared.alloc.Global.{Global}
+use Rattle.std.proofs.lemmas.List.{append-nil}
+use Rattle.std.proofs.lemmas.List.Elements.{All-cons, All-head, All-nil, All-tail}
+use Rattle.wp_journal.proofs.OneFinding.{shows_one}
+use Rattle.wp_journal.specs.declared.verdict.Audit.{Audit}
+use Rattle.wp_journal.specs.declared.verdict.AuditFault.{AuditFault}
+use Rattle.wp_model.specs.Outcomes.{and_then}
+use Rattle.wp_outside.specs.Outside.{Grows, NoneFalls, SameBytes, TookPrefix}
+use Rattle.wp_top.proofs.FilesRead.{Counts, Holding, say_further}
+use Rattle.wp_top.specs.Ends.{Asked, HasRisen, HaveSaid, IsFirstRefused, IsOutput}
+use Rattle.wp_top.specs.Promise.{AreGoodFiles, AreToldToSay, Complains, Course, EndsWith, FilesStand, IsBadFile, IsDue, Keeps, SinkStands, Took}
+use Rattle.wp_top.specs.Runs.{ComesTo, IsRight, IsWrong}
+use Rattle.wp_top.specs.Stops.{Finishes, IsEndOf, IsEnding, IsStop, number_of, status_of, text_of}
+use Rattle.wp_top.specs.Texts.{AreHeld, AreTold, File, IsHeld, ReadFile, Said, Say, file_of, files_of, nothing_said, said_after, said_with}
+use Rattle.wp_top.specs.declared.complaint.Complaint.TheVariants as complaint
+use Rattle.wp_top.specs.declared.complaint.Finding.{Finding}
+use Rattle.wp_top.specs.declared.complaint.Finding.TheVariants as finding
+use Rattle.wp_top.specs.declared.complaint.Stop.{Stop}
+use Rattle.wp_top.specs.declared.complaint.Stop.TheVariants as stop
+use Rattle.wp_top.specs.declared.ending.Ending.{Ending}
+use Rattle.wp_top.specs.declared.ending.Ending.TheVariants as ending
+use Rattle.wp_top.specs.declared.input.Input.{Input}
+use Rattle.wp_top.specs.declared.input.Refusal.{Refusal}
+use Rattle.wp_top.specs.declared.status.Status.{Status}
+use Rattle.wp_top.specs.declared.status.Status.TheVariants as status
+use Rattle.wp_words.specs.Words.{JobNames, audit, plan}
+use Rattle.wp_words.specs.declared.fault.WordsFault.{WordsFault}
+
+-- what is told is what was read
+pub told_text : (holds : Holding) (name told text : List ℕ) → holds name ≡ Some told → IsHeld holds name text → text ≡ told
+told_text holds name told text is held = rw is at held
+
+same_read : (holds : Holding) (a b : ReadFile) → a.file ≡ b.file → holds b.file.name ≡ Some b.text → IsHeld holds a.file.name a.text → a ≡ b
+same_read holds a b file told held =
+    let at : IsHeld holds b.file.name a.text = subst (λ (f : File). IsHeld holds f.name a.text) file held in
+    ap₂ (λ (f : File) (t : List ℕ). let r : ReadFile = record { file = f; text = t } in r) file (told_text holds b.file.name b.text a.text told at)
+
+-- lists of files that are the same begin with the same file
+pub first_file : (a b : File) (xs ys : List File) → ◌≡◌ {A = List File} (a ∷ xs) (b ∷ ys) → a ≡ b
+first_file a b xs ys e = cc e
+
+-- and go on with the same files
+pub other_files : (a b : File) (xs ys : List File) → ◌≡◌ {A = List File} (a ∷ xs) (b ∷ ys) → xs ≡ ys
+other_files a b xs ys e = cc e
+
+-- files that hold what is told were read as it
+same_texts : (holds : Holding) (xs ys : List ReadFile) → map (λ (r : ReadFile). r.file) xs ≡ map (λ (r : ReadFile). r.file) ys → AreHeld holds xs
+    → AreTold holds ys → xs ≡ ys
+same_texts holds [] [] same held told = refl
+same_texts holds [] (y ∷ ys) same held told = absurd (cc same)
+same_texts holds (x ∷ xs) [] same held told = absurd (cc same)
+same_texts holds (x ∷ xs) (y ∷ ys) same held told =
+    ap₂ (λ (r : ReadFile) (rs : List ReadFile). r ∷ rs)
+    (same_read holds x y (first_file x.file y.file (map (λ (r : ReadFile). r.file) xs) (map (λ (r : ReadFile). r.file) ys) same)
+    (All-head (λ (r : ReadFile). holds r.file.name ≡ Some r.text) y ys told) (All-head (λ (r : ReadFile). IsHeld holds r.file.name r.text) x xs held))
+    (same_texts holds xs ys (other_files x.file y.file (map (λ (r : ReadFile). r.file) xs) (map (λ (r : ReadFile). r.file) ys) same)
+    (All-tail (λ (r : ReadFile). IsHeld holds r.file.name r.text) x xs held) (All-tail (λ (r : ReadFile). holds r.file.name ≡ Some r.text) y ys told))
+
+same_ok : (a b : Said) → ◌≡◌ {A = Result Said Refusal} (Ok a) (Ok b) → a ≡ b
+same_ok a b e = cc e
+
+-- what files say is one thing
+pub one_said : (holds : Holding) (files : List File) (a b : Said) → HaveSaid holds files a → AreToldToSay holds files b → a ≡ b
+one_said holds files a b p q =
+    let same = same_texts holds p.read q.read (p.are ∙ sym q.are) p.held q.told in
+    same_ok a b (sym p.say ∙ (ap (said_after nothing_said) same ∙ q.say))
+
+-- files and their texts, where one file stands among them
+record IsSplit (read : List ReadFile) (before : List File) (file : File) : Type 0 where
+  first : List ReadFile
+  here : ReadFile
+  others : List ReadFile
+  parts : read ≡ first ++ here ∷ others
+  are : map (λ (r : ReadFile). r.file) first ≡ before
+  is : here.file ≡ file
+
+split_more : (r : ReadFile) (rs : List ReadFile) (before : List File) (file : File) (f : File) → r.file ≡ f → IsSplit rs before file
+    → IsSplit (r ∷ rs) (f ∷ before) file
+split_more r rs before file f same split = record {
+  first = r ∷ split.first;
+  here = split.here;
+  others = split.others;
+  parts = ap (λ (l : List ReadFile). r ∷ l) split.parts;
+  are = ap₂ (λ (g : File) (gs : List File). g ∷ gs) same split.are;
+  is = split.is;
+}
+
+split : (read : List ReadFile) (before : List File) (file : File) (later : List File) → map (λ (r : ReadFile). r.file) read ≡ before ++ file ∷ later
+    → IsSplit read before file
+split [] [] file later same = absurd (cc same)
+split [] (f ∷ before) file later same = absurd (cc same)
+split (r ∷ rs) [] file later same = record {
+  first = [];
+  here = r;
+  others = rs;
+  parts = refl;
+  are = refl;
+  is = first_file r.file file (map (λ (r : ReadFile). r.file) rs) later same;
+}
+split (r ∷ rs) (f ∷ before) file later same =
+    split_more r rs before file f (first_file r.file f (map (λ (r : ReadFile). r.file) rs) (before ++ file ∷ later) same)
+    (split rs before file later (other_files r.file f (map (λ (r : ReadFile). r.file) rs) (before ++ file ∷ later) same))
+
+-- what holds of all of two lists holds of the first
+pub all_first : {X : Type 0} (P : X → Type 0) (xs ys : List X) → All P (xs ++ ys) → All P xs
+all_first P [] ys all = All-nil P
+all_first P (x ∷ xs) ys all = All-cons P x xs (All-head P x (xs ++ ys) all) (all_first P xs ys (All-tail P x (xs ++ ys) all))
+
+-- and of what stands between them
+pub all_here : {X : Type 0} (P : X → Type 0) (xs : List X) (x : X) (ys : List X) → All P (xs ++ x ∷ ys) → P x
+all_here P [] x ys all = All-head P x ys all
+all_here P (y ∷ xs) x ys all = all_here P xs x ys (All-tail P y (xs ++ x ∷ ys) all)
+
+not_refused : (a : Said) (why : Refusal) → ◌≡◌ {A = Result Said Refusal} (Ok a) (Err why) → ⊥
+not_refused a why e = cc e
+
+-- what a refused file leaves of those that follow
+refused_there : (first others : List ReadFile) (here : ReadFile) (said all : Said) (why : Refusal) → Say first said
+    → said_with said here.file.kind here.text ≡ Err why → Say (first ++ here ∷ others) all → ⊥
+refused_there first others here said all why say refused whole =
+    not_refused all why (sym whole ∙ (say_further first (here ∷ others) said say ∙ ap (λ r. and_then r (λ s. said_after s others)) refused))
+
+-- files that say something have none that is told and refused
+pub none_told : (holds : Holding) (files before : List File) (file : File) (later : List File) (all said : Said) (text : List ℕ) (why : Refusal)
+    → HaveSaid holds files all → files ≡ before ++ file ∷ later
+    → AreToldToSay holds before said → holds file.name ≡ Some text → said_with said file.kind text ≡ Err why → ⊥
+none_told holds files before file later all said text why have place accepted told refused =
+    let at = split have.read before file later (have.are ∙ place) in
+    let held : AreHeld holds (at.first ++ at.here ∷ at.others) = subst (AreHeld holds) at.parts have.held in
+    let same = same_texts holds at.first accepted.read (at.are ∙ sym accepted.are)
+    (all_first (λ (r : ReadFile). IsHeld holds r.file.name r.text) at.first (at.here ∷ at.others) held) accepted.told in
+    let here : IsHeld holds file.name at.here.text = subst (λ (f : File). IsHeld holds f.name at.here.text) at.is
+    (all_here (λ (r : ReadFile). IsHeld holds r.file.name r.text) at.first at.here at.others held) in
+    let text_is = told_text holds file.name text at.here.text told here in
+    refused_there at.first at.others at.here said all why (ap (said_after nothing_said) same ∙ accepted.say)
+    (ap (λ (f : File). said_with said f.kind at.here.text) at.is ∙ (ap (said_with said file.kind) text_is ∙ refused))
+    (ap (said_after nothing_said) (sym at.parts) ∙ have.say)
+
+-- files that are told to say something have none that is refused
+pub none_refused : (holds : Holding) (files : List File) (all : Said) (kind : Input) (why : Refusal) → AreToldToSay holds files all
+    → IsFirstRefused holds files kind why → ⊥
+none_refused holds files all kind why told first =
+    let at = split told.read first.before (file_of kind first.name) first.later (told.are ∙ first.place) in
+    let are : AreTold holds (at.first ++ at.here ∷ at.others) = subst (AreTold holds) at.parts told.told in
+    let same = same_texts holds first.accepted.read at.first (first.accepted.are ∙ sym at.are) first.accepted.held
+    (all_first (λ (r : ReadFile). holds r.file.name ≡ Some r.text) at.first (at.here ∷ at.others) are) in
+    let here : holds first.name ≡ Some at.here.text = subst (λ (f : File). holds f.name ≡ Some at.here.text) at.is
+    (all_here (λ (r : ReadFile). holds r.file.name ≡ Some r.text) at.first at.here at.others are) in
+    let text_is = told_text holds first.name at.here.text first.text here first.held in
+    refused_there at.first at.others at.here first.said all why (ap (said_after nothing_said) (sym same) ∙ first.accepted.say)
+    (ap (λ (f : File). said_with first.said f.kind at.here.text) at.is ∙ (ap (said_with first.said kind) (sym text_is) ∙ first.refused))
+    (ap (said_after nothing_said) (sym at.parts) ∙ told.say)

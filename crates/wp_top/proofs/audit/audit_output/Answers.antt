@@ -1,0 +1,42 @@
+use Rattle.std.proofs.Common.{refl}
+use Rattle.std.specs.Prelude.{string_bytes}
+use Rattle.std.proofs.lemmas.Result.{err_from_is_err_and}
+use Rattle.wp_top.proofs.Jobs.{audit_is, stop_at_finding, stop_at_opening}
+use Rattle.wp_top.proofs.audit.audit_output.Goals as goal
+use Rattle.wp_top.specs.Stops.{opening_files}
+use Rattle.wp_top.specs.Texts.{file_of}
+use Rattle.wp_top.specs.declared.input.Input.TheVariants as input
+use Rattle.wp_words.specs.Reading.{audit_names}
+use Rattle.wp_words.specs.Words.{audit}
+
+pub returns-in_err-warehouse-clause-stops : goal.returns-in_err-warehouse-clause-stops
+returns-in_err-warehouse-clause-stops g c =
+    let holds = g.F.Files.holds in
+    let faults = g.F.Files.faults in
+    let names = audit_names c.args.words.now in
+    let p = err_from_is_err_and c.from_residual.result c.from_residual.ensures.1 in
+    rw (p.1, p.2)
+    (stop_at_opening (holds c.args.files.now) (audit names) (opening_files names.layout names.stock names.orders) (file_of input.Journal names.journal)
+    (faults c.args.files.now) (faults c.read_warehouse.new.files)
+    c.in_err-warehouse.field-0.0 refl (rw (c.as_str.ensures.value, c.as_str-2.ensures.value, c.as_str-3.ensures.value) at c.in_err-warehouse.ensures.stops))
+
+pub returns-in_err-found-clause-stops : goal.returns-in_err-found-clause-stops
+returns-in_err-found-clause-stops g c =
+    let holds = g.F.Files.holds in
+    let faults = g.F.Files.faults in
+    let p = err_from_is_err_and c.from_residual-in_err-found.result c.from_residual-in_err-found.ensures.1 in
+    let said = rw (c.as_str.ensures.value, c.as_str-2.ensures.value, c.as_str-3.ensures.value) at c.in_ok-warehouse.ensures.said in
+    rw (p.1, p.2)
+    (stop_at_finding (holds c.args.files.now) (holds c.read_warehouse.new.files) (audit_names c.args.words.now) (faults c.args.files.now)
+    (faults c.read_warehouse.new.files) (faults c.found_in.new.files)
+    c.in_ok-warehouse.warehouse.layout c.in_ok-warehouse.warehouse.opening c.in_err-found.field-0.0 c.read_warehouse.ensures.same said
+    c.read_warehouse.ensures.counts (rw c.as_str-4.ensures.value at c.in_err-found.ensures.stops))
+
+pub returns-clause-output : goal.returns-clause-output
+returns-clause-output g c =
+    let holds = g.F.Files.holds in
+    let said = rw (c.as_str.ensures.value, c.as_str-2.ensures.value, c.as_str-3.ensures.value) at c.in_ok-warehouse.ensures.said in
+    audit_is (holds c.args.files.now) (holds c.read_warehouse.new.files)
+    (audit_names c.args.words.now) c.in_ok-warehouse.warehouse.layout c.in_ok-warehouse.warehouse.opening c.in_ok-found.found.entries
+    (string_bytes c.in_ok-text.text)
+    c.read_warehouse.ensures.same said (rw c.as_str-4.ensures.value at c.in_ok-found.ensures.found) c.in_ok-text.ensures
