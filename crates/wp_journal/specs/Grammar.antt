@@ -1,12 +1,9 @@
 -- The lines of the journal.
 use Rattle.std.specs.Prelude.{◌≡◌, ℕ, ◌^◌, ◌&&◌, nat_le, nat_lt, Bool, true, IsTrue, List}
-use Rattle.std.specs.List.{list_all}
 use Rattle.wp_model.specs.Journal.{entry_line}
 use Rattle.wp_model.specs.Limits.{greatest_desk, most_entries}
 use Rattle.wp_model.specs.Name.{is_name}
 use Rattle.wp_model.specs.Plain.{has_names, is_plain, is_plain_location, is_plain_quantity}
-use Rattle.wp_model.specs.declared.command.Command.{Command}
-use Rattle.wp_model.specs.declared.command.Command.TheVariants as command
 use Rattle.wp_model.specs.declared.entry.Entry.{Entry}
 use Rattle.wp_model.specs.declared.reply.Reply.{Reply}
 use Rattle.wp_model.specs.declared.reply.Reply.TheVariants as reply

@@ -1,12 +1,14 @@
 //! Audits of journals: the machine answers each entry's command again, and its own entries are compared with the lines.
-ghost use Rattle.std.specs.Prelude.{◌≡◌, ◌↔◌, ◌⊎◌, ◌<◌, ◌∷◌, ℕ, List, Result, Err, IfOk, IsTrue, codes, length};
+ghost use Rattle.std.specs.Prelude.{◌≡◌, ◌↔◌, ◌⊎◌, ◌<◌, ◌&&◌, ◌++◌, ◌∷◌, [], ℕ, List, Result, Err, IfOk, IsTrue, codes, length};
 ghost use Rattle.std.specs.List.{position_or_len};
+ghost use Rattle.std.specs.Str.{bytes_eq};
 ghost use Rattle.wp_model.specs.History.{answered, next_entry};
-ghost use Rattle.wp_model.specs.Journal.{line};
+ghost use Rattle.wp_model.specs.Journal.{entry_line, line};
+ghost use Rattle.wp_model.specs.declared.entry.Entry.{Entry as EntryData};
 ghost use Rattle.wp_model.specs.Limits.{most_entries};
 ghost use Rattle.wp_model.specs.Plain.{is_plain};
 ghost use Rattle.wp_journal.specs.Auditing.{Judges, MayGoOn, Tells, after_line, first_line, is_head};
-ghost use Rattle.wp_journal.specs.Grammar.{IsLineOf, IsOnlyLineOf};
+ghost use Rattle.wp_journal.specs.Grammar.{IsLineOf, IsOnlyLineOf, is_line_entry};
 ghost use Rattle.wp_journal.specs.Journals.{Shows, is_end, is_feed, line_number_after, lines_of};
 ghost use Rattle.wp_journal.specs.declared.verdict.Audit.{Audit};
 ghost use Rattle.wp_journal.specs.declared.verdict.AuditFault.{AuditFault};
@@ -16,8 +18,8 @@ use crate::fault::EntryFault;
 use crate::read::{has_line, read_entry};
 use crate::verdict::{Audit, AuditFault};
 use std::alloc::Global;
-use wp_machine::{Machine, Opening, prepare};
-use wp_model::{Entry, Memory};
+use wp_machine::{Machine, Opening};
+use wp_model::{Command, Entry, Memory, Reply};
 
 fn feed_at(text: &[u8]) -> usize
     ensures { result ≡ position_or_len is_feed text.now }
@@ -63,55 +65,62 @@ fn bad_line(machine: &Machine<'_>) -> AuditFault
     AuditFault::BadLine(machine.count() + 2)
 }
 
-// The entry that the machine writes for an entry's desk and command.
-fn answer(
-    alloc: Global,
-    opening: &Opening,
-    machine: &mut Machine<'_>,
-    entry: &Entry,
-) -> Result<Entry, Memory>
-    requires same { opening.now ≡ machine.old.opening }
-    requires few { length machine.old.entries < 4294967295 }
-    requires plain { IsTrue (is_plain entry.now.command) }
-    ensures entry { IfOk result (λ right. right ≡ next_entry machine.old entry.now.desk entry.now.command) }
-    ensures history { IfOk result (λ right. machine.new ≡ answered machine.old entry.now.desk entry.now.command) }
+// Whether a line is that of the machine's last entry.
+fn last_has_line(alloc: Global, machine: &Machine<'_>, line: &[u8]) -> Result<bool, Memory>
+    ensures { IfOk result (λ is. (before : List EntryData) (last : EntryData) → machine.now.entries ≡ before ++ last ∷ []
+        → is ≡ (is_line_entry last && bytes_eq (entry_line last) line.now)) }
 {
-    let command = entry.command.copy(alloc)?;
-    let ready = prepare(alloc, opening, entry.command.copy(alloc)?)?;
-    let answer = machine.step(entry.desk, ready);
-    Ok(Entry {
-        number: answer.number,
-        desk: entry.desk,
-        command,
-        reply: answer.reply,
-    })
+    match machine.last() {
+        Some(entry) => has_line(alloc, entry, line),
+        None => Ok(false),
+    }
+}
+
+// The reply that the machine gives to a desk's command.
+fn reply_again(
+    alloc: Global,
+    machine: &mut Machine<'_>,
+    desk: u32,
+    command: Command,
+) -> Result<Reply, Memory>
+    requires few { length machine.old.entries < 4294967295 }
+    requires plain { IsTrue (is_plain command) }
+    ensures reply { IfOk result (λ reply. reply ≡ (next_entry machine.old desk command).reply) }
+    ensures history { IfOk result (λ _. machine.new ≡ answered machine.old desk command) }
+{
+    let answer = machine.ask(alloc, desk, command)?;
+    Ok(answer.reply)
 }
 
 // Answers the command of the entry of the next number again, and compares its line with that of the machine's entry.
 fn judge(
     alloc: Global,
-    opening: &Opening,
     machine: &mut Machine<'_>,
     line: &[u8],
-    entry: &Entry,
+    entry: Entry,
 ) -> Result<(), AuditFault>
-    requires same { opening.now ≡ machine.old.opening }
     requires few { length machine.old.entries < 4294967295 }
-    requires plain { IsTrue (is_plain entry.now.command) }
-    requires number { entry.now.number ≡ length machine.old.entries }
-    requires is { IsLineOf line.now entry.now }
+    requires plain { IsTrue (is_plain entry.command) }
+    requires number { entry.number ≡ length machine.old.entries }
+    requires is { IsLineOf line.now entry }
     ensures judges { Judges machine.old line.now machine.new result }
-    ensures history { IfOk result (λ _. machine.new ≡ answered machine.old entry.now.desk entry.now.command) }
+    ensures history { IfOk result (λ _. machine.new ≡ answered machine.old entry.desk entry.command) }
 {
-    let right = answer(alloc, opening, machine, entry)?;
-    let is_right = has_line(alloc, &right, line)?;
+    let Entry {
+        number,
+        desk,
+        command,
+        reply,
+    } = entry;
+    let right = reply_again(alloc, machine, desk, command)?;
+    let is_right = last_has_line(alloc, machine, line)?;
     if is_right {
         Ok(())
     } else {
         Err(AuditFault::WrongReply {
-            number: entry.number,
-            printed: entry.reply,
-            right: right.reply,
+            number,
+            printed: reply,
+            right,
         })
     }
 }
@@ -119,41 +128,33 @@ fn judge(
 // Takes an entry in, where it has the next number.
 fn take_entry(
     alloc: Global,
-    opening: &Opening,
     machine: &mut Machine<'_>,
     line: &[u8],
-    entry: &Entry,
+    entry: Entry,
 ) -> Result<(), AuditFault>
-    requires same { opening.now ≡ machine.old.opening }
     requires few { length machine.old.entries < 4294967295 }
-    requires plain { IsTrue (is_plain entry.now.command) }
-    requires number { entry.now.number < most_entries }
-    requires is { IsLineOf line.now entry.now }
-    requires only { IsOnlyLineOf line.now entry.now }
+    requires plain { IsTrue (is_plain entry.command) }
+    requires number { entry.number < most_entries }
+    requires is { IsLineOf line.now entry }
+    requires only { IsOnlyLineOf line.now entry }
     ensures judges { Judges machine.old line.now machine.new result }
     ensures next { IfOk result (λ _. MayGoOn machine.old machine.new) }
 {
     if entry.number == machine.count() {
-        judge(alloc, opening, machine, line, entry)
+        judge(alloc, machine, line, entry)
     } else {
         Err(bad_line(machine))
     }
 }
 
 // Takes a line in as the next entry.
-fn take_line(
-    alloc: Global,
-    opening: &Opening,
-    machine: &mut Machine<'_>,
-    line: &[u8],
-) -> Result<(), AuditFault>
-    requires same { opening.now ≡ machine.old.opening }
+fn take_line(alloc: Global, machine: &mut Machine<'_>, line: &[u8]) -> Result<(), AuditFault>
     requires few { length machine.old.entries < 4294967295 }
     ensures judges { Judges machine.old line.now machine.new result }
     ensures next { IfOk result (λ _. MayGoOn machine.old machine.new) }
 {
     match read_entry(alloc, line) {
-        Ok(entry) => take_entry(alloc, opening, machine, line, &entry),
+        Ok(entry) => take_entry(alloc, machine, line, entry),
         Err(EntryFault::NotEntry) => Err(bad_line(machine)),
         Err(EntryFault::Memory) => Err(AuditFault::Memory),
     }
@@ -172,7 +173,7 @@ fn audit_entries(alloc: Global, opening: &Opening, text: &[u8]) -> Result<Audit,
                 entries: machine.count(),
             });
         }
-        take_line(alloc, opening, &mut machine, line)?;
+        take_line(alloc, &mut machine, line)?;
         rest = more;
     }
     Err(bad_line(&machine))

@@ -1,5 +1,5 @@
 -- What a step tells beside its reply comes with the replies that call for it, and with no other.
-use Rattle.std.proofs.Common.{◌≡◌, ◌∙◌, ◌⊎◌, inl, inr, refl, sym, ap, ℕ, Bool, true, false, List, [], Option, Some, None}
+use Rattle.std.proofs.Common.{◌≡◌, ◌∙◌, ◌⊎◌, inl, inr, refl, sym, ap, ℕ, true, false, List, [], Option, Some, None}
 use Rattle.std.specs.Option.{is_some, option_map_or}
 use Rattle.wp_model.proofs.Replies.{done_or_refused}
 use Rattle.wp_model.proofs.WaveNames.{refilled_is_known, released_is_known}
@@ -8,11 +8,9 @@ use Rattle.wp_model.specs.State.{State, Wave}
 use Rattle.wp_model.specs.Step.{is_refusal, step, wave_from}
 use Rattle.wp_model.specs.declared.command.Command.{Command}
 use Rattle.wp_model.specs.declared.command.Command.TheVariants as command
-use Rattle.wp_model.specs.declared.location.Location.{Location}
 use Rattle.wp_model.specs.declared.reply.Reply.{Reply}
 use Rattle.wp_model.specs.declared.reply.Reply.TheVariants as reply
-use Rattle.wp_machine.specs.Outcome.{missing_outcome, outcome_of, refilled_holds, release_outcome, says_refilled, says_released, tells_holds, tells_refill}
-use Rattle.wp_machine.specs.Outcome.{wave_holds}
+use Rattle.wp_machine.specs.Outcome.{missing_outcome, outcome_of, release_outcome, says_refilled, says_released, tells_holds, tells_refill}
 use Rattle.wp_machine.specs.declared.outcome.Outcome.{Outcome}
 use Rattle.wp_machine.specs.declared.outcome.Outcome.TheVariants as outcome
 

@@ -1,11 +1,11 @@
 //! What desks ask, one after the other, in whatever order they come.
-ghost use Rattle.std.specs.Prelude.{◌≡◌, ◌<◌, ◌^◌, length, map, IfOk, IsTrue};
+ghost use Rattle.std.specs.Prelude.{◌≡◌, ◌+◌, ◌<◌, ◌^◌, length, map, IfOk, IsTrue};
 ghost use Rattle.std.specs.List.{All};
-ghost use Rattle.wp_model.specs.History.{IsLegal, answered, opened};
+ghost use Rattle.wp_model.specs.History.{IsLegal, opened};
 ghost use Rattle.wp_model.specs.Plain.{is_plain};
 ghost use Rattle.wp_machine.specs.Machine.{EachStateIsSound, asked_all, asking_of};
 
-use crate::machine::{Machine, prepare};
+use crate::machine::Machine;
 use std::alloc::Global;
 use wp_floor::Opening;
 use wp_model::{Command, Entries, Memory};
@@ -17,37 +17,14 @@ pub struct Asking {
     pub command: Command,
 }
 
-// A machine answers what a desk asks for.
-fn answer_asking(
-    alloc: Global,
-    opening: &Opening,
-    machine: &mut Machine<'_>,
-    asking: &Asking,
-) -> Result<(), Memory>
-    requires plain { IsTrue (is_plain asking.now.command) }
-    requires same { machine.old.opening ≡ opening.now }
-    requires few { length machine.old.entries < 4294967295 }
-    ensures { IfOk result (λ _. machine.new ≡ answered machine.old asking.now.desk asking.now.command) }
-{
-    let ready = prepare(alloc, opening, asking.command.copy(alloc)?)?;
-    machine.step(asking.desk, ready);
-    Ok(())
-}
-
-// A machine that has answered nothing answers all that desks ask, one after the other.
-fn answer_each(
-    alloc: Global,
-    opening: &Opening,
-    machine: &mut Machine<'_>,
-    askings: &[Asking],
-) -> Result<(), Memory>
+// A machine answers all that desks ask, one after the other.
+fn answer_each(alloc: Global, machine: &mut Machine<'_>, askings: &[Asking]) -> Result<(), Memory>
     requires plain { All (λ asking. IsTrue (is_plain asking.command)) askings.now }
-    requires few { length askings.now < 2 ^ 32 }
-    requires fresh { machine.old ≡ opened opening.now }
-    ensures { IfOk result (λ _. machine.new ≡ asked_all (opened opening.now) askings.now) }
+    requires few { length machine.old.entries + length askings.now < 2 ^ 32 }
+    ensures { IfOk result (λ _. machine.new ≡ asked_all machine.old askings.now) }
 {
     for asking in askings {
-        answer_asking(alloc, opening, machine, asking)?;
+        machine.ask(alloc, asking.desk, asking.command.copy(alloc)?)?;
     }
     Ok(())
 }
@@ -63,7 +40,7 @@ fn machine_asked<'a>(
     ensures { IfOk result (λ machine. machine ≡ asked_all (opened opening.now) askings.now) }
 {
     let mut machine = Machine::open(alloc, opening)?;
-    answer_each(alloc, opening, &mut machine, askings)?;
+    answer_each(alloc, &mut machine, askings)?;
     Ok(machine)
 }
 

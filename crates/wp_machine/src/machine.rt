@@ -1,10 +1,11 @@
-ghost use Rattle.std.specs.Prelude.{◌≡◌, ◌<◌, ◌≤◌, ◌^◌, length, slice_get, Some, IsTrue, IfOk};
+ghost use Rattle.std.specs.Prelude.{◌≡◌, ◌<◌, ◌≤◌, ◌^◌, ◌++◌, ◌∷◌, [], List, length, map, slice_get, Some, IsTrue, IfOk, IfErr, IfSome, IfNone};
 ghost use Rattle.std.specs.Option.{option_map};
 ghost use Rattle.wp_model.specs.History.{IsLegal, answered, opened, state_after};
 ghost use Rattle.wp_model.specs.Plain.{is_plain};
 ghost use Rattle.wp_model.specs.Sound.{IsSound};
 ghost use Rattle.wp_model.specs.Step.{step, wave_from};
 ghost use Rattle.wp_model.specs.Tables.{IsReadOpening};
+ghost use Rattle.wp_model.specs.declared.entry.Entry.{Entry as EntryData};
 ghost use Rattle.wp_machine.specs.Outcome.{outcome_of};
 ghost use Rattle.wp_machine.specs.Prepared.{IsPreparedFor};
 
@@ -131,6 +132,20 @@ fn copy_entries(alloc: Global, chain: &Chain<Entry>) -> Result<Vec<Entry>, Memor
     Ok(all)
 }
 
+// The entries of a chain, in order, by reference.
+fn borrow_entries<'b>(alloc: Global, chain: &'b Chain<Entry>) -> Result<Vec<&'b Entry>, Memory>
+    ensures { IfOk result (λ entries. map (λ entry. entry.now) entries.items ≡ chain.now) }
+{
+    let mut journal = Vec::new(alloc);
+    let mut at = chain;
+    while let Some((entry, below)) = at.split_last() {
+        journal.push(entry)?;
+        at = below;
+    }
+    journal.reverse();
+    Ok(journal)
+}
+
 impl<'a> Machine<'a> {
     /// A machine that has answered nothing.
     pub fn open(alloc: Global, opening: &'a Opening) -> Result<Machine<'a>, Memory>
@@ -173,11 +188,44 @@ impl<'a> Machine<'a> {
         answer
     }
 
+    /// Prepares a desk's command and answers it. Where memory runs out nothing was answered.
+    pub fn ask(&mut self, alloc: Global, desk: u32, command: Command) -> Result<Answer, Memory>
+        requires plain { IsTrue (is_plain command) }
+        requires few { length self.old.entries < 4294967295 }
+        ensures history { IfOk result (λ _. self.new ≡ answered self.old desk command) }
+        ensures same { IfErr result (λ _. self.new ≡ self.old) }
+        ensures number { IfOk result (λ answer. answer.number ≡ length self.old.entries) }
+        ensures reply { IfOk result (λ answer. answer.reply ≡ (step self.old.opening (state_after self.old) command).reply) }
+        ensures outcome { IfOk result (λ answer. answer.outcome ≡ outcome_of (length self.old.entries) (state_after self.old) command
+            (step self.old.opening (state_after self.old) command)) }
+    {
+        let ready = prepare(alloc, self.opening, command)?;
+        Ok(self.step(desk, ready))
+    }
+
+    /// The last entry. None comes exactly where nothing was answered.
+    pub fn last(&self) -> Option<&Entry>
+        ensures some { IfSome result (λ entry. (before : List EntryData) × (self.now.entries ≡ before ++ entry.now ∷ [])) }
+        ensures none { IfNone result (self.now.entries ≡ []) }
+    {
+        match self.entries.split_last() {
+            Some((entry, _)) => Some(entry),
+            None => None,
+        }
+    }
+
     /// The entries, in order.
     pub fn entries(&self, alloc: Global) -> Result<Entries, Memory>
         ensures { IfOk result (λ entries. entries ≡ self.now.entries) }
     {
         Ok(Entries::of(copy_entries(alloc, &self.entries)?))
+    }
+
+    /// The entries, in order, by reference.
+    pub fn journal(&self, alloc: Global) -> Result<Vec<&Entry>, Memory>
+        ensures { IfOk result (λ entries. map (λ entry. entry.now) entries.items ≡ self.now.entries) }
+    {
+        borrow_entries(alloc, &self.entries)
     }
 
     /// How many rows there are.

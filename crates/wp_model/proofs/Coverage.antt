@@ -1,11 +1,11 @@
 -- A submitted wave gets stock exactly where free stock covers it.
-use Rattle.std.proofs.Common.{◌≡◌, ◌↔◌, ℕ, List, Option, Some, None, refl, sym, ap, subst, ◌∙◌}
+use Rattle.std.proofs.Common.{◌≡◌, ◌↔◌, ℕ, List, Option, Some, None, refl, sym, ◌∙◌}
 use Rattle.std.specs.Option.{option_map_or}
 use Rattle.wp_model.proofs.Demand.{covered_from_none, none_from_covered}
 use Rattle.wp_model.specs.Demand.{IsCovered, short_article}
 use Rattle.wp_model.specs.Opening.{IsOpening, Opening}
 use Rattle.wp_model.specs.State.{State, Wave}
-use Rattle.wp_model.specs.Step.{Stepped, allot, hold_for, refuse_short, release, step, wave_from}
+use Rattle.wp_model.specs.Step.{Stepped, hold_for, refuse_short, step, wave_from}
 use Rattle.wp_model.specs.declared.command.Command.TheVariants as command
 use Rattle.wp_model.specs.declared.reply.Reply.{Reply}
 use Rattle.wp_model.specs.declared.reply.Reply.TheVariants as reply

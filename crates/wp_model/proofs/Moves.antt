@@ -2,13 +2,12 @@
 use Rattle.std.proofs.Common.{◌≡◌, ◌≢◌, ℕ, ◌<◌, ◌≤◌, length, Option, refl, ◌∙◌}
 use Rattle.wp_model.proofs.Held.{with_held-other}
 use Rattle.wp_model.proofs.Holds.{alike_changed, alike_itself, alike_then}
-use Rattle.wp_model.specs.StockMoves.{AreAlike}
 use Rattle.wp_model.proofs.Rows.{at_place-article}
 use Rattle.wp_model.proofs.Stock.{give_back_keeps_stock, hold_keeps_stock, take_keeps_stock, taken}
 use Rattle.wp_model.specs.StockMoves.{IsSoundStock}
 use Rattle.wp_model.specs.Change.{give_back, hold, take, take_units}
 use Rattle.wp_model.specs.Sound.{orders_in}
-use Rattle.wp_model.specs.StockMoves.{AreAlike, IsMoved, IsSoundStock}
+use Rattle.wp_model.specs.StockMoves.{IsMoved, IsSoundStock}
 use Rattle.wp_model.specs.State.{State}
 
 -- nothing moves

@@ -1,6 +1,6 @@
 -- Scripts by the numbers of their desks.
-use Rattle.std.proofs.Common.{◌≡◌, ◌∙◌, refl, sym, ap, ℕ, zero, suc, ◌+◌, false, List, [], ◌∷◌, Some, slice_get, IfSome, arith}
-use Rattle.std.specs.Prelude.{◌==◌, if◌then◌else◌}
+use Rattle.std.proofs.Common.{◌≡◌, ◌∙◌, sym, ap, ℕ, zero, suc, ◌+◌, false, List, [], ◌∷◌, Some, slice_get, IfSome, arith}
+use Rattle.std.specs.Prelude.{◌==◌}
 use Rattle.std.proofs.lemmas.Bool.{cond-false, cond-true}
 use Rattle.std.proofs.Common.{eq-eqb, ne_eqb}
 use Rattle.wp_model.proofs.Elements.{if_some_then}

@@ -5,11 +5,11 @@ use Rattle.std.proofs.Common.{bytes_eq, if◌then◌else◌, slice_get}
 use Rattle.std.specs.Option.{is_some, option_map_or}
 use Rattle.std.specs.Prelude.{slice_set}
 use Rattle.wp_model.proofs.Found.{option_map_or-both, wave_found}
-use Rattle.wp_model.specs.Change.{hold, put_wave, settle, take}
-use Rattle.wp_model.specs.Demand.{demand_at, free_units, short_article}
+use Rattle.wp_model.specs.Change.{hold, settle, take}
+use Rattle.wp_model.specs.Demand.{free_units, short_article}
 use Rattle.wp_model.specs.Opening.{Opening, article_name}
 use Rattle.wp_model.specs.State.{State, Wave, wave_held}
-use Rattle.wp_model.specs.Step.{Held, Stepped, at_held, at_released, at_wave, held_for, hold_for, is_among, one_demand, refuse, refuse_short, release, step}
+use Rattle.wp_model.specs.Step.{Held, Stepped, at_held, at_released, at_wave, held_for, is_among, one_demand, refuse, refuse_short, release, step}
 use Rattle.wp_model.specs.Step.{wave_from}
 use Rattle.wp_model.specs.Step.{write_off}
 use Rattle.wp_model.specs.declared.command.Command.TheVariants as command

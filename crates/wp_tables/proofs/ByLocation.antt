@@ -1,21 +1,18 @@
 -- Rows by their locations, in a map.
-use Rattle.std.proofs.Common.{◌≡◌, ◌∙◌, refl, sym, ap, ℕ, Bool, true, false, List, [], ◌∷◌, map, arith}
-use Rattle.std.specs.Prelude.{◌&&◌, ◌||◌, ◌==◌, nat_lt, if◌then◌else◌, Option, Some}
+use Rattle.std.proofs.Common.{◌≡◌, ◌∙◌, refl, sym, ap, Bool, true, false, List, [], ◌∷◌, map}
+use Rattle.std.specs.Prelude.{◌||◌, if◌then◌else◌, Option, Some}
 use Rattle.std.specs.List.{list_any}
 use Rattle.std.specs.Map.{lookup}
 use Rattle.std.specs.Option.{is_some}
-use Rattle.std.specs.Ordering.{is_eq, is_lt, match_ordering, nat_cmp, ordering_then}
+use Rattle.std.specs.Ordering.{is_eq, is_lt, match_ordering}
 use Rattle.std.specs.BTreeMap.{insert_entry, is_at}
 use Rattle.std.specs.declared.cmp.Ordering.{Ordering}
 use Rattle.std.specs.declared.cmp.Ordering.TheVariants.{Less, Equal, Greater}
-use Rattle.std.proofs.lemmas.Bool.Decides.{nat_tests}
 use Rattle.wp_model.proofs.LocationOrder.{before_by_cmp, same_by_cmp}
 use Rattle.wp_model.specs.Location.{is_before, location_cmp}
 use Rattle.wp_model.specs.TableLines.{lies_at, put_row}
-use Rattle.wp_model.specs.Step.{same_location, same_side}
+use Rattle.wp_model.specs.Step.{same_location}
 use Rattle.wp_model.specs.declared.location.Location.{Location}
-use Rattle.wp_model.specs.declared.location.Side.{Side}
-use Rattle.wp_model.specs.declared.location.Side.TheVariants as side
 use Rattle.wp_model.specs.declared.row.StockRow.{StockRow}
 use Rattle.wp_tables.specs.Stock.{by_location}
 

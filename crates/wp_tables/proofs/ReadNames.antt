@@ -1,24 +1,20 @@
 -- What is read as a name is one: the articles of stock lines, the orders of order lines, and all that commands name.
-use Rattle.std.proofs.Common.{◌≡◌, refl, ℕ, true, false, Bool, List, [], ◌∷◌, length, drop, Result, Ok, Err, IfOk, if◌then◌else◌}
+use Rattle.std.proofs.Common.{◌≡◌, refl, ℕ, true, false, Bool, List, [], ◌∷◌, length, Result, Ok, Err, IfOk, if◌then◌else◌}
 use Rattle.std.specs.List.{list_all}
 use Rattle.std.specs.Option.{ok_or}
-use Rattle.std.specs.Prelude.{◌&&◌, IsTrue, Option, Some, None, nat_le, nat_lt}
+use Rattle.std.specs.Prelude.{◌&&◌, IsTrue, Some, None, nat_le}
 use Rattle.std.proofs.lemmas.Bool.{and_from}
-use Rattle.wp_model.specs.Limits.{most_file_orders, most_lines, most_named, most_on_hand, most_places}
-use Rattle.wp_model.specs.Name.{is_name, name_in}
-use Rattle.wp_model.specs.Opening.{Order, Stock, is_known_order, lines_of}
+use Rattle.wp_model.specs.Limits.{most_named}
+use Rattle.wp_model.specs.Name.{is_name}
 use Rattle.wp_model.specs.Outcomes.{and_then}
 use Rattle.wp_model.specs.Plain.{has_names}
-use Rattle.wp_model.specs.TableLines.{Record, places_named}
-use Rattle.wp_model.specs.Warehouse.{Layout}
+use Rattle.wp_model.specs.TableLines.{Record}
 use Rattle.wp_model.specs.declared.command.Command.{Command}
 use Rattle.wp_model.specs.declared.command.Command.TheVariants as command
 use Rattle.wp_model.specs.declared.location.Location.{Location}
-use Rattle.wp_tables.specs.DeskFile.{command_in, command_in_fields, command_of, desk_read, hold_of, names_read, of_hold, of_wave, receipt_of, submission_of}
+use Rattle.wp_tables.specs.DeskFile.{command_in_fields, command_of, desk_read, hold_of, names_read, of_hold, of_wave, receipt_of, submission_of}
 use Rattle.wp_tables.specs.DeskFile.{wave_of, word_read}
-use Rattle.wp_tables.specs.Fields.{Three, four_of, location_read, name_read, number_read, one_of, quantity_read, texts_of, three_of}
-use Rattle.wp_tables.specs.OrderFile.{order_line_of_three, order_read, order_with_room, article_read}
-use Rattle.wp_tables.specs.StockFile.{article_with_room, free_location, line_of_three}
+use Rattle.wp_tables.specs.Fields.{four_of, location_read, name_read, one_of, quantity_read, texts_of, three_of}
 use Rattle.wp_tables.specs.declared.fault.Why.{Why}
 use Rattle.wp_tables.specs.declared.fault.Why.TheVariants as why
 use Rattle.wp_tables.specs.declared.scripts.NamedHold.{NamedHold}

@@ -11,7 +11,7 @@ ghost use Rattle.wp_top.specs.Sections.{output_of};
 
 use crate::print::{print_journal, print_refills, print_stock};
 use std::alloc::Global;
-use wp_machine::{Machine, Opening, Outcome, Refill, prepare};
+use wp_machine::{Machine, Opening, Outcome, Refill};
 use wp_model::{Command, Memory};
 
 /// A machine that answered a script, and the refills that its steps told, in order.
@@ -46,16 +46,14 @@ impl<'a> Answered<'a> {
     }
 
     // One command more of desk 1.
-    fn answer(&mut self, alloc: Global, opening: &Opening, command: &Command) -> Result<(), Memory>
-        requires same { self.old.machine.opening ≡ opening.now }
+    fn answer(&mut self, alloc: Global, command: &Command) -> Result<(), Memory>
         requires plain { IsTrue (is_plain command.now) }
         requires few { length self.old.machine.entries < most_commands }
         requires told { self.old.refills.items ≡ refills_of self.old.machine }
         ensures machine { IfOk result (λ _. self.new.machine ≡ answered self.old.machine 1 command.now) }
         ensures told { IfOk result (λ _. self.new.refills.items ≡ refills_of self.new.machine) }
     {
-        let ready = prepare(alloc, opening, command.copy(alloc)?)?;
-        let answer = self.machine.step(1, ready);
+        let answer = self.machine.ask(alloc, 1, command.copy(alloc)?)?;
         keep_refill(&mut self.refills, answer.outcome)
     }
 }
@@ -73,7 +71,7 @@ fn answer_script<'a>(
 {
     let mut answered = Answered::open(alloc, opening)?;
     for command in script {
-        answered.answer(alloc, opening, command)?;
+        answered.answer(alloc, command)?;
     }
     Ok(answered)
 }
@@ -81,7 +79,7 @@ fn answer_script<'a>(
 fn print_entries(alloc: Global, text: &mut String, machine: &Machine<'_>) -> Result<(), Memory>
     ensures { IfOk result (λ _. string_bytes text.new ≡ string_bytes text.old ++ journal machine.now.entries) }
 {
-    let entries = machine.entries(alloc)?;
+    let entries = machine.journal(alloc)?;
     print_journal(text, entries.as_slice())
 }
 

@@ -1,4 +1,4 @@
-ghost use Rattle.std.specs.Prelude.{◌≡◌, ◌<◌, ◌++◌, length, IfOk, string_bytes};
+ghost use Rattle.std.specs.Prelude.{◌≡◌, ◌<◌, ◌++◌, length, map, IfOk, string_bytes};
 ghost use Rattle.std.specs.List.{All};
 ghost use Rattle.wp_model.specs.History.{state_after};
 ghost use Rattle.wp_model.specs.Journal.{journal};
@@ -10,8 +10,8 @@ use wp_machine::{Machine, Opening, Refill};
 use wp_model::{Entry, Hold, Memory, Name, Row};
 
 /// Writes the journal of entries.
-pub fn print_journal(text: &mut String, entries: &[Entry]) -> Result<(), Memory>
-    ensures { IfOk result (λ _. string_bytes text.new ≡ string_bytes text.old ++ journal entries.now) }
+pub fn print_journal(text: &mut String, entries: &[&Entry]) -> Result<(), Memory>
+    ensures { IfOk result (λ _. string_bytes text.new ≡ string_bytes text.old ++ journal (map (λ entry. entry.now) entries.now)) }
 {
     text.push_str("journal\n")?;
     for entry in entries {

@@ -1,13 +1,15 @@
-use Rattle.std.proofs.Common.{◌∙◌, subst, sym}
-use Rattle.wp_journal.specs.Grammar.{IsLineOf}
+use Rattle.std.proofs.Common.{◌∙◌, ap, sym}
+use Rattle.wp_model.specs.History.{History, next_entry}
 use Rattle.wp_journal.proofs.Candidates.{is_line}
 use Rattle.wp_journal.proofs.replay.judge.Goals as goal
 
 pub returns-then-is_right-clause-judges : goal.returns-then-is_right-clause-judges
-returns-then-is_right-clause-judges c = (
-  c.args.entry.now.desk,
-  c.args.entry.now.command,
-  subst (IsLineOf c.args.line.now) c.in_ok-right.ensures.entry
-      (is_line c.args.line.now c.in_ok-right.right (sym c.in_ok-is_right.ensures ∙ c.if-is_right.true)),
-  c.in_ok-right.ensures.history,
-)
+returns-then-is_right-clause-judges c =
+    let before = c.args.machine.now in
+    let entry = next_entry before c.args.entry.desk c.args.entry.command in
+    let entries = ap (λ (h : History). h.entries) c.in_ok-right.ensures.history in (
+      c.args.entry.desk,
+      c.args.entry.command,
+      is_line c.args.line.now entry (sym (c.in_ok-is_right.ensures before.entries entry entries) ∙ c.if-is_right.true),
+      c.in_ok-right.ensures.history,
+    )

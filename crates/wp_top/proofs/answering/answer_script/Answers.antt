@@ -6,11 +6,6 @@ use Rattle.wp_model.specs.History.{History, answered, opened}
 use Rattle.wp_top.proofs.OneDesk.{answered_all-next, entries_answered}
 use Rattle.wp_top.proofs.answering.answer_script.Goals as goal
 
-pub answer-requires-clause-same : goal.answer-requires-clause-same
-answer-requires-clause-same c =
-    ap (λ (h : History). h.opening) c.loop-command.invariant.machine
-    ∙ answered_all-opening (opened c.args.opening.now) 1 (take c.loop-command.command-index c.args.script.now)
-
 pub answer-requires-clause-few : goal.answer-requires-clause-few
 answer-requires-clause-few c =
     let count = ap (λ (h : History). length h.entries) c.loop-command.invariant.machine in

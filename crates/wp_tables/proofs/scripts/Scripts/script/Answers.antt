@@ -1,8 +1,5 @@
 use Rattle.std.proofs.Common.{◌∙◌, ap}
-use Rattle.std.specs.Prelude.{IsTrue}
-use Rattle.std.specs.List.{All}
 use Rattle.wp_model.specs.History.{script_of}
-use Rattle.wp_model.specs.Plain.{is_plain}
 use Rattle.wp_tables.proofs.DeskScripts.{script_kept, script_plain}
 use Rattle.wp_tables.proofs.scripts.Scripts.script.Goals as goal
 

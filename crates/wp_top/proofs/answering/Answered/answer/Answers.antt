@@ -7,5 +7,5 @@ use Rattle.wp_machine.specs.Outcome.{refill_in, refills_of}
 pub returns-clause-told : goal.returns-clause-told
 returns-clause-told c =
     IfOk-equal c.keep_refill.result _ _ _ c.keep_refill.ensures
-    (ap₂ (λ refills more. refills ++ more) c.requires.told (ap refill_in c.step-answer.ensures.outcome)
-    ∙ sym (ap refills_of c.step-answer.ensures.history ∙ refills_of-answered c.args.self.now.machine 1 c.in_ok-ready.ready.command))
+    (ap₂ (λ refills more. refills ++ more) c.requires.told (ap refill_in c.in_ok-answer.ensures.outcome)
+    ∙ sym (ap refills_of c.in_ok-answer.ensures.history ∙ refills_of-answered c.args.self.now.machine 1 c.in_ok-copy.field-0))
