@@ -1,7 +1,7 @@
 ghost use Rattle.std.specs.Prelude.{◌≡◌, ◌<◌, ◌^◌, suc, [], ◌∷◌, ◌++◌, IfOk};
 ghost use Rattle.wp_classes.specs.Paths.{at as point_at};
 
-use std::alloc::Global;
+use crate::path::Path;
 use wp_graph::Point;
 use wp_model::Memory;
 
@@ -19,62 +19,36 @@ pub(crate) fn at(aisle: u32, place: u32) -> Point
     Point { aisle, slot: place }
 }
 
-// A point, other points and a last one.
-fn around(alloc: Global, out: Point, points: &[Point], home: Point) -> Result<Vec<Point>, Memory>
-    ensures { IfOk result (λ v. v.items ≡ out ∷ points.now ++ home ∷ []) }
-{
-    let mut all = Vec::new(alloc);
-    all.push(out)?;
-    all.extend_from_slice(points)?;
-    all.push(home)?;
-    Ok(all)
-}
-
 impl Ends {
-    /// From the back end along points to the next aisle's back end.
-    pub(crate) fn along_back(self, alloc: Global, points: &[Point]) -> Result<Vec<Point>, Memory>
+    /// From the back end along a path to the next aisle's back end.
+    pub(crate) fn along_back(self, path: Path) -> Result<Path, Memory>
         requires { self.aisle < 2 ^ 31 }
-        ensures { IfOk result (λ v. v.items ≡ point_at self.aisle self.back ∷ points.now ++ point_at (suc self.aisle) self.back ∷ []) }
+        ensures { IfOk result (λ p. p ≡ point_at self.aisle self.back ∷ path ++ point_at (suc self.aisle) self.back ∷ []) }
     {
-        around(
-            alloc,
-            at(self.aisle, self.back),
-            points,
-            at(self.aisle + 1, self.back),
-        )
+        path.between(at(self.aisle, self.back), at(self.aisle + 1, self.back))
     }
 
-    /// From the front end along points to the next aisle's front end.
-    pub(crate) fn along_front(self, alloc: Global, points: &[Point]) -> Result<Vec<Point>, Memory>
+    /// From the front end along a path to the next aisle's front end.
+    pub(crate) fn along_front(self, path: Path) -> Result<Path, Memory>
         requires { self.aisle < 2 ^ 31 }
-        ensures { IfOk result (λ v. v.items ≡ point_at self.aisle 0 ∷ points.now ++ point_at (suc self.aisle) 0 ∷ []) }
+        ensures { IfOk result (λ p. p ≡ point_at self.aisle 0 ∷ path ++ point_at (suc self.aisle) 0 ∷ []) }
     {
-        around(alloc, at(self.aisle, 0), points, at(self.aisle + 1, 0))
+        path.between(at(self.aisle, 0), at(self.aisle + 1, 0))
     }
 
-    /// From the back end along points to the next aisle's front end.
-    pub(crate) fn back_to_front(self, alloc: Global, points: &[Point]) -> Result<Vec<Point>, Memory>
+    /// From the back end along a path to the next aisle's front end.
+    pub(crate) fn back_to_front(self, path: Path) -> Result<Path, Memory>
         requires { self.aisle < 2 ^ 31 }
-        ensures { IfOk result (λ v. v.items ≡ point_at self.aisle self.back ∷ points.now ++ point_at (suc self.aisle) 0 ∷ []) }
+        ensures { IfOk result (λ p. p ≡ point_at self.aisle self.back ∷ path ++ point_at (suc self.aisle) 0 ∷ []) }
     {
-        around(
-            alloc,
-            at(self.aisle, self.back),
-            points,
-            at(self.aisle + 1, 0),
-        )
+        path.between(at(self.aisle, self.back), at(self.aisle + 1, 0))
     }
 
-    /// From the front end along points to the next aisle's back end.
-    pub(crate) fn front_to_back(self, alloc: Global, points: &[Point]) -> Result<Vec<Point>, Memory>
+    /// From the front end along a path to the next aisle's back end.
+    pub(crate) fn front_to_back(self, path: Path) -> Result<Path, Memory>
         requires { self.aisle < 2 ^ 31 }
-        ensures { IfOk result (λ v. v.items ≡ point_at self.aisle 0 ∷ points.now ++ point_at (suc self.aisle) self.back ∷ []) }
+        ensures { IfOk result (λ p. p ≡ point_at self.aisle 0 ∷ path ++ point_at (suc self.aisle) self.back ∷ []) }
     {
-        around(
-            alloc,
-            at(self.aisle, 0),
-            points,
-            at(self.aisle + 1, self.back),
-        )
+        path.between(at(self.aisle, 0), at(self.aisle + 1, self.back))
     }
 }

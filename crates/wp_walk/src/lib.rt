@@ -3,6 +3,7 @@
 
 mod aisle;
 mod ends;
+mod path;
 mod paths;
 #[cfg(test)]
 mod tests;

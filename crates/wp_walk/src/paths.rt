@@ -6,8 +6,8 @@ ghost use Rattle.wp_classes.specs.Parts.{with_way as part_with_way};
 ghost use Rattle.wp_classes.specs.Paths.{at as point_at};
 ghost use Rattle.wp_classes.specs.declared.class.Class.TheVariants.{E01, EE1, Z00, ZE1};
 
-use crate::aisle::{from_back, from_front, joined, pass_down, pass_up};
 use crate::ends::{Ends, at};
+use crate::path::{Path, Round};
 use crate::turns::Turns;
 use std::alloc::Global;
 use std::marker::Model;
@@ -19,8 +19,8 @@ use wp_model::Memory;
 #[derive(Drop)]
 pub(crate) struct Paths {
     start: Point,
-    first: Vec<Point>,
-    second: Vec<Point>,
+    first: Path,
+    second: Path,
 }
 
 impl Model for Paths {
@@ -28,7 +28,7 @@ impl Model for Paths {
 
     ghost Value = { Part };
 
-    ghost view = { λ p. record { start = p.start; first = p.first.items; second = p.second.items } };
+    ghost view = { λ p. record { start = p.start; first = p.first; second = p.second } };
 }
 
 impl Paths {
@@ -38,8 +38,8 @@ impl Paths {
     {
         Paths {
             start: at(layout.depot(), 0),
-            first: Vec::new(alloc),
-            second: Vec::new(alloc),
+            first: Path::none(alloc),
+            second: Path::none(alloc),
         }
     }
 
@@ -53,47 +53,40 @@ impl Paths {
     ) -> Result<Paths, Memory>
         ensures { IfOk result (λ p. p ≡ part_with_pass layout.now aisle class self) }
     {
-        let Paths {
-            start,
-            first,
-            second,
-        } = self;
         match class {
             Class::UU1 => Ok(Paths {
-                start,
-                first,
-                second: pass_up(alloc, layout, aisle)?,
+                second: Path::none(alloc).then_pass_up(layout, aisle)?,
+                ..self
             }),
             Class::E01 => Ok(Paths {
-                start,
-                first: joined(first, &pass_down(alloc, layout, aisle)?)?,
-                second,
+                first: self.first.then_pass_down(layout, aisle)?,
+                ..self
             }),
             Class::ZE1 => Ok(Paths {
-                start,
-                first: joined(pass_down(alloc, layout, aisle)?, &first)?,
-                second,
+                first: self.first.after_pass_down(layout, aisle)?,
+                ..self
             }),
             Class::EE1 => Ok(Paths {
-                start,
-                first: joined(joined(first, &second)?, &pass_down(alloc, layout, aisle)?)?,
-                second: Vec::new(alloc),
+                first: self
+                    .first
+                    .joined(self.second)?
+                    .then_pass_down(layout, aisle)?,
+                second: Path::none(alloc),
+                ..self
             }),
             Class::EE2 => Ok(Paths {
-                start,
-                first: joined(joined(first, &pass_down(alloc, layout, aisle)?)?, &second)?,
-                second: Vec::new(alloc),
+                first: self
+                    .first
+                    .then_pass_down(layout, aisle)?
+                    .joined(self.second)?,
+                second: Path::none(alloc),
+                ..self
             }),
             Class::Z00 => Ok(Paths {
-                start,
-                first: pass_down(alloc, layout, aisle)?,
-                second,
+                first: Path::none(alloc).then_pass_down(layout, aisle)?,
+                ..self
             }),
-            Class::Z01 => Ok(Paths {
-                start,
-                first,
-                second,
-            }),
+            Class::Z01 => Ok(self),
         }
     }
 }
@@ -111,31 +104,20 @@ impl Paths {
         requires { far ≤ back_end layout.now }
         ensures { IfOk result (λ p. p ≡ part_with_back layout.now aisle far class self) }
     {
-        let Paths {
-            start,
-            first,
-            second,
-        } = self;
         match class {
-            Class::Z01 => Ok(Paths {
-                start,
-                first,
-                second,
-            }),
+            Class::Z01 => Ok(self),
             Class::Z00 => Ok(Paths {
-                start,
-                first: from_back(alloc, layout, aisle, far)?,
-                second,
+                first: Path::none(alloc).after_way_from_back(layout, aisle, far)?,
+                ..self
             }),
             Class::ZE1 => Ok(Paths {
-                start,
-                first: from_back(alloc, layout, aisle, far)?,
-                second: first,
+                first: Path::none(alloc).after_way_from_back(layout, aisle, far)?,
+                second: self.first,
+                ..self
             }),
             Class::UU1 | Class::E01 | Class::EE1 | Class::EE2 => Ok(Paths {
-                start,
-                first: joined(from_back(alloc, layout, aisle, far)?, &first)?,
-                second,
+                first: self.first.after_way_from_back(layout, aisle, far)?,
+                ..self
             }),
         }
     }
@@ -151,36 +133,23 @@ impl Paths {
         requires { near < 2 ^ 31 }
         ensures { IfOk result (λ p. p ≡ part_with_front aisle near class self) }
     {
-        let Paths {
-            start,
-            first,
-            second,
-        } = self;
         match class {
-            Class::Z01 => Ok(Paths {
-                start,
-                first,
-                second,
-            }),
+            Class::Z01 => Ok(self),
             Class::Z00 => Ok(Paths {
-                start,
-                first: from_front(alloc, aisle, near)?,
-                second,
+                first: Path::none(alloc).then_way_from_front(aisle, near)?,
+                ..self
             }),
             Class::E01 => Ok(Paths {
-                start,
-                first,
-                second: from_front(alloc, aisle, near)?,
+                second: Path::none(alloc).then_way_from_front(aisle, near)?,
+                ..self
             }),
             Class::EE2 => Ok(Paths {
-                start,
-                first,
-                second: joined(second, &from_front(alloc, aisle, near)?)?,
+                second: self.second.then_way_from_front(aisle, near)?,
+                ..self
             }),
             Class::UU1 | Class::ZE1 | Class::EE1 => Ok(Paths {
-                start,
-                first: joined(first, &from_front(alloc, aisle, near)?)?,
-                second,
+                first: self.first.then_way_from_front(aisle, near)?,
+                ..self
             }),
         }
     }
@@ -249,18 +218,18 @@ impl Paths {
             back: layout.slots() + 1,
         };
         match class {
-            Class::UU1 => self.on_from_odd(alloc, ends),
+            Class::UU1 => self.on_from_odd(ends),
             Class::E01 => self.on_from_back(alloc, ends, cross),
             Class::ZE1 => self.on_from_front(alloc, ends, cross),
             Class::EE1 => self.on_from_both(alloc, ends, cross),
-            Class::EE2 => self.on_from_two(alloc, ends),
+            Class::EE2 => self.on_from_two(ends),
             Class::Z00 => self.on_from_none(alloc, ends, cross),
             Class::Z01 => Ok(self),
         }
     }
 
     // On from class UU1: the path goes along both cross aisles.
-    fn on_from_odd(self, alloc: Global, ends: Ends) -> Result<Paths, Memory>
+    fn on_from_odd(self, ends: Ends) -> Result<Paths, Memory>
         requires { ends.aisle < 2 ^ 31 }
         ensures { IfOk result (λ p. p ≡ record {
           start = self.start;
@@ -268,20 +237,14 @@ impl Paths {
           second = self.second;
         }) }
     {
-        let Paths {
-            start,
-            first,
-            second,
-        } = self;
         Ok(Paths {
-            start,
-            first: ends.back_to_front(alloc, &first)?,
-            second,
+            first: ends.back_to_front(self.first)?,
+            ..self
         })
     }
 
     // On from class EE2: each path goes along its cross aisle there and back.
-    fn on_from_two(self, alloc: Global, ends: Ends) -> Result<Paths, Memory>
+    fn on_from_two(self, ends: Ends) -> Result<Paths, Memory>
         requires { ends.aisle < 2 ^ 31 }
         ensures { IfOk result (λ p. p ≡ record {
           start = self.start;
@@ -290,15 +253,10 @@ impl Paths {
           second = point_at ends.aisle 0 ∷ self.second ++ point_at (suc ends.aisle) 0 ∷ [];
         }) }
     {
-        let Paths {
-            start,
-            first,
-            second,
-        } = self;
         Ok(Paths {
-            start,
-            first: ends.along_back(alloc, &first)?,
-            second: ends.along_front(alloc, &second)?,
+            first: ends.along_back(self.first)?,
+            second: ends.along_front(self.second)?,
+            ..self
         })
     }
 
@@ -307,32 +265,21 @@ impl Paths {
         requires { ends.aisle < 2 ^ 31 }
         ensures { (layout : LayoutData) → ends.back ≡ back_end layout → IfOk result (λ p. p ≡ part_with_cross layout ends.aisle E01 cross self) }
     {
-        let Paths {
-            start,
-            first,
-            second,
-        } = self;
         match cross {
             Cross::C00 => Ok(Paths {
                 start: at(ends.aisle, ends.back),
-                first,
-                second,
+                ..self
             }),
             Cross::C20 => Ok(Paths {
-                start,
-                first: ends.along_back(alloc, &first)?,
-                second,
+                first: ends.along_back(self.first)?,
+                ..self
             }),
             Cross::C22 => Ok(Paths {
-                start,
-                first: ends.along_back(alloc, &first)?,
-                second: ends.along_front(alloc, &[])?,
+                first: ends.along_back(self.first)?,
+                second: ends.along_front(Path::none(alloc))?,
+                ..self
             }),
-            Cross::C11 | Cross::C02 => Ok(Paths {
-                start,
-                first,
-                second,
-            }),
+            Cross::C11 | Cross::C02 => Ok(self),
         }
     }
 
@@ -341,32 +288,21 @@ impl Paths {
         requires { ends.aisle < 2 ^ 31 }
         ensures { (layout : LayoutData) → ends.back ≡ back_end layout → IfOk result (λ p. p ≡ part_with_cross layout ends.aisle ZE1 cross self) }
     {
-        let Paths {
-            start,
-            first,
-            second,
-        } = self;
         match cross {
             Cross::C00 => Ok(Paths {
                 start: at(ends.aisle, 0),
-                first,
-                second,
+                ..self
             }),
             Cross::C02 => Ok(Paths {
-                start,
-                first: ends.along_front(alloc, &first)?,
-                second,
+                first: ends.along_front(self.first)?,
+                ..self
             }),
             Cross::C22 => Ok(Paths {
-                start,
-                first: ends.along_back(alloc, &[])?,
-                second: ends.along_front(alloc, &first)?,
+                first: ends.along_back(Path::none(alloc))?,
+                second: ends.along_front(self.first)?,
+                ..self
             }),
-            Cross::C11 | Cross::C20 => Ok(Paths {
-                start,
-                first,
-                second,
-            }),
+            Cross::C11 | Cross::C20 => Ok(self),
         }
     }
 
@@ -375,37 +311,28 @@ impl Paths {
         requires { ends.aisle < 2 ^ 31 }
         ensures { (layout : LayoutData) → ends.back ≡ back_end layout → IfOk result (λ p. p ≡ part_with_cross layout ends.aisle EE1 cross self) }
     {
-        let Paths {
-            start,
-            first,
-            second,
-        } = self;
         match cross {
             Cross::C00 => Ok(Paths {
                 start: at(ends.aisle, ends.back),
-                first: joined(first, &second)?,
-                second: Vec::new(alloc),
+                first: self.first.joined(self.second)?,
+                second: Path::none(alloc),
             }),
             Cross::C20 => Ok(Paths {
-                start,
-                first: ends.along_back(alloc, &joined(first, &second)?)?,
-                second: Vec::new(alloc),
+                first: ends.along_back(self.first.joined(self.second)?)?,
+                second: Path::none(alloc),
+                ..self
             }),
             Cross::C02 => Ok(Paths {
-                start,
-                first: ends.along_front(alloc, &joined(second, &first)?)?,
-                second: Vec::new(alloc),
+                first: ends.along_front(self.second.joined(self.first)?)?,
+                second: Path::none(alloc),
+                ..self
             }),
             Cross::C22 => Ok(Paths {
-                start,
-                first: ends.back_to_front(alloc, &first)?,
-                second: ends.front_to_back(alloc, &second)?,
+                first: ends.back_to_front(self.first)?,
+                second: ends.front_to_back(self.second)?,
+                ..self
             }),
-            Cross::C11 => Ok(Paths {
-                start,
-                first,
-                second,
-            }),
+            Cross::C11 => Ok(self),
         }
     }
 
@@ -414,32 +341,21 @@ impl Paths {
         requires { ends.aisle < 2 ^ 31 }
         ensures { (layout : LayoutData) → ends.back ≡ back_end layout → IfOk result (λ p. p ≡ part_with_cross layout ends.aisle Z00 cross self) }
     {
-        let Paths {
-            start,
-            first,
-            second,
-        } = self;
         match cross {
             Cross::C20 => Ok(Paths {
-                start,
-                first: ends.along_back(alloc, &[])?,
-                second,
+                first: ends.along_back(Path::none(alloc))?,
+                ..self
             }),
             Cross::C02 => Ok(Paths {
-                start,
-                first: ends.along_front(alloc, &[])?,
-                second,
+                first: ends.along_front(Path::none(alloc))?,
+                ..self
             }),
             Cross::C22 => Ok(Paths {
-                start,
-                first: ends.along_back(alloc, &[])?,
-                second: ends.along_front(alloc, &[])?,
+                first: ends.along_back(Path::none(alloc))?,
+                second: ends.along_front(Path::none(alloc))?,
+                ..self
             }),
-            Cross::C00 | Cross::C11 => Ok(Paths {
-                start,
-                first,
-                second,
-            }),
+            Cross::C00 | Cross::C11 => Ok(self),
         }
     }
 }
@@ -468,54 +384,28 @@ fn after_back(class: Class) -> Class
 
 impl Paths {
     /// The one closed path of a whole part.
-    pub(crate) fn closed(self, layout: &Layout, class: Class) -> Result<Paths, Memory>
-        ensures { IfOk result (λ p. (p.start ≡ round_start layout.now layout.now.aisles class self) × (p.first ≡ round_points class self)) }
+    pub(crate) fn closed(self, layout: &Layout, class: Class) -> Result<Round, Memory>
+        ensures { IfOk result (λ r. (r.start ≡ round_start layout.now layout.now.aisles class self) × (r.path ≡ round_points class self)) }
     {
         let aisle = layout.aisles();
         let end = layout.slots() + 1;
-        let Paths {
-            start,
-            first,
-            second,
-        } = self;
         match class {
-            Class::E01 => Ok(Paths {
+            Class::E01 => Ok(Round {
                 start: at(aisle, end),
-                first,
-                second,
+                path: self.first,
             }),
-            Class::ZE1 => Ok(Paths {
+            Class::ZE1 => Ok(Round {
                 start: at(aisle, 0),
-                first,
-                second,
+                path: self.first,
             }),
-            Class::EE1 => {
-                let first = joined(first, &second)?;
-                Ok(Paths {
-                    start: at(aisle, end),
-                    first,
-                    second,
-                })
-            }
-            Class::UU1 | Class::EE2 | Class::Z00 | Class::Z01 => Ok(Paths {
-                start,
-                first,
-                second,
+            Class::EE1 => Ok(Round {
+                start: at(aisle, end),
+                path: self.first.joined(self.second)?,
+            }),
+            Class::UU1 | Class::EE2 | Class::Z00 | Class::Z01 => Ok(Round {
+                start: self.start,
+                path: self.first,
             }),
         }
-    }
-
-    /// Where the first path begins, if that is kept apart from its class.
-    pub(crate) fn start(&self) -> Point
-        ensures { result ≡ self.now.start }
-    {
-        self.start
-    }
-
-    /// The points of the first path after its first.
-    pub(crate) fn points(&self) -> &[Point]
-        ensures { result.now ≡ self.now.first }
-    {
-        &self.first
     }
 }

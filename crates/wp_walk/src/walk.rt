@@ -1,15 +1,10 @@
-ghost use Rattle.std.specs.Prelude.{◌≡◌, ◌≤◌, ◌<◌, ℕ, suc, ◌∷◌, ◌++◌, IfOk, Some, drop, length, take};
-ghost use Rattle.wp_model.specs.declared.point.Point.{Point as PointData};
+ghost use Rattle.std.specs.Prelude.{◌≡◌, ◌≤◌, ◌<◌, ℕ, IfOk, Some};
 ghost use Rattle.wp_model.specs.Tours.{IsTour};
-ghost use Rattle.wp_model.specs.Warehouse.{IsUpTo, depot_point};
 ghost use Rattle.wp_graph.specs.AisleLengths.{ways_of};
-ghost use Rattle.wp_graph.specs.PickSets.{AreSlots};
 ghost use Rattle.wp_classes.specs.Choices.{IsChoiceOf, TakesWay};
-ghost use Rattle.wp_classes.specs.Parts.{round_points, round_start};
-ghost use Rattle.wp_classes.specs.Paths.{On, after_moves};
 ghost use Rattle.wp_classes.specs.declared.class.Class.{Class as ClassData};
 ghost use Rattle.wp_classes.specs.declared.class.Class.TheVariants.{Z00};
-ghost use Rattle.wp_classes.specs.Tables.{class_after_cross, class_after_way, way_length};
+ghost use Rattle.wp_classes.specs.Tables.{class_after_way, way_length};
 ghost use Rattle.wp_walk.specs.WalkedParts.{IsStep, IsStepped, IsWalked, TakesAisle};
 
 use crate::paths::Paths;
@@ -46,35 +41,6 @@ fn through(
         paths: paths.with_way(alloc, layout, aisle, turns, class, way)?,
         class: after_way(class, way).unwrap(),
     })
-}
-
-// After how many moves along a path a point comes that lies on it.
-fn moves_to(start: Point, points: &[Point], goal: Point) -> usize
-    requires { On start points.now goal }
-    ensures within { result ≤ length points.now }
-    ensures goal { after_moves start points.now result ≡ goal }
-{
-    if start == goal {
-        return 0;
-    }
-    for (i, point) in points.iter().enumerate() {
-        if *point == goal {
-            return i + 1;
-        }
-    }
-    points.len()
-}
-
-// A closed path that begins after so many moves at this point, with that point first.
-fn turned(alloc: Global, first: Point, points: &[Point], moves: usize) -> Result<Vec<Point>, Memory>
-    requires { moves ≤ length points.now }
-    ensures { IfOk result (λ walk. walk.items ≡ first ∷ drop moves points.now ++ take moves points.now) }
-{
-    let mut walk = Vec::new(alloc);
-    walk.push(first)?;
-    walk.extend_from_slice(&points[moves..])?;
-    walk.extend_from_slice(&points[..moves])?;
-    Ok(walk)
 }
 
 // The part after the first aisle.
@@ -148,7 +114,6 @@ pub fn walk_of(
         aisle: layout.depot(),
         slot: 0,
     };
-    let points = round.points();
-    let moves = moves_to(round.start(), points, depot);
-    turned(alloc, depot, points, moves)
+    let moves = round.path.moves_to(round.start, depot);
+    round.path.turned(depot, moves)
 }

@@ -34,18 +34,18 @@ loop-left-preserved c =
 pub moves_to-moves-requires : goal.moves_to-moves-requires
 moves_to-moves-requires c =
     let depot : record { aisle = c.depot.result; slot = 0 } ≡ depot_point c.args.layout.now = rw c.depot.ensures.value refl in
-    done_home c.args.layout.now c.args.picks.now.points (route_of c.args.choice.now) c.loop-left.walked c.requires.choice.0 c.start.result _
-    c.points-points.result.now
+    done_home c.args.layout.now c.args.picks.now.points (route_of c.args.choice.now) c.loop-left.walked c.requires.choice.0 c.in_ok-round.round.start _
+    c.in_ok-round.round.path
     (underway_done c.args.layout.now c.args.picks.now.points
     (route_of c.args.choice.now) c.loop-left.left c.loop-left.walked c.requires.choice.0 c.requires.choice.1.allowed (omega arith) c.loop-left.invariant)
-    (c.start.ensures ∙ c.in_ok-round.ensures.0) (c.points-points.ensures ∙ c.in_ok-round.ensures.1) depot
+    c.in_ok-round.ensures.0 c.in_ok-round.ensures.1 depot
 
 pub returns : goal.returns
 returns c =
     let depot : record { aisle = c.depot.result; slot = 0 } ≡ depot_point c.args.layout.now = rw c.depot.ensures.value refl in
     λ total is. if_ok_then c.turned.result _ _ (λ walk e.
-    done_turned c.args.layout.now c.args.picks.now.points (route_of c.args.choice.now) c.loop-left.walked total c.moves_to-moves.result c.start.result _
-    c.points-points.result.now walk.items
+    done_turned c.args.layout.now c.args.picks.now.points (route_of c.args.choice.now) c.loop-left.walked total c.moves_to-moves.result
+    c.in_ok-round.round.start _ c.in_ok-round.round.path walk.items
     (underway_done c.args.layout.now c.args.picks.now.points (route_of c.args.choice.now) c.loop-left.left c.loop-left.walked total is.allowed
     (omega arith) c.loop-left.invariant)
-    (c.start.ensures ∙ c.in_ok-round.ensures.0) (c.points-points.ensures ∙ c.in_ok-round.ensures.1) depot c.moves_to-moves.ensures.goal e) c.turned.ensures
+    c.in_ok-round.ensures.0 c.in_ok-round.ensures.1 depot c.moves_to-moves.ensures.goal e) c.turned.ensures

@@ -1,6 +1,0 @@
-use Rattle.std.proofs.Common.{◌≡◌}
-use Rattle.wp_classes.specs.Paths.{ahead}
-use Rattle.wp_walk.proofs.aisle.ahead.Given as goal
-
-abbrev pub invariant-loop-i : goal.invariant-loop-i
-invariant-loop-i l = l.points.items ≡ ahead l.aisle l.place l.i
