@@ -10,9 +10,10 @@ use Rattle.wp_model.specs.Book.{units_for}
 use Rattle.wp_model.specs.Demand.{offer_at}
 use Rattle.wp_model.specs.Sums.{sum_below}
 use Rattle.wp_model.specs.declared.row.Row.{Row}
+use Rattle.wp_book.specs.ArticleRows.{rows_of}
 use Rattle.wp_book.specs.Room.{Content}
 use Rattle.wp_allot.proofs.OrderIntervals.{demand-le-wanted, has_interval, units_of-other, wanted_more}
-use Rattle.wp_allot.specs.DealtUnits.{AreSingle, CanDeal, CanServe, IsDealt, IsServed, part, position, rows_from, rows_of, wants_of}
+use Rattle.wp_allot.specs.DealtUnits.{AreSingle, CanDeal, CanServe, IsDealt, IsServed, offer_in, part, position, rows_from, wants_of}
 use Rattle.wp_allot.specs.Wants.{units_of, wanted_for, wanted_of}
 use Rattle.wp_allot.specs.declared.mark.Mark.{Mark}
 use Rattle.wp_allot.specs.declared.want.Want.{Want}
@@ -23,14 +24,14 @@ dealt_to demand offer dealt order row = part offer (sum_below order demand) (min
 
 -- the article was dealt to the first wants
 pub record IsDealing (rows : List Row) (wants : List Want) (article : ℕ) (except : Option ℕ) (count : ℕ) (mark : Mark) (room room' : Content) : Type 0 where
-  pub taken : mark.taken ≤ offer_at rows article except mark.row
-  pub dealt : position (offer_at rows article except) mark ≡ wanted_of (take count wants) article
+  pub taken : mark.taken ≤ offer_in rows article except mark.place
+  pub dealt : position (offer_in rows article except) mark ≡ wanted_of (take count wants) article
   pub single : AreSingle rows room'.holds
   pub size : room'.size ≡ room.size
-  pub space : length room'.holds + rows_from rows article mark.row ≤ length room.holds + rows_of rows article + wants_of (take count wants) article
+  pub space : length room'.holds + rows_from rows article mark.place ≤ length room.holds + length (rows_of article rows) + wants_of (take count wants) article
   pub units : (order row : ℕ) → units_for room'.holds order row
       ≡ units_for room.holds order row + dealt_to (wanted_for wants article) (offer_at rows article except)
-      (position (offer_at rows article except) mark) order row
+      (position (offer_in rows article except) mark) order row
 
 part-empty : (offer : ℕ → ℕ) (from to row : ℕ) → to ≤ from → part offer from to row ≡ 0
 part-empty offer from to row none = omega arith
@@ -79,7 +80,7 @@ dealt_more demand offer from units at order row start wants = elim (cases_order 
 
 -- an article that can be dealt is dealt to none of its wants at first
 pub dealing_start : (rows : List Row) (wants : List Want) (article : ℕ) (except : Option ℕ) (room : Content) → CanDeal rows wants article except room
-    → IsDealing rows wants article except 0 (record { row = 0; taken = 0 }) room room
+    → IsDealing rows wants article except 0 (record { place = 0; taken = 0 }) room room
 dealing_start rows wants article except room can = record {
   taken = omega arith;
   dealt = refl;
@@ -144,6 +145,7 @@ dealing_more rows wants except count want mark mark' room room' room'' can there
     let interval = has_interval wants want.article count want can.regular within there refl in
     let more = wants_more wants want.article count want there within in
     let offer = offer_at rows want.article except in
+    let line = offer_in rows want.article except in
     let demand = wanted_for wants want.article in
     record {
       taken = served.taken;
@@ -152,16 +154,16 @@ dealing_more rows wants except count want mark mark' room room' room'' can there
       size = served.size ∙ is.size;
       space = omega (arith, served.space, is.space, more, one_more want);
       units = λ order row.
-          let step = dealt_more demand offer (position offer mark) want.quantity want.order order row
+          let step = dealt_more demand offer (position line mark) want.quantity want.order order row
           (omega (arith, interval.start, is.dealt)) interval.units in
-          let moved : position offer mark' ≡ position offer mark + want.quantity = omega (arith, served.dealt) in
+          let moved : position line mark' ≡ position line mark + want.quantity = omega (arith, served.dealt) in
           omega (
             arith,
             is.units order row,
             served.units order row,
             step,
             ap (λ n. dealt_to demand offer n order row) moved,
-            ap (λ n. if order == want.order then part offer (position offer mark) n row else 0) moved,
+            ap (λ n. if order == want.order then part offer (position line mark) n row else 0) moved,
           );
     }
 
@@ -175,9 +177,10 @@ all_dealt rows wants article except count mark room room' all is = record {
   units = λ order row.
       let offer = offer_at rows article except in
       let demand = wanted_for wants article in
-      let wanted : position offer mark ≡ wanted_of wants article = is.dealt ∙ ap (λ (xs : List Want). wanted_of xs article) (take_all count wants all) in
+      let line = offer_in rows article except in
+      let wanted : position line mark ≡ wanted_of wants article = is.dealt ∙ ap (λ (xs : List Want). wanted_of xs article) (take_all count wants all) in
       is.units order row ∙ ap (λ n. units_for room.holds order row + n)
-      (dealt_whole demand offer (position offer mark) order row (omega (arith, wanted, demand-le-wanted wants article (suc order))));
+      (dealt_whole demand offer (position line mark) order row (omega (arith, wanted, demand-le-wanted wants article (suc order))));
 }
 
 -- the order of a want that is known to be of the article can be served

@@ -13,10 +13,11 @@ use Rattle.wp_model.specs.Overlap.{overlap}
 use Rattle.wp_model.specs.declared.row.Row.{Row}
 use Rattle.wp_book.proofs.Books.{sum_by-plus}
 use Rattle.wp_book.proofs.HoldSums.{sum_by-same}
+use Rattle.wp_book.specs.ArticleRows.{rows_of}
 use Rattle.wp_book.specs.Room.{Content}
+use Rattle.wp_allot.proofs.ArticleOffers.{offer-none, rows_counted}
 use Rattle.wp_allot.proofs.OrderIntervals.{units_of-other, units_of-own, wanted_more}
-use Rattle.wp_allot.proofs.ServedOrder.{offer-none}
-use Rattle.wp_allot.specs.DealtUnits.{AreDealt, CanDeal, IsDealt, rows_of, share_among, wants_of}
+use Rattle.wp_allot.specs.DealtUnits.{AreDealt, CanDeal, IsDealt, share_among, wants_of}
 use Rattle.wp_allot.specs.Wants.{AreRegular, IsEnough, is_wanted, units_of, wanted_for, wanted_of, wanted_rows}
 use Rattle.wp_allot.specs.declared.want.Want.{Want}
 
@@ -92,10 +93,11 @@ abbrev wanted_count : List Want → ℕ → ℕ
 wanted_count wants count = count_by (λ (want : Want). is_wanted (take count wants) want.article) wants
 
 rows_more : (rows : List Row) (wants : List Want) (place : ℕ) (want : Want) → IsFirst wants place want
-    → wanted_rows rows (take (place + 1) wants) ≡ wanted_rows rows (take place wants) + rows_of rows want.article
+    → wanted_rows rows (take (place + 1) wants) ≡ wanted_rows rows (take place wants) + length (rows_of want.article rows)
 rows_more rows wants place want is =
     sum_by-plus (λ (r : Row). flag wants (place + 1) r.article) (λ (r : Row). flag wants place r.article)
     (λ (r : Row). if r.article == want.article then 1 else 0) rows (λ r. flag_more wants place want r.article is)
+    ∙ ap (λ n. wanted_rows rows (take place wants) + n) (sym (rows_counted want.article rows))
 
 count_more : (wants : List Want) (place : ℕ) (want : Want) → IsFirst wants place want
     → wanted_count wants (place + 1) ≡ wanted_count wants place + wants_of wants want.article

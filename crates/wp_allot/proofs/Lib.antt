@@ -1,6 +1,7 @@
 pub mod WantSums
 pub mod FirstShortArticle
 pub mod SingleHolds
+pub mod ArticleOffers
 pub mod ServedOrder
 pub mod OrderIntervals
 pub mod DealtArticle

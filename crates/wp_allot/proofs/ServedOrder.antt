@@ -1,20 +1,18 @@
 -- An order that is served row by row.
-use Rattle.std.proofs.Common.{◌≡◌, ◌≢◌, ◌∙◌, refl, sym, ap, subst, ℕ, suc, ◌+◌, ◌-◌, ◌<◌, ◌≤◌, ◌==◌, ◌&&◌, not, inl, inr, min, max, List, length, get_or}
+use Rattle.std.proofs.Common.{◌≡◌, ◌∙◌, refl, sym, ap, subst, ℕ, suc, ◌+◌, ◌-◌, ◌<◌, ◌≤◌, ◌==◌, ◌&&◌, inl, inr, min, max, List, length}
 use Rattle.std.proofs.Common.{Option, Some, slice_get, if◌then◌else◌, arith, eq-eqb, ne_eqb}
 use Rattle.std.proofs.lemmas.Bool.{and_from, and_left, and_right, cases_eq, cases_lt, cond-false, cond-true}
-use Rattle.std.proofs.lemmas.List.Sums.{sum_by-drop_more}
-use Rattle.std.proofs.lemmas.Option.{slice_get-get_or}
-use Rattle.std.specs.Option.{option_map_or}
 use Rattle.wp_model.proofs.Sums.{sum-grows}
 use Rattle.wp_model.specs.Book.{hold_for, units_for}
-use Rattle.wp_model.specs.Demand.{is_excepted, offer_at, offer_of}
+use Rattle.wp_model.specs.Demand.{offer_at}
 use Rattle.wp_model.specs.Sums.{sum_below}
-use Rattle.wp_model.specs.declared.location.Side.TheVariants.{L}
 use Rattle.wp_model.specs.declared.row.Hold.{Hold}
 use Rattle.wp_model.specs.declared.row.Row.{Row}
+use Rattle.wp_book.specs.ArticleRows.{rows_of}
 use Rattle.wp_book.specs.Room.{Content}
+use Rattle.wp_allot.proofs.ArticleOffers.{is_place, offers_whole}
 use Rattle.wp_allot.proofs.SingleHolds.{HasPut}
-use Rattle.wp_allot.specs.DealtUnits.{CanServe, IsServed, part, position, rows_from}
+use Rattle.wp_allot.specs.DealtUnits.{CanServe, IsServed, offer_in, part, position, rows_from}
 use Rattle.wp_allot.specs.declared.mark.Mark.{Mark}
 use Rattle.wp_allot.specs.declared.want.Want.{Want}
 
@@ -33,86 +31,75 @@ part_more offer from to units row k past begun within = elim (cases_eq k row) [
       ]
 ]
 
-abbrev no_row : Row
-no_row = record { location = record { aisle = 0; slot = 0; side = L }; article = 0; on_hand = 0; free = 0; held = 0 }
-
--- from the next row on, no more rows are of the article, and one less where the row offers units of it
-pub record IsNext (rows : List Row) (article units row : ℕ) : Type 0 where
-  pub less : rows_from rows article (row + 1) ≤ rows_from rows article row
-  pub one : 0 < units → rows_from rows article (row + 1) + 1 ≤ rows_from rows article row
-
--- a row of another article offers nothing
-pub offer-none : (rows : List Row) (article : ℕ) (except : Option ℕ) (row : ℕ) (r : Row) → slice_get rows row ≡ Some r → r.article ≢ article
-    → offer_at rows article except row ≡ 0
-offer-none rows article except row r there other =
-    ap (λ found. option_map_or (offer_of article except row) found 0) there
-    ∙ cond-false ((r.article == article) && not (is_excepted except row)) r.free 0 (and_left _ _ (ne_eqb r.article article other))
-
--- so it is after each row of the book
-pub is_next : (rows : List Row) (article : ℕ) (except : Option ℕ) (row : ℕ) → row < length rows → IsNext rows article (offer_at rows article except row) row
-is_next rows article except row within =
-    let r = get_or rows row no_row in
-    let split = sum_by-drop_more (λ (r : Row). if r.article == article then 1 else 0) rows row no_row within in
-    record {
-      less = omega (arith, split);
-      one = λ some. elim (cases_eq r.article article) [
-        | inl same ↦ omega (arith, split, cond-true {A = ℕ} (r.article == article) 1 0 (eq-eqb r.article article same))
-        | inr other ↦ absurd (omega (arith, offer-none rows article except row r (slice_get-get_or rows row no_row within) other))
-      ];
-    }
-
 -- an order that still wants units comes to a row that has none of its holds
 pub record IsServing (rows : List Row) (want : Want) (except : Option ℕ) (wanted : ℕ) (mark mark' : Mark) (room room' : Content) : Type 0 where
   pub served : IsServed rows want except wanted mark mark' room room'
-  pub new_row : 0 < wanted → position (offer_at rows want.article except) mark' ≤ max (position (offer_at rows want.article except) mark)
-      (sum_below mark'.row (offer_at rows want.article except))
+  pub new_row : 0 < wanted → position (offer_in rows want.article except) mark' ≤ max (position (offer_in rows want.article except) mark)
+      (sum_below mark'.place (offer_in rows want.article except))
 
--- the row that comes next is a row of the book
-pub row_within : (rows : List Row) (want : Want) (except : Option ℕ) (wanted : ℕ) (mark mark' : Mark) (room room' : Content)
-    → CanServe rows want except mark room → IsServing rows want except wanted mark mark' room room' → 0 < wanted → mark'.row < length rows
-row_within rows want except wanted mark mark' room room' can is some = elim (cases_lt mark'.row (length rows)) [
-  | inl within ↦ within
-  | inr past ↦ absurd (omega (arith, is.served.dealt, can.enough, sum-grows (length rows) mark'.row (offer_at rows want.article except) past))
-]
+-- the place that comes next has a row of the article
+pub place_within : (rows : List Row) (want : Want) (except : Option ℕ) (wanted : ℕ) (mark mark' : Mark) (room room' : Content)
+    → CanServe rows want except mark room → IsServing rows want except wanted mark mark' room room' → 0 < wanted
+    → mark'.place < length (rows_of want.article rows)
+place_within rows want except wanted mark mark' room room' can is some =
+    let places = length (rows_of want.article rows) in
+    elim (cases_lt mark'.place places) [
+      | inl within ↦ within
+      | inr past ↦
+          absurd (omega (
+            arith,
+            is.served.dealt,
+            can.enough,
+            offers_whole rows want.article except,
+            sum-grows places mark'.place (offer_in rows want.article except) past,
+          ))
+    ]
 
 -- and the order has no hold there where the row offers units
-pub none_there : (rows : List Row) (want : Want) (except : Option ℕ) (wanted : ℕ) (mark mark' : Mark) (room room' : Content)
+pub none_there : (rows : List Row) (want : Want) (except : Option ℕ) (wanted row : ℕ) (mark mark' : Mark) (room room' : Content)
     → CanServe rows want except mark room → IsServing rows want except wanted mark mark' room room' → 0 < wanted
-    → 0 < offer_at rows want.article except mark'.row
-    → units_for room'.holds want.order mark'.row ≡ 0
-none_there rows want except wanted mark mark' room room' can is some offered =
-    let offer = offer_at rows want.article except in
-    let all = cond-true (want.order == want.order) (part offer (position offer mark) (position offer mark') mark'.row) 0 (eq-eqb want.order want.order refl) in
-    omega (arith, is.served.units want.order mark'.row, all, can.fresh mark'.row offered, is.new_row some)
+    → slice_get (rows_of want.article rows) mark'.place ≡ Some row → 0 < offer_at rows want.article except row
+    → units_for room'.holds want.order row ≡ 0
+none_there rows want except wanted row mark mark' room room' can is some there offered =
+    let line = offer_in rows want.article except in
+    let all = cond-true (want.order == want.order) (part (offer_at rows want.article except) (position line mark) (position line mark') row) 0
+    (eq-eqb want.order want.order refl) in
+    omega (
+      arith,
+      is.served.units want.order row,
+      all,
+      can.fresh row offered,
+      is.new_row some,
+      (is_place rows want.article except mark'.place row there).before,
+    )
 
 -- the mark after units of its row
 abbrev pub passed : Mark → ℕ → ℕ → Mark
-passed mark units left = if units == left then record { row = mark.row + 1; taken = 0 } else record mark { taken = mark.taken + units }
+passed mark units left = if units == left then record { place = mark.place + 1; taken = 0 } else record mark { taken = mark.taken + units }
 
 -- what is true of the mark that comes after units of its row were dealt, of which so many are still wanted
 pub record HasPassed (offer : ℕ → ℕ) (mark mark' : Mark) (units wanted : ℕ) (rows : List Row) (article : ℕ) : Type 0 where
-  pub taken : mark'.taken ≤ offer mark'.row
+  pub taken : mark'.taken ≤ offer mark'.place
   pub moved : position offer mark' ≡ position offer mark + units
-  pub begins : 0 < wanted → position offer mark' ≡ sum_below mark'.row offer
-  pub space : rows_from rows article mark'.row + min 1 units + min 1 wanted ≤ rows_from rows article mark.row + 1
+  pub begins : 0 < wanted → position offer mark' ≡ sum_below mark'.place offer
+  pub space : rows_from rows article mark'.place + min 1 units + min 1 wanted ≤ rows_from rows article mark.place + 1
 
 -- the mark is such where as many units were dealt as are wanted and left in its row
-pub has_passed : (rows : List Row) (article : ℕ) (except : Option ℕ) (mark mark' : Mark) (wanted left units : ℕ) → mark.row < length rows → 0 < wanted
-    → mark.taken + left ≡ offer_at rows article except mark.row
-    → units ≡ min wanted left → mark' ≡ passed mark units left → HasPassed (offer_at rows article except) mark mark' units (wanted - units) rows article
+pub has_passed : (rows : List Row) (article : ℕ) (except : Option ℕ) (mark mark' : Mark) (wanted left units : ℕ)
+    → mark.place < length (rows_of article rows) → 0 < wanted → mark.taken + left ≡ offer_in rows article except mark.place
+    → units ≡ min wanted left → mark' ≡ passed mark units left → HasPassed (offer_in rows article except) mark mark' units (wanted - units) rows article
 has_passed rows article except mark mark' wanted left units within some rest least e =
-    let offer = offer_at rows article except in
-    let next = is_next rows article except mark.row within in
+    let offer = offer_in rows article except in
     elim (cases_eq units left) [
       | inl all ↦
-          let is : mark' ≡ (record { row = mark.row + 1; taken = 0 }) = e ∙ cond-true (units == left) _ _ (eq-eqb units left all) in
-          let more : sum_below (mark.row + 1) offer ≡ sum_below mark.row offer + offer mark.row =
-          ap (λ n. sum_below n offer) {x = mark.row + 1} {y = suc mark.row} (omega arith) in
+          let is : mark' ≡ (record { place = mark.place + 1; taken = 0 }) = e ∙ cond-true (units == left) _ _ (eq-eqb units left all) in
+          let more : sum_below (mark.place + 1) offer ≡ sum_below mark.place offer + offer mark.place =
+          ap (λ n. sum_below n offer) {x = mark.place + 1} {y = suc mark.place} (omega arith) in
           subst (λ (mark' : Mark). HasPassed offer mark mark' units (wanted - units) rows article) (sym is) (record {
             taken = omega arith;
             moved = omega (arith, more);
             begins = λ wants. omega arith;
-            space = elim (cases_eq left 0) [ inl none ↦ omega (arith, next.less) | inr any ↦ omega (arith, next.one (omega arith)) ];
+            space = omega (arith, within);
           })
       | inr some_left ↦
           let is : mark' ≡ (record mark { taken = mark.taken + units }) = e ∙ cond-false (units == left) _ _ (ne_eqb units left some_left) in
@@ -136,13 +123,13 @@ held_once order row hold same = elim (cases_eq row hold.row) [
 ]
 
 -- the order was served with the units of one row more
-pub serving_more : (rows : List Row) (want : Want) (except : Option ℕ) (wanted units : ℕ) (mark mark' mark'' : Mark) (room room' room'' : Content)
+pub serving_more : (rows : List Row) (want : Want) (except : Option ℕ) (wanted units row : ℕ) (mark mark' mark'' : Mark) (room room' room'' : Content)
     → CanServe rows want except mark room → IsServing rows want except wanted mark mark' room room' → 0 < wanted → units ≤ wanted
-    → mark'.taken + units ≤ offer_at rows want.article except mark'.row
-    → HasPut rows room' room'' (record { order = want.order; row = mark'.row; quantity = units })
-    → HasPassed (offer_at rows want.article except) mark' mark'' units (wanted - units) rows want.article
+    → slice_get (rows_of want.article rows) mark'.place ≡ Some row → mark'.taken + units ≤ offer_at rows want.article except row
+    → HasPut rows room' room'' (record { order = want.order; row = row; quantity = units })
+    → HasPassed (offer_in rows want.article except) mark' mark'' units (wanted - units) rows want.article
     → IsServing rows want except (wanted - units) mark mark'' room room''
-serving_more rows want except wanted units mark mark' mark'' room room' room'' can is any upto within put pass =
+serving_more rows want except wanted units row mark mark' mark'' room room' room'' can is any upto there within put pass =
     record {
       served = record {
         most = omega (arith, is.served.most);
@@ -151,42 +138,46 @@ serving_more rows want except wanted units mark mark' mark'' room room' room'' c
         single = put.single;
         size = put.size ∙ is.served.size;
         space = omega (arith, is.served.space, put.long, pass.space);
-        units = λ order row. units_more order row;
+        units = λ order at. units_more order at;
       };
       new_row = λ some. omega (arith, pass.begins some);
     }
   where
-    units_more : (order row : ℕ) → units_for room''.holds order row ≡ units_for room.holds order row +
-        (if order == want.order then part (offer_at rows want.article except) (position (offer_at rows want.article except) mark)
-        (position (offer_at rows want.article except) mark'') row else 0)
-    units_more order row =
+    units_more : (order at : ℕ) → units_for room''.holds order at ≡ units_for room.holds order at +
+        (if order == want.order then part (offer_at rows want.article except) (position (offer_in rows want.article except) mark)
+        (position (offer_in rows want.article except) mark'') at else 0)
+    units_more order at =
         let offer = offer_at rows want.article except in
-        let from = position offer mark in
-        let to = position offer mark' in
-        let hold : Hold = record { order = want.order; row = mark'.row; quantity = units } in
+        let from = position (offer_in rows want.article except) mark in
+        let to = position (offer_in rows want.article except) mark' in
+        let hold : Hold = record { order = want.order; row = row; quantity = units } in
+        let place = is_place rows want.article except mark'.place row there in
         elim (cases_eq order want.order) [
           | inl same ↦
-              let more = part_more offer from to units mark'.row row (omega (arith, is.served.dealt, is.served.most)) (omega arith) (omega (arith, within)) in
-              let moved = ap (λ n. part offer from n row) pass.moved in
-              let before = cond-true (order == want.order) (part offer from to row) 0 (eq-eqb order want.order same) in
-              let after = cond-true (order == want.order) (part offer from (position offer mark'') row) 0 (eq-eqb order want.order same) in
-              let one : hold_for order row hold ≡ (if row == mark'.row then units else 0) = held_once order row hold (sym same) in
-              omega (arith, is.served.units order row, put.units order row, more, moved, before, after, one)
+              let more = part_more offer from to units row at (omega (arith, is.served.dealt, is.served.most)) (omega (arith, place.before))
+              (omega (arith, within, place.before)) in
+              let moved = ap (λ n. part offer from n at) pass.moved in
+              let before = cond-true (order == want.order) (part offer from to at) 0 (eq-eqb order want.order same) in
+              let after = cond-true (order == want.order) (part offer from (position (offer_in rows want.article except) mark'') at) 0
+              (eq-eqb order want.order same) in
+              let one : hold_for order at hold ≡ (if at == row then units else 0) = held_once order at hold (sym same) in
+              omega (arith, is.served.units order at, put.units order at, more, moved, before, after, one)
           | inr other ↦
-              let before = cond-false (order == want.order) (part offer from to row) 0 (ne_eqb order want.order other) in
-              let after = cond-false (order == want.order) (part offer from (position offer mark'') row) 0 (ne_eqb order want.order other) in
-              let none = cond-false ((want.order == order) && (mark'.row == row)) units 0 (and_left _ _ (ne_eqb want.order order (λ e. other (sym e)))) in
-              omega (arith, is.served.units order row, put.units order row, before, after, none)
+              let before = cond-false (order == want.order) (part offer from to at) 0 (ne_eqb order want.order other) in
+              let after = cond-false (order == want.order) (part offer from (position (offer_in rows want.article except) mark'') at) 0
+              (ne_eqb order want.order other) in
+              let none = cond-false ((want.order == order) && (row == at)) units 0 (and_left _ _ (ne_eqb want.order order (λ e. other (sym e)))) in
+              omega (arith, is.served.units order at, put.units order at, before, after, none)
         ]
 
 -- fewer units are wanted, or fewer rows are left
-pub fewer_left : (n : ℕ) (mark mark' : Mark) (wanted left units : ℕ) → mark.row < n → 0 < wanted → units ≡ min wanted left → mark' ≡ passed mark units left
-    → wanted - units + (n - mark'.row) < wanted + (n - mark.row)
+pub fewer_left : (n : ℕ) (mark mark' : Mark) (wanted left units : ℕ) → mark.place < n → 0 < wanted → units ≡ min wanted left → mark' ≡ passed mark units left
+    → wanted - units + (n - mark'.place) < wanted + (n - mark.place)
 fewer_left n mark mark' wanted left units within some least e = elim (cases_eq units left) [
   | inl all ↦
-      let row = ap (λ (m : Mark). m.row) (e ∙ cond-true (units == left) _ _ (eq-eqb units left all)) in
-      omega (arith, row)
+      let next = ap (λ (m : Mark). m.place) (e ∙ cond-true (units == left) _ _ (eq-eqb units left all)) in
+      omega (arith, next)
   | inr other ↦
-      let row = ap (λ (m : Mark). m.row) (e ∙ cond-false (units == left) _ _ (ne_eqb units left other)) in
-      omega (arith, row)
+      let next = ap (λ (m : Mark). m.place) (e ∙ cond-false (units == left) _ _ (ne_eqb units left other)) in
+      omega (arith, next)
 ]

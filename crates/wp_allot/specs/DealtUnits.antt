@@ -1,5 +1,5 @@
 -- How the free units of an article are dealt to the orders that want it.
-use Rattle.std.specs.Prelude.{◌≡◌, ℕ, suc, ◌+◌, ◌<◌, ◌≤◌, ◌&&◌, ◌==◌, Bool, List, length, drop, take, min, Option, if◌then◌else◌, slice_get}
+use Rattle.std.specs.Prelude.{◌≡◌, ℕ, suc, ◌+◌, ◌-◌, ◌<◌, ◌≤◌, ◌&&◌, ◌==◌, Bool, List, length, take, min, Option, if◌then◌else◌, slice_get}
 use Rattle.std.specs.List.{All, count_by}
 use Rattle.std.specs.Option.{option_map_or}
 use Rattle.wp_model.specs.Book.{units_for}
@@ -8,22 +8,27 @@ use Rattle.wp_model.specs.Overlap.{common, overlap}
 use Rattle.wp_model.specs.Sums.{sum_below}
 use Rattle.wp_model.specs.declared.row.Hold.{Hold}
 use Rattle.wp_model.specs.declared.row.Row.{Row}
+use Rattle.wp_book.specs.ArticleRows.{rows_of}
 use Rattle.wp_book.specs.Room.{Content}
 use Rattle.wp_allot.specs.Wants.{AreRegular, IsEnough, is_wanted, wanted_for, wanted_rows}
 use Rattle.wp_allot.specs.declared.mark.Mark.{Mark}
 use Rattle.wp_allot.specs.declared.want.Want.{Want}
 
+-- what an article's rows offer, by their places among them
+abbrev pub offer_in : List Row → ℕ → Option ℕ → ℕ → ℕ
+offer_in rows article except place = option_map_or (offer_at rows article except) (slice_get (rows_of article rows) place) 0
+
 -- how many units of the line of free units lie before a mark
 abbrev pub position : (ℕ → ℕ) → Mark → ℕ
-position offer mark = sum_below mark.row offer + mark.taken
+position offer mark = sum_below mark.place offer + mark.taken
 
 -- how many units a row has of an interval of the line
 abbrev pub part : (ℕ → ℕ) → ℕ → ℕ → ℕ → ℕ
 part offer from to row = common from to (sum_below row offer) (sum_below (suc row) offer)
 
--- how many rows are of the article, from a row on
+-- how many rows the article has from a place among them on
 abbrev pub rows_from : List Row → ℕ → ℕ → ℕ
-rows_from rows article row = count_by (λ (r : Row). r.article == article) (drop row rows)
+rows_from rows article place = length (rows_of article rows) - place
 
 -- a hold is for the order at the row
 abbrev pub is_hold : ℕ → ℕ → Hold → Bool
@@ -38,27 +43,23 @@ pub record AreSingle (rows : List Row) (holds : List Hold) : Type 0 where
 -- an order can be served from the mark on: the line has the units that it wants, it has no hold at the article's rows
 -- yet, and the room has space for one hold a row and one more
 pub record CanServe (rows : List Row) (want : Want) (except : Option ℕ) (mark : Mark) (room : Content) : Type 0 where
-  pub taken : mark.taken ≤ offer_at rows want.article except mark.row
-  pub enough : position (offer_at rows want.article except) mark + want.quantity ≤ sum_below (length rows) (offer_at rows want.article except)
+  pub taken : mark.taken ≤ offer_in rows want.article except mark.place
+  pub enough : position (offer_in rows want.article except) mark + want.quantity ≤ sum_below (length rows) (offer_at rows want.article except)
   pub single : AreSingle rows room.holds
   pub fresh : (row : ℕ) → 0 < offer_at rows want.article except row → units_for room.holds want.order row ≡ 0
-  pub space : length room.holds + rows_from rows want.article mark.row + 1 ≤ room.size
+  pub space : length room.holds + rows_from rows want.article mark.place + 1 ≤ room.size
 
 -- an order was served from one mark up to another, but for the units that it still wants
 pub record IsServed (rows : List Row) (want : Want) (except : Option ℕ) (wanted : ℕ) (mark mark' : Mark) (room room' : Content) : Type 0 where
   pub most : wanted ≤ want.quantity
-  pub taken : mark'.taken ≤ offer_at rows want.article except mark'.row
-  pub dealt : position (offer_at rows want.article except) mark' + wanted ≡ position (offer_at rows want.article except) mark + want.quantity
+  pub taken : mark'.taken ≤ offer_in rows want.article except mark'.place
+  pub dealt : position (offer_in rows want.article except) mark' + wanted ≡ position (offer_in rows want.article except) mark + want.quantity
   pub single : AreSingle rows room'.holds
   pub size : room'.size ≡ room.size
-  pub space : length room'.holds + rows_from rows want.article mark'.row + min 1 wanted ≤ length room.holds + rows_from rows want.article mark.row + 1
+  pub space : length room'.holds + rows_from rows want.article mark'.place + min 1 wanted ≤ length room.holds + rows_from rows want.article mark.place + 1
   pub units : (order row : ℕ) → units_for room'.holds order row
       ≡ units_for room.holds order row + (if order == want.order then part (offer_at rows want.article except)
-      (position (offer_at rows want.article except) mark) (position (offer_at rows want.article except) mark') row else 0)
-
--- how many rows are of an article
-abbrev pub rows_of : List Row → ℕ → ℕ
-rows_of rows article = count_by (λ (row : Row). row.article == article) rows
+      (position (offer_in rows want.article except) mark) (position (offer_in rows want.article except) mark') row else 0)
 
 -- how many wants are of an article
 abbrev pub wants_of : List Want → ℕ → ℕ
@@ -71,13 +72,13 @@ pub record CanDeal (rows : List Row) (wants : List Want) (article : ℕ) (except
   pub enough : IsEnough rows wants except article
   pub single : AreSingle rows room.holds
   pub fresh : (order row : ℕ) → 0 < offer_at rows article except row → units_for room.holds order row ≡ 0
-  pub space : length room.holds + rows_of rows article + wants_of wants article ≤ room.size
+  pub space : length room.holds + length (rows_of article rows) + wants_of wants article ≤ room.size
 
 -- an article was dealt to the orders that want it
 pub record IsDealt (rows : List Row) (wants : List Want) (article : ℕ) (except : Option ℕ) (room room' : Content) : Type 0 where
   pub single : AreSingle rows room'.holds
   pub size : room'.size ≡ room.size
-  pub space : length room'.holds ≤ length room.holds + rows_of rows article + wants_of wants article
+  pub space : length room'.holds ≤ length room.holds + length (rows_of article rows) + wants_of wants article
   pub units : (order row : ℕ) → units_for room'.holds order row ≡ units_for room.holds order row + overlap (wanted_for wants article)
       (offer_at rows article except) order row
 

@@ -36,13 +36,14 @@ pub fn serve(book: &StockBook, want: &Want, except: Option<u32>, mark: &mut Mark
 {
     let mut wanted = want.quantity;
     while wanted > 0 {
-        let left = offered(book, want.article, except, mark.row) - mark.taken;
+        let row = book.place(want.article, mark.place);
+        let left = offered(book, want.article, except, row) - mark.taken;
         let quantity = wanted.min(u64::from(left)) as u32;
         put_units(
             room,
             Hold {
                 order: want.order,
-                row: mark.row,
+                row,
                 quantity,
             },
         );

@@ -302,6 +302,28 @@ fn waves_hold_one_after_the_other(rt: HostRuntime) -> Result<(), Fail> {
     Ok(())
 }
 
+/// Rows of the articles 0 and 1 in turns.
+const MIXED: &str =
+    "location,article,on_hand\n1-1-L,A,3\n1-2-L,B,4\n1-3-L,A,5\n1-4-L,B,2\n1-5-L,A,9\n";
+
+/// Wants, the excepted row, and what is held for them there.
+const MIXED_DEALT: [([Wanted; 2], Option<u32>, &str); 3] = [
+    ([(0, 0, 4), (1, 0, 6)], None, "0 0 3;0 2 1;1 2 4;1 4 2;"),
+    ([(0, 0, 4), (1, 0, 6)], Some(2), "0 0 3;0 4 1;1 4 6;"),
+    ([(0, 1, 5), (1, 0, 7)], None, "0 1 4;0 3 1;1 0 3;1 2 4;"),
+];
+
+#[test]
+fn articles_are_dealt_from_their_own_rows(rt: HostRuntime) -> Result<(), Fail> {
+    let alloc = rt.alloc();
+    let book = book_of(alloc, MIXED)?;
+    for (wanted, except, held) in &MIXED_DEALT {
+        let room = overlaps(&rt, alloc, &book, &pair(*wanted), *except)?;
+        assert_eq!(rt; holds_text(alloc, room.as_slice())?.as_str(), *held);
+    }
+    Ok(())
+}
+
 /// Rows of 200 slots of an aisle, of three units each.
 fn put_aisle(alloc: Global, text: &mut String, aisle: u32) -> Result<(), AllocError> {
     for slot in 1..=200 {

@@ -38,12 +38,19 @@ balanced stock rows =
     subst IsBalanced from.2 (record { sum = omega arith; most = is.on_hand }))
 
 -- each row of a file is of one of the stock's articles
-pub known : (stock : Stock) → All (IsStockRow stock.articles) stock.rows → All (λ (row : Row). row.article < length stock.articles) (map opening_row stock.rows)
+known : (stock : Stock) → All (IsStockRow stock.articles) stock.rows → All (λ (row : Row). row.article < length stock.articles) (map opening_row stock.rows)
 known stock rows =
     All-from_at (λ (row : Row). row.article < length stock.articles) (map opening_row stock.rows) (λ k r there.
     let from = row_from stock.rows k r there in
     let is = All-at (IsStockRow stock.articles) stock.rows k from.0 rows from.1 in
     subst (λ (row : Row). row.article < length stock.articles) from.2 is.article)
+
+-- so is each of the same rows, by the number of articles
+pub known_articles : (stock : Stock) (rows : List Row) (articles : ℕ) → All (IsStockRow stock.articles) stock.rows → rows ≡ map opening_row stock.rows
+    → articles ≡ length stock.articles → All (λ (row : Row). row.article < articles) rows
+known_articles stock rows articles are same count =
+    subst (λ (n : ℕ). All (λ (row : Row). row.article < n) rows) (sym count)
+    (subst (λ (rows : List Row). All (λ (row : Row). row.article < length stock.articles) rows) (sym same) (known stock are))
 
 -- the rows of a file, with empty chains, are a book
 pub opens : (stock : Stock) → All (IsStockRow stock.articles) stock.rows → IsKept (map opening_row stock.rows) (replicate chain_count [])

@@ -8,4 +8,6 @@ pub mod ReceivedUnits
 pub mod FreeBook
 pub mod FreeUnits
 pub mod FreeCounts
+pub mod ArticleRows
+pub mod RowIndex
 pub mod SortedHolds

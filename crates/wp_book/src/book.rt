@@ -2,6 +2,7 @@ ghost use Rattle.std.specs.Prelude.{◌≡◌, ◌≤◌, ◌<◌, ◌+◌, ◌^
 ghost use Rattle.wp_model.specs.Book.{IsBook, held_for};
 ghost use Rattle.wp_model.specs.Demand.{free_units, offer_of};
 ghost use Rattle.wp_model.specs.Limits.{most_on_hand};
+ghost use Rattle.wp_book.specs.ArticleRows.{rows_of};
 ghost use Rattle.wp_book.specs.Calls.{CanHold, HasGivenBack, HasHeld, HasReceived, HasTaken, HoldsNone, free_book};
 ghost use Rattle.wp_book.specs.Kept.{chain_count};
 
@@ -80,6 +81,21 @@ impl StockBook {
         ensures { slice_get self.now.rows row ≡ Some result }
     {
         self.rows.row(row)
+    }
+
+    /// How many rows are of an article.
+    pub fn places(&self, article: u32) -> u32
+        ensures { result ≡ length (rows_of article self.now.rows) }
+    {
+        self.rows.places(article)
+    }
+
+    /// The number of the row at a place among an article's rows, counted from 0, in row order.
+    pub fn place(&self, article: u32, k: u32) -> u32
+        requires { k < length (rows_of article self.now.rows) }
+        ensures { slice_get (rows_of article self.now.rows) k ≡ Some result }
+    {
+        self.rows.place(article, k)
     }
 
     /// The free units of an article, without those of the excepted row.

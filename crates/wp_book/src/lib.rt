@@ -3,6 +3,7 @@
 
 mod book;
 mod holds;
+mod index;
 mod room;
 mod rows;
 

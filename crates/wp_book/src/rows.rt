@@ -1,13 +1,15 @@
-//! The rows, and how many units of each article are free in them.
-ghost use Rattle.std.specs.Prelude.{◌≡◌, ◌≤◌, ◌<◌, ◌+◌, ◌^◌, All, Some, None, length, map, IfOk, IfSome, slice_get, slice_index};
+//! The rows, how many units of each article are free in them, and which rows each article has.
+ghost use Rattle.std.specs.Prelude.{◌≡◌, ◌≤◌, ◌<◌, ◌+◌, ◌^◌, suc, All, Some, None, length, map, IfOk, IfSome, slice_get, slice_index};
 ghost use Rattle.wp_model.specs.Change.{at_place, change_rows, free_held_units, hold_units, receive_units, take_units};
 ghost use Rattle.wp_model.specs.Demand.{free_units, offer_at};
 ghost use Rattle.wp_model.specs.Sound.{IsBalanced};
 ghost use Rattle.wp_model.specs.State.{opening_row};
 ghost use Rattle.wp_model.specs.Tables.{IsReadStock};
 ghost use Rattle.wp_model.specs.declared.row.Row.{Row as RowData};
+ghost use Rattle.wp_book.specs.ArticleRows.{rows_before, rows_of};
 ghost use Rattle.wp_book.specs.FreeCounts.{AreCounted};
 
+use crate::index::{RowIndex, index_rows};
 use std::alloc::Global;
 use std::marker::Model;
 use wp_model::{Memory, Row, StockRow};
@@ -47,23 +49,25 @@ fn count_free(alloc: Global, rows: &[Row], articles: u32) -> Result<Vec<u64>, Me
     Ok(free)
 }
 
-/// The rows of a warehouse, and how many units of each article are free in them. Contracts see the rows.
+/// The rows of a warehouse, how many units of each article are free in them, and which rows each article has.
+/// Contracts see the rows.
 #[derive(Drop)]
 pub struct CountedRows {
     rows: Vec<Row>,
     free: Vec<u64>,
+    index: RowIndex,
 }
 
 impl Model for CountedRows {
     ghost use Rattle.std.specs.Prelude.{List};
     ghost use Rattle.wp_model.specs.declared.row.Row.{Row as RowData};
-    ghost use Rattle.wp_book.specs.FreeCounts.{AreCounted};
+    ghost use Rattle.wp_book.specs.ArticleRows.{AreCountedAndIndexed};
 
     ghost Value = { List RowData };
 
     ghost view = { λ c. c.rows.items };
 
-    ghost invariant = { λ c. AreCounted c.rows.items c.free.items };
+    ghost invariant = { λ c. AreCountedAndIndexed c.rows.items c.free.items c.index.ends.items c.index.numbers.items };
 }
 
 impl CountedRows {
@@ -74,7 +78,8 @@ impl CountedRows {
     {
         let rows = free_rows(alloc, stock.as_rows())?;
         let free = count_free(alloc, &rows, stock.articles())?;
-        Ok(CountedRows { rows, free })
+        let index = index_rows(alloc, &rows, stock.articles())?;
+        Ok(CountedRows { rows, free, index })
     }
 
     /// How many rows there are.
@@ -90,6 +95,42 @@ impl CountedRows {
         ensures { slice_get self.now row ≡ Some result }
     {
         self.rows[row as usize]
+    }
+
+    // How many rows are of an article or of one before it.
+    fn end(&self, article: u32) -> u32
+        ensures { result ≡ rows_before self.now (suc article) }
+    {
+        match self.index.ends.get(article as usize) {
+            Some(end) => *end,
+            None => self.len(),
+        }
+    }
+
+    // How many rows are of the articles before one.
+    fn start(&self, article: u32) -> u32
+        ensures { result ≡ rows_before self.now article }
+    {
+        if article == 0 {
+            0
+        } else {
+            self.end(article - 1)
+        }
+    }
+
+    /// How many rows are of an article.
+    pub fn places(&self, article: u32) -> u32
+        ensures { result ≡ length (rows_of article self.now) }
+    {
+        self.end(article) - self.start(article)
+    }
+
+    /// The number of the row at a place among an article's rows.
+    pub fn place(&self, article: u32, k: u32) -> u32
+        requires { k < length (rows_of article self.now) }
+        ensures { slice_get (rows_of article self.now) k ≡ Some result }
+    {
+        self.index.numbers[(self.start(article) + k) as usize]
     }
 
     /// Units of a row go from free to held.

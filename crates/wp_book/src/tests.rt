@@ -261,6 +261,38 @@ fn what_is_held_and_free_is_told(rt: HostRuntime) -> Result<(), Fail> {
     Ok(())
 }
 
+/// Rows of the articles 0, 1 and 2 in turns.
+const MIXED: &str =
+    "location,article,on_hand\n1-1-L,A,3\n1-2-L,B,4\n1-3-L,A,5\n1-4-L,C,1\n1-5-L,B,2\n1-6-L,A,9\n";
+
+/// An article, and the numbers of its rows.
+const ROWS_OF: [(u32, &[u32]); 5] = [
+    (0, &[0, 2, 5]),
+    (1, &[1, 4]),
+    (2, &[3]),
+    (3, &[]),
+    (u32::MAX, &[]),
+];
+
+/// Whether an article's rows are these.
+fn has_rows(book: &StockBook, article: u32, rows: &[u32]) -> bool {
+    for place in 0..book.places(article) {
+        if rows.get(place as usize) != Some(&book.place(article, place)) {
+            return false;
+        }
+    }
+    rows.len() == book.places(article) as usize
+}
+
+#[test]
+fn rows_of_articles_are_told(rt: HostRuntime) -> Result<(), Fail> {
+    let book = book_of(rt.alloc(), MIXED)?;
+    for (article, rows) in &ROWS_OF {
+        assert!(rt; has_rows(&book, *article, rows));
+    }
+    Ok(())
+}
+
 const UNSORTED: [(u32, u32, u32); 4] = [(1, 0, 7), (0, 3, 7), (1, 2, 7), (0, 1, 7)];
 
 const SORTED: [(u32, u32, u32); 4] = [(0, 1, 7), (0, 3, 7), (1, 0, 7), (1, 2, 7)];

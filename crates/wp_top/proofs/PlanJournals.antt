@@ -1,6 +1,6 @@
 -- The journal of a plan is right: each of its entries answers what the one desk asks, within the bounds of a journal.
-use Rattle.std.proofs.Common.{◌≡◌, ◌≢◌, ◌∙◌, refl, sym, ap, subst, ℕ, ◌≤◌, ◌==◌, List, [], ◌∷◌, ◌++◌, length, map, inl, inr, true, false, arith, eq-eqb, ne_eqb}
-use Rattle.std.proofs.Common.{append_assoc, if◌then◌else◌}
+use Rattle.std.proofs.Common.{◌≡◌, ◌≢◌, ◌∙◌, refl, sym, ap, subst, ℕ, ◌≤◌, ◌==◌, List, [], ◌∷◌, ◌++◌, length, map, inl, inr, arith, eq-eqb, ne_eqb}
+use Rattle.std.proofs.Common.{append_assoc}
 use Rattle.std.proofs.lemmas.Bool.{cases_eq, cond-false, cond-true}
 use Rattle.std.proofs.lemmas.List.Elements.{All-cons, All-head, All-nil, All-tail}
 use Rattle.std.proofs.lemmas.List.{length-map}

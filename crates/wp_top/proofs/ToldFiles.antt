@@ -1,36 +1,15 @@
 -- Files whose texts are told say one thing, or one of them is the first that is refused.
-use Rattle.std.proofs.Common.{◌≡◌, ◌∙◌, refl, sym, ap, ap₂, subst, ℕ, ◌<◌, ◌≤◌, ◌⊎◌, inl, inr, List, [], ◌∷◌, ◌++◌, map, append_assoc, Option, Some, None}
-use Rattle.std.proofs.Common.{Result, Ok, Err, arith, string_bytes}
-use Rattle.std.specs.Prelude.{IfOk, IfErr, OnErr, String}
-use Rattle.wp_model.specs.declared.memory.Memory.{Memory}
+use Rattle.std.proofs.Common.{◌≡◌, ◌∙◌, refl, sym, ap, ap₂, subst, ℕ, List, [], ◌∷◌, ◌++◌, map, Some}
+use Rattle.std.proofs.Common.{Result, Ok, Err}
 use Rattle.std.specs.List.{All}
-use Rattle.std.specs.declared.alloc.Global.{Global}
-use Rattle.std.proofs.lemmas.List.{append-nil}
 use Rattle.std.proofs.lemmas.List.Elements.{All-cons, All-head, All-nil, All-tail}
-use Rattle.wp_journal.proofs.OneFinding.{shows_one}
-use Rattle.wp_journal.specs.declared.verdict.Audit.{Audit}
-use Rattle.wp_journal.specs.declared.verdict.AuditFault.{AuditFault}
 use Rattle.wp_model.specs.Outcomes.{and_then}
-use Rattle.wp_outside.specs.Outside.{Grows, NoneFalls, SameBytes, TookPrefix}
-use Rattle.wp_top.proofs.FilesRead.{Counts, Holding, say_further}
-use Rattle.wp_top.specs.Ends.{Asked, HasRisen, HaveSaid, IsFirstRefused, IsOutput}
-use Rattle.wp_top.specs.Promise.{AreGoodFiles, AreToldToSay, Complains, Course, EndsWith, FilesStand, IsBadFile, IsDue, Keeps, SinkStands, Took}
-use Rattle.wp_top.specs.Runs.{ComesTo, IsRight, IsWrong}
-use Rattle.wp_top.specs.Stops.{Finishes, IsEndOf, IsEnding, IsStop, number_of, status_of, text_of}
-use Rattle.wp_top.specs.Texts.{AreHeld, AreTold, File, IsHeld, ReadFile, Said, Say, file_of, files_of, nothing_said, said_after, said_with}
-use Rattle.wp_top.specs.declared.complaint.Complaint.TheVariants as complaint
-use Rattle.wp_top.specs.declared.complaint.Finding.{Finding}
-use Rattle.wp_top.specs.declared.complaint.Finding.TheVariants as finding
-use Rattle.wp_top.specs.declared.complaint.Stop.{Stop}
-use Rattle.wp_top.specs.declared.complaint.Stop.TheVariants as stop
-use Rattle.wp_top.specs.declared.ending.Ending.{Ending}
-use Rattle.wp_top.specs.declared.ending.Ending.TheVariants as ending
+use Rattle.wp_top.proofs.FilesRead.{Holding, say_further}
+use Rattle.wp_top.specs.Ends.{HaveSaid, IsFirstRefused}
+use Rattle.wp_top.specs.Promise.{AreToldToSay}
+use Rattle.wp_top.specs.Texts.{AreHeld, AreTold, File, IsHeld, ReadFile, Said, Say, file_of, nothing_said, said_after, said_with}
 use Rattle.wp_top.specs.declared.input.Input.{Input}
 use Rattle.wp_top.specs.declared.input.Refusal.{Refusal}
-use Rattle.wp_top.specs.declared.status.Status.{Status}
-use Rattle.wp_top.specs.declared.status.Status.TheVariants as status
-use Rattle.wp_words.specs.Words.{JobNames, audit, plan}
-use Rattle.wp_words.specs.declared.fault.WordsFault.{WordsFault}
 
 -- what is told is what was read
 pub told_text : (holds : Holding) (name told text : List ℕ) → holds name ≡ Some told → IsHeld holds name text → text ≡ told

@@ -1,7 +1,6 @@
 use Rattle.std.proofs.Common.{◌∙◌, refl, sym, ap, length, take, arith}
 use Rattle.std.proofs.lemmas.List.{length-take}
 use Rattle.std.proofs.lemmas.Option.{slice_get_read}
-use Rattle.wp_model.proofs.Histories.{answered_all-opening}
 use Rattle.wp_model.specs.History.{History, answered, opened}
 use Rattle.wp_top.proofs.OneDesk.{answered_all-next, entries_answered}
 use Rattle.wp_top.proofs.answering.answer_script.Goals as goal
