@@ -14,7 +14,7 @@ use Rattle.wp_model.specs.declared.reply.Reply.TheVariants as reply
 use Rattle.wp_model.specs.declared.reply.WaveState.{WaveState}
 use Rattle.wp_model.specs.declared.reply.WaveState.TheVariants as wave
 use Rattle.wp_model.specs.declared.row.Row.{Row}
-use Rattle.wp_floor.specs.Floor.{state_at, wave_of}
+use Rattle.wp_floor.specs.Floor.{state_at, state_in, wave_of}
 use Rattle.wp_floor.specs.HeldUnits.{IsClaimRefused, IsClaimed, IsEnoughHeld, held_of, held_there, unless_released}
 use Rattle.wp_floor.specs.declared.held.HeldUnits.{HeldUnits}
 use Rattle.wp_floor.specs.declared.waves.KeptWave.{KeptWave}
@@ -30,9 +30,9 @@ wrong_by book waves number kept order location quantity answer change wave.Done 
 
 -- a wave that isn't released refuses every claim
 pub wrong_state : (book : Book) (number : ℕ) (kept : KeptWave) (order : List ℕ) (location : Location) (quantity : ℕ) (answer : Reply)
-    → unless_released kept.state ≡ Some answer → IsClaimRefused book number kept order location quantity answer
+    → unless_released (state_in kept.stage) ≡ Some answer → IsClaimRefused book number kept order location quantity answer
 wrong_state book number kept order location quantity answer is waves change =
-    wrong_by book waves number kept order location quantity answer change kept.state is
+    wrong_by book waves number kept order location quantity answer change (state_in kept.stage) is
 
 -- a wave whose state is no ground to refuse is released
 pub is_released : (s : WaveState) → unless_released s ≡ None → s ≡ wave.Released
@@ -44,16 +44,16 @@ is_released wave.Done is = absurd (cc)
 
 -- a released wave does at its location what is done at what is held there
 at_held_by : (book : Book) (waves : List Wave) (number : ℕ) (kept : KeptWave) (order : List ℕ) (location : Location) (quantity : ℕ)
-    (change : step.Held → step.Stepped) → kept.state ≡ wave.Released
-    → step.at_released (state_at book waves) number (wave_of kept) order location quantity change kept.state ≡ step.at_held (state_at book waves) number
-    (wave_of kept) order location quantity change
+    (change : step.Held → step.Stepped) → state_in kept.stage ≡ wave.Released
+    → step.at_released (state_at book waves) number (wave_of kept) order location quantity change (state_in kept.stage)
+    ≡ step.at_held (state_at book waves) number (wave_of kept) order location quantity change
 at_held_by book waves number kept order location quantity change released =
     ap (step.at_released (state_at book waves) number (wave_of kept) order location quantity change) released
 
 -- a released wave that holds enough where a claim says does what is claimed
 pub enough_by : (book : Book) (waves : List Wave) (number : ℕ) (kept : KeptWave) (order : List ℕ) (location : Location) (quantity : ℕ)
     (change : step.Held → step.Stepped) (found : HeldUnits) → IsClaimed book number kept order location quantity found
-    → step.at_released (state_at book waves) number (wave_of kept) order location quantity change kept.state ≡ change (held_of found)
+    → step.at_released (state_at book waves) number (wave_of kept) order location quantity change (state_in kept.stage) ≡ change (held_of found)
 enough_by book waves number kept order location quantity change found is =
     let state = state_at book waves in
     let less : nat_lt found.units quantity ≡ false = let e = is.enough in grind (arith, nat_tests) in
@@ -73,7 +73,7 @@ not_enough book waves quantity location answer change (Some h) is =
 
 -- and one that doesn't hold enough there refuses
 pub refused_by : (book : Book) (number : ℕ) (kept : KeptWave) (order : List ℕ) (location : Location) (quantity : ℕ) (answer : Reply)
-    → kept.state ≡ wave.Released
+    → state_in kept.stage ≡ wave.Released
     → IsEnoughHeld (held_there book number kept order location) location quantity (Err answer) → IsClaimRefused book number kept order location quantity answer
 refused_by book number kept order location quantity answer released is waves change =
     at_held_by book waves number kept order location quantity change released
@@ -113,7 +113,7 @@ holder book number kept order location held is =
 
 -- so a released wave finds what is claimed, or refuses it
 pub claimed_is : (book : Book) (number : ℕ) (kept : KeptWave) (order : List ℕ) (location : Location) (quantity : ℕ) (result : Result HeldUnits Reply)
-    → kept.state ≡ wave.Released
+    → state_in kept.stage ≡ wave.Released
     → IsEnoughHeld (held_there book number kept order location) location quantity result
     → IfOk result (IsClaimed book number kept order location quantity) × IfErr result (IsClaimRefused book number kept order location quantity)
 claimed_is book number kept order location quantity (Ok found) released is = (record { released = released; held = is.0; enough = is.1 }, tt)

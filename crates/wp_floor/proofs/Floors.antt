@@ -1,13 +1,13 @@
 -- Commands on a wave, as the whole floor answers them.
-use Rattle.std.proofs.Common.{◌≡◌, ◌∙◌, refl, sym, ap, ap₂, subst, ℕ, zero, suc, ◌+◌, ◌&&◌, Bool, true, false, inl, inr, List, [], ◌∷◌, ◌++◌, length, map}
-use Rattle.std.proofs.Common.{reverse, Option, Some, None, IfSome, slice_get, slice_set, option_map, bytes_eq, if◌then◌else◌, arith, length-set}
+use Rattle.std.proofs.Common.{◌≡◌, ◌∙◌, refl, sym, ap, ap₂, subst, ℕ, zero, suc, ◌+◌, ◌&&◌, Bool, true, false, inl, inr, List, [], ◌∷◌, length, map}
+use Rattle.std.proofs.Common.{Option, Some, None, IfSome, slice_get, slice_set, option_map, bytes_eq, if◌then◌else◌, arith, length-set}
 use Rattle.std.proofs.Math.Path.{fun_ext}
 use Rattle.std.proofs.lemmas.Bool.{or_cases, or_parts}
-use Rattle.std.proofs.lemmas.Option.{slice_get-map}
+use Rattle.std.proofs.lemmas.Option.{slice_get-map, slice_get_within}
 use Rattle.std.proofs.lemmas.Slice.Eq.{bytes_eq-Decides}
 use Rattle.std.specs.List.{list_any}
 use Rattle.std.specs.Option.{option_map_or}
-use Rattle.wp_model.proofs.Elements.{at_some, if_some, slice_get-set}
+use Rattle.wp_model.proofs.Elements.{at_some, if_some, slice_get-set, slice_get-set_same}
 use Rattle.wp_model.proofs.Sound.{step_keeps_sound}
 use Rattle.wp_model.specs.Book.{Book, held_for, held_list}
 use Rattle.wp_model.specs.Opening.{IsOpening, Opening}
@@ -18,28 +18,22 @@ use Rattle.wp_model.specs.Tables.{IsReadOpening}
 use Rattle.wp_model.specs.declared.command.Command.{Command}
 use Rattle.wp_model.specs.declared.reply.Reply.{Reply}
 use Rattle.wp_model.specs.declared.reply.Reply.TheVariants as reply
-use Rattle.wp_model.specs.declared.reply.WaveState.{WaveState}
 use Rattle.wp_model.specs.declared.reply.WaveState.TheVariants as wave
-use Rattle.wp_floor.specs.Floor.{AreSameRows, AreTakers, HasAnswered, HasPapers, HasStepped, IsAt, IsFloor, IsKeptWave, state_at, state_of, wave_of}
+use Rattle.wp_floor.specs.Floor.{AreSameRows, AreTakers, HasAnswered, HasPapers, HasStepped, IsAt, IsFloor, IsKeptWave, state_at, state_in, state_of, wave_of}
 use Rattle.wp_floor.specs.Takers.{HasPut, frees}
-use Rattle.wp_floor.specs.Waves.{IsFound, has_name}
+use Rattle.wp_floor.specs.Waves.{AreSameWaves, IsFound, IsReturned, has_name, waves_of}
 use Rattle.wp_floor.specs.declared.floor.Floor.{Floor}
 use Rattle.wp_floor.specs.declared.waves.Found.{Found}
 use Rattle.wp_floor.specs.declared.waves.KeptWave.{KeptWave}
+use Rattle.wp_floor.specs.declared.waves.Stage.{Stage}
+use Rattle.wp_floor.specs.declared.waves.Stage.TheVariants as stage
+use Rattle.wp_floor.specs.declared.waves.Waves.{Waves}
+use Rattle.wp_floor.proofs.WaveChains.{found_there, same_waves, waves_back}
 use Rattle.wp_floor.proofs.SameRows.{step_keeps_rows}
 
 -- an opening that was read is an opening
 pub is_opening : (opening : Opening) → IsReadOpening opening → IsOpening opening
 is_opening opening is = record { rows = is.stock.rows; orders = is.orders.each }
-
--- a list at a seam
-pub at_seam : {A : Type 0} (xs zs : List A) (y : A) → slice_get (xs ++ y ∷ zs) (length xs) ≡ Some y
-at_seam [] zs y = refl
-at_seam (x ∷ xs) zs y = at_seam xs zs y
-
-set_seam : {A : Type 0} (xs zs : List A) (y z : A) → slice_set (xs ++ y ∷ zs) (length xs) z ≡ xs ++ z ∷ zs
-set_seam [] zs y z = refl
-set_seam (x ∷ xs) zs y z = ap (λ rest. x ∷ rest) (set_seam xs zs y z)
 
 map-set : {A B : Type 0} (f : A → B) (xs : List A) (i : ℕ) (y : A) → map f (slice_set xs i y) ≡ slice_set (map f xs) i (f y)
 map-set f [] i y = refl
@@ -74,39 +68,52 @@ none_by (kept ∷ kepts) name n none =
     ap (λ b. if b then Some (n, wave_of kept) else wave_from (n + 1) (map wave_of kepts) name) parts.0 ∙ none_by kepts name (n + 1) parts.1
 
 -- a command on a wave that isn't there
-pub unknown_wave : (opening : Opening) (command : Command) (name : List ℕ) (change : ℕ → Wave → Stepped) (old : Floor) (ws : List KeptWave)
+pub unknown_wave : (opening : Opening) (command : Command) (name : List ℕ) (change : ℕ → Wave → Stepped) (old : Floor) (ws : Waves)
     → IsFloor opening old
-    → step opening (state_of old) command ≡ at_wave (state_of old) name change → ws ≡ old.waves → list_any (has_name name) old.waves ≡ false
+    → step opening (state_of old) command ≡ at_wave (state_of old) name change → AreSameWaves old.waves ws
+    → list_any (has_name name) (waves_of old.waves) ≡ false
     → HasStepped opening command old (record old { waves = ws }) reply.UnknownWave
 unknown_wave opening command name change old ws floor is same none =
-    let stays = subst (λ (ws : List KeptWave). HasStepped opening command old (record old { waves = ws }) reply.UnknownWave) (sym same) (record {
-      is = is ∙ ap (λ found. option_map_or (λ (f : ℕ × Wave). change f.0 f.1) found (refuse (state_of old) reply.UnknownWave)) (none_by old.waves name 0 none);
-      floor = floor;
-      most = omega arith;
-    }) in stays
+    let kept = same_waves old.waves ws floor.chains same in
+    let back : waves_of old.waves ≡ waves_of ws = sym kept.1 in
+    let unknown = is
+    ∙ ap (λ found. option_map_or (λ (f : ℕ × Wave). change f.0 f.1) found (refuse (state_of old) reply.UnknownWave))
+    (none_by (waves_of old.waves) name 0 none) in
+    record {
+      is = unknown ∙ ap (λ (ks : List KeptWave). refuse (state_at old.book (map wave_of ks)) reply.UnknownWave) back;
+      floor = record {
+        read = floor.read;
+        sound = subst (λ (ks : List KeptWave). IsSound opening (state_at old.book (map wave_of ks))) back floor.sound;
+        rows = floor.rows;
+        chains = kept.0;
+        waves = λ n. subst (λ (ks : List KeptWave). IfSome (slice_get ks n) (IsKeptWave opening old.book n)) back (floor.waves n);
+        takers = subst (λ (ks : List KeptWave). AreTakers opening (map wave_of ks) old.takers.items) back floor.takers;
+      };
+      most = omega (arith, ap length back);
+    }
 
 -- the wave that was taken out has its place
-pub found_at : (opening : Opening) (name : List ℕ) (old : Floor) (rest : List KeptWave) (found : Found) → IsFloor opening old
+pub found_at : (opening : Opening) (name : List ℕ) (old : Floor) (rest : Waves) (found : Found) → IsFloor opening old
     → IsFound name old.waves rest found
-    → IsAt opening old.book (map wave_of old.waves) found.number found.wave
+    → IsAt opening old.book (map wave_of (waves_of old.waves)) found.number found.wave
 found_at opening name old rest found floor is =
-    let there : slice_get old.waves found.number ≡ Some found.wave = ap₂ slice_get is.parts is.number ∙ at_seam rest (reverse found.after) found.wave in
+    let there = found_there name old.waves rest found floor.chains is in
     record {
       read = floor.read;
       sound = floor.sound;
-      there = slice_get-map wave_of old.waves found.number ∙ ap (option_map wave_of) there;
-      keeps = at_some (slice_get old.waves found.number) (IsKeptWave opening old.book found.number) found.wave there (floor.waves found.number);
+      there = slice_get-map wave_of (waves_of old.waves) found.number ∙ ap (option_map wave_of) there;
+      keeps = at_some (slice_get (waves_of old.waves) found.number) (IsKeptWave opening old.book found.number) found.wave there (floor.waves found.number);
     }
 
 -- a wave that holds what it did is kept as it was
-papers_same : (old new : Book) (number : ℕ) (kept : KeptWave) (s : WaveState) → length new.rows ≡ length old.rows → held_for new number ≡ held_for old number
+papers_same : (old new : Book) (number : ℕ) (kept : KeptWave) (s : Stage) → length new.rows ≡ length old.rows → held_for new number ≡ held_for old number
     → HasPapers s old number kept → HasPapers s new number kept
-papers_same old new number kept wave.Submitted rows held papers = papers
-papers_same old new number kept wave.Allotted rows held papers =
-    (papers.0, (papers.1.0, papers.1.1, papers.1.2 ∙ ap₂ (λ n h. held_list (length kept.orders) n h) (sym rows) (sym held)))
-papers_same old new number kept wave.Released rows held papers = tt
-papers_same old new number kept wave.Cancelled rows held papers = tt
-papers_same old new number kept wave.Done rows held papers = tt
+papers_same old new number kept (stage.Submitted copy) rows held papers = papers
+papers_same old new number kept (stage.Allotted sheet) rows held papers =
+    (papers.0, papers.1 ∙ ap₂ (λ n h. held_list (length kept.orders) n h) (sym rows) (sym held))
+papers_same old new number kept stage.Released rows held papers = tt
+papers_same old new number kept stage.Cancelled rows held papers = tt
+papers_same old new number kept stage.Done rows held papers = tt
 
 -- a wave that holds what it held is kept as it should be in a book of as many rows
 pub kept_same : (opening : Opening) (old new : Book) (number : ℕ) (kept : KeptWave) → length new.rows ≡ length old.rows
@@ -114,63 +121,69 @@ pub kept_same : (opening : Opening) (old new : Book) (number : ℕ) (kept : Kept
     → IsKeptWave opening new number kept
 kept_same opening old new number kept rows held keeps = record {
   wants = keeps.wants;
-  papers = papers_same old new number kept kept.state rows (fun_ext (λ order. fun_ext (λ row. held order row))) keeps.papers;
+  papers = papers_same old new number kept kept.stage rows (fun_ext (λ order. fun_ext (λ row. held order row))) keeps.papers;
 }
 
 -- what was answered at a wave, with who has the orders then
-pub record IsAnswered (opening : Opening) (name : List ℕ) (old : Floor) (rest : List KeptWave) (found : Found) (new : Floor) (left : KeptWave)
+pub record IsAnswered (opening : Opening) (name : List ℕ) (old : Floor) (rest : Waves) (found : Found) (new : Floor) (left : KeptWave)
     (stepped : Stepped) (answer : Reply) : Type 0 where
   pub floor : IsFloor opening old
   pub is_found : IsFound name old.waves rest found
-  pub answers : HasAnswered opening stepped old.book new.book (map wave_of old.waves) found.number found.wave left answer
-  pub waves : new.waves ≡ rest ++ left ∷ reverse found.after
-  pub takers : AreTakers opening (map wave_of new.waves) new.takers.items
+  pub answers : HasAnswered opening stepped old.book new.book (map wave_of (waves_of old.waves)) found.number found.wave left answer
+  pub waves : IsReturned rest (record found { wave = left }) new.waves
+  pub takers : AreTakers opening (map wave_of (waves_of new.waves)) new.takers.items
 
-put_is : (name : List ℕ) (old : List KeptWave) (rest : List KeptWave) (found : Found) (left : KeptWave) → IsFound name old rest found
-    → slice_set old found.number left ≡ rest ++ left ∷ reverse found.after
-put_is name old rest found left is = ap₂ (λ (ws : List KeptWave) (i : ℕ). slice_set ws i left) is.parts is.number
-    ∙ set_seam rest (reverse found.after) found.wave left
+-- the waves, once the one that was taken out is back under its name, are those that were with this one in its place
+pub waves_put : (opening : Opening) (name : List ℕ) (old : Floor) (new rest : Waves) (found : Found) (left : KeptWave) → IsFloor opening old
+    → IsFound name old.waves rest found → left.name ≡ found.wave.name → IsReturned rest (record found { wave = left }) new
+    → map wave_of (waves_of new) ≡ slice_set (map wave_of (waves_of old.waves)) found.number (wave_of left)
+waves_put opening name old new rest found left floor is named put =
+    ap (map wave_of) (waves_back name old.waves rest new found left floor.chains is named put).1 ∙ map-set wave_of (waves_of old.waves) found.number left
 
--- the waves, once the one that was taken out is back, are those that were with this one in its place
-pub waves_put : (name : List ℕ) (old new rest : List KeptWave) (found : Found) (left : KeptWave) → IsFound name old rest found
-    → new ≡ rest ++ left ∷ reverse found.after
-    → map wave_of new ≡ slice_set (map wave_of old) found.number (wave_of left)
-waves_put name old new rest found left is new_is =
-    ap (map wave_of) (new_is ∙ sym (put_is name old rest found left is)) ∙ map-set wave_of old found.number left
+-- the wave that is back is the one that its number gives
+pub back_there : (opening : Opening) (name : List ℕ) (old : Floor) (new rest : Waves) (found : Found) (left : KeptWave) → IsFloor opening old
+    → IsFound name old.waves rest found → left.name ≡ found.wave.name → IsReturned rest (record found { wave = left }) new
+    → slice_get (map wave_of (waves_of new)) found.number ≡ Some (wave_of left)
+back_there opening name old new rest found left floor is named put =
+    let at = found_at opening name old rest found floor is in
+    ap (λ (ws : List Wave). slice_get ws found.number) (waves_put opening name old new rest found left floor is named put)
+    ∙ slice_get-set_same (map wave_of (waves_of old.waves)) found.number (wave_of left)
+    (slice_get_within (map wave_of (waves_of old.waves)) found.number (wave_of found.wave) at.there)
 
 -- the floor answers as the wave does
-pub answered : (opening : Opening) (command : Command) (name : List ℕ) (change : ℕ → Wave → Stepped) (old : Floor) (rest : List KeptWave) (found : Found)
+pub answered : (opening : Opening) (command : Command) (name : List ℕ) (change : ℕ → Wave → Stepped) (old : Floor) (rest : Waves) (found : Found)
     (new : Floor) (left : KeptWave) (answer : Reply)
     → step opening (state_of old) command ≡ at_wave (state_of old) name change
     → IsAnswered opening name old rest found new left (change found.number (wave_of found.wave)) answer
     → HasStepped opening command old new answer
 answered opening command name change old rest found new left answer is done =
     let at = found_at opening name old rest found done.floor done.is_found in
-    let by = wave_by (map wave_of old.waves) name 0 found.number (wave_of found.wave) at.there done.is_found.named done.floor.sound.names in
+    let by = wave_by (map wave_of (waves_of old.waves)) name 0 found.number (wave_of found.wave) at.there done.is_found.named done.floor.sound.names in
+    let back = waves_back name old.waves rest new.waves found left done.floor.chains done.is_found done.answers.name done.waves in
     let zero : 0 + found.number ≡ found.number = omega arith in
-    let put = waves_put name old.waves new.waves rest found left done.is_found done.waves in
+    let put = waves_put opening name old new.waves rest found left done.floor done.is_found done.answers.name done.waves in
     let all = is ∙ (ap (λ (f : Option (ℕ × Wave)). option_map_or (λ (f : ℕ × Wave). change f.0 f.1) f (refuse (state_of old) reply.UnknownWave))
     (by ∙ ap (λ (n : ℕ). Some (n, wave_of found.wave)) zero)
     ∙ (done.answers.is ∙ ap (λ (ws : List Wave). let s : Stepped = record { reply = answer; state = state_at new.book ws } in s) (sym put))) in
     let after : (step opening (state_of old) command).state ≡ state_of new = ap (λ (s : Stepped). s.state) all in
-    let set = sym (put_is name old.waves rest found left done.is_found) in
     record {
       is = all;
       floor = record {
         read = done.floor.read;
         sound = subst (IsSound opening) after (step_keeps_sound opening (state_of old) command (is_opening opening done.floor.read) done.floor.sound);
         rows = subst (λ (s : State). AreSameRows opening s.rows) after (step_keeps_rows opening (state_of old) command done.floor.rows);
-        waves = λ n. subst (λ (ws : List KeptWave). IfSome (slice_get ws n) (IsKeptWave opening new.book n)) (sym (done.waves ∙ set))
-            (if_some (slice_get (slice_set old.waves found.number left) n) (IsKeptWave opening new.book n)
-            (λ kept there. elim (slice_get-set old.waves found.number n kept left there) [
+        chains = back.0;
+        waves = λ n. subst (λ (ws : List KeptWave). IfSome (slice_get ws n) (IsKeptWave opening new.book n)) (sym back.1)
+            (if_some (slice_get (slice_set (waves_of old.waves) found.number left) n) (IsKeptWave opening new.book n)
+            (λ kept there. elim (slice_get-set (waves_of old.waves) found.number n kept left there) [
               | inl here ↦ subst (λ (k : KeptWave). IsKeptWave opening new.book n k) (sym here.1)
                   (subst (λ (m : ℕ). IsKeptWave opening new.book m left) (sym here.0) done.answers.keeps)
               | inr other ↦ kept_same opening old.book new.book n kept done.answers.rows (λ order row. done.answers.others n order row other.0)
-                  (at_some (slice_get old.waves n) (IsKeptWave opening old.book n) kept other.1 (done.floor.waves n))
+                  (at_some (slice_get (waves_of old.waves) n) (IsKeptWave opening old.book n) kept other.1 (done.floor.waves n))
             ]));
         takers = done.takers;
       };
-      most = omega (arith, ap length (done.waves ∙ set), length-set old.waves found.number left);
+      most = omega (arith, ap length back.1, length-set (waves_of old.waves) found.number left);
     }
 
 -- a wave that is still live, or still isn't, leaves its orders where they are
@@ -186,17 +199,17 @@ taker-set (x ∷ waves) (suc k) w v order there name orders live =
     ap (λ rest. if is_live x.state && is_among x.orders order then Some x.name else rest) (taker-set waves k w v order there name orders live)
 
 -- a wave that is live or not as before and has its name and orders leaves all orders to those that have them
-pub takers_same : (opening : Opening) (name : List ℕ) (old : Floor) (new rest : List KeptWave) (found : Found) (left : KeptWave) → IsFloor opening old
-    → IsFound name old.waves rest found → new ≡ rest ++ left ∷ reverse found.after
-    → left.name ≡ found.wave.name → left.orders ≡ found.wave.orders → is_live left.state ≡ is_live found.wave.state
-    → AreTakers opening (map wave_of new) old.takers.items
-takers_same opening name old new rest found left floor is new_is named orders live =
+pub takers_same : (opening : Opening) (name : List ℕ) (old : Floor) (new rest : Waves) (found : Found) (left : KeptWave) → IsFloor opening old
+    → IsFound name old.waves rest found → IsReturned rest (record found { wave = left }) new
+    → left.name ≡ found.wave.name → left.orders ≡ found.wave.orders → is_live (state_in left.stage) ≡ is_live (state_in found.wave.stage)
+    → AreTakers opening (map wave_of (waves_of new)) old.takers.items
+takers_same opening name old new rest found left floor is put named orders live =
     let at = found_at opening name old rest found floor is in
     record {
       count = floor.takers.count;
       each = λ i order there. floor.takers.each i order there
-          ∙ ap Some (sym (ap (λ (ws : List Wave). taker_of ws order.name) (waves_put name old.waves new rest found left is new_is)
-          ∙ taker-set (map wave_of old.waves) found.number (wave_of found.wave) (wave_of left) order.name at.there named orders live));
+          ∙ ap Some (sym (ap (λ (ws : List Wave). taker_of ws order.name) (waves_put opening name old new rest found left floor is named put)
+          ∙ taker-set (map wave_of (waves_of old.waves)) found.number (wave_of found.wave) (wave_of left) order.name at.there named orders live));
     }
 
 -- a name that is among names stands in their list
@@ -235,20 +248,22 @@ taker-without (x ∷ waves) (suc k) w v order there orders none =
     ap (λ rest. if is_live x.state && is_among x.orders order then Some x.name else rest) (taker-without waves k w v order there orders none)
 
 -- the orders of a wave that is given up are free
-pub takers_freed : (opening : Opening) (name : List ℕ) (old : Floor) (new rest : List KeptWave) (found : Found) (left : KeptWave)
+pub takers_freed : (opening : Opening) (name : List ℕ) (old : Floor) (new rest : Waves) (found : Found) (left : KeptWave)
     (takers : List (Option (List ℕ))) → IsFloor opening old → IsFound name old.waves rest found
-    → new ≡ rest ++ left ∷ reverse found.after → left.orders ≡ found.wave.orders → is_live found.wave.state ≡ true → is_live left.state ≡ false
+    → IsReturned rest (record found { wave = left }) new → left.name ≡ found.wave.name → left.orders ≡ found.wave.orders
+    → is_live (state_in found.wave.stage) ≡ true → is_live (state_in left.stage) ≡ false
     → HasPut opening found.wave.orders None old.takers.items takers
-    → AreTakers opening (map wave_of new) takers
-takers_freed opening name old new rest found left takers floor is new_is orders live gone put =
+    → AreTakers opening (map wave_of (waves_of new)) takers
+takers_freed opening name old new rest found left takers floor is back named orders live gone put =
     let at = found_at opening name old rest found floor is in
-    let waves = map wave_of old.waves in
-    let set = waves_put name old.waves new rest found left is new_is in
+    let waves = map wave_of (waves_of old.waves) in
+    let set = waves_put opening name old new rest found left floor is named back in
     record {
       count = put.count ∙ floor.takers.count;
       each = λ i order there.
           let was = floor.takers.each i order there in
-          put.each i order there ∙ (by_cases (is_among found.wave.orders order.name) (slice_get old.takers.items i) (taker_of (map wave_of new) order.name)
+          put.each i order there ∙ (by_cases (is_among found.wave.orders order.name) (slice_get old.takers.items i)
+          (taker_of (map wave_of (waves_of new)) order.name)
           (λ has. ap (λ (ws : List Wave). taker_of ws order.name) set
           ∙ no_taker (slice_set waves found.number (wave_of left)) order.name (nobody order.name has))
           (λ none. was ∙ ap Some (sym (ap (λ (ws : List Wave). taker_of ws order.name) set
@@ -261,32 +276,32 @@ takers_freed opening name old new rest found left takers floor is new_is orders 
     by_cases false before now freed kept = kept refl
 
     nobody : (order : List ℕ) → is_among found.wave.orders order ≡ true → (i k : ℕ) (v : Wave)
-        → slice_get (slice_set (map wave_of old.waves) found.number (wave_of left)) i ≡ Some v → is_live v.state ≡ true → slice_get v.orders k ≡ Some order
-        → ⊥
+        → slice_get (slice_set (map wave_of (waves_of old.waves)) found.number (wave_of left)) i ≡ Some v → is_live v.state ≡ true
+        → slice_get v.orders k ≡ Some order → ⊥
     nobody order has i k v there lives stands =
         let at = found_at opening name old rest found floor is in
         let mine = member found.wave.orders order has in
-        elim (slice_get-set (map wave_of old.waves) found.number i v (wave_of left) there) [
+        elim (slice_get-set (map wave_of (waves_of old.waves)) found.number i v (wave_of left) there) [
           | inl here ↦ let dead : is_live v.state ≡ false = ap (λ (u : Wave). is_live u.state) here.1 ∙ gone in
               let c : true ≡ false = sym lives ∙ dead in absurd (cc)
           | inr other ↦ other.0 (floor.sound.once i found.number v (wave_of found.wave) k mine.0 order other.1 at.there lives live stands mine.1)
         ]
 
 -- who has the orders once a wave was asked to be given up
-pub takers_after_cancel : (opening : Opening) (name : List ℕ) (old : Floor) (new rest : List KeptWave) (found : Found) (left : KeptWave)
+pub takers_after_cancel : (opening : Opening) (name : List ℕ) (old : Floor) (new rest : Waves) (found : Found) (left : KeptWave)
     (takers : List (Option (List ℕ))) (answer : Reply) → IsFloor opening old → IsFound name old.waves rest found
-    → new ≡ rest ++ left ∷ reverse found.after → left.orders ≡ found.wave.orders
-    → (frees answer ≡ true → (is_live found.wave.state ≡ true) × (left.state ≡ wave.Cancelled)) → (frees answer ≡ false → left ≡ found.wave)
+    → IsReturned rest (record found { wave = left }) new → left.name ≡ found.wave.name → left.orders ≡ found.wave.orders
+    → (frees answer ≡ true → (is_live (state_in found.wave.stage) ≡ true) × (state_in left.stage ≡ wave.Cancelled)) → (frees answer ≡ false → left ≡ found.wave)
     → (frees answer ≡ true → HasPut opening left.orders None old.takers.items takers) → (frees answer ≡ false → takers ≡ old.takers.items)
-    → AreTakers opening (map wave_of new) takers
-takers_after_cancel opening name old new rest found left takers answer floor is new_is orders gone kept freed same = by (frees answer) refl
+    → AreTakers opening (map wave_of (waves_of new)) takers
+takers_after_cancel opening name old new rest found left takers answer floor is back named orders gone kept freed same = by (frees answer) refl
   where
-    by : (b : Bool) → frees answer ≡ b → AreTakers opening (map wave_of new) takers
+    by : (b : Bool) → frees answer ≡ b → AreTakers opening (map wave_of (waves_of new)) takers
     by true e =
-        takers_freed opening name old new rest found left takers floor is new_is orders (gone e).0 (ap is_live (gone e).1)
+        takers_freed opening name old new rest found left takers floor is back named orders (gone e).0 (ap is_live (gone e).1)
         (subst (λ (os : List (List ℕ)). HasPut opening os None old.takers.items takers) orders (freed e))
     by false e =
         let was = kept e in
-        subst (λ (ts : List (Option (List ℕ))). AreTakers opening (map wave_of new) ts) (sym (same e))
-        (takers_same opening name old new rest found left floor is new_is (ap (λ (k : KeptWave). k.name) was) orders
-        (ap (λ (k : KeptWave). is_live k.state) was))
+        subst (λ (ts : List (Option (List ℕ))). AreTakers opening (map wave_of (waves_of new)) ts) (sym (same e))
+        (takers_same opening name old new rest found left floor is back (ap (λ (k : KeptWave). k.name) was) orders
+        (ap (λ (k : KeptWave). is_live (state_in k.stage)) was))

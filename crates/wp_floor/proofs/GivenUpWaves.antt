@@ -18,6 +18,7 @@ use Rattle.wp_model.specs.declared.reply.Reply.TheVariants as reply
 use Rattle.wp_model.specs.declared.reply.WaveState.TheVariants as wave
 use Rattle.wp_floor.specs.Floor.{HasAnswered, IsAt, state_at, wave_of}
 use Rattle.wp_floor.specs.declared.waves.KeptWave.{KeptWave}
+use Rattle.wp_floor.specs.declared.waves.Stage.TheVariants as stage
 use Rattle.wp_floor.proofs.BookStates.{state_is, with_held_is}
 
 -- one holding, counted at its order
@@ -90,7 +91,7 @@ none_past opening book waves number kept at order row past = elim (cases_eq (hel
 pub given_up : (opening : Opening) (old new : Book) (waves : List Wave) (number : ℕ) (kept : KeptWave) → IsAt opening old waves number kept
     → HasGivenBack number old new
     → HasAnswered opening (give_up (state_at old waves) number (wave_of kept)) old new waves number kept
-    (record kept { state = wave.Cancelled }) reply.Cancelled
+    (record kept { stage = stage.Cancelled }) reply.Cancelled
 given_up opening old new waves number kept at back =
     let w : Wave = record (wave_of kept) { state = wave.Cancelled } in
     let rows = back.rows ∙ freed_same _ _ old.rows (λ row. wave_total old number row (length kept.orders)

@@ -1,4 +1,4 @@
-pub mod WaveLists
+pub mod WaveChains
 pub mod WaveDemand
 pub mod BookStates
 pub mod GivenUpWaves

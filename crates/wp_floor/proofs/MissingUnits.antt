@@ -1,6 +1,6 @@
 -- Waves of which units are missing.
-use Rattle.std.proofs.Common.{◌≡◌, ◌∙◌, refl, sym, ap, ap₂, subst, ℕ, ◌+◌, ◌-◌, ◌<◌, ◌≤◌, ◌==◌, ◌&&◌, nat_le, nat_lt, true, false, inl, inr, List, [], ◌∷◌}
-use Rattle.std.proofs.Common.{◌++◌, length, map, reverse, Some, Result, Ok, Err, IfOk, IfErr, slice_get, if◌then◌else◌, arith, ne_eqb}
+use Rattle.std.proofs.Common.{◌≡◌, ◌∙◌, refl, sym, ap, ap₂, subst, ℕ, ◌+◌, ◌-◌, ◌<◌, ◌≤◌, ◌==◌, ◌&&◌, nat_le, nat_lt, true, false, inl, inr, List, []}
+use Rattle.std.proofs.Common.{length, map, Some, slice_get, if◌then◌else◌, arith, ne_eqb}
 use Rattle.std.proofs.Math.Path.{fun_ext}
 use Rattle.std.proofs.lemmas.Bool.{and_right, cases_eq, cond-false, cond_both}
 use Rattle.std.proofs.lemmas.Bool.Decides.{nat_tests}
@@ -25,16 +25,19 @@ use Rattle.wp_model.specs.declared.reply.Reply.{Reply}
 use Rattle.wp_model.specs.declared.reply.Reply.TheVariants as reply
 use Rattle.wp_model.specs.declared.reply.WaveState.{WaveState}
 use Rattle.wp_model.specs.declared.reply.WaveState.TheVariants as wave
-use Rattle.wp_floor.specs.Floor.{HasAnswered, HasStepped, IsAt, IsFloor, state_at, state_of, wave_of}
+use Rattle.wp_floor.specs.Floor.{HasAnswered, HasStepped, IsAt, IsFloor, state_at, state_in, state_of, wave_of}
 use Rattle.wp_floor.specs.HeldUnits.{IsClaimRefused, held_of}
-use Rattle.wp_floor.specs.MissingUnits.{HasRefilled, IsHeldElsewhere, ListsMore, TellsRefill, refills, share_elsewhere}
-use Rattle.wp_floor.specs.Waves.{IsFound}
+use Rattle.wp_floor.specs.MissingUnits.{HasRefilled, IfAnswered, IfRefilled, IsHeldElsewhere, ListsMore, TellsRefill, refills, share_elsewhere}
+use Rattle.wp_floor.specs.Waves.{IsFound, IsReturned, waves_of}
 use Rattle.wp_floor.specs.declared.floor.Floor.{Floor}
 use Rattle.wp_floor.specs.declared.held.HeldUnits.{HeldUnits}
+use Rattle.wp_floor.specs.declared.refilling.Missed.{Missed}
+use Rattle.wp_floor.specs.declared.refilling.Missed.TheVariants as missed
 use Rattle.wp_floor.specs.declared.waves.Found.{Found}
 use Rattle.wp_floor.specs.declared.waves.KeptWave.{KeptWave}
+use Rattle.wp_floor.specs.declared.waves.Waves.{Waves}
 use Rattle.wp_floor.proofs.BookStates.{state_is, with_held_is}
-use Rattle.wp_floor.proofs.Floors.{answered, found_at, takers_same, wave_by}
+use Rattle.wp_floor.proofs.Floors.{answered, back_there, found_at, takers_same, wave_by}
 use Rattle.wp_floor.proofs.TakenUnits.{IsLeft, IsTaking, bounded_after, settled, taken_state, taking_moves}
 use Rattle.wp_floor.proofs.RefilledUnits.{own_demand}
 
@@ -166,7 +169,7 @@ pub refusal_stays : (book : Book) (number : ℕ) (kept : KeptWave) (order : List
     → IsClaimRefused book number kept order location quantity answer → refills answer ≡ false
 refusal_stays book number kept order location quantity answer is =
     sym (ap (λ (s : Stepped). refills s.reply) (is [] (λ held. refuse (state_at book []) reply.NoRow)))
-    ∙ never_refills (state_at book []) number (wave_of kept) order location quantity kept.state
+    ∙ never_refills (state_at book []) number (wave_of kept) order location quantity (state_in kept.stage)
 
 -- what a command on missing units does to the wave with a number
 abbrev pub missing_at : Opening → State → List ℕ → Location → ℕ → ℕ → Wave → Stepped
@@ -174,18 +177,18 @@ missing_at opening state order location quantity number w = at_released state nu
     (write_off opening state number w quantity) w.state
 
 -- a wave of a floor was asked, and the floor has it back
-pub record IsAsked (opening : Opening) (name : List ℕ) (old : Floor) (rest : List KeptWave) (found : Found) (waves : List KeptWave)
+pub record IsAsked (opening : Opening) (name : List ℕ) (old : Floor) (rest : Waves) (found : Found) (waves : Waves)
     (left : KeptWave) : Type 0 where
   pub floor : IsFloor opening old
   pub is_found : IsFound name old.waves rest found
-  pub waves_are : waves ≡ rest ++ left ∷ reverse found.after
-  pub live : is_live left.state ≡ is_live found.wave.state
+  pub waves_are : IsReturned rest (record found { wave = left }) waves
+  pub live : is_live (state_in left.stage) ≡ is_live (state_in found.wave.stage)
 
-stepped : (opening : Opening) (name order : List ℕ) (location : Location) (quantity : ℕ) (old : Floor) (rest : List KeptWave) (found : Found) (book : Book)
-    (waves : List KeptWave) (left : KeptWave) (answer : Reply)
+stepped : (opening : Opening) (name order : List ℕ) (location : Location) (quantity : ℕ) (old : Floor) (rest : Waves) (found : Found) (book : Book)
+    (waves : Waves) (left : KeptWave) (answer : Reply)
     → IsAsked opening name old rest found waves left
     → HasAnswered opening (missing_at opening (state_of old) order location quantity found.number (wave_of found.wave)) old.book book
-    (map wave_of old.waves) found.number found.wave left answer
+    (map wave_of (waves_of old.waves)) found.number found.wave left answer
     → HasStepped opening (command.Missing name order location quantity) old (record { book = book; waves = waves; takers = old.takers }) answer
 stepped opening name order location quantity old rest found book waves left answer asked answers =
     answered opening (command.Missing name order location quantity) name (missing_at opening (state_of old) order location quantity) old rest found
@@ -199,15 +202,13 @@ stepped opening name order location quantity old rest found book waves left answ
     })
 
 -- what is listed of a wave is told of the wave of its name
-told : (opening : Opening) (name : List ℕ) (old new : Floor) (rest : List KeptWave) (found : Found) (left : KeptWave) (room : Content)
+told : (opening : Opening) (name : List ℕ) (old new : Floor) (rest : Waves) (found : Found) (left : KeptWave) (room : Content)
     → IsAsked opening name old rest found new.waves left → IsFloor opening new
     → left.name ≡ found.wave.name → left.orders ≡ found.wave.orders → ListsMore old.book new.book found.number (length found.wave.orders) room
     → TellsRefill (state_of old) (state_of new) name room
 told opening name old new rest found left room asked floor named orders listed =
-    let back : Found = record found { wave = left } in
-    let is : IsFound name new.waves rest back = record { number = asked.is_found.number; parts = asked.waves_are; named = named ∙ asked.is_found.named } in
-    let at = found_at opening name new rest back floor is in
-    let by = wave_by (map wave_of new.waves) name 0 found.number (wave_of left) at.there is.named floor.sound.names in
+    let there = back_there opening name old new.waves rest found left asked.floor asked.is_found named asked.waves_are in
+    let by = wave_by (map wave_of (waves_of new.waves)) name 0 found.number (wave_of left) there (named ∙ asked.is_found.named) floor.sound.names in
     let zero : 0 + found.number ≡ found.number = omega arith in (
       (found.number, wave_of left),
       by ∙ ap (λ (n : ℕ). Some (n, wave_of left)) zero,
@@ -217,24 +218,24 @@ told opening name old new rest found left room asked floor named orders listed =
 
 -- what the floor answers and tells
 pub record IsMissingAnswered (opening : Opening) (name order : List ℕ) (location : Location) (quantity : ℕ) (old new : Floor)
-    (result : Result Content Reply) : Type 0 where
-  pub out : IfOk result (λ room. HasStepped opening (command.Missing name order location quantity) old new (reply.Refilled quantity))
-  pub told : IfOk result (λ room. TellsRefill (state_of old) (state_of new) name room)
-  pub refused : IfErr result (λ why. HasStepped opening (command.Missing name order location quantity) old new why)
+    (result : Missed) : Type 0 where
+  pub out : IfRefilled result (λ room. HasStepped opening (command.Missing name order location quantity) old new (reply.Refilled quantity))
+  pub told : IfRefilled result (λ room. TellsRefill (state_of old) (state_of new) name room)
+  pub refused : IfAnswered result (λ why. HasStepped opening (command.Missing name order location quantity) old new why)
 
 -- the floor answers a loss and tells its refill as the wave does
-pub missing_answered : (opening : Opening) (name order : List ℕ) (location : Location) (quantity : ℕ) (old : Floor) (rest : List KeptWave) (found : Found)
-    (book : Book) (waves : List KeptWave) (left : KeptWave) (result : Result Content Reply)
+pub missing_answered : (opening : Opening) (name order : List ℕ) (location : Location) (quantity : ℕ) (old : Floor) (rest : Waves) (found : Found)
+    (book : Book) (waves : Waves) (left : KeptWave) (result : Missed)
     → IsAsked opening name old rest found waves left
-    → IfOk result (λ room. (ws : List Wave) → IsAt opening old.book ws found.number found.wave → HasRefilled opening
+    → IfRefilled result (λ room. (ws : List Wave) → IsAt opening old.book ws found.number found.wave → HasRefilled opening
     (missing_at opening (state_at old.book ws) order location quantity found.number (wave_of found.wave)) old.book book ws found.number found.wave left
     quantity room)
-    → IfErr result (λ why. (ws : List Wave) → IsAt opening old.book ws found.number found.wave → HasAnswered opening
+    → IfAnswered result (λ why. (ws : List Wave) → IsAt opening old.book ws found.number found.wave → HasAnswered opening
     (missing_at opening (state_at old.book ws) order location quantity found.number (wave_of found.wave)) old.book book ws found.number found.wave left
     why)
     → IsMissingAnswered opening name order location quantity old (record { book = book; waves = waves; takers = old.takers }) result
-missing_answered opening name order location quantity old rest found book waves left (Ok room) asked done refused =
-    let is = done (map wave_of old.waves) (found_at opening name old rest found asked.floor asked.is_found) in
+missing_answered opening name order location quantity old rest found book waves left (missed.Refilled room) asked done refused =
+    let is = done (map wave_of (waves_of old.waves)) (found_at opening name old rest found asked.floor asked.is_found) in
     let steps = stepped opening name order location quantity old rest found book waves left (reply.Refilled quantity) asked is.answers in
     record {
       out = steps;
@@ -242,9 +243,19 @@ missing_answered opening name order location quantity old rest found book waves 
           is.answers.orders is.listed;
       refused = tt;
     }
-missing_answered opening name order location quantity old rest found book waves left (Err why) asked done refused = record {
+missing_answered opening name order location quantity old rest found book waves left (missed.Answered why) asked done refused = record {
   out = tt;
   told = tt;
   refused = stepped opening name order location quantity old rest found book waves left why asked
-      (refused (map wave_of old.waves) (found_at opening name old rest found asked.floor asked.is_found));
+      (refused (map wave_of (waves_of old.waves)) (found_at opening name old rest found asked.floor asked.is_found));
 }
+
+-- what holds where a loss is refilled goes on to what follows from it
+pub refilled-weaker : (result : Missed) (P Q : Content → Type 0) → ((room : Content) → P room → Q room) → IfRefilled result P → IfRefilled result Q
+refilled-weaker (missed.Refilled room) P Q follows holds = follows room holds
+refilled-weaker (missed.Answered answer) P Q follows holds = tt
+
+-- what holds where a loss is answered goes on to what follows from it
+pub answered-weaker : (result : Missed) (P Q : Reply → Type 0) → ((answer : Reply) → P answer → Q answer) → IfAnswered result P → IfAnswered result Q
+answered-weaker (missed.Refilled room) P Q follows holds = tt
+answered-weaker (missed.Answered answer) P Q follows holds = follows answer holds

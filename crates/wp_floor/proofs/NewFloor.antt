@@ -8,6 +8,7 @@ use Rattle.wp_model.specs.Opening.{Opening}
 use Rattle.wp_model.specs.State.{opening_state}
 use Rattle.wp_model.specs.Tables.{IsReadOpening}
 use Rattle.wp_floor.specs.Floor.{AreTakers, IsFloor, state_of}
+use Rattle.wp_floor.specs.Waves.{AreWaves, waves_of}
 use Rattle.wp_floor.specs.declared.floor.Floor.{Floor}
 use Rattle.wp_floor.proofs.Floors.{is_opening}
 use Rattle.wp_floor.proofs.SameRows.{opening_same_rows}
@@ -26,15 +27,17 @@ no_takers opening = record {
 }
 
 -- what is kept of an opening
-pub floor_opens : (opening : Opening) (floor : Floor) → IsReadOpening opening → floor.book ≡ free_book opening.stock → floor.waves ≡ []
+pub floor_opens : (opening : Opening) (floor : Floor) → IsReadOpening opening → floor.book ≡ free_book opening.stock
+    → AreWaves floor.waves → waves_of floor.waves ≡ []
     → floor.takers.items ≡ replicate (length opening.orders) None
     → IsFloor opening floor
-floor_opens opening floor read book waves takers =
+floor_opens opening floor read book chains waves takers =
     let state : state_of floor ≡ opening_state opening = rw (book, waves) refl in
     record {
       read = read;
       sound = rw state (opening_is_sound opening (is_opening opening read));
       rows = rw book (opening_same_rows opening);
+      chains = chains;
       waves = λ number. rw waves tt;
       takers = rw (waves, takers) (no_takers opening);
     }

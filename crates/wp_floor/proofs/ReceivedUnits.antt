@@ -24,6 +24,7 @@ use Rattle.wp_model.specs.declared.reply.Reply.TheVariants as reply
 use Rattle.wp_model.specs.declared.row.Row.{Row}
 use Rattle.wp_floor.specs.Floor.{AreSameRows, HasStepped, IsFloor, IsKeptWave, row_place, state_at, state_of, stock_row_place, wave_of}
 use Rattle.wp_floor.specs.ReceivedUnits.{AllHaveArticles, HasReceivedAt}
+use Rattle.wp_floor.specs.Waves.{waves_of}
 use Rattle.wp_floor.specs.declared.floor.Floor.{Floor}
 use Rattle.wp_floor.proofs.Floors.{is_opening, kept_same}
 use Rattle.wp_floor.proofs.SameRows.{step_keeps_rows}
@@ -105,20 +106,21 @@ pub received : (opening : Opening) (location : Location) (article : List ℕ) (q
     → HasStepped opening (command.Receive location article quantity) old (record old { book = book }) answer
 received opening location article quantity row r old book answer floor found done =
     let command = command.Receive location article quantity in
-    let all : step opening (state_of old) command ≡ record { reply = answer; state = state_at book (map wave_of old.waves) } =
+    let all : step opening (state_of old) command ≡ record { reply = answer; state = state_at book (map wave_of (waves_of old.waves)) } =
     ap (λ (f : Option (ℕ × Row)). option_map_or (λ (f : ℕ × Row). receive_at opening (state_of old) article quantity f.0 f.1) f
     (refuse (state_of old) reply.NoRow)) found
-    ∙ done.is (map wave_of old.waves) in
-    let after : (step opening (state_of old) command).state ≡ state_at book (map wave_of old.waves) = ap (λ (s : Stepped). s.state) all in
+    ∙ done.is (map wave_of (waves_of old.waves)) in
+    let after : (step opening (state_of old) command).state ≡ state_at book (map wave_of (waves_of old.waves)) = ap (λ (s : Stepped). s.state) all in
     record {
       is = all;
       floor = record {
         read = floor.read;
         sound = subst (IsSound opening) after (step_keeps_sound opening (state_of old) command (is_opening opening floor.read) floor.sound);
         rows = subst (λ (s : State). AreSameRows opening s.rows) after (step_keeps_rows opening (state_of old) command floor.rows);
-        waves = λ n. if_some (slice_get old.waves n) (IsKeptWave opening book n)
+        chains = floor.chains;
+        waves = λ n. if_some (slice_get (waves_of old.waves) n) (IsKeptWave opening book n)
             (λ kept there. kept_same opening old.book book n kept done.rows (λ order place. done.held n order place)
-            (at_some (slice_get old.waves n) (IsKeptWave opening old.book n) kept there (floor.waves n)));
+            (at_some (slice_get (waves_of old.waves) n) (IsKeptWave opening old.book n) kept there (floor.waves n)));
         takers = floor.takers;
       };
       most = omega arith;

@@ -19,12 +19,13 @@ use Rattle.wp_model.specs.declared.command.Command.TheVariants as command
 use Rattle.wp_model.specs.declared.reply.Reply.{Reply}
 use Rattle.wp_model.specs.declared.reply.Reply.TheVariants as reply
 use Rattle.wp_model.specs.declared.reply.WaveState.TheVariants as wave
-use Rattle.wp_floor.specs.Floor.{AreSameRows, AreTakers, HasPapers, HasStepped, IsFloor, IsKeptWave, state_at, state_of, wave_of}
+use Rattle.wp_floor.specs.Floor.{AreSameRows, AreTakers, HasPapers, HasStepped, IsFloor, IsKeptWave, state_at, state_in, state_of, wave_of}
 use Rattle.wp_floor.specs.NewWaves.{IsNewWave}
 use Rattle.wp_floor.specs.Takers.{HasPut}
-use Rattle.wp_floor.specs.Waves.{has_name}
+use Rattle.wp_floor.specs.Waves.{AreWaves, has_name, waves_of}
 use Rattle.wp_floor.specs.declared.floor.Floor.{Floor}
 use Rattle.wp_floor.specs.declared.waves.KeptWave.{KeptWave}
+use Rattle.wp_floor.specs.declared.waves.Stage.{Stage}
 use Rattle.wp_floor.proofs.Floors.{is_opening, member, none_by}
 use Rattle.wp_floor.proofs.SameRows.{step_keeps_rows}
 
@@ -67,22 +68,24 @@ answer_is opening state name orders fault is = ap (λ (f : Option Reply). option
     (record { reply = reply.Submitted; state = add_wave name orders state })) is
 
 -- a name that a wave has
-pub known : (opening : Opening) (old : Floor) (kept : KeptWave) → IsFloor opening old → IsNewWave opening kept → list_any (has_name kept.name) old.waves ≡ true
+pub known : (opening : Opening) (old : Floor) (kept : KeptWave) → IsFloor opening old → IsNewWave opening kept
+    → list_any (has_name kept.name) (waves_of old.waves) ≡ true
     → HasStepped opening (command.Submit kept.name kept.orders) old old reply.KnownWave
 known opening old kept floor new has =
-    let found = some_by old.waves kept.name 0 has in
+    let found = some_by (waves_of old.waves) kept.name 0 has in
     refused_same opening (command.Submit kept.name kept.orders) old reply.KnownWave floor
     (answer_is opening (state_of old) kept.name kept.orders (Some reply.KnownWave)
     (fault_is opening (state_of old) kept.name kept.orders (Some found.0) _ new.some new.most found.1 refl))
 
 -- orders that can't make a wave
 pub faulted : (opening : Opening) (old : Floor) (kept : KeptWave) (fault : Reply) → IsFloor opening old → IsNewWave opening kept
-    → list_any (has_name kept.name) old.waves ≡ false
-    → first_order_fault opening (map wave_of old.waves) [] kept.orders ≡ Some fault → HasStepped opening (command.Submit kept.name kept.orders) old old fault
+    → list_any (has_name kept.name) (waves_of old.waves) ≡ false
+    → first_order_fault opening (map wave_of (waves_of old.waves)) [] kept.orders ≡ Some fault
+    → HasStepped opening (command.Submit kept.name kept.orders) old old fault
 faulted opening old kept fault floor new none first =
     refused_same opening (command.Submit kept.name kept.orders) old fault floor
     (answer_is opening (state_of old) kept.name kept.orders (Some fault)
-    (fault_is opening (state_of old) kept.name kept.orders None (Some fault) new.some new.most (none_by old.waves kept.name 0 none) first))
+    (fault_is opening (state_of old) kept.name kept.orders None (Some fault) new.some new.most (none_by (waves_of old.waves) kept.name 0 none) first))
 
 -- who has an order once one more wave is the last
 taker-push : (waves : List Wave) (w : Wave) (order : List ℕ) (before : Option (List ℕ)) → taker_of waves order ≡ before
@@ -113,51 +116,53 @@ map-push (k ∷ kepts) kept = ap (λ ws. wave_of k ∷ ws) (map-push kepts kept)
 
 -- who has the orders then
 takers_put : (opening : Opening) (old : Floor) (kept : KeptWave) (takers : List (Option (List ℕ))) → IsFloor opening old → IsNewWave opening kept
-    → first_order_fault opening (map wave_of old.waves) [] kept.orders ≡ None → HasPut opening kept.orders (Some kept.name) old.takers.items takers
-    → AreTakers opening (map wave_of (old.waves ++ kept ∷ [])) takers
+    → first_order_fault opening (map wave_of (waves_of old.waves)) [] kept.orders ≡ None → HasPut opening kept.orders (Some kept.name) old.takers.items takers
+    → AreTakers opening (map wave_of (waves_of old.waves ++ kept ∷ [])) takers
 takers_put opening old kept takers floor new first put =
-    let waves = map wave_of old.waves in
+    let waves = map wave_of (waves_of old.waves) in
     let free = free_from_no_fault opening waves [] kept.orders first in
     record {
       count = put.count ∙ floor.takers.count;
       each = λ i order there.
           let was = floor.takers.each i order there in
-          let pushed = ap (λ (ws : List Wave). taker_of ws order.name) (map-push old.waves kept) in
+          let pushed = ap (λ (ws : List Wave). taker_of ws order.name) (map-push (waves_of old.waves) kept) in
           put.each i order there ∙ by order.name (is_among kept.orders order.name) refl (slice_get old.takers.items i) was
           (λ has. let at = member kept.orders order.name has in free.free at.0 order.name at.1)
           ∙ ap Some (sym pushed);
     }
   where
     by : (order : List ℕ) (b : Bool) → is_among kept.orders order ≡ b → (before : Option (Option (List ℕ)))
-        → before ≡ Some (taker_of (map wave_of old.waves) order)
-        → (is_among kept.orders order ≡ true → taker_of (map wave_of old.waves) order ≡ None)
-        → (if is_among kept.orders order then Some (Some kept.name) else before) ≡ Some (taker_of (map wave_of old.waves ++ wave_of kept ∷ []) order)
+        → before ≡ Some (taker_of (map wave_of (waves_of old.waves)) order)
+        → (is_among kept.orders order ≡ true → taker_of (map wave_of (waves_of old.waves)) order ≡ None)
+        → (if is_among kept.orders order then Some (Some kept.name) else before) ≡ Some (taker_of (map wave_of (waves_of old.waves) ++ wave_of kept ∷ []) order)
     by order true e before was free =
         ap (λ t. if t then Some (Some kept.name) else before) e
-        ∙ ap Some (sym (taker-push (map wave_of old.waves) (wave_of kept) order None (free e)
-        ∙ ap₂ (λ a b. if a && b then Some kept.name else None) (ap is_live new.submitted) e))
+        ∙ ap Some (sym (taker-push (map wave_of (waves_of old.waves)) (wave_of kept) order None (free e)
+        ∙ ap₂ (λ a b. if a && b then Some kept.name else None) (ap (λ (s : Stage). is_live (state_in s)) new.submitted) e))
     by order false e before was free =
         ap (λ t. if t then Some (Some kept.name) else before) e ∙ (was
-        ∙ ap Some (sym (taker-push (map wave_of old.waves) (wave_of kept) order (taker_of (map wave_of old.waves) order) refl
-        ∙ (ap₂ (λ a b. option_or (taker_of (map wave_of old.waves) order) (if a && b then Some kept.name else None)) (ap is_live new.submitted) e
-        ∙ none-own (taker_of (map wave_of old.waves) order)))))
+        ∙ ap Some (sym (taker-push (map wave_of (waves_of old.waves)) (wave_of kept) order (taker_of (map wave_of (waves_of old.waves)) order) refl
+        ∙ (ap₂ (λ a b. option_or (taker_of (map wave_of (waves_of old.waves)) order) (if a && b then Some kept.name else None))
+        (ap (λ (s : Stage). is_live (state_in s)) new.submitted) e
+        ∙ none-own (taker_of (map wave_of (waves_of old.waves)) order)))))
 
 -- the wave is the last of all
 pub submitted : (opening : Opening) (old new : Floor) (kept : KeptWave) → IsFloor opening old → IsNewWave opening kept
-    → list_any (has_name kept.name) old.waves ≡ false
-    → first_order_fault opening (map wave_of old.waves) [] kept.orders ≡ None → new.book ≡ old.book → new.waves ≡ old.waves ++ kept ∷ []
+    → list_any (has_name kept.name) (waves_of old.waves) ≡ false
+    → first_order_fault opening (map wave_of (waves_of old.waves)) [] kept.orders ≡ None → new.book ≡ old.book → AreWaves new.waves
+    → waves_of new.waves ≡ waves_of old.waves ++ kept ∷ []
     → HasPut opening kept.orders (Some kept.name) old.takers.items new.takers.items
     → HasStepped opening (command.Submit kept.name kept.orders) old new reply.Submitted
-submitted opening old new kept floor is none first book waves put =
+submitted opening old new kept floor is none first book chains waves put =
     let command = command.Submit kept.name kept.orders in
     let last : wave_of kept ≡ record { name = kept.name; orders = kept.orders; state = wave.Submitted; picked = false } =
-    ap₂ (λ s p. let w : Wave = record { name = kept.name; orders = kept.orders; state = s; picked = p } in w) is.submitted is.unpicked in
+    ap₂ (λ s p. let w : Wave = record { name = kept.name; orders = kept.orders; state = s; picked = p } in w) (ap state_in is.submitted) is.unpicked in
     let after_is : state_of new ≡ add_wave kept.name kept.orders (state_of old) =
     ap₂ (λ (b : Book) (ws : List Wave). state_at b ws) book (ap (map wave_of) waves
-    ∙ (map-push old.waves kept ∙ ap (λ w. map wave_of old.waves ++ w ∷ []) last)) in
+    ∙ (map-push (waves_of old.waves) kept ∙ ap (λ w. map wave_of (waves_of old.waves) ++ w ∷ []) last)) in
     let all : step opening (state_of old) command ≡ record { reply = reply.Submitted; state = state_of new } =
     answer_is opening (state_of old) kept.name kept.orders None
-    (fault_is opening (state_of old) kept.name kept.orders None None is.some is.most (none_by old.waves kept.name 0 none) first)
+    (fault_is opening (state_of old) kept.name kept.orders None None is.some is.most (none_by (waves_of old.waves) kept.name 0 none) first)
     ∙ ap (λ (s : State). let stepped : Stepped = record { reply = reply.Submitted; state = s } in stepped) (sym after_is) in
     let after : (step opening (state_of old) command).state ≡ state_of new = ap (λ (s : Stepped). s.state) all in
     record {
@@ -166,17 +171,19 @@ submitted opening old new kept floor is none first book waves put =
         read = floor.read;
         sound = subst (IsSound opening) after (step_keeps_sound opening (state_of old) command (is_opening opening floor.read) floor.sound);
         rows = subst (λ (s : State). AreSameRows opening s.rows) after (step_keeps_rows opening (state_of old) command floor.rows);
-        waves = λ n. subst (λ (b : Book). IfSome (slice_get new.waves n) (IsKeptWave opening b n)) (sym book)
+        chains = chains;
+        waves = λ n. subst (λ (b : Book). IfSome (slice_get (waves_of new.waves) n) (IsKeptWave opening b n)) (sym book)
             (subst (λ (ws : List KeptWave). IfSome (slice_get ws n) (IsKeptWave opening old.book n)) (sym waves)
-            (if_some (slice_get (old.waves ++ kept ∷ []) n) (IsKeptWave opening old.book n) (λ k there. elim (slice_get-push old.waves n k kept there) [
-              | inl before ↦ at_some (slice_get old.waves n) (IsKeptWave opening old.book n) k before (floor.waves n)
+            (if_some (slice_get (waves_of old.waves ++ kept ∷ []) n) (IsKeptWave opening old.book n)
+            (λ k there. elim (slice_get-push (waves_of old.waves) n k kept there) [
+              | inl before ↦ at_some (slice_get (waves_of old.waves) n) (IsKeptWave opening old.book n) k before (floor.waves n)
               | inr here ↦ subst (IsKeptWave opening old.book n) (sym here.1) (new_kept n)
             ])));
         takers = subst (λ (ws : List KeptWave). AreTakers opening (map wave_of ws) new.takers.items) (sym waves)
             (takers_put opening old kept new.takers.items floor is first put);
       };
-      most = omega (arith, ap length waves, length-append old.waves (kept ∷ []));
+      most = omega (arith, ap length waves, length-append (waves_of old.waves) (kept ∷ []));
     }
   where
     new_kept : (n : ℕ) → IsKeptWave opening old.book n kept
-    new_kept n = record { wants = is.wants; papers = subst (λ s. HasPapers s old.book n kept) (sym is.submitted) is.copy }
+    new_kept n = record { wants = is.wants; papers = subst (λ (s : Stage). HasPapers s old.book n kept) (sym is.submitted) refl }

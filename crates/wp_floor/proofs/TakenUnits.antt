@@ -16,12 +16,13 @@ use Rattle.wp_model.specs.Opening.{Opening}
 use Rattle.wp_model.specs.State.{State, Wave, wave_held, wave_held_at}
 use Rattle.wp_model.specs.Step.{Stepped, pick}
 use Rattle.wp_model.specs.declared.reply.Reply.TheVariants as reply
-use Rattle.wp_model.specs.declared.reply.WaveState.{WaveState}
 use Rattle.wp_model.specs.declared.reply.WaveState.TheVariants as wave
-use Rattle.wp_floor.specs.Floor.{AreWantsOf, HasAnswered, HasPapers, IsAt, IsKeptWave, state_at, wave_of}
+use Rattle.wp_floor.specs.Floor.{AreWantsOf, HasAnswered, HasPapers, IsAt, IsKeptWave, state_at, state_in, wave_of}
 use Rattle.wp_floor.specs.HeldUnits.{held_of}
 use Rattle.wp_floor.specs.declared.held.HeldUnits.{HeldUnits}
 use Rattle.wp_floor.specs.declared.waves.KeptWave.{KeptWave}
+use Rattle.wp_floor.specs.declared.waves.Stage.{Stage}
+use Rattle.wp_floor.specs.declared.waves.Stage.TheVariants as stage
 use Rattle.wp_floor.proofs.BookStates.{state_is, with_held_is}
 
 -- what a wave holds is held for its orders, at rows
@@ -46,11 +47,11 @@ all_none book waves number orders none = sum-zero (length book.rows) _ (λ row w
 
 -- how a wave is left
 pub record IsLeft (book : Book) (number : ℕ) (was left : KeptWave) : Type 0 where
-  pub none : HoldsNone book number → left ≡ record was { state = wave.Done }
+  pub none : HoldsNone book number → left ≡ record was { stage = stage.Done }
   pub some : (HoldsNone book number → ⊥) → left ≡ was
 
 left_cases : (book : Book) (waves : List Wave) (number : ℕ) (was left : KeptWave) → IsBounded book number (length was.orders) → IsLeft book number was left
-    → ((wave_held (state_at book waves) number (length was.orders) ≡ 0) × (left ≡ record was { state = wave.Done }))
+    → ((wave_held (state_at book waves) number (length was.orders) ≡ 0) × (left ≡ record was { stage = stage.Done }))
     ⊎ ((wave_held (state_at book waves) number (length was.orders) ≢ 0) × (left ≡ was))
 left_cases book waves number was left bounded is = elim (cases_eq (wave_held (state_at book waves) number (length was.orders)) 0) [
   | inl none ↦ inl (none, is.none (none_held book waves number (length was.orders) bounded none))
@@ -65,8 +66,8 @@ pub record IsSettled (opening : Opening) (book : Book) (waves : List Wave) (numb
   pub orders : left.orders ≡ was.orders
 
 settled_done : (opening : Opening) (book : Book) (waves : List Wave) (number : ℕ) (was : KeptWave) → AreWantsOf opening was.orders was.wants.items
-    → was.state ≡ wave.Released → wave_held (state_at book waves) number (length was.orders) ≡ 0
-    → IsSettled opening book waves number was (record was { state = wave.Done })
+    → state_in was.stage ≡ wave.Released → wave_held (state_at book waves) number (length was.orders) ≡ 0
+    → IsSettled opening book waves number was (record was { stage = stage.Done })
 settled_done opening book waves number was are released none =
     let held = wave_held (state_at book waves) number (length was.orders) in
     record {
@@ -77,22 +78,30 @@ settled_done opening book waves number was are released none =
       orders = refl;
     }
 
+-- a released wave needs no papers
+no_papers : (book : Book) (number : ℕ) (kept : KeptWave) (s : Stage) → state_in s ≡ wave.Released → HasPapers s book number kept
+no_papers book number kept (stage.Submitted copy) is = absurd (cc)
+no_papers book number kept (stage.Allotted sheet) is = absurd (cc)
+no_papers book number kept stage.Released is = tt
+no_papers book number kept stage.Cancelled is = tt
+no_papers book number kept stage.Done is = tt
+
 settled_same : (opening : Opening) (book : Book) (waves : List Wave) (number : ℕ) (was : KeptWave) → AreWantsOf opening was.orders was.wants.items
-    → was.state ≡ wave.Released → wave_held (state_at book waves) number (length was.orders) ≢ 0
+    → state_in was.stage ≡ wave.Released → wave_held (state_at book waves) number (length was.orders) ≢ 0
     → IsSettled opening book waves number was was
 settled_same opening book waves number was are released some =
     let held = wave_held (state_at book waves) number (length was.orders) in
     record {
       is = ap (λ (w : Wave). put_wave number w (state_at book waves))
           (cond-false (held == 0) (record (wave_of was) { state = wave.Done }) (wave_of was) (ne_eqb held 0 some));
-      keeps = record { wants = are; papers = subst (λ (s : WaveState). HasPapers s book number was) (sym released) tt };
+      keeps = record { wants = are; papers = no_papers book number was was.stage released };
       name = refl;
       orders = refl;
     }
 
 -- a released wave that is done where it holds nothing, and else as it was, is settled
 pub settled : (opening : Opening) (book : Book) (waves : List Wave) (number : ℕ) (was left : KeptWave) → AreWantsOf opening was.orders was.wants.items
-    → was.state ≡ wave.Released → IsBounded book number (length was.orders) → IsLeft book number was left
+    → state_in was.stage ≡ wave.Released → IsBounded book number (length was.orders) → IsLeft book number was left
     → IsSettled opening book waves number was left
 settled opening book waves number was left are released bounded is = elim (left_cases book waves number was left bounded is) [
   | inl done ↦ subst (IsSettled opening book waves number was) (sym done.1) (settled_done opening book waves number was are released done.0)
@@ -102,7 +111,7 @@ settled opening book waves number was left are released bounded is = elim (left_
 -- units that a released wave holds for one of its orders at a row were taken
 pub record IsTaking (opening : Opening) (old new : Book) (waves : List Wave) (number : ℕ) (kept : KeptWave) (order row units : ℕ) : Type 0 where
   pub at : IsAt opening old waves number kept
-  pub released : kept.state ≡ wave.Released
+  pub released : state_in kept.stage ≡ wave.Released
   pub within : order < length kept.orders
   pub enough : units ≤ held_for old number order row
   pub taken : HasTaken number order row units old new

@@ -1,6 +1,6 @@
 -- Stock that is held for a wave, and the list of it.
-use Rattle.std.proofs.Common.{◌≡◌, ◌∙◌, refl, sym, ap, ap₂, subst, ℕ, ◌+◌, ◌<◌, ◌≤◌, ◌==◌, suc, inl, inr, List, [], ◌∷◌, length, Option, Some, None}
-use Rattle.std.proofs.Common.{slice_get, slice_set, arith, ne_eqb}
+use Rattle.std.proofs.Common.{◌≡◌, ◌∙◌, refl, sym, ap, ap₂, subst, ℕ, ◌+◌, ◌<◌, ◌≤◌, ◌==◌, suc, inl, inr, List, [], ◌∷◌, length, Some, None}
+use Rattle.std.proofs.Common.{slice_get, arith, ne_eqb}
 use Rattle.std.proofs.Math.Path.{fun_ext}
 use Rattle.std.proofs.lemmas.Bool.{cases_eq, cond-false}
 use Rattle.std.proofs.lemmas.List.Sums.{sum_by-cons}
@@ -23,28 +23,38 @@ use Rattle.wp_model.specs.declared.reply.Reply.TheVariants as reply
 use Rattle.wp_model.specs.declared.reply.WaveState.{WaveState}
 use Rattle.wp_model.specs.declared.reply.WaveState.TheVariants as wave
 use Rattle.wp_model.specs.declared.row.Row.{Row}
-use Rattle.wp_floor.specs.Floor.{AreWantsOf, HasAnswered, HasPapers, IsAt, IsFreshRoom, IsKeptWave, most_wants, state_at, wave_of}
-use Rattle.wp_floor.specs.ReleasedWaves.{HasListed, HasReleased}
-use Rattle.wp_floor.specs.declared.releasing.Sheet.{Sheet}
+use Rattle.wp_floor.specs.Floor.{AreWantsOf, HasAnswered, HasPapers, IsAt, IsFreshRoom, IsKeptWave, most_wants, state_at, state_in, wave_of}
+use Rattle.wp_floor.specs.ReleasedWaves.{HasReleased}
 use Rattle.wp_floor.specs.WaveStock.{IsHeld, IsRefusedShort}
 use Rattle.wp_floor.specs.declared.waves.KeptWave.{KeptWave}
-use Rattle.wp_floor.proofs.BookStates.{hold_for_done, hold_for_short}
+use Rattle.wp_floor.specs.declared.waves.Sheet.{Sheet}
+use Rattle.wp_floor.specs.declared.waves.Stage.{Stage}
+use Rattle.wp_floor.specs.declared.waves.Stage.TheVariants as stage
+use Rattle.wp_floor.proofs.BookStates.{hold_for_done, hold_for_short, refused}
 use Rattle.wp_floor.proofs.Floors.{is_opening}
 use Rattle.wp_floor.proofs.TakenUnits.{none_held}
 use Rattle.wp_floor.proofs.WaveDemand.{wants_below}
 
--- a wave that is allotted from another state than submitted
-pub allot_wrong : (opening : Opening) (state : State) (number : ℕ) (w : Wave) (s : WaveState) → (s ≡ wave.Submitted → ⊥)
-    → allot opening state number w s ≡ refuse state (reply.WrongState s)
-allot_wrong opening state number w wave.Submitted other = absurd (other refl)
-allot_wrong opening state number w wave.Allotted other = refl
-allot_wrong opening state number w wave.Released other = refl
-allot_wrong opening state number w wave.Cancelled other = refl
-allot_wrong opening state number w wave.Done other = refl
+-- a wave that is allotted from another stage than submitted
+pub allot_wrong : (opening : Opening) (state : State) (number : ℕ) (w : Wave) (s : Stage) → ((copy : List (List ℕ)) → s ≡ stage.Submitted copy → ⊥)
+    → allot opening state number w (state_in s) ≡ refuse state (reply.WrongState (state_in s))
+allot_wrong opening state number w (stage.Submitted copy) other = absurd (other copy refl)
+allot_wrong opening state number w (stage.Allotted sheet) other = refl
+allot_wrong opening state number w stage.Released other = refl
+allot_wrong opening state number w stage.Cancelled other = refl
+allot_wrong opening state number w stage.Done other = refl
+
+-- a wave that is refused and put back at its stage is as it was
+pub refused_at : (opening : Opening) (book : Book) (waves : List Wave) (number : ℕ) (kept : KeptWave) (s : Stage) (stepped : Stepped) (answer : Reply)
+    → IsAt opening book waves number kept → s ≡ kept.stage → stepped ≡ record { reply = answer; state = state_at book waves }
+    → HasAnswered opening stepped book book waves number kept (record kept { stage = s }) answer
+refused_at opening book waves number kept s stepped answer at same is =
+    subst (λ (t : Stage). HasAnswered opening stepped book book waves number kept (record kept { stage = t }) answer) (sym same)
+    (refused opening book waves number kept stepped answer at is)
 
 -- a wave that was submitted holds nothing
 pub holds_nothing : (opening : Opening) (book : Book) (waves : List Wave) (number : ℕ) (kept : KeptWave) → IsAt opening book waves number kept
-    → kept.state ≡ wave.Submitted → HoldsNone book number
+    → state_in kept.stage ≡ wave.Submitted → HoldsNone book number
 holds_nothing opening book waves number kept at submitted =
     let sound : IsSoundWave opening (state_at book waves) number (wave_of kept) =
     at_some (slice_get waves number) (IsSoundWave opening (state_at book waves) number) (wave_of kept) at.there (at.sound.waves number) in
@@ -56,7 +66,7 @@ holds_nothing opening book waves number kept at submitted =
 
 -- and once stock was held for it, all that it holds is listed
 pub is_listed : (opening : Opening) (old new : Book) (waves : List Wave) (number : ℕ) (kept : KeptWave) (room sheet : Content)
-    → IsAt opening old waves number kept → kept.state ≡ wave.Submitted → IsHeld number kept.wants.items old new room sheet
+    → IsAt opening old waves number kept → state_in kept.stage ≡ wave.Submitted → IsHeld number kept.wants.items old new room sheet
     → sheet.holds ≡ held_list (length kept.orders) (length new.rows) (held_for new number)
 is_listed opening old new waves number kept room sheet at submitted held =
     let orders = length kept.orders in
@@ -67,18 +77,29 @@ is_listed opening old new waves number kept room sheet at submitted held =
     λ o r. omega (arith, none o r, held.allotted.held o r) in
     held.listed.holds orders below ∙ ap₂ (λ n h. held_list orders n h) (sym rows) (fun_ext (λ o. fun_ext (λ r. each o r)))
 
+-- the copy that a wave has once it is submitted is of its orders
+copy_is : (opening : Opening) (book : Book) (waves : List Wave) (number : ℕ) (kept : KeptWave) (copy : List (List ℕ)) → IsAt opening book waves number kept
+    → kept.stage ≡ stage.Submitted copy → copy ≡ kept.orders
+copy_is opening book waves number kept copy at is = subst (λ (s : Stage). HasPapers s book number kept) is at.keeps.papers
+
 -- stock was held for a wave that is allotted then
-pub allotted : (opening : Opening) (old new : Book) (waves : List Wave) (number : ℕ) (kept : KeptWave) (room sheet : Content)
-    → IsAt opening old waves number kept → kept.state ≡ wave.Submitted → IsHeld number kept.wants.items old new room sheet
-    → HasAnswered opening (allot opening (state_at old waves) number (wave_of kept) kept.state) old new waves number kept
-    (record kept { state = wave.Allotted; sheet = Some sheet }) reply.Allotted
-allotted opening old new waves number kept room sheet at submitted held =
-    let copy : kept.copy ≡ Some kept.orders = subst (λ (s : WaveState). HasPapers s old number kept) submitted at.keeps.papers in
+pub allotted : (opening : Opening) (old new : Book) (waves : List Wave) (number : ℕ) (kept : KeptWave) (copy : List (List ℕ)) (room sheet : Content)
+    → IsAt opening old waves number kept → kept.stage ≡ stage.Submitted copy → IsHeld number kept.wants.items old new room sheet
+    → HasAnswered opening (allot opening (state_at old waves) number (wave_of kept) (state_in kept.stage)) old new waves number kept
+    (record kept { stage = stage.Allotted (record { orders = copy; room = sheet }) }) reply.Allotted
+allotted opening old new waves number kept copy room sheet at is held =
+    let submitted : state_in kept.stage ≡ wave.Submitted = ap state_in is in
     let below = wants_below opening kept.orders kept.wants.items at.keeps.wants in
     record {
       is = ap (allot opening (state_at old waves) number (wave_of kept)) submitted
           ∙ hold_for_done opening old new waves number kept wave.Allotted reply.Allotted room sheet at.keeps.wants held;
-      keeps = record { wants = at.keeps.wants; papers = (copy, (sheet, refl, is_listed opening old new waves number kept room sheet at submitted held)) };
+      keeps = record {
+        wants = at.keeps.wants;
+        papers = (
+          copy_is opening old waves number kept copy at is,
+          is_listed opening old new waves number kept room sheet at submitted held,
+        );
+      };
       others = held.allotted.others;
       rows = ap length (held.allotted.rows (length kept.orders) below) ∙ length-change_rows _ old.rows;
       name = refl;
@@ -86,7 +107,7 @@ allotted opening old new waves number kept room sheet at submitted held =
     }
 
 -- where stock is short, the command is refused, and the book and the wave stay as they are
-pub short : (opening : Opening) (old new : Book) (waves : List Wave) (number : ℕ) (kept : KeptWave) (next : WaveState) (done answer : Reply)
+short : (opening : Opening) (old new : Book) (waves : List Wave) (number : ℕ) (kept : KeptWave) (next : WaveState) (done answer : Reply)
     (stepped : Stepped) → IsAt opening old waves number kept
     → stepped ≡ hold_for opening (state_at old waves) next done number (wave_of kept) → IsRefusedShort opening kept.wants.items old new answer
     → HasAnswered opening stepped old new waves number kept kept answer
@@ -99,31 +120,44 @@ short opening old new waves number kept next done answer stepped at is refused =
   orders = refl;
 }
 
--- a wave that is released from another state than submitted or allotted
-pub release_wrong : (opening : Opening) (state : State) (number : ℕ) (w : Wave) (s : WaveState) → (s ≡ wave.Submitted → ⊥) → (s ≡ wave.Allotted → ⊥)
-    → release opening state number w s ≡ refuse state (reply.WrongState s)
-release_wrong opening state number w wave.Submitted submitted allotted = absurd (submitted refl)
-release_wrong opening state number w wave.Allotted submitted allotted = absurd (allotted refl)
-release_wrong opening state number w wave.Released submitted allotted = refl
-release_wrong opening state number w wave.Cancelled submitted allotted = refl
-release_wrong opening state number w wave.Done submitted allotted = refl
+-- and so it is put back at its stage
+pub short_at : (opening : Opening) (old new : Book) (waves : List Wave) (number : ℕ) (kept : KeptWave) (s : Stage) (next : WaveState) (done answer : Reply)
+    (stepped : Stepped) → IsAt opening old waves number kept → s ≡ kept.stage
+    → stepped ≡ hold_for opening (state_at old waves) next done number (wave_of kept) → IsRefusedShort opening kept.wants.items old new answer
+    → HasAnswered opening stepped old new waves number kept (record kept { stage = s }) answer
+short_at opening old new waves number kept s next done answer stepped at same is refused =
+    subst (λ (t : Stage). HasAnswered opening stepped old new waves number kept (record kept { stage = t }) answer) (sym same)
+    (short opening old new waves number kept next done answer stepped at is refused)
 
--- stock was held for a wave that may go out then, and is listed
-pub held_and_listed : (opening : Opening) (old new : Book) (waves : List Wave) (number : ℕ) (kept : KeptWave) (room sheet : Content)
-    → IsAt opening old waves number kept → kept.state ≡ wave.Submitted → IsHeld number kept.wants.items old new room sheet
-    → HasListed opening old new waves number kept kept (Some sheet)
-held_and_listed opening old new waves number kept room sheet at submitted held =
+-- a wave that is released from another stage than submitted or allotted
+pub release_wrong : (opening : Opening) (state : State) (number : ℕ) (w : Wave) (s : Stage) → ((copy : List (List ℕ)) → s ≡ stage.Submitted copy → ⊥)
+    → ((sheet : Sheet) → s ≡ stage.Allotted sheet → ⊥)
+    → release opening state number w (state_in s) ≡ refuse state (reply.WrongState (state_in s))
+release_wrong opening state number w (stage.Submitted copy) submitted allotted = absurd (submitted copy refl)
+release_wrong opening state number w (stage.Allotted sheet) submitted allotted = absurd (allotted sheet refl)
+release_wrong opening state number w stage.Released submitted allotted = refl
+release_wrong opening state number w stage.Cancelled submitted allotted = refl
+release_wrong opening state number w stage.Done submitted allotted = refl
+
+-- stock was held for a wave that goes out then
+pub submitted_out : (opening : Opening) (old new : Book) (waves : List Wave) (number : ℕ) (kept : KeptWave) (copy : List (List ℕ)) (room sheet : Content)
+    → IsAt opening old waves number kept → kept.stage ≡ stage.Submitted copy → IsHeld number kept.wants.items old new room sheet
+    → HasReleased opening old new waves number kept (record kept { stage = stage.Released }) (record { orders = copy; room = sheet })
+submitted_out opening old new waves number kept copy room sheet at is held =
+    let submitted : state_in kept.stage ≡ wave.Submitted = ap state_in is in
     let below = wants_below opening kept.orders kept.wants.items at.keeps.wants in
     record {
-      is = ap (release opening (state_at old waves) number (wave_of kept)) submitted
-          ∙ hold_for_done opening old new waves number kept wave.Released reply.Released room sheet at.keeps.wants held;
-      list = (sheet, refl, is_listed opening old new waves number kept room sheet at submitted held);
-      copy = subst (λ (s : WaveState). HasPapers s old number kept) submitted at.keeps.papers;
-      others = held.allotted.others;
-      rows = ap length (held.allotted.rows (length kept.orders) below) ∙ length-change_rows _ old.rows;
-      same = refl;
-      wants = refl;
-      kept_copy = refl;
+      answers = record {
+        is = ap (release opening (state_at old waves) number (wave_of kept)) submitted
+            ∙ hold_for_done opening old new waves number kept wave.Released reply.Released room sheet at.keeps.wants held;
+        keeps = record { wants = at.keeps.wants; papers = tt };
+        others = held.allotted.others;
+        rows = ap length (held.allotted.rows (length kept.orders) below) ∙ length-change_rows _ old.rows;
+        name = refl;
+        orders = refl;
+      };
+      copied = copy_is opening old waves number kept copy at is;
+      listed = is_listed opening old new waves number kept room sheet at submitted held;
     }
 
 -- an article of which units are wanted is below each number that all wants' articles are below
@@ -145,31 +179,3 @@ fits opening orders rows wants room are fresh = record {
   size = let some : wanted_rows rows wants ≤ length rows = count_by-le-length (λ (row : Row). is_wanted wants row.article) rows in
       omega (arith, some, are.few, fresh.1);
 }
-
--- a wave that may go out and holds what is listed goes out
-pub released : (opening : Opening) (old new : Book) (waves : List Wave) (number : ℕ) (was middle kept : KeptWave) (room : Option Content)
-    (orders : Option (List (List ℕ))) (sheet : Option Sheet)
-    → IsAt opening old waves number was → HasListed opening old new waves number was middle room
-    → wave_of kept ≡ record (wave_of middle) { state = wave.Released } → kept.wants ≡ middle.wants → orders ≡ middle.copy
-    → ((names : List (List ℕ)) (holds : Content) → orders ≡ Some names → room ≡ Some holds → sheet ≡ Some (record { orders = names; room = holds }))
-    → HasReleased opening old new waves number was kept sheet
-released opening old new waves number was middle kept room orders sheet at listed is wants taken made =
-    let w : Wave = record (wave_of was) { state = wave.Released } in
-    let left : wave_of kept ≡ w = is ∙ ap (λ (v : Wave). let x : Wave = record v { state = wave.Released } in x) listed.same in
-    let names : orders ≡ Some was.orders = taken ∙ (listed.kept_copy ∙ listed.copy) in
-    record {
-      answers = record {
-        is = listed.is ∙ ap (λ (v : Wave). let s : Stepped = record { reply = reply.Released; state = state_at new (slice_set waves number v) } in s)
-            (sym left);
-        keeps = record {
-          wants = subst (λ (os : List (List ℕ)). AreWantsOf opening os kept.wants.items) (sym (ap (λ (v : Wave). v.orders) left))
-              (subst (λ (ws : List Want). AreWantsOf opening was.orders ws) (sym (ap (λ v. v.items) (wants ∙ listed.wants))) at.keeps.wants);
-          papers = subst (λ (s : WaveState). HasPapers s new number kept) (sym (ap (λ (v : Wave). v.state) left)) tt;
-        };
-        others = listed.others;
-        rows = listed.rows;
-        name = ap (λ (v : Wave). v.name) left;
-        orders = ap (λ (v : Wave). v.orders) left;
-      };
-      sheet_is = (record { orders = was.orders; room = listed.list.0 }, made was.orders listed.list.0 names listed.list.1, refl, listed.list.2);
-    }

@@ -22,10 +22,21 @@ use Rattle.wp_model.specs.declared.row.Row.{Row}
 use Rattle.wp_model.specs.declared.row.StockRow.{StockRow}
 use Rattle.wp_floor.specs.declared.floor.Floor.{Floor}
 use Rattle.wp_floor.specs.declared.waves.KeptWave.{KeptWave}
+use Rattle.wp_floor.specs.declared.waves.Stage.{Stage}
+use Rattle.wp_floor.specs.declared.waves.Stage.TheVariants as stage
+use Rattle.wp_floor.specs.Waves.{AreWaves, waves_of}
+
+-- how far a wave is at a stage
+abbrev pub state_in : Stage → WaveState
+state_in (stage.Submitted copy) = wave.Submitted
+state_in (stage.Allotted sheet) = wave.Allotted
+state_in stage.Released = wave.Released
+state_in stage.Cancelled = wave.Cancelled
+state_in stage.Done = wave.Done
 
 -- a kept wave is this wave
 abbrev pub wave_of : KeptWave → Wave
-wave_of kept = record { name = kept.name; orders = kept.orders; state = kept.state; picked = kept.picked }
+wave_of kept = record { name = kept.name; orders = kept.orders; state = state_in kept.stage; picked = kept.picked }
 
 -- the state of a book and waves
 abbrev pub state_at : Book → List Wave → State
@@ -46,21 +57,20 @@ pub record AreWantsOf (opening : Opening) (orders : List (List ℕ)) (wants : Li
 abbrev pub IsFreshRoom : ℕ → Content → Type 0
 IsFreshRoom size room = (room.holds ≡ []) × (size ≤ room.size)
 
--- the papers of a wave: until it is released it has a copy of its orders, and while it is allotted the list of what
--- it holds
-abbrev pub HasPapers : WaveState → Book → ℕ → KeptWave → Type 0
-HasPapers wave.Submitted book number kept = kept.copy ≡ Some kept.orders
-HasPapers wave.Allotted book number kept =
-    (kept.copy ≡ Some kept.orders) × ((sheet : Content) × (kept.sheet ≡ Some sheet) ×
-    (sheet.holds ≡ held_list (length kept.orders) (length book.rows) (held_for book number)))
-HasPapers wave.Released book number kept = ⊤
-HasPapers wave.Cancelled book number kept = ⊤
-HasPapers wave.Done book number kept = ⊤
+-- the papers of a wave: until it is released it has a copy of its orders, and while it is allotted that stands on the
+-- sheet that lists what it holds
+abbrev pub HasPapers : Stage → Book → ℕ → KeptWave → Type 0
+HasPapers (stage.Submitted copy) book number kept = copy ≡ kept.orders
+HasPapers (stage.Allotted sheet) book number kept =
+    (sheet.orders ≡ kept.orders) × (sheet.room.holds ≡ held_list (length kept.orders) (length book.rows) (held_for book number))
+HasPapers stage.Released book number kept = ⊤
+HasPapers stage.Cancelled book number kept = ⊤
+HasPapers stage.Done book number kept = ⊤
 
 -- a wave is kept as it should be
 pub record IsKeptWave (opening : Opening) (book : Book) (number : ℕ) (kept : KeptWave) : Type 0 where
   pub wants : AreWantsOf opening kept.orders kept.wants.items
-  pub papers : HasPapers kept.state book number kept
+  pub papers : HasPapers kept.stage book number kept
 
 -- a wave has its place among waves that make a sound state with a book
 pub record IsAt (opening : Opening) (book : Book) (waves : List Wave) (number : ℕ) (kept : KeptWave) : Type 0 where
@@ -99,19 +109,20 @@ pub record AreTakers (opening : Opening) (waves : List Wave) (takers : List (Opt
 
 -- the state that is kept
 abbrev pub state_of : Floor → State
-state_of floor = state_at floor.book (map wave_of floor.waves)
+state_of floor = state_at floor.book (map wave_of (waves_of floor.waves))
 
 -- how many waves there are
 abbrev pub wave_count : Floor → ℕ
-wave_count floor = length floor.waves
+wave_count floor = length (waves_of floor.waves)
 
 -- what is kept is a sound state of an opening that was read, whose rows are the opening's
 pub record IsFloor (opening : Opening) (floor : Floor) : Type 0 where
   pub read : IsReadOpening opening
   pub sound : IsSound opening (state_of floor)
   pub rows : AreSameRows opening floor.book.rows
-  pub waves : (number : ℕ) → IfSome (slice_get floor.waves number) (IsKeptWave opening floor.book number)
-  pub takers : AreTakers opening (map wave_of floor.waves) floor.takers.items
+  pub chains : AreWaves floor.waves
+  pub waves : (number : ℕ) → IfSome (slice_get (waves_of floor.waves) number) (IsKeptWave opening floor.book number)
+  pub takers : AreTakers opening (map wave_of (waves_of floor.waves)) floor.takers.items
 
 -- a command was answered as it is in the state, and what is kept is the state after it
 pub record HasStepped (opening : Opening) (command : Command) (old new : Floor) (answer : Reply) : Type 0 where

@@ -9,7 +9,7 @@ use Rattle.wp_model.specs.declared.reply.Reply.TheVariants as reply
 use Rattle.wp_model.specs.declared.reply.WaveState.{WaveState}
 use Rattle.wp_model.specs.declared.reply.WaveState.TheVariants as wave
 use Rattle.wp_model.specs.declared.row.Row.{Row}
-use Rattle.wp_floor.specs.Floor.{state_at, wave_of}
+use Rattle.wp_floor.specs.Floor.{state_at, state_in, wave_of}
 use Rattle.wp_floor.specs.declared.held.HeldUnits.{HeldUnits}
 use Rattle.wp_floor.specs.declared.waves.KeptWave.{KeptWave}
 
@@ -46,7 +46,7 @@ unless_released wave.Done = Some (reply.WrongState wave.Done)
 
 -- units that a released wave holds for an order at a location, and that are enough
 pub record IsClaimed (book : Book) (number : ℕ) (kept : KeptWave) (order : List ℕ) (location : Location) (quantity : ℕ) (found : HeldUnits) : Type 0 where
-  pub released : kept.state ≡ wave.Released
+  pub released : state_in kept.stage ≡ wave.Released
   pub held : held_there book number kept order location ≡ Some (held_of found)
   pub enough : quantity ≤ found.units
 
@@ -54,4 +54,4 @@ pub record IsClaimed (book : Book) (number : ℕ) (kept : KeptWave) (order : Lis
 abbrev pub IsClaimRefused : Book → ℕ → KeptWave → List ℕ → Location → ℕ → Reply → Type 0
 IsClaimRefused book number kept order location quantity answer =
     (waves : List Wave) (change : step.Held → step.Stepped) → step.at_released (state_at book waves) number
-    (wave_of kept) order location quantity change kept.state ≡ step.refuse (state_at book waves) answer
+    (wave_of kept) order location quantity change (state_in kept.stage) ≡ step.refuse (state_at book waves) answer

@@ -1,5 +1,5 @@
 -- Units that are missing, and what is held in their place.
-use Rattle.std.specs.Prelude.{◌≡◌, ℕ, ◌+◌, ◌-◌, ◌<◌, ◌≤◌, Bool, true, false, List, length, Some}
+use Rattle.std.specs.Prelude.{◌≡◌, ℕ, ◌+◌, ◌-◌, ◌<◌, ◌≤◌, ⊤, Bool, true, false, List, length, Some}
 use Rattle.wp_book.specs.Calls.{KeepsOthers}
 use Rattle.wp_book.specs.Room.{Content}
 use Rattle.wp_model.specs.Book.{Book, held_for, held_list}
@@ -15,6 +15,8 @@ use Rattle.wp_model.specs.declared.row.Row.{Row}
 use Rattle.wp_floor.specs.Floor.{HasAnswered, IsFreshRoom}
 use Rattle.wp_floor.specs.declared.held.HeldUnits.{HeldUnits}
 use Rattle.wp_floor.specs.declared.holding.Rooms.{Rooms}
+use Rattle.wp_floor.specs.declared.refilling.Missed.{Missed}
+use Rattle.wp_floor.specs.declared.refilling.Missed.TheVariants as missed
 use Rattle.wp_floor.specs.declared.waves.KeptWave.{KeptWave}
 
 -- empty room for what may be held in place of missing units, and for the list of it
@@ -25,6 +27,16 @@ HaveRefillSpace rows rooms = IsFreshRoom (length rows + 1) rooms.room × IsFresh
 abbrev pub refills : Reply → Bool
 refills (reply.Refilled units) = true
 refills other = false
+
+-- what holds of the list where a loss is refilled
+abbrev pub IfRefilled : Missed → (Content → Type 0) → Type 0
+IfRefilled (missed.Refilled room) holds = holds room
+IfRefilled (missed.Answered answer) holds = ⊤
+
+-- what holds of the reply where a loss is answered
+abbrev pub IfAnswered : Missed → (Reply → Type 0) → Type 0
+IfAnswered (missed.Refilled room) holds = ⊤
+IfAnswered (missed.Answered answer) holds = holds answer
 
 -- what is held for orders in place of so many lost units: the order that lost them wants as many, and takes none from
 -- the row where they were

@@ -6,10 +6,10 @@ use Rattle.wp_model.specs.declared.command.Command.{Command}
 use Rattle.wp_model.specs.declared.command.Command.TheVariants as command
 use Rattle.wp_model.specs.declared.reply.Reply.{Reply}
 use Rattle.wp_model.specs.declared.reply.Reply.TheVariants as reply
-use Rattle.wp_model.specs.declared.reply.WaveState.TheVariants as wave
 use Rattle.wp_floor.specs.Floor.{AreWantsOf}
 use Rattle.wp_floor.specs.declared.submitting.NewWave.{NewWave}
 use Rattle.wp_floor.specs.declared.waves.KeptWave.{KeptWave}
+use Rattle.wp_floor.specs.declared.waves.Stage.TheVariants as stage
 
 -- why orders can't make a wave whatever was submitted before: there are none, or too many
 abbrev pub size_fault : List (List ℕ) → Option Reply
@@ -20,12 +20,11 @@ size_fault orders =
 
 -- a wave of which nothing was done, of some orders and not too many
 pub record IsNewWave (opening : Opening) (kept : KeptWave) : Type 0 where
-  pub submitted : kept.state ≡ wave.Submitted
+  pub submitted : kept.stage ≡ stage.Submitted kept.orders
   pub unpicked : kept.picked ≡ false
   pub some : 0 < length kept.orders
   pub most : length kept.orders ≤ most_wave_orders
   pub wants : AreWantsOf opening kept.orders kept.wants.items
-  pub copy : kept.copy ≡ Some kept.orders
 
 -- the command that a wave was prepared for
 abbrev pub submit_of : NewWave → Command

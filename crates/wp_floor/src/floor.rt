@@ -20,7 +20,7 @@ use std::alloc::Global;
 use wp_book::StockBook;
 use wp_model::{Location, MOST_ON_HAND, Memory, Name, Reply};
 
-/// The stock book, the waves in the order of their submission, and for each order of the opening the wave that has it.
+/// The stock book, the waves, and for each order of the opening the wave that has it.
 #[derive(Drop)]
 pub struct Floor {
     pub(crate) book: StockBook,
@@ -82,10 +82,11 @@ impl Floor {
         ensures none { IfOk result (λ floor. wave_count floor ≡ 0) }
     {
         let book = StockBook::open(alloc, opening.stock())?;
+        let waves = Waves::open(alloc)?;
         let takers = no_takers(alloc, opening.orders().count())?;
         Ok(Floor {
             book,
-            waves: Waves::new(),
+            waves,
             takers,
         })
     }

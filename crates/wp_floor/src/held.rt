@@ -103,7 +103,7 @@ pub fn claimed(
     ensures found { IfOk result (IsClaimed book.now number wave.now claim.now.order claim.now.location claim.now.quantity) }
     ensures refused { IfErr result (IsClaimRefused book.now number wave.now claim.now.order claim.now.location claim.now.quantity) }
 {
-    match wrong_state(wave.state) {
+    match wrong_state(wave.stage.state()) {
         Some(refusal) => Err(refusal),
         None => enough_held(book, number, wave, claim),
     }

@@ -4,17 +4,18 @@ ghost use Rattle.wp_allot.specs.Wants.{AreRegular, IsRoomFor};
 ghost use Rattle.wp_allot.specs.declared.want.Want.{Want as WantData};
 ghost use Rattle.wp_model.specs.State.{Wave};
 ghost use Rattle.wp_model.specs.Step.{allot, is_live};
-ghost use Rattle.wp_floor.specs.Floor.{AreWantsOf, HasAnswered, HasStepped, IsAt, IsFloor, most_wants, state_at, state_of, wave_of};
+ghost use Rattle.wp_floor.specs.Floor.{AreWantsOf, HasAnswered, HasStepped, IsAt, IsFloor, most_wants, state_at, state_in, state_of, wave_of};
 ghost use Rattle.wp_model.specs.declared.command.Command.TheVariants as command;
 ghost use Rattle.wp_floor.specs.WaveStock.{AreFreshRooms, HaveSpace, IsHeld, IsRefusedShort, short_reply};
 
 use crate::floor::Floor;
 use crate::opening::Opening;
-use crate::waves::KeptWave;
+use crate::waves::{KeptWave, Sheet, Stage};
 use std::alloc::Global;
+use std::mem;
 use wp_allot::{Short, Want, allot, holds_by_overlap, short_article};
 use wp_book::{Room, StockBook};
-use wp_model::{MOST_LINES, MOST_WAVE_ORDERS, Memory, Name, Reply, WaveState};
+use wp_model::{MOST_LINES, MOST_WAVE_ORDERS, Memory, Name, Reply};
 
 /// Room for what is held for a wave, and for the list of it.
 #[derive(Drop)]
@@ -104,23 +105,29 @@ pub fn allot_wave(
     requires room { IsRoomFor book.old.rows wave.old.wants.items rooms.room }
     requires sheet { IsRoomFor book.old.rows wave.old.wants.items rooms.sheet }
     requires wants { AreWantsOf opening.now wave.old.orders wave.old.wants.items }
-    ensures live { is_live wave.new.state ≡ is_live wave.old.state }
+    ensures live { is_live (state_in wave.new.stage) ≡ is_live (state_in wave.old.stage) }
     ensures answered { (waves : List Wave) → IsAt opening.now book.old waves number wave.old
-        → HasAnswered opening.now (allot opening.now (state_at book.old waves) number (wave_of wave.old) wave.old.state) book.old book.new waves number
-        wave.old wave.new result }
+        → HasAnswered opening.now (allot opening.now (state_at book.old waves) number (wave_of wave.old) (state_in wave.old.stage)) book.old book.new waves
+        number wave.old wave.new result }
 {
-    match wave.state {
-        WaveState::Submitted => {
+    match mem::replace(&mut wave.stage, Stage::Done) {
+        Stage::Submitted(orders) => {
             match hold_stock(book, opening, number, wave.wants.as_slice(), rooms) {
-                Ok(sheet) => {
-                    wave.sheet = Some(sheet);
-                    wave.state = WaveState::Allotted;
+                Ok(room) => {
+                    wave.stage = Stage::Allotted(Sheet { orders, room });
                     Reply::Allotted
                 }
-                Err(short) => short,
+                Err(short) => {
+                    wave.stage = Stage::Submitted(orders);
+                    short
+                }
             }
         }
-        other => Reply::WrongState(other),
+        other => {
+            let state = other.state();
+            wave.stage = other;
+            Reply::WrongState(state)
+        }
     }
 }
 

@@ -18,5 +18,7 @@ pub use floor::Floor;
 pub use held::Claim;
 pub use holding::Rooms;
 pub use opening::Opening;
-pub use releasing::Sheet;
+pub use refilling::Missed;
+pub use releasing::Released;
 pub use submitting::{NewWave, size_fault};
+pub use waves::Sheet;

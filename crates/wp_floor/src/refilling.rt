@@ -1,5 +1,5 @@
 //! Units that are missing: they are written off, and held elsewhere where that can be.
-ghost use Rattle.std.specs.Prelude.{◌≡◌, ◌≤◌, ◌<◌, true, false, List, Some, length, IfOk, IfErr, IfSome, IfNone};
+ghost use Rattle.std.specs.Prelude.{◌≡◌, ◌≤◌, ◌<◌, true, false, List, Some, length, IfSome, IfNone};
 ghost use Rattle.wp_model.specs.Book.{held_for};
 ghost use Rattle.wp_model.specs.Demand.{free_units};
 ghost use Rattle.wp_model.specs.State.{Wave};
@@ -7,10 +7,10 @@ ghost use Rattle.wp_model.specs.Step.{at_released, is_live, write_off};
 ghost use Rattle.wp_model.specs.declared.command.Command.TheVariants as command;
 ghost use Rattle.wp_model.specs.declared.reply.Reply.TheVariants as replies;
 ghost use Rattle.wp_model.specs.declared.reply.WaveState.TheVariants as states;
-ghost use Rattle.wp_floor.specs.Floor.{HasAnswered, HasStepped, IsAt, IsFloor, state_at, state_of, wave_of};
+ghost use Rattle.wp_floor.specs.Floor.{HasAnswered, HasStepped, IsAt, IsFloor, state_at, state_in, state_of, wave_of};
 ghost use Rattle.wp_floor.specs.HeldUnits.{IsRowAt, held_of};
 ghost use Rattle.wp_floor.specs.ReceivedUnits.{AllHaveArticles};
-ghost use Rattle.wp_floor.specs.MissingUnits.{HasRefilled, HaveRefillSpace, IsHeldElsewhere, TellsRefill, refills};
+ghost use Rattle.wp_floor.specs.MissingUnits.{HasRefilled, HaveRefillSpace, IfAnswered, IfRefilled, IsHeldElsewhere, TellsRefill, refills};
 
 use crate::floor::Floor;
 use crate::held::{Claim, HeldUnits, claimed};
@@ -21,6 +21,14 @@ use crate::waves::KeptWave;
 use wp_allot::{Want, allot, holds_by_overlap, short_article};
 use wp_book::{Room, StockBook};
 use wp_model::{Name, Reply};
+
+/// What a loss comes to: as many units are held elsewhere, and are listed; or it is answered, since the units are
+/// lost or the claim is refused.
+#[derive(Drop)]
+pub enum Missed {
+    Refilled(Room),
+    Answered(Reply),
+}
 
 // Holds as many units as were lost for their order, at other rows of their article, and lists them. None comes where
 // those rows don't cover them, and changes nothing.
@@ -61,19 +69,19 @@ fn write_off(
     lost: HeldUnits,
     quantity: u32,
     rooms: Rooms,
-) -> Result<Room, Reply>
+) -> Missed
     requires quantity { 0 < quantity }
     requires held { quantity ≤ held_for book.old number lost.order lost.row }
     requires article { lost.article < length opening.now.stock.articles }
     requires rooms { HaveRefillSpace book.old.rows rooms }
-    ensures live { wave.old.state ≡ states.Released → is_live wave.new.state ≡ true }
-    ensures refilled { IfOk result (λ room. (waves : List Wave) → IsAt opening.now book.old waves number wave.old → wave.old.state ≡ states.Released
-        → lost.order < length wave.old.orders
+    ensures live { state_in wave.old.stage ≡ states.Released → is_live (state_in wave.new.stage) ≡ true }
+    ensures refilled { IfRefilled result (λ room. (waves : List Wave) → IsAt opening.now book.old waves number wave.old
+        → state_in wave.old.stage ≡ states.Released → lost.order < length wave.old.orders
         → HasRefilled opening.now (write_off opening.now (state_at book.old waves) number (wave_of wave.old) quantity (held_of lost)) book.old book.new waves
         number wave.old wave.new quantity room) }
-    ensures stays { IfErr result (λ why. refills why ≡ false) }
-    ensures lost { IfErr result (λ why. (waves : List Wave) → IsAt opening.now book.old waves number wave.old → wave.old.state ≡ states.Released
-        → lost.order < length wave.old.orders
+    ensures stays { IfAnswered result (λ why. refills why ≡ false) }
+    ensures lost { IfAnswered result (λ why. (waves : List Wave) → IsAt opening.now book.old waves number wave.old
+        → state_in wave.old.stage ≡ states.Released → lost.order < length wave.old.orders
         → HasAnswered opening.now (write_off opening.now (state_at book.old waves) number (wave_of wave.old) quantity (held_of lost)) book.old book.new waves
         number wave.old wave.new why) }
 {
@@ -81,8 +89,8 @@ fn write_off(
     let sheet = hold_elsewhere(book, number, lost, quantity, rooms);
     settle(book, number, wave);
     match sheet {
-        Some(sheet) => Ok(sheet),
-        None => Err(Reply::Lost {
+        Some(sheet) => Missed::Refilled(sheet),
+        None => Missed::Answered(Reply::Lost {
             article: opening.stock().article(lost.article),
             units: quantity,
         }),
@@ -90,8 +98,7 @@ fn write_off(
 }
 
 /// Missing: units that are held are written off, and as many are held for their order at other rows of their article,
-/// where these cover them. The result lists what is held in their place; an Err is the reply where the claim is
-/// refused, and where the units are lost.
+/// where these cover them.
 pub fn missing_wave(
     book: &mut StockBook,
     opening: &Opening,
@@ -99,52 +106,45 @@ pub fn missing_wave(
     wave: &mut KeptWave,
     claim: &Claim,
     rooms: Rooms,
-) -> Result<Room, Reply>
+) -> Missed
     requires row { IsRowAt book.old.rows claim.now.location claim.now.row }
     requires quantity { 0 < claim.now.quantity }
     requires articles { AllHaveArticles opening.now book.old.rows }
     requires rooms { HaveRefillSpace book.old.rows rooms }
-    ensures live { is_live wave.new.state ≡ is_live wave.old.state }
-    ensures refilled { IfOk result (λ room. (waves : List Wave) → IsAt opening.now book.old waves number wave.old
+    ensures live { is_live (state_in wave.new.stage) ≡ is_live (state_in wave.old.stage) }
+    ensures refilled { IfRefilled result (λ room. (waves : List Wave) → IsAt opening.now book.old waves number wave.old
         → HasRefilled opening.now (at_released (state_at book.old waves) number (wave_of wave.old) claim.now.order claim.now.location claim.now.quantity
-        (write_off opening.now (state_at book.old waves) number (wave_of wave.old) claim.now.quantity) wave.old.state)
+        (write_off opening.now (state_at book.old waves) number (wave_of wave.old) claim.now.quantity) (state_in wave.old.stage))
         book.old book.new waves number wave.old wave.new claim.now.quantity room) }
-    ensures stays { IfErr result (λ why. refills why ≡ false) }
-    ensures answered { IfErr result (λ why. (waves : List Wave) → IsAt opening.now book.old waves number wave.old
+    ensures stays { IfAnswered result (λ why. refills why ≡ false) }
+    ensures answered { IfAnswered result (λ why. (waves : List Wave) → IsAt opening.now book.old waves number wave.old
         → HasAnswered opening.now (at_released (state_at book.old waves) number (wave_of wave.old) claim.now.order claim.now.location claim.now.quantity
-        (write_off opening.now (state_at book.old waves) number (wave_of wave.old) claim.now.quantity) wave.old.state)
+        (write_off opening.now (state_at book.old waves) number (wave_of wave.old) claim.now.quantity) (state_in wave.old.stage))
         book.old book.new waves number wave.old wave.new why) }
 {
     match claimed(book, number, wave, claim) {
         Ok(held) => write_off(book, opening, number, wave, held, claim.quantity, rooms),
-        Err(refusal) => Err(refusal),
+        Err(refusal) => Missed::Answered(refusal),
     }
 }
 
 impl Floor {
     /// Missing: units that are held for an order at a location are written off, and as many are held for it elsewhere,
-    /// where other rows of the article cover them. The result lists what is held in their place; an Err is the reply
-    /// where the command is refused, and where the units are lost.
-    pub fn missing(
-        &mut self,
-        opening: &Opening,
-        name: &Name,
-        claim: &Claim,
-        rooms: Rooms,
-    ) -> Result<Room, Reply>
+    /// where other rows of the article cover them.
+    pub fn missing(&mut self, opening: &Opening, name: &Name, claim: &Claim, rooms: Rooms) -> Missed
         requires floor { IsFloor opening.now self.old }
         requires row { IsRowAt (state_of self.old).rows claim.now.location claim.now.row }
         requires quantity { 0 < claim.now.quantity }
         requires rooms { HaveRefillSpace (state_of self.old).rows rooms }
-        ensures out { IfOk result (λ room. HasStepped opening.now
+        ensures out { IfRefilled result (λ room. HasStepped opening.now
             (command.Missing name.now claim.now.order claim.now.location claim.now.quantity) self.old self.new (replies.Refilled claim.now.quantity)) }
-        ensures told { IfOk result (λ room. TellsRefill (state_of self.old) (state_of self.new) name.now room) }
-        ensures stays { IfErr result (λ why. refills why ≡ false) }
-        ensures refused { IfErr result (λ why. HasStepped opening.now
+        ensures told { IfRefilled result (λ room. TellsRefill (state_of self.old) (state_of self.new) name.now room) }
+        ensures stays { IfAnswered result (λ why. refills why ≡ false) }
+        ensures refused { IfAnswered result (λ why. HasStepped opening.now
             (command.Missing name.now claim.now.order claim.now.location claim.now.quantity) self.old self.new why) }
     {
         let Some(mut found) = self.waves.take_out(name) else {
-            return Err(Reply::UnknownWave);
+            return Missed::Answered(Reply::UnknownWave);
         };
         let done = missing_wave(
             &mut self.book,

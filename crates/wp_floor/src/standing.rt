@@ -30,7 +30,7 @@ impl Floor {
         ensures { result ≡ option_map (λ found. found.1.state) (wave_from 0 (state_of self.now).waves wave.now) }
     {
         match self.waves.find(wave) {
-            Some(kept) => Some(kept.state),
+            Some(kept) => Some(kept.stage.state()),
             None => None,
         }
     }

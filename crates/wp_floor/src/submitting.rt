@@ -10,15 +10,15 @@ ghost use Rattle.wp_floor.specs.NewWaves.{IsNewWave, IsPrepared, size_fault, sub
 use crate::floor::{Floor, put_takers};
 use crate::opening::Opening;
 use crate::wanting::wants_of_orders;
-use crate::waves::KeptWave;
+use crate::waves::{KeptWave, NumberedWave, Stage};
 use std::alloc::Global;
-use wp_model::{Cell, MOST_WAVE_ORDERS, Memory, Name, Names, Reply, WaveState};
+use wp_model::{Cell, MOST_WAVE_ORDERS, Memory, Name, Names, Reply};
 
 /// A wave that a desk wants to submit, and room for it.
 #[derive(Drop)]
 pub struct NewWave {
     pub(crate) wave: KeptWave,
-    pub(crate) cell: Cell<KeptWave>,
+    pub(crate) cell: Cell<NumberedWave>,
 }
 
 /// Why orders can't make a wave whatever was submitted before: there are none, or too many.
@@ -51,11 +51,9 @@ fn new_wave(
     Ok(KeptWave {
         name: *name,
         orders: orders.copy(alloc)?,
-        state: WaveState::Submitted,
+        stage: Stage::Submitted(orders.copy(alloc)?),
         picked: false,
         wants,
-        copy: Some(orders.copy(alloc)?),
-        sheet: None,
     })
 }
 

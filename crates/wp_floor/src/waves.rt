@@ -1,147 +1,202 @@
-ghost use Rattle.std.specs.Prelude.{◌≡◌, ◌<◌, ◌+◌, ◌^◌, ◌++◌, ◌∷◌, ℕ, false, Some, [], length, reverse, slice_get, IfSome, IfNone};
+ghost use Rattle.std.specs.Prelude.{◌≡◌, ◌<◌, ◌+◌, ◌^◌, ◌++◌, ◌∷◌, ℕ, List, false, Some, [], length, replicate, reverse, slice_get, IfOk, IfSome, IfNone};
 ghost use Rattle.std.specs.List.{list_any};
-ghost use Rattle.wp_floor.specs.Waves.{has_name, IsFound};
+ghost use Rattle.wp_floor.specs.declared.waves.NumberedWave.{NumberedWave as NumberedWaveData};
+ghost use Rattle.wp_floor.specs.Floor.{state_in};
+ghost use Rattle.wp_floor.specs.Waves.{AreSameWaves, AreWaves, IsFound, IsReturned, chain_count, chain_of, has_name, is_named, waves_of};
 
-use std::marker::Model;
+use std::alloc::Global;
 use wp_allot::Want;
 use wp_book::Room;
-use wp_model::{Cell, Chain, Name, Names, WaveState};
+use wp_model::{Cell, Chain, Memory, Name, Names, WaveState};
 
-/// A wave with what its commands need: what its orders want; until it is released, a copy of its orders for the
-/// sheet; and while it is allotted, what is held for it.
+/// What a wave has when it goes out: its orders, and the list of all that it holds.
+#[derive(Drop)]
+pub struct Sheet {
+    pub orders: Names,
+    pub room: Room,
+}
+
+/// How far a wave is, with what it needs to go out: once it is submitted a copy of its orders, and once it is
+/// allotted its sheet.
+#[derive(Drop)]
+pub enum Stage {
+    Submitted(Names),
+    Allotted(Sheet),
+    Released,
+    Cancelled,
+    Done,
+}
+
+impl Stage {
+    /// How far the wave is.
+    pub fn state(&self) -> WaveState
+        ensures { result ≡ state_in self.now }
+    {
+        match self {
+            Stage::Submitted(_) => WaveState::Submitted,
+            Stage::Allotted(_) => WaveState::Allotted,
+            Stage::Released => WaveState::Released,
+            Stage::Cancelled => WaveState::Cancelled,
+            Stage::Done => WaveState::Done,
+        }
+    }
+}
+
+/// A wave, and what its orders want.
 #[derive(Drop)]
 pub struct KeptWave {
     pub name: Name,
     pub orders: Names,
-    pub state: WaveState,
+    pub stage: Stage,
     pub picked: bool,
     pub wants: Vec<Want>,
-    pub copy: Option<Names>,
-    pub sheet: Option<Room>,
+}
+
+/// A wave with its number in the order of submission.
+#[derive(Drop)]
+pub struct NumberedWave {
+    pub number: u32,
+    pub wave: KeptWave,
 }
 
 // Whether a wave has the name.
-fn is_named(wave: &KeptWave, name: &Name) -> bool
-    ensures { result ≡ has_name name.now wave.now }
+fn is_named(numbered: &NumberedWave, name: &Name) -> bool
+    ensures { result ≡ is_named name.now numbered.now }
 {
-    wave.name == *name
+    numbered.wave.name == *name
 }
 
-/// A wave that was taken out of the list: its number, and the waves that came after it, the last first.
-#[derive(Drop)]
-pub struct Found {
-    pub number: u32,
-    pub wave: KeptWave,
-    pub cell: Cell<KeptWave>,
-    pub after: Chain<KeptWave>,
-}
+const CHAINS: usize = 1024;
 
-/// The waves in the order of their submission, numbered from 0. Contracts see the list of them.
+/// The waves, numbered from 0 in the order of their submission, each in the chain that its name gives. So a wave is
+/// found by its name among few others, and one more takes no memory but its own.
 #[derive(Drop)]
 pub struct Waves {
-    chain: Chain<KeptWave>,
+    chains: Vec<Chain<NumberedWave>>,
     count: u32,
 }
 
-impl Model for Waves {
-    ghost use Rattle.std.specs.Prelude.{◌≡◌, List, length};
-    ghost use Rattle.wp_floor.specs.declared.waves.KeptWave.{KeptWave};
+/// A wave that was taken out of the chain at a place: its number, and the waves that came after it there, the last
+/// first.
+#[derive(Drop)]
+pub struct Found {
+    pub place: usize,
+    pub number: u32,
+    pub wave: KeptWave,
+    pub cell: Cell<NumberedWave>,
+    pub after: Chain<NumberedWave>,
+}
 
-    ghost Value = { List KeptWave };
+// The place of the chain that has the waves of a name.
+fn chain_of(name: &Name) -> usize
+    ensures place { result ≡ chain_of name.now }
+    ensures within { result < chain_count }
+{
+    let mut place = 0;
+    for byte in name.as_bytes() {
+        place = (place * 31 + *byte as usize) % CHAINS;
+    }
+    place
+}
 
-    ghost view = { λ w. w.chain };
+// So many chains of nothing.
+fn empty_chains(alloc: Global) -> Result<Vec<Chain<NumberedWave>>, Memory>
+    ensures { IfOk result (λ chains. chains.items ≡ replicate chain_count []) }
+{
+    let mut chains = Vec::with_capacity(alloc, CHAINS)?;
+    for _ in 0..CHAINS {
+        chains.push(Chain::new())?;
+    }
+    Ok(chains)
+}
 
-    ghost invariant = { λ w. w.count ≡ length w.chain };
+// A wave of this name in a chain. None comes exactly where no wave of the chain has it.
+fn find_in_chain<'a>(chain: &'a Chain<NumberedWave>, name: &Name) -> Option<&'a NumberedWave>
+    ensures named { IfSome result (λ found. found.now.wave.name ≡ name.now) }
+    ensures some { IfSome result (λ found. (below : List NumberedWaveData) × ((above : List NumberedWaveData)
+        × (chain.now ≡ below ++ found.now ∷ above))) }
+    ensures none { IfNone result (list_any (is_named name.now) chain.now ≡ false) }
+{
+    let mut at = chain;
+    while let Some((wave, below)) = at.split_last() {
+        if is_named(wave, name) {
+            return Some(wave);
+        }
+        at = below;
+    }
+    None
 }
 
 impl Waves {
     /// No waves.
-    pub fn new() -> Waves
-        ensures { result ≡ [] }
+    pub fn open(alloc: Global) -> Result<Waves, Memory>
+        ensures waves { IfOk result AreWaves }
+        ensures none { IfOk result (λ waves. waves_of waves ≡ []) }
     {
-        Waves {
-            chain: Chain::new(),
-            count: 0,
-        }
-    }
-
-    /// How many waves there are.
-    pub fn len(&self) -> u32
-        ensures { result ≡ length self.now }
-    {
-        self.count
+        let chains = empty_chains(alloc)?;
+        Ok(Waves { chains, count: 0 })
     }
 
     /// One more wave, the last.
-    pub fn push(&mut self, wave: KeptWave, cell: Cell<KeptWave>)
-        requires { length self.old + 1 < 2 ^ 32 }
-        ensures { self.new ≡ self.old ++ wave ∷ [] }
+    pub fn push(&mut self, wave: KeptWave, cell: Cell<NumberedWave>)
+        requires waves { AreWaves self.old }
+        requires few { length (waves_of self.old) + 1 < 2 ^ 32 }
+        ensures waves { AreWaves self.new }
+        ensures pushed { waves_of self.new ≡ waves_of self.old ++ wave ∷ [] }
     {
-        self.chain.push(wave, cell);
+        let number = self.count;
+        let chain = &mut self.chains[chain_of(&wave.name)];
+        chain.push(NumberedWave { number, wave }, cell);
         self.count += 1;
     }
 
-    /// A wave of this name, sought from the newest down. None comes exactly where no wave has it.
+    /// The wave of this name. None comes exactly where no wave has it.
     pub fn find(&self, name: &Name) -> Option<&KeptWave>
-        ensures some { IfSome result (λ kept. (kept.now.name ≡ name.now) × ((number : ℕ) × (slice_get self.now number ≡ Some kept.now))) }
-        ensures none { IfNone result (list_any (has_name name.now) self.now ≡ false) }
+        requires { AreWaves self.now }
+        ensures some { IfSome result (λ kept. (kept.now.name ≡ name.now) × ((number : ℕ) × (slice_get (waves_of self.now) number ≡ Some kept.now))) }
+        ensures none { IfNone result (list_any (has_name name.now) (waves_of self.now) ≡ false) }
     {
-        let mut at = &self.chain;
-        while let Some((wave, below)) = at.split_last() {
-            if is_named(wave, name) {
-                return Some(wave);
-            }
-            at = below;
+        match find_in_chain(&self.chains[chain_of(name)], name) {
+            Some(found) => Some(&found.wave),
+            None => None,
         }
-        None
     }
 
     /// Whether a wave has the name.
     pub fn has(&self, name: &Name) -> bool
-        ensures { result ≡ list_any (has_name name.now) self.now }
+        requires { AreWaves self.now }
+        ensures { result ≡ list_any (has_name name.now) (waves_of self.now) }
     {
-        let mut at = &self.chain;
-        while let Some((wave, below)) = at.split_last() {
-            if is_named(wave, name) {
-                return true;
-            }
-            at = below;
+        match self.find(name) {
+            Some(_) => true,
+            None => false,
         }
-        false
     }
 }
 
-// Puts the waves of a chain back on top of another, the last first, and counts them.
-fn put_back_on(chain: &mut Chain<KeptWave>, count: &mut u32, mut after: Chain<KeptWave>)
-    requires count { count.old ≡ length chain.old }
-    requires few { length chain.old + length after < 2 ^ 32 }
-    ensures chain { chain.new ≡ chain.old ++ reverse after }
-    ensures count { count.new ≡ length chain.new }
+// Puts the waves of a chain back on top of another, the last first.
+fn put_back_on(chain: &mut Chain<NumberedWave>, mut after: Chain<NumberedWave>)
+    ensures { chain.new ≡ chain.old ++ reverse after }
 {
     while let Some((wave, cell)) = after.pop() {
         chain.push(wave, cell);
-        *count += 1;
     }
 }
 
 // Takes the waves off a chain down to the last of a name: that wave with its room, and those that came after it.
 fn take_off(
-    chain: &mut Chain<KeptWave>,
-    count: &mut u32,
+    chain: &mut Chain<NumberedWave>,
     name: &Name,
-    after: &mut Chain<KeptWave>,
-) -> Option<(KeptWave, Cell<KeptWave>)>
-    requires count { count.old ≡ length chain.old }
-    requires after { after.old ≡ [] }
-    ensures count { count.new ≡ length chain.new }
+    after: &mut Chain<NumberedWave>,
+) -> Option<(NumberedWave, Cell<NumberedWave>)>
+    requires { after.old ≡ [] }
     ensures some { IfSome result (λ found. chain.old ≡ chain.new ++ found.0 ∷ reverse after.new) }
-    ensures named { IfSome result (λ found. found.0.name ≡ name.now) }
+    ensures named { IfSome result (λ found. found.0.wave.name ≡ name.now) }
     ensures none { IfNone result (chain.new ≡ []) }
     ensures all { IfNone result (chain.old ≡ reverse after.new) }
-    ensures nobody { IfNone result (list_any (has_name name.now) chain.old ≡ false) }
+    ensures nobody { IfNone result (list_any (is_named name.now) chain.old ≡ false) }
 {
     while let Some((wave, cell)) = chain.pop() {
-        *count -= 1;
         if is_named(&wave, name) {
             return Some((wave, cell));
         }
@@ -151,41 +206,46 @@ fn take_off(
 }
 
 impl Waves {
-    /// Takes a wave of this name out, sought from the newest down, with those that came after it. None comes exactly
-    /// where no wave has the name, and changes nothing.
+    /// Takes the wave of this name out of its chain. None comes exactly where no wave has the name, and changes
+    /// nothing.
     pub fn take_out(&mut self, name: &Name) -> Option<Found>
+        requires { AreWaves self.old }
         ensures some { IfSome result (IsFound name.now self.old self.new) }
-        ensures none { IfNone result (self.new ≡ self.old) }
-        ensures nobody { IfNone result (list_any (has_name name.now) self.old ≡ false) }
-        ensures few { length self.old < 2 ^ 32 }
+        ensures none { IfNone result (AreSameWaves self.old self.new) }
+        ensures nobody { IfNone result (list_any (has_name name.now) (waves_of self.old) ≡ false) }
     {
+        let place = chain_of(name);
+        let chain = &mut self.chains[place];
         let mut after = Chain::new();
-        match take_off(&mut self.chain, &mut self.count, name, &mut after) {
-            Some((wave, cell)) => Some(Found {
-                number: self.count,
-                wave,
-                cell,
-                after,
-            }),
+        match take_off(chain, name, &mut after) {
+            Some((numbered, cell)) => {
+                let NumberedWave { number, wave } = numbered;
+                Some(Found {
+                    place,
+                    number,
+                    wave,
+                    cell,
+                    after,
+                })
+            }
             None => {
-                put_back_on(&mut self.chain, &mut self.count, after);
+                put_back_on(chain, after);
                 None
             }
         }
     }
 
-    /// Puts a wave back that was taken out, with those that came after it.
+    /// Puts a wave back where it was taken out.
     pub fn put_back(&mut self, found: Found)
-        requires { length self.old + length found.after + 1 < 2 ^ 32 }
-        ensures { self.new ≡ self.old ++ found.wave ∷ reverse found.after }
+        requires { found.place < length self.old.chains.items }
+        ensures { IsReturned self.old found self.new }
     {
-        let Found {
-            number: _,
-            wave,
-            cell,
-            after,
-        } = found;
-        self.push(wave, cell);
-        put_back_on(&mut self.chain, &mut self.count, after);
+        let chain = &mut self.chains[found.place];
+        let numbered = NumberedWave {
+            number: found.number,
+            wave: found.wave,
+        };
+        chain.push(numbered, found.cell);
+        put_back_on(chain, found.after);
     }
 }

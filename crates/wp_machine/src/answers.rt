@@ -12,7 +12,7 @@ ghost use Rattle.wp_floor.specs.MissingUnits.{HaveRefillSpace};
 use crate::outcome::{Answer, Outcome, Refill, WaveHolds};
 use crate::prepared::Prepared;
 use wp_book::Room;
-use wp_floor::{Claim, Floor, Opening, Rooms, Sheet};
+use wp_floor::{Claim, Floor, Missed, Opening, Released, Rooms, Sheet};
 use wp_model::{Name, Reply};
 
 // An answer that tells nothing beside its reply.
@@ -80,9 +80,8 @@ fn answer_release(
     ensures { IsAnswer opening.now number (command.Release name) floor.old floor.new result }
 {
     match floor.release(opening, &name, rooms) {
-        Ok(Some(sheet)) => released(number, name, sheet),
-        Ok(None) => plain(number, Reply::Released),
-        Err(why) => plain(number, why),
+        Released::Out(sheet) => released(number, name, sheet),
+        Released::Refused(reply) => plain(number, reply),
     }
 }
 
@@ -102,8 +101,8 @@ fn answer_missing(
     ensures { IsAnswer opening.now number (command.Missing name claim.now.order claim.now.location claim.now.quantity) floor.old floor.new result }
 {
     match floor.missing(opening, &name, claim, rooms) {
-        Ok(room) => refilled(number, name, claim, room),
-        Err(why) => plain(number, why),
+        Missed::Refilled(room) => refilled(number, name, claim, room),
+        Missed::Answered(reply) => plain(number, reply),
     }
 }
 

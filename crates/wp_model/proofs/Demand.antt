@@ -9,7 +9,8 @@ use Rattle.std.proofs.lemmas.Option.{MatchOption-at_none, get_or_from_slice_get,
 use Rattle.std.specs.Option.{option_map_or}
 use Rattle.wp_model.proofs.Elements.{All-at, within_some}
 use Rattle.wp_model.proofs.Sums.{sum-zero}
-use Rattle.wp_model.specs.Demand.{AreCovered, IsFirstShort, IsCovered, demand_at, first_short, free_units, order_demand, quantity_of, short_article, wave_demand}
+use Rattle.wp_model.specs.Demand.{AreCovered, IsCovered, IsFirstShort, demand_at, first_short, free_units, order_demand, quantity_of, short_article}
+use Rattle.wp_model.specs.Demand.{wave_demand}
 use Rattle.wp_model.specs.Opening.{IsLine, IsOpening, IsOrder, Opening, Order, is_known_order, lines_of}
 use Rattle.wp_model.specs.declared.row.Line.{Line}
 use Rattle.wp_model.specs.declared.row.Row.{Row}

@@ -1,5 +1,4 @@
 use Rattle.std.proofs.Common.{◌<◌, List, sym, subst, length, arith}
-use Rattle.std.proofs.lemmas.Result.{IfErr-weaker, IfOk-weaker}
 use Rattle.wp_model.proofs.Elements.{All-at}
 use Rattle.wp_model.specs.State.{Wave}
 use Rattle.wp_model.specs.Step.{Stepped, write_off}
@@ -9,7 +8,7 @@ use Rattle.wp_floor.specs.HeldUnits.{held_of}
 use Rattle.wp_floor.specs.MissingUnits.{HasRefilled}
 use Rattle.wp_floor.proofs.BookStates.{refused}
 use Rattle.wp_floor.proofs.ClaimedUnits.{enough_by, holder}
-use Rattle.wp_floor.proofs.MissingUnits.{refusal_stays}
+use Rattle.wp_floor.proofs.MissingUnits.{answered-weaker, refilled-weaker, refusal_stays}
 use Rattle.wp_floor.proofs.refilling.missing_wave.Goals as goal
 
 pub write_off-requires-clause-article : goal.write_off-requires-clause-article
@@ -30,7 +29,7 @@ returns-in-Ok-clause-refilled c =
     let was = c.args.wave.now in
     let is = c.in-Ok.ensures.found in
     let holds = holder book c.args.number was claim.order claim.location (held_of c.in-Ok.held) is.held in
-    IfOk-weaker c.write_off.result _ _ (λ room done. λ (waves : List Wave) at.
+    refilled-weaker c.write_off.result _ _ (λ room done. λ (waves : List Wave) at.
     subst (λ (stepped : Stepped). HasRefilled c.args.opening.now stepped book c.write_off.new.book waves c.args.number was c.write_off.new.wave claim.quantity
     room)
     (sym (enough_by book waves c.args.number was claim.order claim.location claim.quantity
@@ -44,7 +43,7 @@ returns-in-Ok-clause-answered c =
     let was = c.args.wave.now in
     let is = c.in-Ok.ensures.found in
     let holds = holder book c.args.number was claim.order claim.location (held_of c.in-Ok.held) is.held in
-    IfErr-weaker c.write_off.result _ _ (λ why done. λ (waves : List Wave) at.
+    answered-weaker c.write_off.result _ _ (λ why done. λ (waves : List Wave) at.
     subst (λ (stepped : Stepped). HasAnswered c.args.opening.now stepped book c.write_off.new.book waves c.args.number was c.write_off.new.wave why)
     (sym (enough_by book waves c.args.number was claim.order claim.location claim.quantity
     (write_off c.args.opening.now (state_at book waves) c.args.number (wave_of was) claim.quantity) c.in-Ok.held is))

@@ -1,9 +1,47 @@
-use Rattle.std.proofs.Common.{refl}
-use Rattle.wp_floor.proofs.WaveStock.{released}
+use Rattle.std.proofs.Common.{◌∙◌, refl, sym, ap, subst, List}
+use Rattle.wp_allot.specs.declared.want.Want.{Want}
+use Rattle.wp_model.specs.Step.{is_live, refuse, release}
+use Rattle.wp_model.specs.declared.reply.Reply.TheVariants as reply
+use Rattle.wp_model.specs.declared.reply.WaveState.{WaveState}
+use Rattle.wp_model.specs.declared.reply.WaveState.TheVariants as wave
+use Rattle.wp_floor.specs.Floor.{state_at, state_in, wave_of}
+use Rattle.wp_floor.specs.ReleasedWaves.{HasReleased}
+use Rattle.wp_floor.specs.WaveStock.{IsHeld, IsRefusedShort}
+use Rattle.wp_floor.specs.declared.waves.Stage.{Stage}
+use Rattle.wp_floor.specs.declared.waves.Stage.TheVariants as stage
+use Rattle.wp_floor.proofs.WaveStock.{refused_at, release_wrong, short_at, submitted_out}
 use Rattle.wp_floor.proofs.releasing.release_wave.Goals as goal
 
-pub returns-clause-out : goal.returns-clause-out
-returns-clause-out c waves at =
-    released c.args.opening.now c.args.book.now c.list_for_release.new.book waves c.args.number c.args.wave.now c.list_for_release.new.wave _
-    c.in_ok-room.room c.take-orders.result c.sheet_of.result
-    at (c.in_ok-room.ensures.listed waves at) refl refl c.take-orders.ensures.value c.sheet_of.ensures
+pub returns-in-Ok-clause-out : goal.returns-in-Ok-clause-out
+returns-in-Ok-clause-out c waves at =
+    let held = subst (λ (ws : List Want). IsHeld c.args.number ws c.args.book.now c.hold_stock.new.book c.args.rooms.sheet c.in-Ok.room)
+    c.as_slice.ensures.value c.in-Ok.ensures.held in
+    subst (λ (s : Stage). HasReleased c.args.opening.now c.args.book.now c.hold_stock.new.book waves c.args.number c.args.wave.now
+    (record c.args.wave.now { stage = s }) (record { orders = c.in-Submitted.orders; room = c.in-Ok.room })) (sym c.replace.ensures.after)
+    (submitted_out c.args.opening.now c.args.book.now c.hold_stock.new.book waves c.args.number c.args.wave.now c.in-Submitted.orders c.args.rooms.sheet
+    c.in-Ok.room at (sym c.in-Submitted.ensures.value) held)
+
+pub returns-in-Err-clause-refused : goal.returns-in-Err-clause-refused
+returns-in-Err-clause-refused c waves at =
+    let is = subst (λ (ws : List Want). IsRefusedShort c.args.opening.now ws c.args.book.now c.hold_stock.new.book c.in-Err.short) c.as_slice.ensures.value
+    c.in-Err.ensures.short in
+    short_at c.args.opening.now c.args.book.now c.hold_stock.new.book waves c.args.number c.args.wave.now (stage.Submitted c.in-Submitted.orders) wave.Released
+    reply.Released c.in-Err.short _ at c.in-Submitted.ensures.value
+    (ap (λ (s : Stage). release c.args.opening.now (state_at c.args.book.now waves) c.args.number (wave_of c.args.wave.now) (state_in s))
+    (sym c.in-Submitted.ensures.value)) is
+
+pub returns-in_default : goal.returns-in_default
+returns-in_default c =
+    let same = c.replace.ensures.value in
+    record {
+      live = ap (λ (s : Stage). is_live (state_in s)) same;
+      out = tt;
+      stays = refl;
+      refused = λ waves at.
+          let state = state_at c.args.book.now waves in
+          refused_at c.args.opening.now c.args.book.now waves c.args.number c.args.wave.now c.replace.result _ _ at same
+          (ap (λ (s : Stage). release c.args.opening.now state c.args.number (wave_of c.args.wave.now) (state_in s)) (sym same)
+          ∙ (release_wrong c.args.opening.now state c.args.number (wave_of c.args.wave.now) c.replace.result c.in_default.not-Submitted
+          c.in_default.not-Allotted
+          ∙ ap (λ (s : WaveState). refuse state (reply.WrongState s)) (sym c.state-state.ensures)));
+    }

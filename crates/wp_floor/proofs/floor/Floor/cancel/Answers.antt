@@ -5,6 +5,7 @@ use Rattle.wp_model.specs.Step.{cancel}
 use Rattle.wp_model.specs.declared.command.Command.TheVariants as command
 use Rattle.wp_floor.specs.Floor.{AreTakers, state_of, wave_of}
 use Rattle.wp_floor.specs.Takers.{HasPut}
+use Rattle.wp_floor.specs.Waves.{waves_of}
 use Rattle.wp_floor.proofs.Floors.{answered, found_at, takers_after_cancel, unknown_wave}
 use Rattle.wp_floor.proofs.floor.Floor.cancel.Goals as goal
 
@@ -27,7 +28,7 @@ returns c =
     let now = with_items_is old.takers takers (omega arith) in
     let before = c.deref_mut.ensures.value in
     let freed = takers_after_cancel c.args.opening.now c.args.name.now old c.put_back.new.self c.take_out.new.self found left takers
-    c.cancel_wave-reply.result c.requires is c.put_back.ensures answers.orders
+    c.cancel_wave-reply.result c.requires is c.put_back.ensures answers.name answers.orders
     c.cancel_wave-reply.ensures.cancelled c.cancel_wave-reply.ensures.same
     (λ e. subst (λ (ts : List (Option (List ℕ))). HasPut c.args.opening.now left.orders None ts takers) before (c.free_orders.ensures.freed e))
     (λ e. c.free_orders.ensures.same e ∙ before) in
@@ -38,5 +39,5 @@ returns c =
       is_found = is;
       answers = answers;
       waves = c.put_back.ensures;
-      takers = subst (λ (ts : List (Option (List ℕ))). AreTakers c.args.opening.now (map wave_of c.put_back.new.self) ts) (sym now) freed;
+      takers = subst (λ (ts : List (Option (List ℕ))). AreTakers c.args.opening.now (map wave_of (waves_of c.put_back.new.self)) ts) (sym now) freed;
     })
