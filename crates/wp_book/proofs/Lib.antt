@@ -10,4 +10,4 @@ pub mod FreeUnits
 pub mod FreeCounts
 pub mod ArticleRows
 pub mod RowIndex
-pub mod SortedHolds
+pub mod SortedPairs

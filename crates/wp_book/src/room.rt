@@ -1,4 +1,4 @@
-ghost use Rattle.std.specs.Prelude.{◌≡◌, ◌<◌, ◌==◌, ◌++◌, ◌∷◌, [], length, IfOk};
+ghost use Rattle.std.specs.Prelude.{◌≡◌, ◌+◌, ◌<◌, ◌≤◌, ◌==◌, ◌++◌, ◌∷◌, [], length, IfOk};
 ghost use Rattle.wp_book.specs.Room.{IsInOrder};
 
 use std::alloc::Global;
@@ -68,6 +68,16 @@ impl Room {
         ensures { self.new ≡ record self.old { holds = self.old.holds ++ hold ∷ [] } }
     {
         self.holds.push_reserved(hold);
+    }
+
+    /// Puts holds in, after those that are in it. It takes no memory.
+    pub fn put_all(&mut self, holds: &[Hold])
+        requires { length self.old.holds + length holds.now ≤ self.old.size }
+        ensures { self.new ≡ record self.old { holds = self.old.holds ++ holds.now } }
+    {
+        for hold in holds {
+            self.put(*hold);
+        }
     }
 
     /// Puts the holds into the order of their orders, and those of one order into that of their rows. It takes no memory.
