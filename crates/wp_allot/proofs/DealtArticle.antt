@@ -2,7 +2,6 @@
 use Rattle.std.proofs.Common.{◌≡◌, ◌≢◌, ◌∙◌, refl, sym, ap, subst, ℕ, suc, ◌+◌, ◌<◌, ◌≤◌, ◌==◌, inl, inr, min, List, length, take, Option, Some, slice_get}
 use Rattle.std.proofs.Common.{if◌then◌else◌, arith, eq-eqb, ne_eqb}
 use Rattle.std.proofs.lemmas.Bool.{cases_order, cond-false, cond-true}
-use Rattle.std.proofs.lemmas.List.{take_all}
 use Rattle.std.proofs.lemmas.List.Sums.{sum_by-take-le, sum_by_more}
 use Rattle.std.proofs.lemmas.Option.{get_or_from_slice_get}
 use Rattle.wp_model.proofs.Sums.{sum-grows}
@@ -29,6 +28,7 @@ pub record IsDealing (rows : List Row) (wants : List Want) (article : ℕ) (exce
   pub single : AreSingle rows room'.holds
   pub size : room'.size ≡ room.size
   pub space : length room'.holds + rows_from rows article mark.place ≤ length room.holds + length (rows_of article rows) + wants_of (take count wants) article
+  pub few : length room'.holds ≤ length room.holds + wanted_of (take count wants) article
   pub units : (order row : ℕ) → units_for room'.holds order row
       ≡ units_for room.holds order row + dealt_to (wanted_for wants article) (offer_at rows article except)
       (position (offer_in rows article except) mark) order row
@@ -78,15 +78,17 @@ dealt_more demand offer from units at order row start wants = elim (cases_order 
     omega_none : {a b : ℕ} → b ≡ 0 → a + b ≡ a
     omega_none p = omega arith
 
--- an article that can be dealt is dealt to none of its wants at first
-pub dealing_start : (rows : List Row) (wants : List Want) (article : ℕ) (except : Option ℕ) (room : Content) → CanDeal rows wants article except room
-    → IsDealing rows wants article except 0 (record { place = 0; taken = 0 }) room room
-dealing_start rows wants article except room can = record {
+-- an article that can be dealt is dealt to none of its wants where none stands before a place
+pub dealing_start : (rows : List Row) (wants : List Want) (article : ℕ) (except : Option ℕ) (place : ℕ) (room : Content) → CanDeal rows wants article except
+    room
+    → wanted_of (take place wants) article ≡ 0 → IsDealing rows wants article except place (record { place = 0; taken = 0 }) room room
+dealing_start rows wants article except place room can none = record {
   taken = omega arith;
-  dealt = refl;
+  dealt = omega (arith, none);
   single = can.single;
   size = refl;
   space = omega arith;
+  few = omega arith;
   units = λ order row. omega arith;
 }
 
@@ -116,6 +118,7 @@ dealing_other rows wants article except count want mark room room' there within 
   single = is.single;
   size = is.size;
   space = omega (arith, is.space, wants_more wants article count want there within);
+  few = omega (arith, is.few, wanted_more wants article count want there within);
   units = is.units;
 }
 
@@ -124,7 +127,7 @@ can_serve : (rows : List Row) (wants : List Want) (except : Option ℕ) (count :
     → CanDeal rows wants want.article except room → slice_get wants count ≡ Some want → count < length wants
     → IsDealing rows wants want.article except count mark room room' → CanServe rows want except mark room'
 can_serve rows wants except count want mark room room' can there within is =
-    let interval = has_interval wants want.article count want can.regular within there refl in
+    let interval = has_interval wants want.article count want can.turn within there refl in
     let all = sum_by-take-le (units_of want.article) wants (count + 1) in
     let more = wants_more wants want.article count want there within in
     let most = wants_all wants want.article (count + 1) in
@@ -133,7 +136,7 @@ can_serve rows wants except count want mark room room' can there within is =
       enough = omega (arith, is.dealt, interval.next, all, can.enough);
       single = is.single;
       fresh = λ row offered. omega (arith, is.units want.order row, can.fresh want.order row offered, interval.start, is.dealt);
-      space = omega (arith, is.space, more, most, can.space, is.size, one_more want);
+      space = omega (arith, is.space, more, most, can.space, is.size, one_more want, is.few, interval.next, all);
     }
 
 -- and is dealt to then
@@ -142,7 +145,7 @@ dealing_more : (rows : List Row) (wants : List Want) (except : Option ℕ) (coun
     → IsDealing rows wants want.article except count mark room room'
     → IsServed rows want except 0 mark mark' room' room'' → IsDealing rows wants want.article except (count + 1) mark' room room''
 dealing_more rows wants except count want mark mark' room room' room'' can there within is served =
-    let interval = has_interval wants want.article count want can.regular within there refl in
+    let interval = has_interval wants want.article count want can.turn within there refl in
     let more = wants_more wants want.article count want there within in
     let offer = offer_at rows want.article except in
     let line = offer_in rows want.article except in
@@ -153,6 +156,7 @@ dealing_more rows wants except count want mark mark' room room' room'' can there
       single = served.single;
       size = served.size ∙ is.size;
       space = omega (arith, served.space, is.space, more, one_more want);
+      few = omega (arith, served.few, is.few, interval.next);
       units = λ order row.
           let step = dealt_more demand offer (position line mark) want.quantity want.order order row
           (omega (arith, interval.start, is.dealt)) interval.units in
@@ -167,18 +171,20 @@ dealing_more rows wants except count want mark mark' room room' room'' can there
           );
     }
 
--- an article that was dealt to all wants is dealt
+-- an article that was dealt to all its wants is dealt
 pub all_dealt : (rows : List Row) (wants : List Want) (article : ℕ) (except : Option ℕ) (count : ℕ) (mark : Mark) (room room' : Content)
-    → length wants ≤ count → IsDealing rows wants article except count mark room room' → IsDealt rows wants article except room room'
+    → wanted_of (take count wants) article ≡ wanted_of wants article → IsDealing rows wants article except count mark room room' → IsDealt rows wants article
+    except room room'
 all_dealt rows wants article except count mark room room' all is = record {
   single = is.single;
   size = is.size;
   space = omega (arith, is.space, wants_all wants article count);
+  few = omega (arith, is.few, all);
   units = λ order row.
       let offer = offer_at rows article except in
       let demand = wanted_for wants article in
       let line = offer_in rows article except in
-      let wanted : position line mark ≡ wanted_of wants article = is.dealt ∙ ap (λ (xs : List Want). wanted_of xs article) (take_all count wants all) in
+      let wanted : position line mark ≡ wanted_of wants article = is.dealt ∙ all in
       is.units order row ∙ ap (λ n. units_for room.holds order row + n)
       (dealt_whole demand offer (position line mark) order row (omega (arith, wanted, demand-le-wanted wants article (suc order))));
 }

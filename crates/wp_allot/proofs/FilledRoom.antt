@@ -17,8 +17,8 @@ use Rattle.wp_book.specs.ArticleRows.{rows_of}
 use Rattle.wp_book.specs.Room.{Content}
 use Rattle.wp_allot.proofs.ArticleOffers.{offer-none, rows_counted}
 use Rattle.wp_allot.proofs.OrderIntervals.{units_of-other, units_of-own, wanted_more}
-use Rattle.wp_allot.specs.DealtUnits.{AreDealt, CanDeal, IsDealt, share_among, wants_of}
-use Rattle.wp_allot.specs.Wants.{AreRegular, IsEnough, is_wanted, units_of, wanted_for, wanted_of, wanted_rows}
+use Rattle.wp_allot.specs.DealtUnits.{AreDealt, CanDeal, IsDealt, share_among, units_among, wants_of}
+use Rattle.wp_allot.specs.Wants.{AreInTurn, IsEnough, is_wanted, most_holds, units_in, units_of, wanted_for, wanted_of, wanted_rows}
 use Rattle.wp_allot.specs.declared.want.Want.{Want}
 
 -- the want at a place is the first of its article, or a later one
@@ -33,17 +33,20 @@ record IsLater (wants : List Want) (place : ℕ) (want : Want) : Type 0 where
   within : place < length wants
   later : wanted_of (take place wants) want.article ≢ 0
 
-abbrev as_one : Bool → ℕ
+-- one where a test holds
+abbrev pub as_one : Bool → ℕ
 as_one b = if b then 1 else 0
 
 -- 1 where the article is wanted by one of the first wants
-abbrev flag : List Want → ℕ → ℕ → ℕ
+abbrev pub flag : List Want → ℕ → ℕ → ℕ
 flag wants count article = as_one (is_wanted (take count wants) article)
 
-flag-wanted : (wants : List Want) (count article : ℕ) → 0 < wanted_of (take count wants) article → is_wanted (take count wants) article ≡ true
+-- it is 1 where units of it are wanted
+pub flag-wanted : (wants : List Want) (count article : ℕ) → 0 < wanted_of (take count wants) article → is_wanted (take count wants) article ≡ true
 flag-wanted wants count article some = lt-ltb 0 (wanted_of (take count wants) article) some
 
-flag-unwanted : (wants : List Want) (count article : ℕ) → wanted_of (take count wants) article ≡ 0 → is_wanted (take count wants) article ≡ false
+-- and 0 where none are
+pub flag-unwanted : (wants : List Want) (count article : ℕ) → wanted_of (take count wants) article ≡ 0 → is_wanted (take count wants) article ≡ false
 flag-unwanted wants count article none = le-ltb 0 (wanted_of (take count wants) article) (omega (arith, none))
 
 -- the articles of one more want
@@ -105,6 +108,32 @@ count_more wants place want is =
     sum_by-plus (λ (w : Want). flag wants (place + 1) w.article) (λ (w : Want). flag wants place w.article)
     (λ (w : Want). if w.article == want.article then 1 else 0) wants (λ w. flag_more wants place want w.article is)
 
+units_more : (wants : List Want) (place : ℕ) (want : Want) → IsFirst wants place want
+    → units_among wants (place + 1) ≡ units_among wants place + wanted_of wants want.article
+units_more wants place want is =
+    sum_by-plus (λ (w : Want). if is_wanted (take (place + 1) wants) w.article then w.quantity else 0)
+    (λ (w : Want). if is_wanted (take place wants) w.article then w.quantity else 0) (units_of want.article) wants
+    (λ w. split (is_wanted (take (place + 1) wants) w.article) (is_wanted (take place wants) w.article) (w.article == want.article) w.quantity
+    (flag_more wants place want w.article is))
+  where
+    split : (a b c : Bool) (q : ℕ) → as_one a ≡ as_one b + as_one c → (if a then q else 0) ≡ (if b then q else 0) + (if c then q else 0)
+    split true true true q e = absurd (omega arith)
+    split true true false q e = omega arith
+    split true false true q e = omega arith
+    split true false false q e = absurd (omega arith)
+    split false true c q e = absurd (omega arith)
+    split false false true q e = absurd (omega arith)
+    split false false false q e = omega arith
+
+-- no more units than those of all wants
+units-le : (wants : List Want) (count : ℕ) → units_among wants count ≤ units_in wants
+units-le wants count = sum_by-le-sum_by (λ (w : Want). if is_wanted (take count wants) w.article then w.quantity else 0) (λ (w : Want). w.quantity) wants
+    (λ w. at_most (is_wanted (take count wants) w.article) w.quantity)
+  where
+    at_most : (b : Bool) (q : ℕ) → (if b then q else 0) ≤ q
+    at_most true q = omega arith
+    at_most false q = omega arith
+
 -- no more rows than those of all wants
 flag-le : (wants : List Want) (count article : ℕ) → flag wants count article ≤ as_one (is_wanted wants article)
 flag-le wants count article = elim (cases_lt 0 (wanted_of wants article)) [
@@ -127,10 +156,10 @@ rows-le rows wants count = sum_by-le-sum_by (λ (r : Row). flag wants count r.ar
     (λ r. flag-le wants count r.article)
 
 -- the first want of an article can be dealt
-first_is : (wants : List Want) (place : ℕ) (want : Want) → AreRegular wants → slice_get wants place ≡ Some want → place < length wants
+first_is : (wants : List Want) (place : ℕ) (want : Want) → AreInTurn wants → slice_get wants place ≡ Some want → place < length wants
     → wanted_of (take place wants) want.article ≡ 0 → IsFirst wants place want
-first_is wants place want regular there within none = record
-    { there = there; within = within; some = All-at (λ (w : Want). 0 < w.quantity) wants place want regular.some there; first = none }
+first_is wants place want turn there within none = record
+    { there = there; within = within; some = All-at (λ (w : Want). 0 < w.quantity) wants place want turn.some there; first = none }
 
 -- what was dealt at a row
 pub share_at : (rows : List Row) (wants : List Want) (except : Option ℕ) (count order k : ℕ) (r : Row) → slice_get rows k ≡ Some r
@@ -166,13 +195,13 @@ share_none rows wants except count order k article none offered = elim (slice_ge
 ]
 
 -- the article of a want can be dealt where no want before it is of that article
-pub can_deal : (rows : List Row) (wants : List Want) (except : Option ℕ) (place : ℕ) (want : Want) (room : Content) → AreRegular wants
+pub can_deal : (rows : List Row) (wants : List Want) (except : Option ℕ) (place : ℕ) (want : Want) (room : Content) → AreInTurn wants
     → ((article : ℕ) → IsEnough rows wants except article) → AreDealt rows wants except place room
     → slice_get wants place ≡ Some want → place < length wants → wanted_of (take place wants) want.article ≡ 0 → CanDeal rows wants want.article except room
-can_deal rows wants except place want room regular enough is there within none =
-    let first = first_is wants place want regular there within none in
+can_deal rows wants except place want room turn enough is there within none =
+    let first = first_is wants place want turn there within none in
     record {
-      regular = regular;
+      turn = turn;
       enough = enough want.article;
       single = is.single;
       fresh = λ order row offered. is.units order row ∙ share_none rows wants except place order row want.article none offered;
@@ -184,6 +213,9 @@ can_deal rows wants except place want room regular enough is there within none =
             rows_more rows wants place want first,
             count_more wants place want first,
             rows-le rows wants (place + 1),
+            is.few,
+            units_more wants place want first,
+            units-le wants (place + 1),
             count_by-le-length (λ (w : Want). is_wanted (take (place + 1) wants) w.article) wants,
           );
     }
@@ -224,16 +256,17 @@ share_more rows wants except place want order k first = elim (slice_get_cases ro
     le_none p q = omega arith
 
 -- and once it was dealt, the articles of one want more are dealt
-pub first_dealt : (rows : List Row) (wants : List Want) (except : Option ℕ) (place : ℕ) (want : Want) (room room' : Content) → AreRegular wants
+pub first_dealt : (rows : List Row) (wants : List Want) (except : Option ℕ) (place : ℕ) (want : Want) (room room' : Content) → AreInTurn wants
     → AreDealt rows wants except place room
     → slice_get wants place ≡ Some want → place < length wants → wanted_of (take place wants) want.article ≡ 0
     → IsDealt rows wants want.article except room room' → AreDealt rows wants except (place + 1) room'
-first_dealt rows wants except place want room room' regular is there within none dealt =
-    let first = first_is wants place want regular there within none in
+first_dealt rows wants except place want room room' turn is there within none dealt =
+    let first = first_is wants place want turn there within none in
     record {
       single = dealt.single;
       size = omega (arith, is.size, dealt.size);
       space = omega (arith, is.space, dealt.space, rows_more rows wants place want first, count_more wants place want first);
+      few = omega (arith, is.few, dealt.few, units_more wants place want first);
       units = λ order row. dealt.units order row ∙ (ap (λ n. n + overlap (wanted_for wants want.article) (offer_at rows want.article except) order row)
           (is.units order row) ∙ sym (share_more rows wants except place want order row first));
     }
@@ -253,6 +286,13 @@ later_dealt rows wants except place want room is there within some =
         sum_by-same (λ (r : Row). flag wants (place + 1) r.article) (λ (r : Row). flag wants place r.article) rows (λ r. ap as_one (same r.article)),
         sum_by-same (λ (w : Want). flag wants (place + 1) w.article) (λ (w : Want). flag wants place w.article) wants (λ w. ap as_one (same w.article)),
       );
+      few = omega (
+        arith,
+        is.few,
+        sum_by-same (λ (w : Want). if is_wanted (take (place + 1) wants) w.article then w.quantity else 0)
+            (λ (w : Want). if is_wanted (take place wants) w.article then w.quantity else 0) wants
+            (λ w. ap (λ b. if b then w.quantity else 0) (same w.article)),
+      );
       units = λ order row. is.units order row ∙ sym (share_same rows wants except place want order row later);
     }
   where
@@ -266,3 +306,16 @@ later_dealt rows wants except place want room is there within some =
           (later_same wants place want r.article later) ∙ sym (share_at rows wants except place order k r found.2))
       | inr past ↦ share_past rows wants except (place + 1) order k past.1 ∙ sym (share_past rows wants except place order k past.1)
     ]
+
+-- what was dealt is at most one hold a wanted row and one a want, and no more than one a unit
+pub few_dealt : (rows : List Row) (wants : List Want) (except : Option ℕ) (count : ℕ) (room : Content) → AreDealt rows wants except count room
+    → length room.holds ≤ most_holds rows wants
+few_dealt rows wants except count room is =
+    omega (
+      arith,
+      is.space,
+      is.few,
+      rows-le rows wants count,
+      count_by-le-length (λ (w : Want). is_wanted (take count wants) w.article) wants,
+      units-le wants count,
+    )

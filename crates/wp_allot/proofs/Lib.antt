@@ -6,6 +6,9 @@ pub mod ServedOrder
 pub mod OrderIntervals
 pub mod DealtArticle
 pub mod FilledRoom
+pub mod SingleWants
+pub mod GatheredWants
+pub mod WantedPlaces
 pub mod OverlapHolds
 pub mod AllottedUnits
 pub mod UntouchedStock

@@ -8,7 +8,7 @@ use Rattle.std.specs.List.{sum_by}
 use Rattle.wp_model.specs.Sums.{sum_below}
 use Rattle.wp_book.proofs.Books.{sum_by-plus}
 use Rattle.wp_book.proofs.HoldSums.{sum_by-none}
-use Rattle.wp_allot.specs.Wants.{AreRegular, units_for, units_of, wanted_for, wanted_of}
+use Rattle.wp_allot.specs.Wants.{AreInTurn, AreRegular, units_for, units_of, wanted_for, wanted_of}
 use Rattle.wp_allot.specs.declared.want.Want.{Want}
 
 -- the units of a want, where it is of the article and for an order below a number
@@ -104,36 +104,28 @@ pub record HasInterval (wants : List Want) (article place : ℕ) (want : Want) :
   pub units : wanted_for wants article want.order ≡ want.quantity
   pub next : wanted_of (take (place + 1) wants) article ≡ wanted_of (take place wants) article + want.quantity
 
--- of two wants of an article the later one is for a later order
-later_order : (wants : List Want) (j k : ℕ) (v w : Want) → AreRegular wants → j < k → slice_get wants j ≡ Some v → slice_get wants k ≡ Some w
-    → v.article ≡ w.article → v.order < w.order
-later_order wants j k v w regular before at there same = elim (cases_eq v.order w.order) [
-  | inl tie ↦ absurd (omega (arith, regular.once j k v w at there tie same))
-  | inr other ↦ omega (arith, regular.ordered j k v w before at there)
-]
-
 -- the want at a place is known
 at_place : (wants : List Want) (j place : ℕ) (w want : Want) → j ≡ place → slice_get wants j ≡ Some w → slice_get wants place ≡ Some want → w ≡ want
 at_place wants j place w want here at there = same_Some w want (sym at ∙ (ap (slice_get wants) here ∙ there))
 
-begins_at : (wants : List Want) (article place : ℕ) (want : Want) → AreRegular wants → slice_get wants place ≡ Some want → want.article ≡ article
+begins_at : (wants : List Want) (article place : ℕ) (want : Want) → AreInTurn wants → slice_get wants place ≡ Some want → want.article ≡ article
     → AreParted wants article place want.order
-begins_at wants article place want regular there same = record {
-  before = λ j w under at of. later_order wants j place w want regular under at there (of ∙ sym same);
+begins_at wants article place want turn there same = record {
+  before = λ j w under at of. turn.later j place w want under at there (of ∙ sym same);
   after = λ j w upto at of. elim (cases_eq j place) [
     | inl here ↦ omega (arith, ap (λ (w : Want). w.order) (at_place wants j place w want here at there))
-    | inr other ↦ omega (arith, regular.ordered place j want w (omega arith) there at)
+    | inr other ↦ omega (arith, turn.later place j want w (omega arith) there at (same ∙ sym of))
   ];
 }
 
-ends_at : (wants : List Want) (article place : ℕ) (want : Want) → AreRegular wants → slice_get wants place ≡ Some want → want.article ≡ article
+ends_at : (wants : List Want) (article place : ℕ) (want : Want) → AreInTurn wants → slice_get wants place ≡ Some want → want.article ≡ article
     → AreParted wants article (place + 1) (suc want.order)
-ends_at wants article place want regular there same = record {
+ends_at wants article place want turn there same = record {
   before = λ j w under at of. elim (cases_eq j place) [
     | inl here ↦ omega (arith, ap (λ (w : Want). w.order) (at_place wants j place w want here at there))
-    | inr other ↦ omega (arith, later_order wants j place w want regular (omega arith) at there (of ∙ sym same))
+    | inr other ↦ omega (arith, turn.later j place w want (omega arith) at there (of ∙ sym same))
   ];
-  after = λ j w upto at of. omega (arith, later_order wants place j want w regular (omega arith) there at (same ∙ sym of));
+  after = λ j w upto at of. omega (arith, turn.later place j want w (omega arith) there at (same ∙ sym of));
 }
 
 -- one want more is wanted with its units, where it is of the article
@@ -151,14 +143,14 @@ units_of-own article want same = cond-true (want.article == article) want.quanti
 pub units_of-other : (article : ℕ) (want : Want) → want.article ≢ article → units_of article want ≡ 0
 units_of-other article want other = cond-false (want.article == article) want.quantity 0 (ne_eqb want.article article other)
 
--- each of regular wants has the interval of its order
-pub has_interval : (wants : List Want) (article place : ℕ) (want : Want) → AreRegular wants → place < length wants → slice_get wants place ≡ Some want
+-- each of wants in turn has the interval of its order
+pub has_interval : (wants : List Want) (article place : ℕ) (want : Want) → AreInTurn wants → place < length wants → slice_get wants place ≡ Some want
     → want.article ≡ article → HasInterval wants article place want
-has_interval wants article place want regular within there same =
+has_interval wants article place want turn within there same =
     let begins : sum_below want.order (wanted_for wants article) ≡ wanted_of (take place wants) article
-    = demand_below wants article want.order ∙ parted wants article place want.order (begins_at wants article place want regular there same) in
+    = demand_below wants article want.order ∙ parted wants article place want.order (begins_at wants article place want turn there same) in
     let ends : sum_below (suc want.order) (wanted_for wants article) ≡ wanted_of (take (place + 1) wants) article
-    = demand_below wants article (suc want.order) ∙ parted wants article (place + 1) (suc want.order) (ends_at wants article place want regular there same) in
+    = demand_below wants article (suc want.order) ∙ parted wants article (place + 1) (suc want.order) (ends_at wants article place want turn there same) in
     let more : wanted_of (take (place + 1) wants) article ≡ wanted_of (take place wants) article + want.quantity
     = omega (arith, wanted_more wants article place want there within, units_of-own article want same) in
     record { start = begins; units = omega (arith, begins, ends, more); next = more }
@@ -174,3 +166,14 @@ demand-le-wanted wants article orders =
     let within = sum_by-le-sum_by (units_below article orders) (units_of article) wants
     (λ want. pick_below (want.article == article) (nat_lt want.order orders) want.quantity) in
     omega (arith, demand_below wants article orders, within)
+
+-- regular wants are in turn
+pub in_turn : (wants : List Want) → AreRegular wants → AreInTurn wants
+in_turn wants regular = record {
+  later = λ i j v w before at there same. elim (cases_eq v.order w.order) [
+    | inl tie ↦ absurd (omega (arith, regular.once i j v w at there tie same))
+    | inr other ↦ omega (arith, regular.ordered i j v w before at there)
+  ];
+  some = regular.some;
+  small = regular.small;
+}

@@ -1,9 +1,9 @@
 -- What was dealt, put in order.
-use Rattle.std.proofs.Common.{◌≡◌, ◌≢◌, ◌∙◌, refl, sym, ap, subst, ℕ, suc, ◌<◌, ◌≤◌, ◌⊎◌, inl, inr, List, [], ◌∷◌, length}
+use Rattle.std.proofs.Common.{◌≡◌, ◌≢◌, ◌∙◌, refl, sym, ap, subst, ℕ, suc, ◌<◌, ◌≤◌, ◌⊎◌, inl, inr, List, [], ◌∷◌, ◌++◌, length}
 use Rattle.std.proofs.Common.{Option, Some, slice_get, if◌then◌else◌, arith, eq-eqb}
 use Rattle.std.proofs.lemmas.Bool.{and_from, cases_Bool, cases_eq, cond-false, cond-true, le-ltb, ltb-false}
 use Rattle.std.proofs.lemmas.List.{take_all}
-use Rattle.std.proofs.lemmas.List.Sorted.{All-permutation, sum_by-IsPermutation}
+use Rattle.std.proofs.lemmas.List.Sorted.{All-permutation, length_permutation, sum_by-IsPermutation}
 use Rattle.std.proofs.lemmas.List.Sums.{get_or-le-sum_by, sum_by-cons}
 use Rattle.std.proofs.lemmas.Option.{get_or_from_slice_get, slice_get_cases, slice_get_within}
 use Rattle.std.specs.List.{count_by}
@@ -21,7 +21,7 @@ use Rattle.wp_model.specs.Overlap.{overlap}
 use Rattle.wp_model.specs.declared.row.Hold.{Hold}
 use Rattle.wp_model.specs.declared.row.Row.{Row}
 use Rattle.wp_book.specs.Room.{AreInOrder, ComesFirst, Content, IsInOrder}
-use Rattle.wp_allot.proofs.FilledRoom.{share_at, share_past}
+use Rattle.wp_allot.proofs.FilledRoom.{few_dealt, share_at, share_past}
 use Rattle.wp_allot.proofs.SingleHolds.{counts}
 use Rattle.wp_allot.proofs.WantSums.{wanted_for-le}
 use Rattle.wp_allot.specs.DealtUnits.{AreDealt, AreSingle, is_hold, share_among}
@@ -115,6 +115,7 @@ nothing_dealt rows wants except room is = record {
   });
   size = is.size;
   space = omega (arith, ap length is.empty);
+  few = omega (arith, ap length is.empty);
   units = λ order row. ap (λ holds. units_for holds order row) is.empty ∙ sym (none order row);
 }
   where
@@ -132,6 +133,7 @@ pub has_overlaps : (rows : List Row) (wants : List Want) (except : Option ℕ) (
     → HasOverlaps rows wants except room room''
 has_overlaps rows wants except count room room' room'' all size is sorted = record {
   size = sorted.size ∙ size;
+  few = omega (arith, length_permutation room'.holds room''.holds sorted.same, few_dealt rows wants except count room' is);
   holds = λ orders below.
       let single = single_permuted rows room'.holds room''.holds sorted.same is.single in
       is_held_list room''.holds orders (length rows) (share (wanted_for wants) rows except) (rises_from room''.holds sorted.order single.once)
@@ -140,3 +142,14 @@ has_overlaps rows wants except count room room' room'' all size is sorted = reco
       ∙ (is.units order row ∙ share_all rows wants except count order row all))
       (λ order row beyond. share_beyond rows wants except orders order row below beyond);
 }
+
+-- the same holds put into other empty room
+pub listed : (rows : List Row) (wants : List Want) (except : Option ℕ) (room room' list list' : Content) → HasOverlaps rows wants except room room'
+    → IsRoomFor rows wants list → list' ≡ record list { holds = list.holds ++ room'.holds } → HasOverlaps rows wants except list list'
+listed rows wants except room room' list list' has empty put =
+    let same : list'.holds ≡ room'.holds = ap (λ (l : Content). l.holds) put ∙ ap (λ (holds : List Hold). holds ++ room'.holds) empty.empty in
+    record {
+      size = ap (λ (l : Content). l.size) put;
+      few = omega (arith, ap length same, has.few);
+      holds = λ orders below. same ∙ has.holds orders below;
+    }

@@ -138,6 +138,7 @@ serving_more rows want except wanted units row mark mark' mark'' room room' room
         single = put.single;
         size = put.size ∙ is.served.size;
         space = omega (arith, is.served.space, put.long, pass.space);
+        few = omega (arith, is.served.few, put.long);
         units = λ order at. units_more order at;
       };
       new_row = λ some. omega (arith, pass.begins some);

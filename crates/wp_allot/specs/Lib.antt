@@ -2,3 +2,4 @@ pub mod Wants
 pub mod Cover
 pub mod UntouchedStock
 pub mod DealtUnits
+pub mod Gathered

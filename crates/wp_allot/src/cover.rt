@@ -23,12 +23,10 @@ pub fn wanted_units(wants: &[Want], article: u32) -> u64
     units
 }
 
-// The numbers of an article of which less is free than is wanted.
-fn shortage(book: &StockBook, wants: &[Want], article: u32, except: Option<u32>) -> Option<Short>
-    requires { sum_by (λ (want : WantData). want.quantity) wants.now < 2 ^ 64 }
-    ensures { IsShortage book.now.rows wants.now except article result }
+/// The numbers of an article of which so much is wanted, where less is free.
+pub fn shortage(book: &StockBook, article: u32, wanted: u64, except: Option<u32>) -> Option<Short>
+    ensures { (wants : List WantData) → wanted ≡ wanted_of wants article → IsShortage book.now.rows wants except article result }
 {
-    let wanted = wanted_units(wants, article);
     let free = book.free_of(article, except);
     if free < wanted {
         Some(Short {
@@ -61,7 +59,8 @@ pub fn short_article(book: &StockBook, wants: &[Want], except: Option<u32>) -> O
 {
     let mut first = None;
     for want in wants {
-        first = earlier(first, shortage(book, wants, want.article, except));
+        let wanted = wanted_units(wants, want.article);
+        first = earlier(first, shortage(book, want.article, wanted, except));
     }
     first
 }

@@ -5,12 +5,13 @@
 
 mod cover;
 mod deal;
+pub mod gathered;
 mod mark;
 mod serve;
 mod want;
 
 pub use cover::short_article;
-pub use deal::{allot, holds_by_overlap};
+pub use deal::allot;
 pub use want::{Short, Want};
 
 #[cfg(test)]

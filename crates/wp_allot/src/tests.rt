@@ -2,6 +2,7 @@ ghost use Rattle.std.specs.Prelude.{◌≡◌, ◌+◌, ◌≤◌, ◌<◌, ℕ,
 ghost use Rattle.wp_allot.specs.Wants.{AreRegular, IsRoomFor};
 ghost use Rattle.wp_allot.specs.declared.want.Want.{Want as WantData};
 
+use super::deal::holds_by_overlap;
 use super::*;
 use std::alloc::{AllocError, Global};
 use std::process::Abort;
@@ -70,6 +71,18 @@ fn are_moderate(wants: &[Want]) -> bool
 {
     for want in wants {
         if want.quantity == 0 || want.quantity > 1_000_000 {
+            return false;
+        }
+    }
+    true
+}
+
+/// Whether each want is of one of so many articles.
+fn are_known(wants: &[Want], articles: u32) -> bool
+    ensures { IsTrue result → All (λ (want : WantData). want.article < articles) wants.now }
+{
+    for want in wants {
+        if want.article >= articles {
             return false;
         }
     }
@@ -229,6 +242,113 @@ fn first_other_rows(
     Ok(None)
 }
 
+/// What is held for the wants once they are gathered.
+fn gathered_overlaps(
+    rt: &impl Abort,
+    alloc: Global,
+    book: &StockBook,
+    wants: &mut [Want],
+    except: Option<u32>,
+) -> Result<Room, Fail> {
+    assert!(rt; are_regular(wants));
+    gathered::gather(wants);
+    assert!(rt; wants.len() <= 1000);
+    assert!(rt; gathered::short_article(book, wants, except).is_none());
+    let mut room = room_for(rt, alloc, book, wants)?;
+    gathered::holds_by_overlap(book, wants, except, &mut room);
+    Ok(room)
+}
+
+/// What is held for the wants once they are gathered, as text.
+fn gathered_text(
+    rt: &impl Abort,
+    alloc: Global,
+    wants: &mut [Want],
+    except: Option<u32>,
+) -> Result<String, Fail> {
+    let book = book_of(alloc, STOCK)?;
+    let room = gathered_overlaps(rt, alloc, &book, wants, except)?;
+    Ok(holds_text(alloc, room.as_slice())?)
+}
+
+/// The place of the first wants that are held otherwise once they are gathered.
+fn first_other_gathered(
+    rt: &impl Abort,
+    alloc: Global,
+    cases: &[([Wanted; 2], Option<u32>, &str, &str)],
+) -> Result<Option<usize>, Fail> {
+    for (at, (wants, except, holds, _)) in cases.iter().enumerate() {
+        if gathered_text(rt, alloc, &mut pair(*wants), *except)?.as_str() != *holds {
+            return Ok(Some(at));
+        }
+    }
+    Ok(None)
+}
+
+#[test]
+fn gathered_wants_are_held_alike(rt: HostRuntime) -> Result<(), Fail> {
+    assert_eq!(rt; first_other_gathered(&rt, rt.alloc(), &DEALT)?, None);
+    Ok(())
+}
+
+/// What a wave holds of gathered wants, and the list of it.
+fn allot_gathered(
+    rt: &impl Abort,
+    alloc: Global,
+    book: &mut StockBook,
+    wants: &mut [Want],
+) -> Result<Room, Fail> {
+    assert!(rt; are_regular(wants));
+    gathered::gather(wants);
+    assert!(rt; wants.len() <= 1000);
+    assert!(rt; gathered::short_article(book, wants, None).is_none());
+    let room = room_for(rt, alloc, book, wants)?;
+    let mut list = room_for(rt, alloc, book, wants)?;
+    gathered::allot(book, 3, wants, None, room, &mut list);
+    Ok(list)
+}
+
+#[test]
+fn what_is_allotted_is_listed(rt: HostRuntime) -> Result<(), Fail> {
+    let alloc = rt.alloc();
+    let mut book = book_of(alloc, STOCK)?;
+    let list = allot_gathered(&rt, alloc, &mut book, &mut pair([(0, 1, 5), (0, 0, 7)]))?;
+    assert_eq!(rt;
+        holds_text(alloc, list.as_slice())?.as_str(),
+        "0 0 3;0 1 4;0 2 5;"
+    );
+    assert_eq!(rt; rows_text(alloc, &book)?.as_str(), "0 3;0 4;0 5;");
+    Ok(())
+}
+
+/// Wants, and how many holds stock for them takes at most.
+const MOST: [([Wanted; 2], u64); 4] = [
+    ([(0, 0, 4), (1, 0, 3)], 4),
+    ([(0, 0, 1), (1, 1, 1)], 2),
+    ([(0, 0, 9), (1, 1, 9)], 5),
+    ([(0, 1, 9), (1, 1, 9)], 3),
+];
+
+/// How many holds stock for the wants takes at most.
+fn most_holds_for(rt: &impl Abort, alloc: Global, wants: &mut [Want]) -> Result<u64, Fail> {
+    let layout = Layout::new(5, 200, 1, 1, 1, 1).ok_or("no layout")?;
+    let stock = read_stock(alloc, &STOCK.as_bytes().to_vec(alloc)?, &layout)?;
+    assert!(rt; are_regular(wants));
+    gathered::gather(wants);
+    assert!(rt; wants.len() <= 1000);
+    assert!(rt; are_known(wants, stock.articles()));
+    Ok(gathered::most_holds(&stock, wants))
+}
+
+#[test]
+fn holds_are_counted_beforehand(rt: HostRuntime) -> Result<(), Fail> {
+    let alloc = rt.alloc();
+    for (wants, most) in &MOST {
+        assert_eq!(rt; most_holds_for(&rt, alloc, &mut pair(*wants))?, *most);
+    }
+    Ok(())
+}
+
 #[test]
 fn orders_take_what_overlaps(rt: HostRuntime) -> Result<(), Fail> {
     let alloc = rt.alloc();
@@ -275,11 +395,41 @@ fn first_other_shortage(
     None
 }
 
+/// The same of gathered wants.
+fn gathered_shortage(
+    rt: &impl Abort,
+    book: &StockBook,
+    wants: &mut [Want],
+    except: Option<u32>,
+) -> Option<(u32, u64, u64)> {
+    assert!(rt; are_regular(wants));
+    gathered::gather(wants);
+    match gathered::short_article(book, wants, except) {
+        Some(short) => Some((short.article, short.wanted, short.free)),
+        None => None,
+    }
+}
+
+/// The place of the first wants of which another article is short once they are gathered.
+fn first_other_gathered_shortage(
+    rt: &impl Abort,
+    book: &StockBook,
+    cases: &[([Wanted; 2], Option<u32>, Option<(u32, u64, u64)>)],
+) -> Option<usize> {
+    for (at, (wants, except, short)) in cases.iter().enumerate() {
+        if gathered_shortage(rt, book, &mut pair(*wants), *except) != *short {
+            return Some(at);
+        }
+    }
+    None
+}
+
 #[test]
 fn short_articles_are_told(rt: HostRuntime) -> Result<(), Fail> {
     let alloc = rt.alloc();
     let book = book_of(alloc, STOCK)?;
     assert_eq!(rt; first_other_shortage(&rt, &book, &SHORT), None);
+    assert_eq!(rt; first_other_gathered_shortage(&rt, &book, &SHORT), None);
     assert_eq!(rt; rows_text(alloc, &book)?.as_str(), "3 0;4 0;5 0;");
     Ok(())
 }

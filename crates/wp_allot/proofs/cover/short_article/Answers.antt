@@ -11,7 +11,8 @@ none = record { order = 0; article = 0; quantity = 0 }
 pub loop-want-preserved : goal.loop-want-preserved
 loop-want-preserved c =
     let there = slice_get-get_or c.args.wants.now c.loop-want.want-index none c.loop-want-test.true in
-    c.earlier-first.ensures c.args.book.now.rows c.args.wants.now c.args.except c.loop-want.want-index _ there c.loop-want.invariant c.shortage.ensures
+    c.earlier-first.ensures c.args.book.now.rows c.args.wants.now c.args.except c.loop-want.want-index _ there c.loop-want.invariant
+    (c.shortage.ensures c.args.wants.now c.wanted_units-wanted.ensures)
 
 pub returns : goal.returns
 returns c =

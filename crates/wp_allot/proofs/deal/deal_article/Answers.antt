@@ -1,8 +1,10 @@
-use Rattle.std.proofs.Common.{◌+◌, sym, subst, get_or, arith}
+use Rattle.std.proofs.Common.{◌+◌, refl, ap, sym, subst, get_or, List, arith}
 use Rattle.std.proofs.lemmas.Option.{slice_get-get_or}
 use Rattle.wp_book.specs.Room.{Content}
 use Rattle.wp_allot.proofs.DealtArticle.{IsDealing, all_dealt, can_serve_of, dealing_more_of, dealing_other, dealing_start}
+use Rattle.std.proofs.lemmas.List.{take_all}
 use Rattle.wp_allot.specs.DealtUnits.{IsServed}
+use Rattle.wp_allot.specs.Wants.{wanted_of}
 use Rattle.wp_allot.specs.declared.mark.Mark.{Mark}
 use Rattle.wp_allot.specs.declared.want.Want.{Want}
 use Rattle.wp_allot.proofs.deal.deal_article.Goals as goal
@@ -15,7 +17,7 @@ pub loop-want-init : goal.loop-want-init
 loop-want-init c =
     subst (λ (mark : Mark). IsDealing c.args.book.now.rows c.args.wants.now c.args.article c.args.except 0 mark c.args.room.now c.args.room.now)
     (sym c.start-mark.ensures)
-    (dealing_start c.args.book.now.rows c.args.wants.now c.args.article c.args.except c.args.room.now c.requires)
+    (dealing_start c.args.book.now.rows c.args.wants.now c.args.article c.args.except 0 c.args.room.now c.requires refl)
 
 pub serve-requires : goal.serve-requires
 serve-requires c =
@@ -49,4 +51,5 @@ loop-want-preserved c =
 
 pub returns : goal.returns
 returns c = all_dealt c.args.book.now.rows c.args.wants.now c.args.article c.args.except c.loop-want.want-index c.loop-want.mark c.args.room.now
-    c.loop-want.room (omega arith) c.loop-want.invariant
+    c.loop-want.room
+    (ap (λ (xs : List Want). wanted_of xs c.args.article) (take_all c.loop-want.want-index c.args.wants.now (omega arith))) c.loop-want.invariant
