@@ -17,6 +17,7 @@ use Rattle.wp_model.specs.declared.reply.Reply.{Reply}
 use Rattle.wp_model.specs.declared.reply.Reply.TheVariants as reply
 use Rattle.wp_model.specs.declared.reply.WaveState.{WaveState}
 use Rattle.wp_model.specs.declared.row.Row.{Row}
+use Rattle.wp_allot.specs.declared.want.Want.{Want}
 use Rattle.wp_floor.specs.Floor.{AreWantsOf, HasAnswered, IsAt, state_at, wave_of}
 use Rattle.wp_floor.specs.WaveStock.{IsHeld, IsRefusedShort}
 use Rattle.wp_floor.specs.declared.waves.KeptWave.{KeptWave}
@@ -62,24 +63,24 @@ with_held_is old new waves number held others own w o r = elim (cases_eq w numbe
 ]
 
 -- the state once stock was held for a wave is the one that the definition makes
-pub held_state : (opening : Opening) (old new : Book) (waves : List Wave) (number : ℕ) (orders : List (List ℕ)) (kept : KeptWave) (w : Wave)
+pub held_state : (opening : Opening) (old new : Book) (waves : List Wave) (number : ℕ) (orders : List (List ℕ)) (wants : List Want) (w : Wave)
     (room sheet : Content)
-    → AreWantsOf opening orders kept.wants.items → IsHeld number kept.wants.items old new room sheet
+    → AreWantsOf opening orders wants → IsHeld number wants old new room sheet
     → put_wave number w (hold (demand_at opening orders) None number (length orders) (state_at old waves)) ≡ state_at new (slice_set waves number w)
-held_state opening old new waves number orders kept w room sheet are held =
+held_state opening old new waves number orders wants w room sheet are held =
     ap (λ (demand : ℕ → ℕ → ℕ). put_wave number w (hold demand None number (length orders) (state_at old waves)))
-    (sym (demand_is opening orders kept.wants.items are))
+    (sym (demand_is opening orders wants are))
     ∙ sym (state_is (slice_set waves number w) new.rows _ (held_for new) _
-    (held.allotted.rows (length orders) (wants_below opening orders kept.wants.items are))
+    (held.allotted.rows (length orders) (wants_below opening orders wants are))
     (with_held_is old new waves number _ held.allotted.others held.allotted.held))
 
 -- where stock was held for a wave, the command that wanted it is done
-pub hold_for_done : (opening : Opening) (old new : Book) (waves : List Wave) (number : ℕ) (kept : KeptWave) (next : WaveState) (done : Reply)
-    (room sheet : Content)
-    → AreWantsOf opening kept.orders kept.wants.items → IsHeld number kept.wants.items old new room sheet
+pub hold_for_done : (opening : Opening) (old new : Book) (waves : List Wave) (number : ℕ) (kept : KeptWave) (wants : List Want) (next : WaveState)
+    (done : Reply) (room sheet : Content)
+    → AreWantsOf opening kept.orders wants → IsHeld number wants old new room sheet
     → hold_for opening (state_at old waves) next done number
     (wave_of kept) ≡ record { reply = done; state = state_at new (slice_set waves number (record (wave_of kept) { state = next })) }
-hold_for_done opening old new waves number kept next done room sheet are held =
+hold_for_done opening old new waves number kept wants next done room sheet are held =
     let w : Wave = record (wave_of kept) { state = next } in
     let stepped : Stepped = record {
       reply = done;
@@ -87,17 +88,18 @@ hold_for_done opening old new waves number kept next done room sheet are held =
           (hold (demand_at opening kept.orders) None number (length kept.orders) (state_at old waves));
     } in
     ap (λ found. option_map_or (refuse_short opening (state_at old waves) (wave_of kept)) found stepped)
-    (enough_for opening old.rows kept.orders kept.wants.items are held.enough)
+    (enough_for opening old.rows kept.orders wants are held.enough)
     ∙ ap (λ (state : State). let s : Stepped = record { reply = done; state = state } in s)
-    (held_state opening old new waves number kept.orders kept w room sheet are held)
+    (held_state opening old new waves number kept.orders wants w room sheet are held)
 
 -- and where stock was short, the command is refused with the first short article
-pub hold_for_short : (opening : Opening) (old new : Book) (waves : List Wave) (number : ℕ) (kept : KeptWave) (next : WaveState) (done answer : Reply)
-    → IsOpening opening → AreWantsOf opening kept.orders kept.wants.items → slice_get waves number ≡ Some (wave_of kept)
-    → IsRefusedShort opening kept.wants.items old new answer
+pub hold_for_short : (opening : Opening) (old new : Book) (waves : List Wave) (number : ℕ) (kept : KeptWave) (wants : List Want) (next : WaveState)
+    (done answer : Reply)
+    → IsOpening opening → AreWantsOf opening kept.orders wants → slice_get waves number ≡ Some (wave_of kept)
+    → IsRefusedShort opening wants old new answer
     → hold_for opening (state_at old waves) next done number
     (wave_of kept) ≡ record { reply = answer; state = state_at new (slice_set waves number (wave_of kept)) }
-hold_for_short opening old new waves number kept next done answer is are there refused =
+hold_for_short opening old new waves number kept wants next done answer is are there refused =
     let state = state_at old waves in
     let w : Wave = record (wave_of kept) { state = next } in
     let stepped : Stepped = record { reply = done; state = put_wave number w (hold (demand_at opening kept.orders) None number (length kept.orders) state) } in
@@ -105,8 +107,8 @@ hold_for_short opening old new waves number kept next done answer is are there r
     let named : reply.Short (article_name opening refused.short.article) (wave_demand opening kept.orders refused.short.article)
     (free_units old.rows refused.short.article None) ≡ answer
     = ap₂ (λ m n. reply.Short (article_name opening refused.short.article) m n)
-    (sym (wanted_is opening kept.orders kept.wants.items refused.short.article are) ∙ sym refused.first.wanted) free ∙ sym refused.names in
+    (sym (wanted_is opening kept.orders wants refused.short.article are) ∙ sym refused.first.wanted) free ∙ sym refused.names in
     ap (λ found. option_map_or (refuse_short opening state (wave_of kept)) found stepped)
-    (short_is opening old.rows kept.orders kept.wants.items refused.short is are refused.first)
+    (short_is opening old.rows kept.orders wants refused.short is are refused.first)
     ∙ ap₂ (λ (r : Reply) (s : State). let t : Stepped = record { reply = r; state = s } in t) named
     (ap (λ (book : Book). state_at book waves) (sym refused.same) ∙ ap (state_at new) (sym (set_same waves number (wave_of kept) there)))

@@ -1,5 +1,6 @@
 -- Units that a desk claims: those that are held, or why the claim is refused.
 use Rattle.std.proofs.Common.{◌≡◌, ◌∙◌, refl, sym, ap, subst, ℕ, ◌<◌, ◌==◌, nat_lt, true, false, List, length, Option, Some, None, Result, Ok, Err, IfOk}
+use Rattle.std.proofs.Common.{option_map}
 use Rattle.std.proofs.Common.{IfErr, slice_get, if◌then◌else◌, arith}
 use Rattle.std.proofs.lemmas.Bool.{cond_both}
 use Rattle.std.proofs.lemmas.Bool.Decides.{nat_tests}
@@ -79,11 +80,12 @@ refused_by book number kept order location quantity answer released is waves cha
     at_held_by book waves number kept order location quantity change released
     ∙ not_enough book waves quantity location answer change (held_there book number kept order location) is
 
--- held units are of an order of the wave, as many as are held there, and of their row's article
-pub record IsHolder (book : Book) (number orders : ℕ) (held : step.Held) : Type 0 where
+-- held units are of an order of the wave, at the row of a location, as many as are held there, and of the row's article
+pub record IsHolder (book : Book) (number orders : ℕ) (location : Location) (held : step.Held) : Type 0 where
   pub order : held.order < orders
   pub units : held.units ≡ held_for book number held.order held.row
   pub row : Row
+  pub at : option_map (λ (found : ℕ × Row). found.0) (step.row_from 0 book.rows location) ≡ Some held.row
   pub there : slice_get book.rows held.row ≡ Some row
   pub article : held.article ≡ row.article
 
@@ -93,17 +95,18 @@ any_same a b is = cond_both (a.units == 0) None (Some a) (λ (found : Option ste
 
 -- what is held where a claim says is held for an order of the wave, at a row of its article
 pub holder : (book : Book) (number : ℕ) (kept : KeptWave) (order : List ℕ) (location : Location) (held : step.Held)
-    → held_there book number kept order location ≡ Some held → IsHolder book number (length kept.orders) held
+    → held_there book number kept order location ≡ Some held → IsHolder book number (length kept.orders) location held
 holder book number kept order location held is =
-    option_map_or-both (λ (found : Option step.Held). found ≡ Some held → IsHolder book number (length kept.orders) held) _
+    option_map_or-both (λ (found : Option step.Held). found ≡ Some held → IsHolder book number (length kept.orders) location held) _
     (step.place_from 0 kept.orders order) None
-    (λ place at. option_map_or-both (λ (found : Option step.Held). found ≡ Some held → IsHolder book number (length kept.orders) held) _
+    (λ place at. option_map_or-both (λ (found : Option step.Held). found ≡ Some held → IsHolder book number (length kept.orders) location held) _
     (step.row_from 0 book.rows location) None
-    (λ found there same. subst (IsHolder book number (length kept.orders)) (any_same _ held same)
+    (λ found there same. subst (IsHolder book number (length kept.orders) location) (any_same _ held same)
     (record {
       order = place_found kept.orders order place at;
       units = refl;
       row = found.1;
+      at = ap (option_map (λ (found : ℕ × Row). found.0)) there;
       there = row_found book.rows location found there;
       article = refl;
     }))

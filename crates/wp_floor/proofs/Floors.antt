@@ -106,22 +106,21 @@ found_at opening name old rest found floor is =
     }
 
 -- a wave that holds what it did is kept as it was
-papers_same : (old new : Book) (number : ℕ) (kept : KeptWave) (s : Stage) → length new.rows ≡ length old.rows → held_for new number ≡ held_for old number
-    → HasPapers s old number kept → HasPapers s new number kept
-papers_same old new number kept (stage.Submitted copy) rows held papers = papers
-papers_same old new number kept (stage.Allotted sheet) rows held papers =
+papers_same : (opening : Opening) (old new : Book) (number : ℕ) (kept : KeptWave) (s : Stage) → length new.rows ≡ length old.rows
+    → held_for new number ≡ held_for old number → HasPapers opening s old number kept → HasPapers opening s new number kept
+papers_same opening old new number kept (stage.Submitted needs) rows held papers = papers
+papers_same opening old new number kept (stage.Allotted sheet) rows held papers =
     (papers.0, papers.1 ∙ ap₂ (λ n h. held_list (length kept.orders) n h) (sym rows) (sym held))
-papers_same old new number kept stage.Released rows held papers = tt
-papers_same old new number kept stage.Cancelled rows held papers = tt
-papers_same old new number kept stage.Done rows held papers = tt
+papers_same opening old new number kept stage.Released rows held papers = tt
+papers_same opening old new number kept stage.Cancelled rows held papers = tt
+papers_same opening old new number kept stage.Done rows held papers = tt
 
 -- a wave that holds what it held is kept as it should be in a book of as many rows
 pub kept_same : (opening : Opening) (old new : Book) (number : ℕ) (kept : KeptWave) → length new.rows ≡ length old.rows
     → ((order row : ℕ) → held_for new number order row ≡ held_for old number order row) → IsKeptWave opening old number kept
     → IsKeptWave opening new number kept
 kept_same opening old new number kept rows held keeps = record {
-  wants = keeps.wants;
-  papers = papers_same old new number kept kept.stage rows (fun_ext (λ order. fun_ext (λ row. held order row))) keeps.papers;
+  papers = papers_same opening old new number kept kept.stage rows (fun_ext (λ order. fun_ext (λ row. held order row))) keeps.papers;
 }
 
 -- what was answered at a wave, with who has the orders then

@@ -6,11 +6,11 @@ use Rattle.std.proofs.lemmas.List.{length-take-le}
 use Rattle.std.proofs.lemmas.List.Sums.{sum_by-take-le, sum_by_more}
 use Rattle.std.proofs.lemmas.Option.{slice_get_within}
 use Rattle.std.specs.List.{sum_by}
-use Rattle.wp_allot.specs.Wants.{wanted_for}
+use Rattle.wp_allot.specs.Wants.{units_in, wanted_for}
 use Rattle.wp_allot.specs.declared.want.Want.{Want}
 use Rattle.wp_model.specs.Demand.{quantity_of}
 use Rattle.wp_model.specs.declared.row.Line.{Line}
-use Rattle.wp_floor.specs.WantLists.{AreBefore, AreSplit, HaveAdded, KeepArticles, all_units, line_units}
+use Rattle.wp_floor.specs.WantLists.{AreBefore, AreSplit, HaveAdded, KeepArticles, line_units}
 
 -- at first no line was added
 pub added_none : (place : ℕ) (wants : List Want) → HaveAdded place [] wants wants
@@ -50,9 +50,9 @@ added_more place lines i d old now new within before one = record {
 }
 
 -- there is room for the units of one line more
-pub fits_more : (place : ℕ) (lines : List Line) (i : ℕ) (d : Line) (old now : List Want) → i < length lines → all_units old + line_units lines < 2 ^ 64
+pub fits_more : (place : ℕ) (lines : List Line) (i : ℕ) (d : Line) (old now : List Want) → i < length lines → units_in old + line_units lines < 2 ^ 64
     → HaveAdded place (take i lines) old now
-    → all_units now + (get_or lines i d).quantity < 2 ^ 64
+    → units_in now + (get_or lines i d).quantity < 2 ^ 64
 fits_more place lines i d old now within small before =
     omega (arith, before.units, sum_by_more (λ (l : Line). l.quantity) lines i d within, sum_by-take-le (λ (l : Line). l.quantity) lines (i + 1))
 

@@ -1,6 +1,8 @@
 -- The number of the row at a location, now and in the opening.
-use Rattle.std.proofs.Common.{◌≡◌, ◌∙◌, refl, ap, ℕ, ◌+◌, Bool, true, false, List, [], ◌∷◌, arith, length, map, Option, Some, option_map, if◌then◌else◌}
-use Rattle.std.proofs.lemmas.List.{length-map}
+use Rattle.std.proofs.Common.{◌≡◌, ◌∙◌, refl, sym, ap, ℕ, ◌+◌, ◌<◌, inl, inr, Bool, true, false, List, [], ◌∷◌, arith, length, map, Option, Some, option_map}
+use Rattle.std.proofs.Common.{if◌then◌else◌, IfSome, None}
+use Rattle.std.proofs.lemmas.Bool.{cases_Bool}
+use Rattle.std.proofs.lemmas.Option.{same_Some}
 use Rattle.wp_model.specs.Opening.{Opening}
 use Rattle.wp_model.specs.Step.{row_from, same_location}
 use Rattle.wp_model.specs.Tables.{row_number_from}
@@ -34,6 +36,24 @@ pub row_there : (opening : Opening) (rows : List Row) (location : Location) (row
     → row_number_from 0 opening.stock.rows location ≡ row → IsRowAt rows location row
 row_there opening rows location row same is = same_numbers 0 rows opening.stock.rows location same ∙ is
 
--- there are as many rows as in the opening
-pub as_many_rows : (opening : Opening) (rows : List Row) → AreSameRows opening rows → length rows ≡ length opening.stock.rows
-as_many_rows opening rows same = omega (arith, length-map rows row_place, length-map opening.stock.rows stock_row_place, ap length same)
+-- the number that a row has is below that of all rows
+number_within : (number : ℕ) (rows : List StockRow) (location : Location) (row : ℕ) → row_number_from number rows location ≡ Some row
+    → row < number + length rows
+number_within number [] location row is = absurd (cc)
+number_within number (other ∷ rows) location row is = elim (cases_Bool (same_location other.location location)) [
+  | inl here ↦
+      let e : Some number ≡ Some row = sym (ap (λ b. if b then Some number else row_number_from (number + 1) rows location) here) ∙ is in
+      omega (arith, same_Some number row e)
+  | inr elsewhere ↦
+      omega (
+        arith,
+        number_within (number + 1) rows location row
+            (sym (ap (λ b. if b then Some number else row_number_from (number + 1) rows location) elsewhere) ∙ is),
+      )
+]
+
+-- a row that lies at a location is one of the rows
+pub row_within : (rows : List StockRow) (location : Location) (row : Option ℕ) → row_number_from 0 rows location ≡ row
+    → IfSome row (λ number. number < length rows)
+row_within rows location None is = tt
+row_within rows location (Some number) is = omega (arith, number_within 0 rows location number is)

@@ -2,18 +2,20 @@
 use Rattle.std.proofs.Common.{◌≡◌, ◌∙◌, refl, sym, ap, ℕ, ◌+◌, ◌*◌, ◌^◌, ◌<◌, ◌≤◌, ◌==◌, inl, inr, List, [], length, Some, All, slice_get, arith, eq-eqb}
 use Rattle.std.proofs.Common.{ne_eqb}
 use Rattle.std.proofs.lemmas.Bool.{cases_eq, cases_lt, cond-false, cond-true}
+use Rattle.std.proofs.lemmas.List.Sorted.{All-permutation, length_permutation, sum_by-IsPermutation}
 use Rattle.std.proofs.lemmas.List.Sums.{sum_by-le}
 use Rattle.std.proofs.lemmas.Option.{slice_get_past}
 use Rattle.std.specs.List.{sum_by}
+use Rattle.std.specs.List.Sorted.{IsPermutation}
 use Rattle.std.specs.Option.{option_map_or}
-use Rattle.wp_allot.specs.Wants.{wanted_for}
+use Rattle.wp_allot.specs.Wants.{AreGathered, units_for, units_in, wanted_for}
 use Rattle.wp_allot.specs.declared.want.Want.{Want}
 use Rattle.wp_model.specs.Demand.{demand_at, order_demand, quantity_of}
 use Rattle.wp_model.specs.Opening.{IsLine, Opening, lines_of}
 use Rattle.wp_model.specs.Limits.{most_lines, most_wave_orders, most_quantity}
 use Rattle.wp_model.specs.declared.row.Line.{Line}
 use Rattle.wp_floor.specs.Floor.{AreWantsOf}
-use Rattle.wp_floor.specs.WantLists.{AreBefore, AreWantsBefore, HaveAdded, KeepArticles, all_units, line_units}
+use Rattle.wp_floor.specs.WantLists.{AreBefore, AreListedWants, AreWantsBefore, HaveAdded, KeepArticles, line_units}
 
 -- the wants of no order
 pub none_before : (opening : Opening) (orders : List (List ℕ)) → AreWantsBefore opening orders 0 []
@@ -43,7 +45,7 @@ few_units articles lines each few = omega (arith, sum_by-le (λ (line : Line). l
 -- there is room for the units of one order more
 pub fits_order : (opening : Opening) (orders : List (List ℕ)) (place : ℕ) (lines : List Line) (wants : List Want) → place < length orders
     → length orders ≤ most_wave_orders → All (IsLine opening.stock.articles) lines → length lines ≤ most_lines
-    → AreWantsBefore opening orders place wants → all_units wants + line_units lines < 2 ^ 64
+    → AreWantsBefore opening orders place wants → units_in wants + line_units lines < 2 ^ 64
 fits_order opening orders place lines wants within most each few are = omega (arith, are.units, few_units opening.stock.articles lines each few)
 
 -- once an order has all its lines, the wants are those of one order more
@@ -87,9 +89,9 @@ order_more opening orders place order lines old new there is each few before add
   few = omega (arith, added.few, was.few);
 }
 
--- the wants of all orders of a wave are the wave's
+-- the wants of all orders of a wave are the wave's, order by order
 pub are_wants : (opening : Opening) (orders : List (List ℕ)) (wants : List Want) → length orders ≤ most_wave_orders
-    → AreWantsBefore opening orders (length orders) wants → AreWantsOf opening orders wants
+    → AreWantsBefore opening orders (length orders) wants → AreListedWants opening orders wants
 are_wants opening orders wants most are = record {
   demand = λ article place. elim (cases_lt place (length orders)) [
     | inl early ↦ are.demand article place early
@@ -104,4 +106,14 @@ are_wants opening orders wants most are = record {
   };
   within = are.within;
   few = omega (arith, are.few);
+}
+
+-- and once they are gathered, article by article
+pub are_gathered : (opening : Opening) (orders : List (List ℕ)) (old new : List Want) → AreListedWants opening orders old → IsPermutation old new
+    → AreGathered new → AreWantsOf opening orders new
+are_gathered opening orders old new are same gathered = record {
+  demand = λ article place. sum_by-IsPermutation (units_for article place) old new same ∙ are.demand article place;
+  gathered = gathered;
+  within = All-permutation (λ (want : Want). want.article < length opening.stock.articles) old new same are.within;
+  few = omega (arith, length_permutation old new same, are.few);
 }

@@ -1,7 +1,7 @@
 -- How the state is kept.
 use Rattle.std.specs.Prelude.{◌≡◌, ℕ, ◌+◌, ◌*◌, ◌<◌, ◌≤◌, ⊤, List, [], length, map, Option, Some, slice_get, slice_set, IfSome}
 use Rattle.std.specs.List.{All}
-use Rattle.wp_allot.specs.Wants.{AreRegular, wanted_for}
+use Rattle.wp_allot.specs.Wants.{AreGathered, holds_at_most, wanted_for, wanted_places}
 use Rattle.wp_allot.specs.declared.want.Want.{Want}
 use Rattle.wp_book.specs.Calls.{KeepsOthers}
 use Rattle.wp_book.specs.Room.{Content}
@@ -21,14 +21,16 @@ use Rattle.wp_model.specs.declared.reply.WaveState.TheVariants as wave
 use Rattle.wp_model.specs.declared.row.Row.{Row}
 use Rattle.wp_model.specs.declared.row.StockRow.{StockRow}
 use Rattle.wp_floor.specs.declared.floor.Floor.{Floor}
+use Rattle.wp_floor.specs.declared.holding.Rooms.{Rooms}
 use Rattle.wp_floor.specs.declared.waves.KeptWave.{KeptWave}
+use Rattle.wp_floor.specs.declared.waves.Needs.{Needs}
 use Rattle.wp_floor.specs.declared.waves.Stage.{Stage}
 use Rattle.wp_floor.specs.declared.waves.Stage.TheVariants as stage
 use Rattle.wp_floor.specs.Waves.{AreWaves, waves_of}
 
 -- how far a wave is at a stage
 abbrev pub state_in : Stage → WaveState
-state_in (stage.Submitted copy) = wave.Submitted
+state_in (stage.Submitted needs) = wave.Submitted
 state_in (stage.Allotted sheet) = wave.Allotted
 state_in stage.Released = wave.Released
 state_in stage.Cancelled = wave.Cancelled
@@ -46,10 +48,10 @@ state_at book waves = record { rows = book.rows; waves = waves; held = held_for 
 abbrev pub most_wants : ℕ
 most_wants = most_wave_orders * most_lines
 
--- wants are those of orders
+-- wants are those of orders, article by article
 pub record AreWantsOf (opening : Opening) (orders : List (List ℕ)) (wants : List Want) : Type 0 where
   pub demand : (article place : ℕ) → wanted_for wants article place ≡ demand_at opening orders article place
-  pub regular : AreRegular wants
+  pub gathered : AreGathered wants
   pub within : All (λ (want : Want). want.article < length opening.stock.articles) wants
   pub few : length wants ≤ most_wants
 
@@ -57,20 +59,31 @@ pub record AreWantsOf (opening : Opening) (orders : List (List ℕ)) (wants : Li
 abbrev pub IsFreshRoom : ℕ → Content → Type 0
 IsFreshRoom size room = (room.holds ≡ []) × (size ≤ room.size)
 
--- the papers of a wave: until it is released it has a copy of its orders, and while it is allotted that stands on the
--- sheet that lists what it holds
-abbrev pub HasPapers : Stage → Book → ℕ → KeptWave → Type 0
-HasPapers (stage.Submitted copy) book number kept = copy ≡ kept.orders
-HasPapers (stage.Allotted sheet) book number kept =
+-- empty room for so many holds, and for the list of them
+pub record HaveSpace (size : ℕ) (rooms : Rooms) : Type 0 where
+  pub room : IsFreshRoom size rooms.room
+  pub sheet : IsFreshRoom size rooms.sheet
+
+-- what a wave of these orders needs to go out: a copy of them, what they want, and room for as many holds as that takes
+-- at most
+pub record AreNeedsOf (opening : Opening) (orders : List (List ℕ)) (needs : Needs) : Type 0 where
+  pub copied : needs.orders ≡ orders
+  pub wants : AreWantsOf opening orders needs.wants.items
+  pub space : HaveSpace (holds_at_most (wanted_places opening.stock.rows needs.wants.items) needs.wants.items) needs.rooms
+
+-- the papers of a wave: once it is submitted what it needs to go out, and once it is allotted the sheet that lists what
+-- it holds
+abbrev pub HasPapers : Opening → Stage → Book → ℕ → KeptWave → Type 0
+HasPapers opening (stage.Submitted needs) book number kept = AreNeedsOf opening kept.orders needs
+HasPapers opening (stage.Allotted sheet) book number kept =
     (sheet.orders ≡ kept.orders) × (sheet.room.holds ≡ held_list (length kept.orders) (length book.rows) (held_for book number))
-HasPapers stage.Released book number kept = ⊤
-HasPapers stage.Cancelled book number kept = ⊤
-HasPapers stage.Done book number kept = ⊤
+HasPapers opening stage.Released book number kept = ⊤
+HasPapers opening stage.Cancelled book number kept = ⊤
+HasPapers opening stage.Done book number kept = ⊤
 
 -- a wave is kept as it should be
 pub record IsKeptWave (opening : Opening) (book : Book) (number : ℕ) (kept : KeptWave) : Type 0 where
-  pub wants : AreWantsOf opening kept.orders kept.wants.items
-  pub papers : HasPapers kept.stage book number kept
+  pub papers : HasPapers opening kept.stage book number kept
 
 -- a wave has its place among waves that make a sound state with a book
 pub record IsAt (opening : Opening) (book : Book) (waves : List Wave) (number : ℕ) (kept : KeptWave) : Type 0 where

@@ -1,5 +1,7 @@
 -- Units that are missing, and what is held in their place.
-use Rattle.std.specs.Prelude.{◌≡◌, ℕ, ◌+◌, ◌-◌, ◌<◌, ◌≤◌, ⊤, Bool, true, false, List, length, Some}
+use Rattle.std.specs.Prelude.{◌≡◌, ℕ, ◌+◌, ◌-◌, ◌<◌, ◌≤◌, ⊤, Bool, true, false, List, [], ◌∷◌, length, Option, Some, slice_get}
+use Rattle.wp_allot.specs.Wants.{holds_at_most, most_holds, wanted_places}
+use Rattle.wp_allot.specs.declared.want.Want.{Want}
 use Rattle.wp_book.specs.Calls.{KeepsOthers}
 use Rattle.wp_book.specs.Room.{Content}
 use Rattle.wp_model.specs.Book.{Book, held_for, held_list}
@@ -12,16 +14,36 @@ use Rattle.wp_model.specs.Sums.{sum_below}
 use Rattle.wp_model.specs.declared.reply.Reply.{Reply}
 use Rattle.wp_model.specs.declared.reply.Reply.TheVariants as reply
 use Rattle.wp_model.specs.declared.row.Row.{Row}
-use Rattle.wp_floor.specs.Floor.{HasAnswered, IsFreshRoom}
+use Rattle.wp_model.specs.declared.row.StockRow.{StockRow}
+use Rattle.wp_floor.specs.Floor.{HasAnswered, HaveSpace}
 use Rattle.wp_floor.specs.declared.held.HeldUnits.{HeldUnits}
 use Rattle.wp_floor.specs.declared.holding.Rooms.{Rooms}
 use Rattle.wp_floor.specs.declared.refilling.Missed.{Missed}
 use Rattle.wp_floor.specs.declared.refilling.Missed.TheVariants as missed
 use Rattle.wp_floor.specs.declared.waves.KeptWave.{KeptWave}
 
--- empty room for what may be held in place of missing units, and for the list of it
-abbrev pub HaveRefillSpace : List Row → Rooms → Type 0
-HaveRefillSpace rows rooms = IsFreshRoom (length rows + 1) rooms.room × IsFreshRoom (length rows + 1) rooms.sheet
+-- so many units of an article, wanted for one order
+abbrev pub want_of : ℕ → ℕ → Want
+want_of article quantity = record { order = 0; article = article; quantity = quantity }
+
+-- empty room for what may be held in place of so many missing units of an article, and for the list of it
+abbrev pub HaveRefillSpace : List Row → ℕ → ℕ → Rooms → Type 0
+HaveRefillSpace rows article quantity rooms = HaveSpace (most_holds rows (want_of article quantity ∷ [])) rooms
+
+-- the same of the article of a row, where there is one
+abbrev pub HaveRoomsAt : List Row → Option ℕ → ℕ → Rooms → Type 0
+HaveRoomsAt rows row quantity rooms = (number : ℕ) (r : Row) → row ≡ Some number → slice_get rows number ≡ Some r
+    → HaveRefillSpace rows r.article quantity rooms
+
+-- how many holds so many units of the article of a stock's row take at most
+abbrev pub IsRefillSize : List StockRow → ℕ → ℕ → ℕ → Type 0
+IsRefillSize rows number quantity size = (r : StockRow) → slice_get rows number ≡ Some r
+    → size ≡ holds_at_most (wanted_places rows (want_of r.article quantity ∷ [])) (want_of r.article quantity ∷ [])
+
+-- empty room for what may be held in place of so many units of the article of a stock's row, where there is one
+abbrev pub HaveSpaceAt : List StockRow → Option ℕ → ℕ → Rooms → Type 0
+HaveSpaceAt rows row quantity rooms = (number : ℕ) (r : StockRow) → row ≡ Some number → slice_get rows number ≡ Some r
+    → HaveSpace (holds_at_most (wanted_places rows (want_of r.article quantity ∷ [])) (want_of r.article quantity ∷ [])) rooms
 
 -- the reply by which missing units are held elsewhere
 abbrev pub refills : Reply → Bool

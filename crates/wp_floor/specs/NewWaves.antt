@@ -6,9 +6,10 @@ use Rattle.wp_model.specs.declared.command.Command.{Command}
 use Rattle.wp_model.specs.declared.command.Command.TheVariants as command
 use Rattle.wp_model.specs.declared.reply.Reply.{Reply}
 use Rattle.wp_model.specs.declared.reply.Reply.TheVariants as reply
-use Rattle.wp_floor.specs.Floor.{AreWantsOf}
+use Rattle.wp_floor.specs.Floor.{AreNeedsOf}
 use Rattle.wp_floor.specs.declared.submitting.NewWave.{NewWave}
 use Rattle.wp_floor.specs.declared.waves.KeptWave.{KeptWave}
+use Rattle.wp_floor.specs.declared.waves.Needs.{Needs}
 use Rattle.wp_floor.specs.declared.waves.Stage.TheVariants as stage
 
 -- why orders can't make a wave whatever was submitted before: there are none, or too many
@@ -20,11 +21,12 @@ size_fault orders =
 
 -- a wave of which nothing was done, of some orders and not too many
 pub record IsNewWave (opening : Opening) (kept : KeptWave) : Type 0 where
-  pub submitted : kept.stage ≡ stage.Submitted kept.orders
+  pub needs : Needs
+  pub submitted : kept.stage ≡ stage.Submitted needs
   pub unpicked : kept.picked ≡ false
   pub some : 0 < length kept.orders
   pub most : length kept.orders ≤ most_wave_orders
-  pub wants : AreWantsOf opening kept.orders kept.wants.items
+  pub has : AreNeedsOf opening kept.orders needs
 
 -- the command that a wave was prepared for
 abbrev pub submit_of : NewWave → Command

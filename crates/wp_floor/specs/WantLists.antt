@@ -1,16 +1,13 @@
 -- What a wave's orders want, gathered line by line.
 use Rattle.std.specs.Prelude.{◌≡◌, ℕ, ◌+◌, ◌*◌, ◌<◌, ◌≤◌, ◌==◌, List, length, Some, if◌then◌else◌, slice_get}
 use Rattle.std.specs.List.{All, sum_by}
-use Rattle.wp_allot.specs.Wants.{wanted_for}
+use Rattle.wp_allot.specs.Wants.{AreRegular, units_in, wanted_for}
 use Rattle.wp_allot.specs.declared.want.Want.{Want}
 use Rattle.wp_model.specs.Demand.{demand_at, quantity_of}
 use Rattle.wp_model.specs.Opening.{Opening}
 use Rattle.wp_model.specs.Limits.{most_lines, most_quantity}
 use Rattle.wp_model.specs.declared.row.Line.{Line}
-
--- the units of all wants together
-abbrev pub all_units : List Want → ℕ
-all_units wants = sum_by (λ (want : Want). want.quantity) wants
+use Rattle.wp_floor.specs.Floor.{most_wants}
 
 -- the units of all lines together
 abbrev pub line_units : List Line → ℕ
@@ -41,7 +38,7 @@ AreBefore place wants = AreSplit (length wants) place wants
 pub record HaveAdded (place : ℕ) (lines : List Line) (old new : List Want) : Type 0 where
   pub wanted : (article order : ℕ) → wanted_for new article order ≡ wanted_for old article order +
       (if place == order then sum_by (quantity_of article) lines else 0)
-  pub units : all_units new ≡ all_units old + line_units lines
+  pub units : units_in new ≡ units_in old + line_units lines
   pub few : length new ≤ length old + length lines
 
 -- wants are of the articles that they and the lines were of
@@ -56,5 +53,12 @@ pub record AreWantsBefore (opening : Opening) (orders : List (List ℕ)) (place 
   pub demand : (article order : ℕ) → order < place → wanted_for wants article order ≡ demand_at opening orders article order
   pub rest : (article order : ℕ) → place ≤ order → wanted_for wants article order ≡ 0
   pub within : All (λ (want : Want). want.article < length opening.stock.articles) wants
-  pub units : all_units wants ≤ most_lines * most_quantity * place
+  pub units : units_in wants ≤ most_lines * most_quantity * place
   pub few : length wants ≤ most_lines * place
+
+-- wants are those of orders, order by order
+pub record AreListedWants (opening : Opening) (orders : List (List ℕ)) (wants : List Want) : Type 0 where
+  pub demand : (article place : ℕ) → wanted_for wants article place ≡ demand_at opening orders article place
+  pub regular : AreRegular wants
+  pub within : All (λ (want : Want). want.article < length opening.stock.articles) wants
+  pub few : length wants ≤ most_wants

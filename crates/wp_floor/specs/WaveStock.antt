@@ -1,16 +1,13 @@
 -- Stock that is held for a wave, and room for it.
-use Rattle.std.specs.Prelude.{◌≡◌, ℕ, ◌+◌, None, Some, List, length}
+use Rattle.std.specs.Prelude.{◌≡◌, ℕ, None, Some, List}
 use Rattle.wp_allot.specs.Wants.{HasOverlaps, IsAllotted, IsShort}
 use Rattle.wp_allot.specs.declared.want.Short.{Short}
 use Rattle.wp_allot.specs.declared.want.Want.{Want}
 use Rattle.wp_book.specs.Room.{Content}
-use Rattle.wp_floor.specs.Floor.{IsFreshRoom, most_wants}
-use Rattle.wp_floor.specs.declared.holding.Rooms.{Rooms}
 use Rattle.wp_model.specs.Book.{Book}
 use Rattle.wp_model.specs.Opening.{Opening, article_name}
 use Rattle.wp_model.specs.declared.reply.Reply.{Reply}
 use Rattle.wp_model.specs.declared.reply.Reply.TheVariants as reply
-use Rattle.wp_model.specs.declared.row.Row.{Row}
 
 -- the refusal of a wave that wants more of an article than is free
 abbrev pub short_reply : Opening → Short → Reply
@@ -28,11 +25,3 @@ pub record IsRefusedShort (opening : Opening) (wants : List Want) (old new : Boo
   pub short : Short
   pub first : IsShort old.rows wants None (Some short)
   pub names : answer ≡ short_reply opening short
-
--- empty room for what a wave may hold, and for the list of it
-abbrev pub HaveSpace : List Row → Rooms → Type 0
-HaveSpace rows rooms = IsFreshRoom (length rows + most_wants) rooms.room × IsFreshRoom (length rows + most_wants) rooms.sheet
-
--- empty rooms, each for one hold a row of the opening and so many more
-abbrev pub AreFreshRooms : Opening → ℕ → Rooms → Type 0
-AreFreshRooms opening more rooms = IsFreshRoom (length opening.stock.rows + more) rooms.room × IsFreshRoom (length opening.stock.rows + more) rooms.sheet

@@ -1,21 +1,27 @@
 //! Holding stock for a wave.
-ghost use Rattle.std.specs.Prelude.{◌≡◌, ◌<◌, ◌≤◌, ℕ, List, None, length, map, slice_set, IfOk, IfErr, All};
-ghost use Rattle.wp_allot.specs.Wants.{AreRegular, IsRoomFor};
+ghost use Rattle.std.specs.Prelude.{◌≡◌, ◌<◌, ◌≤◌, List, None, length, IfOk, IfErr, IfSome, All};
+ghost use Rattle.wp_allot.specs.Wants.{AreGathered, IsShort, holds_at_most, wanted_places};
 ghost use Rattle.wp_allot.specs.declared.want.Want.{Want as WantData};
 ghost use Rattle.wp_model.specs.State.{Wave};
 ghost use Rattle.wp_model.specs.Step.{allot, is_live};
-ghost use Rattle.wp_floor.specs.Floor.{AreWantsOf, HasAnswered, HasStepped, IsAt, IsFloor, most_wants, state_at, state_in, state_of, wave_of};
+ghost use Rattle.wp_model.specs.Tables.{IsReadStock};
 ghost use Rattle.wp_model.specs.declared.command.Command.TheVariants as command;
-ghost use Rattle.wp_floor.specs.WaveStock.{AreFreshRooms, HaveSpace, IsHeld, IsRefusedShort, short_reply};
+ghost use Rattle.wp_floor.specs.Floor.{AreNeedsOf, AreSameRows, HasAnswered, HasPapers, HasStepped, HaveSpace, IsAt, IsFloor, most_wants, state_at, state_in};
+ghost use Rattle.wp_floor.specs.Floor.{wave_of};
+ghost use Rattle.wp_floor.specs.MissingUnits.{HaveSpaceAt, IsRefillSize};
+ghost use Rattle.wp_floor.specs.WaveStock.{IsHeld, IsRefusedShort, short_reply};
 
 use crate::floor::Floor;
+use crate::held::Claim;
 use crate::opening::Opening;
-use crate::waves::{KeptWave, Sheet, Stage};
+use crate::waves::{KeptWave, Needs, Sheet, Stage};
 use std::alloc::Global;
 use std::mem;
-use wp_allot::{Short, Want, allot, holds_by_overlap, short_article};
+use wp_allot::gathered::{self, most_holds};
+use wp_allot::{Short, Want};
 use wp_book::{Room, StockBook};
-use wp_model::{MOST_LINES, MOST_WAVE_ORDERS, Memory, Name, Reply};
+use wp_model::{Memory, Name, Reply};
+use wp_tables::Stock;
 
 /// Room for what is held for a wave, and for the list of it.
 #[derive(Drop)]
@@ -24,36 +30,54 @@ pub struct Rooms {
     pub(crate) sheet: Room,
 }
 
-// The most units of demand that a wave has: as many as lines of its orders.
-const MOST_WANTS: u32 = MOST_WAVE_ORDERS * MOST_LINES;
-
-// Units that are lost are wanted once more, for one order.
-const REFILL_WANTS: u32 = 1;
-
-// Empty rooms, each for one hold a row and so many more.
-fn fresh_rooms(alloc: Global, opening: &Opening, more: u32) -> Result<Rooms, Memory>
-    requires { more ≤ most_wants }
-    ensures { IfOk result (AreFreshRooms opening.now more) }
+// The most holds that units of a row's article take, where they are wanted again.
+fn refill_size(stock: &Stock, row: u32, quantity: u32) -> u32
+    requires read { IsReadStock stock.now }
+    requires row { row < length stock.now.rows }
+    requires quantity { 0 < quantity }
+    ensures { IsRefillSize stock.now.rows row quantity result }
 {
-    let size = opening.stock().rows() + more;
-    let room = Room::new(alloc, size)?;
-    let sheet = Room::new(alloc, size)?;
-    Ok(Rooms { room, sheet })
+    let wants = [Want {
+        order: 0,
+        article: stock.row(row).article,
+        quantity: u64::from(quantity),
+    }];
+    most_holds(stock, &wants) as u32
 }
 
 impl Rooms {
-    /// Empty room for all that a wave may hold.
-    pub fn for_wave(alloc: Global, opening: &Opening) -> Result<Rooms, Memory>
-        ensures { IfOk result (AreFreshRooms opening.now most_wants) }
+    // Empty rooms, each for so many holds.
+    fn new(alloc: Global, size: u32) -> Result<Rooms, Memory>
+        ensures { IfOk result (HaveSpace size) }
     {
-        fresh_rooms(alloc, opening, MOST_WANTS)
+        let room = Room::new(alloc, size)?;
+        let sheet = Room::new(alloc, size)?;
+        Ok(Rooms { room, sheet })
     }
 
-    /// Empty room for all that may be held in place of units that are lost.
-    pub fn for_refill(alloc: Global, opening: &Opening) -> Result<Rooms, Memory>
-        ensures { IfOk result (AreFreshRooms opening.now 1) }
+    /// Empty room for all that may be held for wants.
+    pub fn for_wants(alloc: Global, stock: &Stock, wants: &[Want]) -> Result<Rooms, Memory>
+        requires read { IsReadStock stock.now }
+        requires gathered { AreGathered wants.now }
+        requires within { All (λ (want : WantData). want.article < length stock.now.articles) wants.now }
+        requires few { length wants.now ≤ most_wants }
+        ensures { IfOk result (HaveSpace (holds_at_most (wanted_places stock.now.rows wants.now) wants.now)) }
     {
-        fresh_rooms(alloc, opening, REFILL_WANTS)
+        Rooms::new(alloc, most_holds(stock, wants) as u32)
+    }
+
+    /// Empty room for all that may be held in place of the units of a claim, should they be lost.
+    pub fn for_refill(alloc: Global, opening: &Opening, claim: &Claim) -> Result<Rooms, Memory>
+        requires read { IsReadStock opening.now.stock }
+        requires row { IfSome claim.now.row (λ row. row < length opening.now.stock.rows) }
+        requires quantity { 0 < claim.now.quantity }
+        ensures { IfOk result (HaveSpaceAt opening.now.stock.rows claim.now.row claim.now.quantity) }
+    {
+        let size = match claim.row {
+            Some(row) => refill_size(opening.stock(), row, claim.quantity),
+            None => 0,
+        };
+        Rooms::new(alloc, size)
     }
 }
 
@@ -69,29 +93,43 @@ fn refuse_short(opening: &Opening, short: Short) -> Reply
     }
 }
 
+// What a submitted wave needs that can't go out, and why.
+#[derive(Drop)]
+pub struct Unmet {
+    pub needs: Needs,
+    pub why: Reply,
+}
+
 /// Holds stock for a wave where free stock covers what it wants, and lists it; else names the first article of which
-/// there isn't enough, and changes nothing.
+/// there isn't enough, gives back what the wave needs, and changes nothing.
 pub fn hold_stock(
     book: &mut StockBook,
     opening: &Opening,
     number: u32,
-    wants: &[Want],
-    rooms: Rooms,
-) -> Result<Room, Reply>
-    requires regular { AreRegular wants.now }
-    requires within { All (λ (want : WantData). want.article < length opening.now.stock.articles) wants.now }
-    requires room { IsRoomFor book.old.rows wants.now rooms.room }
-    requires sheet { IsRoomFor book.old.rows wants.now rooms.sheet }
-    ensures held { IfOk result (IsHeld number wants.now book.old book.new rooms.sheet) }
-    ensures short { IfErr result (IsRefusedShort opening.now wants.now book.old book.new) }
+    needs: Needs,
+) -> Result<Sheet, Unmet>
+    requires needs { AreNeedsOf opening.now needs.orders needs }
+    requires rows { AreSameRows opening.now book.old.rows }
+    ensures held { IfOk result (λ sheet. IsHeld number needs.wants.items book.old book.new needs.rooms.sheet sheet.room) }
+    ensures orders { IfOk result (λ sheet. sheet.orders ≡ needs.orders) }
+    ensures short { IfErr result (λ unmet. IsRefusedShort opening.now needs.wants.items book.old book.new unmet.why) }
+    ensures back { IfErr result (λ unmet. unmet.needs ≡ needs) }
 {
-    let Rooms { room, mut sheet } = rooms;
-    if let Some(short) = short_article(book, wants, None) {
-        return Err(refuse_short(opening, short));
+    if let Some(short) = gathered::short_article(book, needs.wants.as_slice(), None) {
+        let why = refuse_short(opening, short);
+        return Err(Unmet { needs, why });
     }
-    holds_by_overlap(book, wants, None, &mut sheet);
-    allot(book, number, wants, None, room);
-    Ok(sheet)
+    let Needs {
+        orders,
+        wants,
+        rooms,
+    } = needs;
+    let Rooms { room, mut sheet } = rooms;
+    gathered::allot(book, number, wants.as_slice(), None, room, &mut sheet);
+    Ok(Sheet {
+        orders,
+        room: sheet,
+    })
 }
 
 /// Allot: stock is held for a wave that was submitted, where free stock covers it.
@@ -100,29 +138,25 @@ pub fn allot_wave(
     opening: &Opening,
     number: u32,
     wave: &mut KeptWave,
-    rooms: Rooms,
 ) -> Reply
-    requires room { IsRoomFor book.old.rows wave.old.wants.items rooms.room }
-    requires sheet { IsRoomFor book.old.rows wave.old.wants.items rooms.sheet }
-    requires wants { AreWantsOf opening.now wave.old.orders wave.old.wants.items }
+    requires papers { HasPapers opening.now wave.old.stage book.old number wave.old }
+    requires rows { AreSameRows opening.now book.old.rows }
     ensures live { is_live (state_in wave.new.stage) ≡ is_live (state_in wave.old.stage) }
     ensures answered { (waves : List Wave) → IsAt opening.now book.old waves number wave.old
         → HasAnswered opening.now (allot opening.now (state_at book.old waves) number (wave_of wave.old) (state_in wave.old.stage)) book.old book.new waves
         number wave.old wave.new result }
 {
     match mem::replace(&mut wave.stage, Stage::Done) {
-        Stage::Submitted(orders) => {
-            match hold_stock(book, opening, number, wave.wants.as_slice(), rooms) {
-                Ok(room) => {
-                    wave.stage = Stage::Allotted(Sheet { orders, room });
-                    Reply::Allotted
-                }
-                Err(short) => {
-                    wave.stage = Stage::Submitted(orders);
-                    short
-                }
+        Stage::Submitted(needs) => match hold_stock(book, opening, number, needs) {
+            Ok(sheet) => {
+                wave.stage = Stage::Allotted(sheet);
+                Reply::Allotted
             }
-        }
+            Err(Unmet { needs, why }) => {
+                wave.stage = Stage::Submitted(needs);
+                why
+            }
+        },
         other => {
             let state = other.state();
             wave.stage = other;
@@ -133,21 +167,14 @@ pub fn allot_wave(
 
 impl Floor {
     /// Allot: stock is held for a wave that was submitted, where free stock covers it.
-    pub fn allot(&mut self, opening: &Opening, name: &Name, rooms: Rooms) -> Reply
-        requires floor { IsFloor opening.now self.old }
-        requires rooms { HaveSpace (state_of self.old).rows rooms }
+    pub fn allot(&mut self, opening: &Opening, name: &Name) -> Reply
+        requires { IsFloor opening.now self.old }
         ensures { HasStepped opening.now (command.Allot name.now) self.old self.new result }
     {
         let Some(mut found) = self.waves.take_out(name) else {
             return Reply::UnknownWave;
         };
-        let reply = allot_wave(
-            &mut self.book,
-            opening,
-            found.number,
-            &mut found.wave,
-            rooms,
-        );
+        let reply = allot_wave(&mut self.book, opening, found.number, &mut found.wave);
         self.waves.put_back(found);
         reply
     }

@@ -10,7 +10,7 @@ ghost use Rattle.wp_model.specs.declared.reply.WaveState.TheVariants as states;
 ghost use Rattle.wp_floor.specs.Floor.{HasAnswered, HasStepped, IsAt, IsFloor, state_at, state_in, state_of, wave_of};
 ghost use Rattle.wp_floor.specs.HeldUnits.{IsRowAt, held_of};
 ghost use Rattle.wp_floor.specs.ReceivedUnits.{AllHaveArticles};
-ghost use Rattle.wp_floor.specs.MissingUnits.{HasRefilled, HaveRefillSpace, IfAnswered, IfRefilled, IsHeldElsewhere, TellsRefill, refills};
+ghost use Rattle.wp_floor.specs.MissingUnits.{HasRefilled, HaveRefillSpace, HaveRoomsAt, IfAnswered, IfRefilled, IsHeldElsewhere, TellsRefill, refills};
 
 use crate::floor::Floor;
 use crate::held::{Claim, HeldUnits, claimed};
@@ -18,7 +18,7 @@ use crate::holding::Rooms;
 use crate::opening::Opening;
 use crate::wave_steps::settle;
 use crate::waves::KeptWave;
-use wp_allot::{Want, allot, holds_by_overlap, short_article};
+use wp_allot::{Want, gathered};
 use wp_book::{Room, StockBook};
 use wp_model::{Name, Reply};
 
@@ -40,7 +40,7 @@ fn hold_elsewhere(
     rooms: Rooms,
 ) -> Option<Room>
     requires quantity { 0 < quantity }
-    requires rooms { HaveRefillSpace book.old.rows rooms }
+    requires rooms { HaveRefillSpace book.old.rows lost.article quantity rooms }
     ensures held { IfSome result (IsHeldElsewhere number lost quantity book.old book.new) }
     ensures few { IfNone result (free_units book.old.rows lost.article (Some lost.row) < quantity) }
     ensures same { IfNone result (book.new ≡ book.old) }
@@ -52,11 +52,10 @@ fn hold_elsewhere(
         quantity: u64::from(quantity),
     }];
     let except = Some(lost.row);
-    if short_article(book, &wants, except).is_some() {
+    if gathered::short_article(book, &wants, except).is_some() {
         return None;
     }
-    holds_by_overlap(book, &wants, except, &mut sheet);
-    allot(book, number, &wants, except, room);
+    gathered::allot(book, number, &wants, except, room, &mut sheet);
     Some(sheet)
 }
 
@@ -73,7 +72,7 @@ fn write_off(
     requires quantity { 0 < quantity }
     requires held { quantity ≤ held_for book.old number lost.order lost.row }
     requires article { lost.article < length opening.now.stock.articles }
-    requires rooms { HaveRefillSpace book.old.rows rooms }
+    requires rooms { HaveRefillSpace book.old.rows lost.article quantity rooms }
     ensures live { state_in wave.old.stage ≡ states.Released → is_live (state_in wave.new.stage) ≡ true }
     ensures refilled { IfRefilled result (λ room. (waves : List Wave) → IsAt opening.now book.old waves number wave.old
         → state_in wave.old.stage ≡ states.Released → lost.order < length wave.old.orders
@@ -110,7 +109,7 @@ pub fn missing_wave(
     requires row { IsRowAt book.old.rows claim.now.location claim.now.row }
     requires quantity { 0 < claim.now.quantity }
     requires articles { AllHaveArticles opening.now book.old.rows }
-    requires rooms { HaveRefillSpace book.old.rows rooms }
+    requires rooms { HaveRoomsAt book.old.rows claim.now.row claim.now.quantity rooms }
     ensures live { is_live (state_in wave.new.stage) ≡ is_live (state_in wave.old.stage) }
     ensures refilled { IfRefilled result (λ room. (waves : List Wave) → IsAt opening.now book.old waves number wave.old
         → HasRefilled opening.now (at_released (state_at book.old waves) number (wave_of wave.old) claim.now.order claim.now.location claim.now.quantity
@@ -135,7 +134,7 @@ impl Floor {
         requires floor { IsFloor opening.now self.old }
         requires row { IsRowAt (state_of self.old).rows claim.now.location claim.now.row }
         requires quantity { 0 < claim.now.quantity }
-        requires rooms { HaveRefillSpace (state_of self.old).rows rooms }
+        requires rooms { HaveRoomsAt (state_of self.old).rows claim.now.row claim.now.quantity rooms }
         ensures out { IfRefilled result (λ room. HasStepped opening.now
             (command.Missing name.now claim.now.order claim.now.location claim.now.quantity) self.old self.new (replies.Refilled claim.now.quantity)) }
         ensures told { IfRefilled result (λ room. TellsRefill (state_of self.old) (state_of self.new) name.now room) }

@@ -1,16 +1,14 @@
 //! Waves that go out.
-ghost use Rattle.std.specs.Prelude.{◌≡◌, true, false, List, length};
-ghost use Rattle.wp_allot.specs.Wants.{IsRoomFor};
+ghost use Rattle.std.specs.Prelude.{◌≡◌, true, false, List};
 ghost use Rattle.wp_model.specs.State.{Wave};
 ghost use Rattle.wp_model.specs.Step.{is_live, release};
-ghost use Rattle.wp_floor.specs.Floor.{AreWantsOf, HasAnswered, HasStepped, IsAt, IsFloor, state_at, state_in, state_of, wave_of};
-ghost use Rattle.wp_floor.specs.WaveStock.{HaveSpace};
+ghost use Rattle.wp_floor.specs.Floor.{AreSameRows, HasAnswered, HasPapers, HasStepped, IsAt, IsFloor, state_at, state_in, state_of, wave_of};
 ghost use Rattle.wp_model.specs.declared.command.Command.TheVariants as command;
 ghost use Rattle.wp_model.specs.declared.reply.Reply.TheVariants as replies;
 ghost use Rattle.wp_floor.specs.ReleasedWaves.{HasReleased, IfOut, IfRefused, TellsHolds, goes_out};
 
 use crate::floor::Floor;
-use crate::holding::{Rooms, hold_stock};
+use crate::holding::{Unmet, hold_stock};
 use crate::opening::Opening;
 use crate::waves::{KeptWave, Sheet, Stage};
 use std::mem;
@@ -30,11 +28,9 @@ pub fn release_wave(
     opening: &Opening,
     number: u32,
     wave: &mut KeptWave,
-    rooms: Rooms,
 ) -> Released
-    requires room { IsRoomFor book.old.rows wave.old.wants.items rooms.room }
-    requires sheet { IsRoomFor book.old.rows wave.old.wants.items rooms.sheet }
-    requires wants { AreWantsOf opening.now wave.old.orders wave.old.wants.items }
+    requires papers { HasPapers opening.now wave.old.stage book.old number wave.old }
+    requires rows { AreSameRows opening.now book.old.rows }
     ensures live { is_live (state_in wave.new.stage) ≡ is_live (state_in wave.old.stage) }
     ensures out { IfOut result (λ sheet. (waves : List Wave) → IsAt opening.now book.old waves number wave.old
         → HasReleased opening.now book.old book.new waves number wave.old wave.new sheet) }
@@ -44,15 +40,13 @@ pub fn release_wave(
         number wave.old wave.new why) }
 {
     match mem::replace(&mut wave.stage, Stage::Released) {
-        Stage::Submitted(orders) => {
-            match hold_stock(book, opening, number, wave.wants.as_slice(), rooms) {
-                Ok(room) => Released::Out(Sheet { orders, room }),
-                Err(short) => {
-                    wave.stage = Stage::Submitted(orders);
-                    Released::Refused(short)
-                }
+        Stage::Submitted(needs) => match hold_stock(book, opening, number, needs) {
+            Ok(sheet) => Released::Out(sheet),
+            Err(Unmet { needs, why }) => {
+                wave.stage = Stage::Submitted(needs);
+                Released::Refused(why)
             }
-        }
+        },
         Stage::Allotted(sheet) => Released::Out(sheet),
         other => {
             let state = other.state();
@@ -64,9 +58,8 @@ pub fn release_wave(
 
 impl Floor {
     /// Release: a wave goes out with all that it holds, once it was allotted or where free stock covers it.
-    pub fn release(&mut self, opening: &Opening, name: &Name, rooms: Rooms) -> Released
-        requires floor { IsFloor opening.now self.old }
-        requires rooms { HaveSpace (state_of self.old).rows rooms }
+    pub fn release(&mut self, opening: &Opening, name: &Name) -> Released
+        requires { IsFloor opening.now self.old }
         ensures out { IfOut result (λ sheet. HasStepped opening.now (command.Release name.now) self.old self.new replies.Released) }
         ensures told { IfOut result (λ sheet. TellsHolds (state_of self.new) name.now sheet) }
         ensures stays { IfRefused result (λ why. goes_out why ≡ false) }
@@ -75,13 +68,7 @@ impl Floor {
         let Some(mut found) = self.waves.take_out(name) else {
             return Released::Refused(Reply::UnknownWave);
         };
-        let done = release_wave(
-            &mut self.book,
-            opening,
-            found.number,
-            &mut found.wave,
-            rooms,
-        );
+        let done = release_wave(&mut self.book, opening, found.number, &mut found.wave);
         self.waves.put_back(found);
         done
     }

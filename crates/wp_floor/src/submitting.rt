@@ -4,13 +4,14 @@ ghost use Rattle.wp_model.specs.State.{Wave};
 ghost use Rattle.wp_model.specs.Step.{first_order_fault, order_fault};
 ghost use Rattle.wp_model.specs.Tables.{IsReadOpening};
 ghost use Rattle.wp_model.specs.declared.command.Command.TheVariants as command;
-ghost use Rattle.wp_floor.specs.Floor.{AreTakers, HasStepped, IsFloor, wave_count};
+ghost use Rattle.wp_floor.specs.Floor.{AreNeedsOf, AreTakers, HasStepped, IsFloor, wave_count};
 ghost use Rattle.wp_floor.specs.NewWaves.{IsNewWave, IsPrepared, size_fault, submit_of};
 
 use crate::floor::{Floor, put_takers};
+use crate::holding::Rooms;
 use crate::opening::Opening;
 use crate::wanting::wants_of_orders;
-use crate::waves::{KeptWave, NumberedWave, Stage};
+use crate::waves::{KeptWave, Needs, NumberedWave, Stage};
 use std::alloc::Global;
 use wp_model::{Cell, MOST_WAVE_ORDERS, Memory, Name, Names, Reply};
 
@@ -34,6 +35,21 @@ pub fn size_fault(orders: &Names) -> Option<Reply>
     None
 }
 
+// What a wave of these orders needs to go out.
+fn needs_of(alloc: Global, opening: &Opening, orders: &Names) -> Result<Needs, Memory>
+    requires read { IsReadOpening opening.now }
+    requires size { size_fault orders.now ≡ None }
+    ensures { IfOk result (AreNeedsOf opening.now orders.now) }
+{
+    let wants = wants_of_orders(alloc, opening, orders.as_slice())?;
+    let rooms = Rooms::for_wants(alloc, opening.stock(), wants.as_slice())?;
+    Ok(Needs {
+        orders: orders.copy(alloc)?,
+        wants,
+        rooms,
+    })
+}
+
 // A wave of these orders, of which nothing was done.
 fn new_wave(
     alloc: Global,
@@ -47,13 +63,12 @@ fn new_wave(
     ensures orders { IfOk result (λ wave. wave.orders ≡ orders.now) }
     ensures new { IfOk result (IsNewWave opening.now) }
 {
-    let wants = wants_of_orders(alloc, opening, orders.as_slice())?;
+    let needs = needs_of(alloc, opening, orders)?;
     Ok(KeptWave {
         name: *name,
         orders: orders.copy(alloc)?,
-        stage: Stage::Submitted(orders.copy(alloc)?),
+        stage: Stage::Submitted(needs),
         picked: false,
-        wants,
     })
 }
 

@@ -1,16 +1,18 @@
 //! What the orders of a wave want.
 ghost use Rattle.std.specs.Prelude.{◌≡◌, ◌+◌, ◌<◌, ◌≤◌, ◌^◌, ◌==◌, ◌∷◌, [], length, IfOk};
 ghost use Rattle.std.specs.List.{All, position};
+ghost use Rattle.wp_allot.specs.Wants.{units_in};
 ghost use Rattle.wp_allot.specs.declared.want.Want.{Want as WantData};
 ghost use Rattle.wp_model.specs.Opening.{IsLine, lines_of};
 ghost use Rattle.wp_model.specs.Limits.{most_lines, most_wave_orders};
 ghost use Rattle.wp_model.specs.Tables.{IsReadOpening};
 ghost use Rattle.wp_floor.specs.Floor.{AreWantsOf};
-ghost use Rattle.wp_floor.specs.WantLists.{AreBefore, AreSome, AreSplit, HaveAdded, KeepArticles, all_units, line_units};
+ghost use Rattle.wp_floor.specs.WantLists.{AreBefore, AreListedWants, AreSome, AreSplit, HaveAdded, KeepArticles, line_units};
 
 use crate::opening::Opening;
 use std::alloc::Global;
 use wp_allot::Want;
+use wp_allot::gathered::gather;
 use wp_model::{Line, Memory, Name};
 
 // The place of the first want of an article.
@@ -25,7 +27,7 @@ fn find_article(wants: &[Want], article: u32) -> Option<usize>
 fn add_line(wants: &mut Vec<Want>, start: usize, place: u32, line: &Line) -> Result<(), Memory>
     requires split { AreSplit start place wants.old.items }
     requires some { 0 < line.now.quantity }
-    requires small { all_units wants.old.items + line.now.quantity < 2 ^ 64 }
+    requires small { units_in wants.old.items + line.now.quantity < 2 ^ 64 }
     ensures split { IfOk result (λ _. AreSplit start place wants.new.items) }
     ensures added { IfOk result (λ _. HaveAdded place (line.now ∷ []) wants.old.items wants.new.items) }
     ensures articles { IfOk result (λ _. KeepArticles (line.now ∷ []) wants.old.items wants.new.items) }
@@ -48,7 +50,7 @@ fn add_line(wants: &mut Vec<Want>, start: usize, place: u32, line: &Line) -> Res
 fn add_order(wants: &mut Vec<Want>, place: u32, lines: &[Line]) -> Result<(), Memory>
     requires before { AreBefore place wants.old.items }
     requires some { AreSome lines.now }
-    requires small { all_units wants.old.items + line_units lines.now < 2 ^ 64 }
+    requires small { units_in wants.old.items + line_units lines.now < 2 ^ 64 }
     ensures before { IfOk result (λ _. AreBefore (place + 1) wants.new.items) }
     ensures added { IfOk result (λ _. HaveAdded place lines.now wants.old.items wants.new.items) }
     ensures articles { IfOk result (λ _. KeepArticles lines.now wants.old.items wants.new.items) }
@@ -74,7 +76,21 @@ fn order_lines<'a>(opening: &'a Opening, order: &Name) -> &'a [Line]
     }
 }
 
-/// What the orders of a wave want, each in its place: for an order one want an article that its lines are of, of the
+// What the orders of a wave want, order by order, each in its place: for an order one want an article that its lines
+// are of, of the units of these lines. An order that isn't known wants nothing.
+fn list_wants(alloc: Global, opening: &Opening, orders: &[Name]) -> Result<Vec<Want>, Memory>
+    requires read { IsReadOpening opening.now }
+    requires few { length orders.now ≤ most_wave_orders }
+    ensures { IfOk result (λ wants. AreListedWants opening.now orders.now wants.items) }
+{
+    let mut wants = Vec::new(alloc);
+    for (place, order) in orders.iter().enumerate() {
+        add_order(&mut wants, place as u32, order_lines(opening, order))?;
+    }
+    Ok(wants)
+}
+
+/// What the orders of a wave want, article by article: for an order one want an article that its lines are of, of the
 /// units of these lines. An order that isn't known wants nothing.
 pub fn wants_of_orders(
     alloc: Global,
@@ -85,9 +101,7 @@ pub fn wants_of_orders(
     requires few { length orders.now ≤ most_wave_orders }
     ensures { IfOk result (λ wants. AreWantsOf opening.now orders.now wants.items) }
 {
-    let mut wants = Vec::new(alloc);
-    for (place, order) in orders.iter().enumerate() {
-        add_order(&mut wants, place as u32, order_lines(opening, order))?;
-    }
+    let mut wants = list_wants(alloc, opening, orders)?;
+    gather(&mut wants);
     Ok(wants)
 }

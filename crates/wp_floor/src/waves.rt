@@ -4,6 +4,7 @@ ghost use Rattle.wp_floor.specs.declared.waves.NumberedWave.{NumberedWave as Num
 ghost use Rattle.wp_floor.specs.Floor.{state_in};
 ghost use Rattle.wp_floor.specs.Waves.{AreSameWaves, AreWaves, IsFound, IsReturned, chain_count, chain_of, has_name, is_named, waves_of};
 
+use crate::holding::Rooms;
 use std::alloc::Global;
 use wp_allot::Want;
 use wp_book::Room;
@@ -16,11 +17,20 @@ pub struct Sheet {
     pub room: Room,
 }
 
-/// How far a wave is, with what it needs to go out: once it is submitted a copy of its orders, and once it is
-/// allotted its sheet.
+/// What a submitted wave needs to go out: a copy of its orders, what they want, article by article, and room for what
+/// is held for it.
+#[derive(Drop)]
+pub struct Needs {
+    pub orders: Names,
+    pub wants: Vec<Want>,
+    pub rooms: Rooms,
+}
+
+/// How far a wave is, with what it needs for its next step: what it needs to go out once it is submitted, and its sheet
+/// once it is allotted.
 #[derive(Drop)]
 pub enum Stage {
-    Submitted(Names),
+    Submitted(Needs),
     Allotted(Sheet),
     Released,
     Cancelled,
@@ -42,14 +52,13 @@ impl Stage {
     }
 }
 
-/// A wave, and what its orders want.
+/// A wave, with what it needs at its stage.
 #[derive(Drop)]
 pub struct KeptWave {
     pub name: Name,
     pub orders: Names,
     pub stage: Stage,
     pub picked: bool,
-    pub wants: Vec<Want>,
 }
 
 /// A wave with its number in the order of submission.

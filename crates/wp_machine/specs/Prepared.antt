@@ -4,8 +4,7 @@ use Rattle.wp_model.specs.Opening.{Opening}
 use Rattle.wp_model.specs.Tables.{row_number_from}
 use Rattle.wp_model.specs.declared.command.Command.{Command}
 use Rattle.wp_model.specs.declared.command.Command.TheVariants as command
-use Rattle.wp_floor.specs.Floor.{most_wants}
-use Rattle.wp_floor.specs.WaveStock.{AreFreshRooms}
+use Rattle.wp_floor.specs.MissingUnits.{HaveSpaceAt}
 use Rattle.wp_floor.specs.NewWaves.{IsPrepared, size_fault, submit_of}
 use Rattle.wp_floor.specs.declared.held.Claim.{Claim}
 use Rattle.wp_machine.specs.declared.prepared.Prepared.{Prepared}
@@ -20,11 +19,12 @@ abbrev pub IsPreparedFor : Opening → Command → Prepared → Type 0
 IsPreparedFor opening asked (prepared.Refuse answer) = (name : List ℕ) × (orders : List (List ℕ)) × (asked ≡ command.Submit name orders)
     × (size_fault orders ≡ Some answer)
 IsPreparedFor opening asked (prepared.Submit new) = (asked ≡ submit_of new) × IsPrepared opening new
-IsPreparedFor opening asked (prepared.Allot name rooms) = (asked ≡ command.Allot name) × AreFreshRooms opening most_wants rooms
-IsPreparedFor opening asked (prepared.Release name rooms) = (asked ≡ command.Release name) × AreFreshRooms opening most_wants rooms
+IsPreparedFor opening asked (prepared.Allot name) = asked ≡ command.Allot name
+IsPreparedFor opening asked (prepared.Release name) = asked ≡ command.Release name
 IsPreparedFor opening asked (prepared.Cancel name) = asked ≡ command.Cancel name
 IsPreparedFor opening asked (prepared.Pick name claim) = (asked ≡ command.Pick name claim.order claim.location claim.quantity) × KnowsRow opening claim
 IsPreparedFor opening asked (prepared.Missing name claim rooms) =
-    (asked ≡ command.Missing name claim.order claim.location claim.quantity) × KnowsRow opening claim × (0 < claim.quantity) × AreFreshRooms opening 1 rooms
+    (asked ≡ command.Missing name claim.order claim.location claim.quantity) × KnowsRow opening claim × (0 < claim.quantity)
+    × HaveSpaceAt opening.stock.rows claim.row claim.quantity rooms
 IsPreparedFor opening asked (prepared.Receive location row article quantity) =
     (asked ≡ command.Receive location article quantity) × (row_number_from 0 opening.stock.rows location ≡ row)

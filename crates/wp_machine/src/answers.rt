@@ -5,9 +5,8 @@ ghost use Rattle.wp_model.specs.declared.command.Command.TheVariants as command;
 ghost use Rattle.wp_machine.specs.Answering.{IsAnswer};
 ghost use Rattle.wp_floor.specs.Floor.{IsFloor, state_of, wave_count};
 ghost use Rattle.wp_floor.specs.HeldUnits.{IsRowAt};
-ghost use Rattle.wp_floor.specs.WaveStock.{HaveSpace};
 ghost use Rattle.wp_machine.specs.Prepared.{IsPreparedFor};
-ghost use Rattle.wp_floor.specs.MissingUnits.{HaveRefillSpace};
+ghost use Rattle.wp_floor.specs.MissingUnits.{HaveRoomsAt};
 
 use crate::outcome::{Answer, Outcome, Refill, WaveHolds};
 use crate::prepared::Prepared;
@@ -68,18 +67,11 @@ fn refilled(number: u64, wave: Name, claim: &Claim, room: Room) -> Answer
 }
 
 // Answers a release.
-fn answer_release(
-    floor: &mut Floor,
-    opening: &Opening,
-    number: u64,
-    name: Name,
-    rooms: Rooms,
-) -> Answer
-    requires floor { IsFloor opening.now floor.old }
-    requires rooms { HaveSpace (state_of floor.old).rows rooms }
+fn answer_release(floor: &mut Floor, opening: &Opening, number: u64, name: Name) -> Answer
+    requires { IsFloor opening.now floor.old }
     ensures { IsAnswer opening.now number (command.Release name) floor.old floor.new result }
 {
-    match floor.release(opening, &name, rooms) {
+    match floor.release(opening, &name) {
         Released::Out(sheet) => released(number, name, sheet),
         Released::Refused(reply) => plain(number, reply),
     }
@@ -97,7 +89,7 @@ fn answer_missing(
     requires floor { IsFloor opening.now floor.old }
     requires row { IsRowAt (state_of floor.old).rows claim.now.location claim.now.row }
     requires quantity { 0 < claim.now.quantity }
-    requires rooms { HaveRefillSpace (state_of floor.old).rows rooms }
+    requires rooms { HaveRoomsAt (state_of floor.old).rows claim.now.row claim.now.quantity rooms }
     ensures { IsAnswer opening.now number (command.Missing name claim.now.order claim.now.location claim.now.quantity) floor.old floor.new result }
 {
     match floor.missing(opening, &name, claim, rooms) {
@@ -121,8 +113,8 @@ pub fn answer_prepared(
     match prepared {
         Prepared::Refuse(reply) => plain(number, reply),
         Prepared::Submit(new) => plain(number, floor.submit(opening, new)),
-        Prepared::Allot(name, rooms) => plain(number, floor.allot(opening, &name, rooms)),
-        Prepared::Release(name, rooms) => answer_release(floor, opening, number, name, rooms),
+        Prepared::Allot(name) => plain(number, floor.allot(opening, &name)),
+        Prepared::Release(name) => answer_release(floor, opening, number, name),
         Prepared::Cancel(name) => plain(number, floor.cancel(opening, &name)),
         Prepared::Pick(name, claim) => plain(number, floor.pick(opening, &name, &claim)),
         Prepared::Missing(name, claim, rooms) => {

@@ -15,8 +15,8 @@ pub enum Prepared {
     /// A submit of no orders or of too many, which is refused whatever was submitted before.
     Refuse(Reply),
     Submit(NewWave),
-    Allot(Name, Rooms),
-    Release(Name, Rooms),
+    Allot(Name),
+    Release(Name),
     Cancel(Name),
     Pick(Name, Claim),
     Missing(Name, Claim, Rooms),
@@ -64,8 +64,8 @@ pub fn prepared_for(alloc: Global, opening: &Opening, command: &Command) -> Resu
     let stock = opening.stock();
     match command {
         Command::Submit { wave, orders } => prepared_submit(alloc, opening, wave, orders),
-        Command::Allot { wave } => Ok(Prepared::Allot(*wave, Rooms::for_wave(alloc, opening)?)),
-        Command::Release { wave } => Ok(Prepared::Release(*wave, Rooms::for_wave(alloc, opening)?)),
+        Command::Allot { wave } => Ok(Prepared::Allot(*wave)),
+        Command::Release { wave } => Ok(Prepared::Release(*wave)),
         Command::Cancel { wave } => Ok(Prepared::Cancel(*wave)),
         Command::Pick {
             wave,
@@ -80,7 +80,8 @@ pub fn prepared_for(alloc: Global, opening: &Opening, command: &Command) -> Resu
             quantity,
         } => {
             let claim = claim_of(opening, order, location, *quantity);
-            Ok(Prepared::Missing(*wave, claim, Rooms::for_refill(alloc, opening)?))
+            let rooms = Rooms::for_refill(alloc, opening, &claim)?;
+            Ok(Prepared::Missing(*wave, claim, rooms))
         }
         Command::Receive {
             location,

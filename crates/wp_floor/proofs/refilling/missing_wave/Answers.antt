@@ -1,11 +1,11 @@
-use Rattle.std.proofs.Common.{◌<◌, List, sym, subst, length, arith}
+use Rattle.std.proofs.Common.{◌<◌, ◌∙◌, List, sym, subst, length, arith}
 use Rattle.wp_model.proofs.Elements.{All-at}
 use Rattle.wp_model.specs.State.{Wave}
 use Rattle.wp_model.specs.Step.{Stepped, write_off}
 use Rattle.wp_model.specs.declared.row.Row.{Row}
 use Rattle.wp_floor.specs.Floor.{HasAnswered, state_at, wave_of}
 use Rattle.wp_floor.specs.HeldUnits.{held_of}
-use Rattle.wp_floor.specs.MissingUnits.{HasRefilled}
+use Rattle.wp_floor.specs.MissingUnits.{HasRefilled, HaveRefillSpace}
 use Rattle.wp_floor.proofs.BookStates.{refused}
 use Rattle.wp_floor.proofs.ClaimedUnits.{enough_by, holder}
 use Rattle.wp_floor.proofs.MissingUnits.{answered-weaker, refilled-weaker, refusal_stays}
@@ -21,6 +21,13 @@ write_off-requires-clause-article c =
       All-at (λ (row : Row). row.article < length c.args.opening.now.stock.articles) c.args.book.now.rows c.in-Ok.held.row
           holds.row c.requires.articles holds.there,
     )
+
+pub write_off-requires-clause-rooms : goal.write_off-requires-clause-rooms
+write_off-requires-clause-rooms c =
+    let claim = c.args.claim.now in
+    let holds = holder c.args.book.now c.args.number c.args.wave.now claim.order claim.location (held_of c.in-Ok.held) c.in-Ok.ensures.found.held in
+    subst (λ article. HaveRefillSpace c.args.book.now.rows article claim.quantity c.args.rooms) (sym holds.article)
+    (c.requires.rooms c.in-Ok.held.row holds.row (sym c.requires.row ∙ holds.at) holds.there)
 
 pub returns-in-Ok-clause-refilled : goal.returns-in-Ok-clause-refilled
 returns-in-Ok-clause-refilled c =

@@ -1,14 +1,24 @@
-use Rattle.std.proofs.Common.{◌∙◌, sym, ap, length, slice_get, arith}
-use Rattle.wp_model.proofs.Rows.{length-change_rows}
+use Rattle.std.proofs.Common.{◌≡◌, ◌∙◌, ◌==◌, refl, sym, ap, subst, List, [], ◌∷◌, slice_get}
+use Rattle.std.proofs.lemmas.Bool.{cond_both}
+use Rattle.wp_allot.specs.Wants.{holds_at_most, wanted_rows}
+use Rattle.wp_allot.specs.declared.want.Want.{Want}
+use Rattle.wp_model.specs.Change.{at_place, take_units}
+use Rattle.wp_model.specs.declared.row.Row.{Row}
 use Rattle.wp_model.specs.Opening.{Stock}
+use Rattle.wp_floor.specs.Floor.{HaveSpace}
+use Rattle.wp_floor.specs.MissingUnits.{want_of}
 use Rattle.wp_floor.proofs.MissingUnits.{lost, refilled}
+use Rattle.wp_floor.proofs.WaveStock.{wanted_kept}
 use Rattle.wp_floor.proofs.refilling.write_off.Goals as goal
 
 pub hold_elsewhere-sheet-requires-clause-rooms : goal.hold_elsewhere-sheet-requires-clause-rooms
 hold_elsewhere-sheet-requires-clause-rooms c =
-    let rooms = c.requires.rooms in
-    let same = ap length c.take.ensures.rows ∙ length-change_rows _ c.args.book.now.rows in
-    ((rooms.0.0, omega (arith, same, rooms.0.1)), (rooms.1.0, omega (arith, same, rooms.1.1)))
+    let wants : List Want = want_of c.args.lost.article c.args.quantity ∷ [] in
+    let same : wanted_rows c.take.new.self.rows wants ≡ wanted_rows c.args.book.now.rows wants =
+    ap (λ (rows : List Row). wanted_rows rows wants) c.take.ensures.rows
+    ∙ wanted_kept (at_place c.args.lost.row (take_units c.args.quantity)) 0 c.args.book.now.rows wants
+    (λ k r. cond_both (k == c.args.lost.row) (take_units c.args.quantity r) r (λ (s : Row). s.article ≡ r.article) (λ here. refl) (λ other. refl)) in
+    subst (λ n. HaveSpace (holds_at_most n wants) c.args.rooms) (sym same) c.requires.rooms
 
 pub returns-in-Some-clause-refilled : goal.returns-in-Some-clause-refilled
 returns-in-Some-clause-refilled c waves at released within =

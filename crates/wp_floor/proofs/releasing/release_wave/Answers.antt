@@ -1,34 +1,27 @@
-use Rattle.std.proofs.Common.{◌∙◌, refl, sym, ap, subst, List}
-use Rattle.wp_allot.specs.declared.want.Want.{Want}
+use Rattle.std.proofs.Common.{◌∙◌, refl, sym, ap, subst}
 use Rattle.wp_model.specs.Step.{is_live, refuse, release}
 use Rattle.wp_model.specs.declared.reply.Reply.TheVariants as reply
 use Rattle.wp_model.specs.declared.reply.WaveState.{WaveState}
 use Rattle.wp_model.specs.declared.reply.WaveState.TheVariants as wave
 use Rattle.wp_floor.specs.Floor.{state_at, state_in, wave_of}
 use Rattle.wp_floor.specs.ReleasedWaves.{HasReleased}
-use Rattle.wp_floor.specs.WaveStock.{IsHeld, IsRefusedShort}
 use Rattle.wp_floor.specs.declared.waves.Stage.{Stage}
-use Rattle.wp_floor.specs.declared.waves.Stage.TheVariants as stage
 use Rattle.wp_floor.proofs.WaveStock.{refused_at, release_wrong, short_at, submitted_out}
 use Rattle.wp_floor.proofs.releasing.release_wave.Goals as goal
 
 pub returns-in-Ok-clause-out : goal.returns-in-Ok-clause-out
 returns-in-Ok-clause-out c waves at =
-    let held = subst (λ (ws : List Want). IsHeld c.args.number ws c.args.book.now c.hold_stock.new.book c.args.rooms.sheet c.in-Ok.room)
-    c.as_slice.ensures.value c.in-Ok.ensures.held in
     subst (λ (s : Stage). HasReleased c.args.opening.now c.args.book.now c.hold_stock.new.book waves c.args.number c.args.wave.now
-    (record c.args.wave.now { stage = s }) (record { orders = c.in-Submitted.orders; room = c.in-Ok.room })) (sym c.replace.ensures.after)
-    (submitted_out c.args.opening.now c.args.book.now c.hold_stock.new.book waves c.args.number c.args.wave.now c.in-Submitted.orders c.args.rooms.sheet
-    c.in-Ok.room at (sym c.in-Submitted.ensures.value) held)
+    (record c.args.wave.now { stage = s }) c.in-Ok.sheet) (sym c.replace.ensures.after)
+    (submitted_out c.args.opening.now c.args.book.now c.hold_stock.new.book waves c.args.number c.args.wave.now c.in-Submitted.needs c.in-Ok.sheet at
+    (record { stage = sym c.in-Submitted.ensures.value; held = c.in-Ok.ensures.held; orders = c.in-Ok.ensures.orders }))
 
 pub returns-in-Err-clause-refused : goal.returns-in-Err-clause-refused
 returns-in-Err-clause-refused c waves at =
-    let is = subst (λ (ws : List Want). IsRefusedShort c.args.opening.now ws c.args.book.now c.hold_stock.new.book c.in-Err.short) c.as_slice.ensures.value
-    c.in-Err.ensures.short in
-    short_at c.args.opening.now c.args.book.now c.hold_stock.new.book waves c.args.number c.args.wave.now (stage.Submitted c.in-Submitted.orders) wave.Released
-    reply.Released c.in-Err.short _ at c.in-Submitted.ensures.value
+    short_at c.args.opening.now c.args.book.now c.hold_stock.new.book waves c.args.number c.args.wave.now c.in-Submitted.needs _ wave.Released
+    reply.Released _ _ at (sym c.in-Submitted.ensures.value) c.in-Err.ensures.back
     (ap (λ (s : Stage). release c.args.opening.now (state_at c.args.book.now waves) c.args.number (wave_of c.args.wave.now) (state_in s))
-    (sym c.in-Submitted.ensures.value)) is
+    (sym c.in-Submitted.ensures.value)) c.in-Err.ensures.short
 
 pub returns-in_default : goal.returns-in_default
 returns-in_default c =

@@ -1,7 +1,8 @@
-use Rattle.std.proofs.Common.{◌≡◌, ◌∙◌, sym, ap, true, false, if◌then◌else◌}
-use Rattle.wp_model.specs.Step.{cancel, give_up, is_live, refuse}
+use Rattle.std.proofs.Common.{◌≡◌, ◌∙◌, sym, ap, subst, true, false, if◌then◌else◌}
+use Rattle.wp_model.specs.Step.{Stepped, cancel, give_up, is_live, refuse}
 use Rattle.wp_model.specs.declared.reply.Reply.TheVariants as reply
-use Rattle.wp_floor.specs.Floor.{state_at, wave_of}
+use Rattle.wp_model.specs.declared.reply.WaveState.{WaveState}
+use Rattle.wp_floor.specs.Floor.{HasAnswered, state_at, state_in, wave_of}
 use Rattle.wp_floor.proofs.BookStates.{refused}
 use Rattle.wp_floor.proofs.wave_steps.cancel_wave.Goals as goal
 
@@ -39,3 +40,25 @@ returns-else-wave-clause-same c not_freed = let both : true ≡ false = sym c.gi
 
 pub returns-else-wave-clause-cancelled : goal.returns-else-wave-clause-cancelled
 returns-else-wave-clause-cancelled c freed = (ap is_live (sym c.state.ensures ∙ c.in-Released.is), c.give_up-else-wave.ensures.cancelled.1)
+
+pub returns-in-Submitted-clause-answered : goal.returns-in-Submitted-clause-answered
+returns-in-Submitted-clause-answered c opening waves at =
+    subst (λ (s : WaveState). HasAnswered opening (cancel (state_at c.args.book.now waves) c.args.number (wave_of c.args.wave.now) s) c.args.book.now
+    c.give_up.new.book waves c.args.number c.args.wave.now c.give_up.new.wave c.give_up.result) (sym (sym c.state.ensures ∙ c.in-Submitted.is))
+    (c.give_up.ensures.answered opening waves at)
+
+pub returns-in-Allotted-clause-answered : goal.returns-in-Allotted-clause-answered
+returns-in-Allotted-clause-answered c opening waves at =
+    subst (λ (s : WaveState). HasAnswered opening (cancel (state_at c.args.book.now waves) c.args.number (wave_of c.args.wave.now) s) c.args.book.now
+    c.give_up-in-Allotted.new.book waves c.args.number c.args.wave.now c.give_up-in-Allotted.new.wave c.give_up-in-Allotted.result)
+    (sym (sym c.state.ensures ∙ c.in-Allotted.is)) (c.give_up-in-Allotted.ensures.answered opening waves at)
+
+pub returns-else-wave-clause-answered : goal.returns-else-wave-clause-answered
+returns-else-wave-clause-answered c opening waves at =
+    let state = state_at c.args.book.now waves in
+    let w = wave_of c.args.wave.now in
+    let is : cancel state c.args.number w (state_in c.args.wave.now.stage) ≡ give_up state c.args.number w =
+    ap (cancel state c.args.number w) (sym c.state.ensures ∙ c.in-Released.is)
+    ∙ ap (λ b. if b then refuse state reply.Picking else give_up state c.args.number w) c.if-wave.false in
+    subst (λ (s : Stepped). HasAnswered opening s c.args.book.now c.give_up-else-wave.new.book waves c.args.number c.args.wave.now
+    c.give_up-else-wave.new.wave c.give_up-else-wave.result) (sym is) (c.give_up-else-wave.ensures.answered opening waves at)

@@ -1,4 +1,5 @@
-use Rattle.wp_floor.proofs.RowNumbers.{as_many_rows, row_there}
+use Rattle.wp_floor.proofs.RowNumbers.{row_there}
+use Rattle.wp_floor.proofs.WaveStock.{refill_fits}
 use Rattle.wp_machine.proofs.answers.answer_prepared.Goals as goal
 
 pub pick-requires-clause-row : goal.pick-requires-clause-row
@@ -14,8 +15,8 @@ answer_missing-requires-clause-row c =
 pub answer_missing-requires-clause-rooms : goal.answer_missing-requires-clause-rooms
 answer_missing-requires-clause-rooms c =
     let prepared = rw c.in-Missing.is at c.requires.prepared in
-    let rows = as_many_rows c.args.opening.now c.args.floor.now.book.rows c.requires.floor.rows in
-    rw rows prepared.1.3
+    refill_fits c.args.opening.now c.args.floor.now.book.rows c.in-Missing.claim.row c.in-Missing.claim.quantity c.in-Missing.rooms c.requires.floor.rows
+    prepared.1.3
 
 pub receive-requires-clause-row : goal.receive-requires-clause-row
 receive-requires-clause-row c =

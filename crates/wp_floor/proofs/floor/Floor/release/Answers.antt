@@ -3,9 +3,12 @@ use Rattle.wp_model.specs.Step.{release}
 use Rattle.wp_model.specs.declared.command.Command.TheVariants as command
 use Rattle.wp_floor.specs.Floor.{state_of}
 use Rattle.wp_floor.proofs.Floors.{found_at, unknown_wave}
-use Rattle.wp_floor.proofs.WaveStock.{fits}
 use Rattle.wp_floor.proofs.ReleasedWaves.{release_out, release_refused, release_told}
 use Rattle.wp_floor.proofs.floor.Floor.release.Goals as goal
+
+pub release_wave-done-requires-clause-papers : goal.release_wave-done-requires-clause-papers
+release_wave-done-requires-clause-papers c =
+    (found_at c.args.opening.now c.args.name.now c.args.self.now c.take_out.new.self c.in-Some.found c.requires c.in-Some.ensures.some).keeps.papers
 
 pub returns-in_default : goal.returns-in_default
 returns-in_default c =
@@ -15,27 +18,9 @@ returns-in_default c =
       told = tt;
       stays = refl;
       refused = unknown_wave c.args.opening.now (command.Release c.args.name.now) c.args.name.now
-          (λ number w. release c.args.opening.now state number w w.state) c.args.self.now c.take_out.new.self c.requires.floor refl c.in_default.ensures.none
+          (λ number w. release c.args.opening.now state number w w.state) c.args.self.now c.take_out.new.self c.requires refl c.in_default.ensures.none
           c.in_default.ensures.nobody;
     }
-
-pub release_wave-done-requires-clause-room : goal.release_wave-done-requires-clause-room
-release_wave-done-requires-clause-room c =
-    let old = c.args.self.now in
-    let at = found_at c.args.opening.now c.args.name.now old c.take_out.new.self c.in-Some.found c.requires.floor c.in-Some.ensures.some in
-    fits c.args.opening.now c.in-Some.found.wave.orders old.book.rows c.in-Some.found.wave.wants.items c.args.rooms.room at.keeps.wants c.requires.rooms.0
-
-pub release_wave-done-requires-clause-sheet : goal.release_wave-done-requires-clause-sheet
-release_wave-done-requires-clause-sheet c =
-    let old = c.args.self.now in
-    let at = found_at c.args.opening.now c.args.name.now old c.take_out.new.self c.in-Some.found c.requires.floor c.in-Some.ensures.some in
-    fits c.args.opening.now c.in-Some.found.wave.orders old.book.rows c.in-Some.found.wave.wants.items c.args.rooms.sheet at.keeps.wants c.requires.rooms.1
-
-pub release_wave-done-requires-clause-wants : goal.release_wave-done-requires-clause-wants
-release_wave-done-requires-clause-wants c =
-    let old = c.args.self.now in
-    let at = found_at c.args.opening.now c.args.name.now old c.take_out.new.self c.in-Some.found c.requires.floor c.in-Some.ensures.some in
-    at.keeps.wants
 
 pub returns-clause-out : goal.returns-clause-out
 returns-clause-out c =
@@ -43,7 +28,7 @@ returns-clause-out c =
     (record { book = c.release_wave-done.new.book; waves = c.put_back.new.self; takers = c.args.self.now.takers }) c.release_wave-done.new.wave
     c.release_wave-done.result
     (record {
-      floor = c.requires.floor;
+      floor = c.requires;
       is_found = c.in-Some.ensures.some;
       waves = c.put_back.ensures;
       takers = refl;
@@ -56,7 +41,7 @@ returns-clause-told c =
     (record { book = c.release_wave-done.new.book; waves = c.put_back.new.self; takers = c.args.self.now.takers }) c.release_wave-done.new.wave
     c.release_wave-done.result
     (record {
-      floor = c.requires.floor;
+      floor = c.requires;
       is_found = c.in-Some.ensures.some;
       waves = c.put_back.ensures;
       takers = refl;
@@ -69,7 +54,7 @@ returns-clause-refused c =
     (record { book = c.release_wave-done.new.book; waves = c.put_back.new.self; takers = c.args.self.now.takers }) c.release_wave-done.new.wave
     c.release_wave-done.result
     (record {
-      floor = c.requires.floor;
+      floor = c.requires;
       is_found = c.in-Some.ensures.some;
       waves = c.put_back.ensures;
       takers = refl;

@@ -1,5 +1,5 @@
 use Rattle.wp_floor.specs.WantLists.{AreWantsBefore}
-use Rattle.wp_floor.proofs.wanting.wants_of_orders.Given as goal
+use Rattle.wp_floor.proofs.wanting.list_wants.Given as goal
 
 -- the orders so far have their wants
 abbrev pub invariant-loop-place : goal.invariant-loop-place
