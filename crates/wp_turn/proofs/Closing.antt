@@ -22,12 +22,19 @@ pub all_more : {X : Type 0} (P : X → Type 0) (x : X) (xs : List X) → P x →
 all_more P x xs first others zero d inside = first
 all_more P x xs first others (suc k) d inside = others k d (omega (arith, inside))
 
+-- what holds of all, and of one more, holds of the longer list
 pub all_snoc : {X : Type 0} (P : X → Type 0) (xs : List X) (x : X) → All P xs → P x → All P (xs ++ x ∷ [])
 all_snoc P [] x others last zero d inside = last
 all_snoc P [] x others last (suc k) d inside = absurd (omega (arith, inside))
 all_snoc P (y ∷ xs) x others last zero d inside = others 0 d (omega arith)
 all_snoc P (y ∷ xs) x others last (suc k) d inside = all_snoc P xs x (λ j e in_it. others (suc j) e (omega (arith, in_it))) last k d (omega (arith, inside))
 
+-- what holds of all holds of the later ones
+pub all_right : {X : Type 0} (P : X → Type 0) (ys xs : List X) → All P (ys ++ xs) → All P xs
+all_right P [] xs all = all
+all_right P (y ∷ ys) xs all = all_right P ys xs (λ k d inside. all (suc k) d (omega (arith, inside)))
+
+-- what holds of all holds of the first and of the others
 pub all_rest : {X : Type 0} (P : X → Type 0) (x : X) (xs : List X) → All P (x ∷ xs) → P x × All P xs
 all_rest P x xs all = (all 0 x (omega arith), λ k d inside. all (suc k) d (omega (arith, inside)))
 

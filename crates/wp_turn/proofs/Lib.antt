@@ -5,3 +5,4 @@ pub mod Resting
 pub mod Dealing
 pub mod Calling
 pub mod Closing
+pub mod NewPasses

@@ -1,7 +1,8 @@
 -- What contracts see of a turn and of its passes, and what the calls promise.
-use Rattle.std.specs.Prelude.{◌≡◌, ℕ, zero, suc, List, [], ◌∷◌, ◌++◌, length, All, sum_by}
+use Rattle.std.specs.Prelude.{◌≡◌, ℕ, zero, suc, ◌+◌, ◌≤◌, List, [], ◌∷◌, ◌++◌, length, All, sum_by}
 use Rattle.atomic_table.specs.Seated.{TableId}
 use Rattle.wp_turn.specs.Calls.{IsAmong, calls_of, entries_of, listed, opened}
+use Rattle.wp_turn.specs.Rule.{most_calls}
 use Rattle.wp_turn.specs.Told.{Extends}
 
 -- a turn: which one it is, the value at its opening, and the number of passes that were made
@@ -44,6 +45,10 @@ module _ {T E : Type 0} where
   -- the entries of the calls of the pass's own caller, since the opening
   abbrev pub own_calls : Known T E → List E
   own_calls pass = calls_of pass.caller pass.calls
+
+  -- the pass's own caller may still make so many calls
+  abbrev pub HasLeft : ℕ → Known T E → Type 0
+  HasLeft times pass = length (own_calls pass) + times ≤ most_calls
 
   -- a pass at the opening: it has seen no call, and stands for its own caller alone
   abbrev pub new_pass : Opening T → ℕ → Known T E

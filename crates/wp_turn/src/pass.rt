@@ -1,6 +1,7 @@
 ghost use Rattle.std.specs.Prelude.{◌≡◌, ◌<◌, ◌≤◌, length};
 ghost use Rattle.wp_turn.specs.Calls.{IsAmong};
 ghost use Rattle.wp_turn.specs.Promises.{own_calls, seen_by};
+ghost use Rattle.wp_turn.specs.Rule.{most_callers};
 
 use crate::turned::Turned;
 use crate::view::View;
@@ -51,7 +52,7 @@ impl<V: Turned> Pass<V> {
     /// For how many callers it stands: 1 at the opening, and at most 64.
     pub fn stands_for(&self) -> u32
         ensures callers { result ≡ length self.now.callers }
-        ensures few { result ≤ 64 }
+        ensures few { result ≤ most_callers }
     {
         self.stands
     }

@@ -1,5 +1,6 @@
 ghost use Rattle.std.specs.Prelude.{◌≡◌, ◌<◌, ◌≤◌, ◌++◌, ◌∷◌, [], length, vec_capacity, option_to_list};
 ghost use Rattle.wp_turn.specs.Promises.{given_by};
+ghost use Rattle.wp_turn.specs.Rule.{most_callers};
 
 use crate::pass::Pass;
 use crate::turned::Turned;
@@ -16,18 +17,19 @@ pub struct Passes<V: Turned> {
 impl<V: Turned> Model for Passes<V> {
     ghost use Rattle.std.specs.Prelude.{◌≤◌, length, vec_capacity};
     ghost use Rattle.wp_turn.specs.Promises.{Row};
+    ghost use Rattle.wp_turn.specs.Rule.{most_callers};
 
     ghost Value = { Row V V.Entry };
 
     ghost view = { λ p. record { list = p.list.items; room = p.room } };
 
-    ghost invariant = { λ p. (length p.list.items ≤ p.room) × (p.room ≤ vec_capacity p.list) × (p.room ≤ 64) };
+    ghost invariant = { λ p. (length p.list.items ≤ p.room) × (p.room ≤ vec_capacity p.list) × (p.room ≤ most_callers) };
 }
 
 impl<V: Turned> Passes<V> {
     pub(crate) fn of(list: Vec<Pass<V>>, room: u32) -> Passes<V>
         requires fits { length list.items ≤ room }
-        requires room { (room ≤ vec_capacity list) × (room ≤ 64) }
+        requires room { (room ≤ vec_capacity list) × (room ≤ most_callers) }
         ensures list { result.list ≡ list.items }
         ensures room { result.room ≡ room }
     {
@@ -55,7 +57,7 @@ impl<V: Turned> Passes<V> {
     /// How many passes were made at the opening.
     pub fn room(&self) -> u32
         ensures room { result ≡ self.now.room }
-        ensures few { result ≤ 64 }
+        ensures few { result ≤ most_callers }
         ensures fits { length self.now.list ≤ result }
     {
         self.room

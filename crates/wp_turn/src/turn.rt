@@ -1,6 +1,6 @@
 ghost use Rattle.std.specs.Prelude.{◌≡◌, ◌<◌, ◌≤◌, ◌*◌, ◌+◌, ◌-◌, [], ◌∷◌, ◌++◌, length, IfOk, IfErr, IsErr, ◌↔◌, All, vec_capacity};
 ghost use Rattle.wp_turn.specs.Promises.{Called, Closed, Ended, Follow, IsOf, given_by, new_pass, new_passes, own_calls, seeing, standing_for_both, callers_of};
-ghost use Rattle.wp_turn.specs.Rule.{most_calls, most_opened};
+ghost use Rattle.wp_turn.specs.Rule.{most_callers, most_calls, most_opened};
 ghost use Rattle.wp_turn.specs.Dealt.{Deals};
 
 use crate::not_all::NotAll;
@@ -15,7 +15,8 @@ use std::alloc::Global;
 use std::marker::Model;
 use std::snapshot::Snapshot;
 use std::sync::Wait;
-use wp_outside::Memory;
+use std::thread::yield_now;
+use wp_model::Memory;
 
 /// The shared value: one slot, and the words that count its entries, the places and the caller numbers. Contracts see
 /// which turn it is, the value at the opening, and the number of passes that were made.
@@ -43,10 +44,11 @@ impl<V: Turned> Turn<V> {
     pub fn open(alloc: Global, value: V, callers: u32) -> Result<(Turn<V>, Passes<V>), Memory>
     where
         V: Drop,
-        requires callers { (1 ≤ callers) × (callers ≤ 64) }
+        requires callers { (1 ≤ callers) × (callers ≤ most_callers) }
         requires few { length (V.entries value) < most_opened }
         ensures turn { IfOk result (λ r. (r.0.start ≡ value) × (r.0.made ≡ callers)) }
         ensures passes { IfOk result (λ r. r.1.list ≡ new_passes r.0 callers) }
+        ensures own { IfOk result (λ r. All (λ pass. IsOf r.0 pass) r.1.list) }
         ensures room { IfOk result (λ r. r.1.room ≡ callers) }
     {
         let room = Vec::with_capacity(alloc, callers as usize)?;
@@ -65,7 +67,7 @@ impl<V: Turned> Turn<V> {
     ) -> Result<(Turn<V>, Seat<V, View<V, V::Entry>>), Memory>
     where
         V: Drop,
-        requires callers { (1 ≤ callers) × (callers ≤ 64) }
+        requires callers { (1 ≤ callers) × (callers ≤ most_callers) }
         requires counted { opened ≡ length (V.entries value) }
         requires few { opened < most_opened }
         ensures turn { IfOk result (λ r. (r.0.start ≡ value) × (r.0.made ≡ callers)) }
@@ -178,6 +180,7 @@ impl<V: Turned> Turn<V> {
                 };
                 return (pass, Receipt { number, out });
             }
+            yield_now();
         }
         unreachable!()
     }
