@@ -4,9 +4,11 @@ use mathlib.Core.List.{IsPrefix}
 use Rattle.wp_turn.specs.Calls.{entries_of, calls_of}
 
 module _ {A : Type 0} where
+  -- each list begins itself
   pub prefix_self : (xs : List A) → IsPrefix xs xs
   prefix_self xs = ([], append-nil xs)
 
+  -- the empty list begins each list
   pub prefix_none : (xs : List A) → IsPrefix [] xs
   prefix_none xs = (xs, refl)
 
@@ -14,9 +16,11 @@ module _ {A : Type 0} where
   pub prefix_more : (xs ys zs : List A) → IsPrefix xs ys → IsPrefix xs (ys ++ zs)
   prefix_more xs ys zs p = (p.0 ++ zs, sym (append_assoc xs p.0 zs) ∙ ap (λ w. w ++ zs) p.1)
 
+  -- what begins a beginning begins the list
   pub prefix_trans : (xs ys zs : List A) → IsPrefix xs ys → IsPrefix ys zs → IsPrefix xs zs
   prefix_trans xs ys zs p q = (p.0 ++ q.0, sym (append_assoc xs p.0 q.0) ∙ (ap (λ w. w ++ q.0) p.1 ∙ q.1))
 
+  -- the first item, or another
   abbrev pub first_or : A → List A → A
   first_or a [] = a
   first_or a (x ∷ xs) = x
@@ -31,6 +35,7 @@ module _ {A : Type 0} where
   snoc_same (x ∷ xs) a b e = snoc_same xs a b (ap rest_of e)
 
 module _ {E : Type 0} where
+  -- the entries of calls that grow by one
   pub entries_of-snoc : (calls : List (ℕ × E)) (caller : ℕ) (entry : E) → entries_of (calls ++ (caller, entry) ∷ []) ≡ entries_of calls ++ entry ∷ []
   entries_of-snoc [] caller entry = refl
   entries_of-snoc (call ∷ calls) caller entry = ap (λ l. call.1 ∷ l) (entries_of-snoc calls caller entry)

@@ -8,16 +8,13 @@ use Rattle.wp_turn.specs.Rule.{Kept, most_calls, most_steps, most_callers}
 use Rattle.wp_turn.specs.Told.{Extends, Drew, Came, Committed}
 use Rattle.wp_turn.specs.Views.{rested, waiting}
 use Rattle.wp_turn.specs.declared.view.View.{View}
-use Rattle.wp_turn.proofs.CallLists.{prefix_self, prefix_trans, snoc_same, calls_of-own}
+use Rattle.wp_turn.proofs.CallLists.{prefix_trans, snoc_same, calls_of-own}
 use Rattle.wp_turn.proofs.Steps.{draws_place, comes, commits, grows}
 
 module _ {E : Type 0} where
   -- what goes on from calls that go on
   pub extends_on : (a b c : List (ℕ × E)) (callers : List ℕ) → Extends a callers b → Extends b callers c → Extends a callers c
   extends_on a b c callers one two = record { begins = prefix_trans a b c one.begins two.begins; own = λ n among. two.own n among ∙ one.own n among }
-
-  pub extends_self : (a : List (ℕ × E)) (callers : List ℕ) → Extends a callers a
-  extends_self a callers = record { begins = prefix_self a; own = λ n among. refl }
 
 module _ {T E S : Type 0} (entries : T → List E) (setting : T → S) (start : T) where
   -- during a call, before the place is due
@@ -28,6 +25,7 @@ module _ {T E S : Type 0} (entries : T → List E) (setting : T → S) (start : 
   abbrev pub Holds : ℕ → List ℕ → ℕ → Me T (View T E) → T → Type 0
   Holds caller mine place me value = me ≡ (waiting (start ∷ []) me.0.calls caller mine place true me.0.left, (0, value) ∷ [])
 
+  -- a pass at rest may draw a place, while its caller may still make calls
   pub draws_at_rest : (callers slots id : ℕ) (me : Me T (View T E)) (caller seen stands made : ℕ) → Rests entries me caller seen stands made → made < most_calls
       → Allows (Kept entries setting start callers) slots id me 1 (λ n. (n + 1) % 2 ^ 64) (Drew entries setting (step slots 1 1 0 none) me)
   draws_at_rest callers slots id me caller seen stands made rests some_left =
@@ -37,18 +35,7 @@ module _ {T E S : Type 0} (entries : T → List E) (setting : T → S) (start : 
       (sym (rests.still ∙ ap (λ (k : ℕ). (rested me.0.start me.0.calls caller me.0.callers k, [])) one_less))
       (draws_place entries setting start callers slots id me.0.start me.0.calls caller me.0.callers (me.0.left - 1) rests.own)
 
-  pub record Drawn (me after : Me T (View T E)) (caller place : ℕ) : Type 0 where
-    pub waits : Waits caller me.0.callers place after
-    pub calls : after.0.calls ≡ me.0.calls
-    pub left : after.0.left ≡ me.0.left - 1
-
-  pub drawn : (slots : ℕ) (me after : Me T (View T E)) (caller seen stands made place : ℕ) → Rests entries me caller seen stands made
-      → me.0.start ≡ start ∷ [] → Drew entries setting (step slots 1 1 0 none) me place after → Drawn me after caller place
-  drawn slots me after caller seen stands made place rests begun told =
-      let form : after ≡ (waiting (start ∷ []) me.0.calls caller me.0.callers place false (me.0.left - 1), []) = told ∙
-      (λ i. (waiting (begun i) me.0.calls ((rests.still i).0.caller) me.0.callers place false (me.0.left - 1), (rests.still i).1)) in
-      subst (λ (m : Me T (View T E)). Drawn me m caller place) (sym form) record { waits = refl; calls = refl; left = refl }
-
+  -- who waits may look whether its place is due
   pub comes_to : (key : T) → key ≡ start → (callers slots id : ℕ) (me : Me T (View T E)) (caller place : ℕ) (mine : List ℕ) → Waits caller mine place me
       → Allows (Kept entries setting key callers) slots id me 0 (λ n. n) (Came entries setting (step slots 0 0 0 none) me)
   comes_to key key_is callers slots id me caller place mine waits =
@@ -56,19 +43,6 @@ module _ {T E S : Type 0} (entries : T → List E) (setting : T → S) (start : 
       (Came entries setting (step slots 0 0 0 none) m) in
       subst (λ (k : T). Goal k me) (sym key_is) (subst (λ (m : Me T (View T E)). Goal start m) (sym waits)
       (comes entries setting start callers slots id me.0.calls caller mine place me.0.left))
-
-  -- the place wasn't due
-  pub record Early (me now : Me T (View T E)) (caller place : ℕ) (mine : List ℕ) : Type 0 where
-    pub waits : Waits caller mine place now
-    pub extends : Extends me.0.calls mine now.0.calls
-    pub left : now.0.left ≡ me.0.left
-
-  pub early : (slots : ℕ) (me now : Me T (View T E)) (caller place found : ℕ) (mine : List ℕ) → Waits caller mine place me
-      → Came entries setting (step slots 0 0 0 none) me found now → ¬ (found ≡ place) → Early me now caller place mine
-  early slots me now caller place found mine waits told' ne =
-      let told = subst (λ (m : Me T (View T E)). Came entries setting (step slots 0 0 0 none) m found now) waits told' in
-      subst (λ (m : Me T (View T E)). Early me m caller place mine) (sym (told.early place refl (λ e. ne (sym e))))
-      record { waits = refl; extends = told.extends; left = refl }
 
   -- the place was due, and the slot was taken
   pub record Due (me now : Me T (View T E)) (caller place found : ℕ) (mine : List ℕ) : Type 0 where
@@ -81,6 +55,7 @@ module _ {T E S : Type 0} (entries : T → List E) (setting : T → S) (start : 
     pub counts : found ≡ length (listed entries start now.0.calls)
     pub short : length (entries value) < most_steps
 
+  -- and has the slot where it is
   pub due : (slots : ℕ) (me now : Me T (View T E)) (caller place found : ℕ) (mine : List ℕ) → Waits caller mine place me
       → Came entries setting (step slots 0 0 0 none) me found now → found ≡ place → Due me now caller place found mine
   due slots me now caller place found mine waits told' e =
@@ -117,6 +92,7 @@ module _ {T E S : Type 0} (entries : T → List E) (setting : T → S) (start : 
       let settings = ap setting same ∙ same_setting in
       appends ∙ (λ i. lists i ++ entry (settings i) (lists i) (callers i) ready ∷ [])
 
+  -- who has the slot commits, once the value was stepped
   pub commits_at : (key : T) → key ≡ start → (callers slots id : ℕ) (now : Me T (View T E)) (caller place : ℕ) (mine : List ℕ) (value x : T) (e : E)
       → Holds caller mine place now value → 0 < slots → IsAmong caller mine
       → length (calls_of caller now.0.calls) < most_calls → entries x ≡ listed entries start now.0.calls ++ e ∷ [] → setting x ≡ setting start
@@ -134,6 +110,7 @@ module _ {T E S : Type 0} (entries : T → List E) (setting : T → S) (start : 
     pub form : after ≡ (rested (start ∷ []) (now.0.calls ++ (caller, e) ∷ []) caller mine now.0.left, [])
     pub numbered : number ≡ length (listed entries start now.0.calls)
 
+  -- and its call then stands in the history
   pub stands : (slots : ℕ) (now after : Me T (View T E)) (caller place number : ℕ) (mine : List ℕ) (value x : T) (e : E) → Holds caller mine place now value
       → entries x ≡ listed entries start now.0.calls ++ e ∷ []
       → Committed entries setting (step slots 0 1 0 none) (with_value now x) number after → Stands now after caller number mine e

@@ -48,9 +48,11 @@ module _ {E : Type 0} where
         one.own n among;
   }
 
+-- who is in the first part of a list is in the list
 pub among_left : (n : ℕ) (xs ys : List ℕ) → IsAmong n xs → IsAmong n (xs ++ ys)
 among_left n xs ys among = omega (arith, among, total-append (only n) xs ys)
 
+-- who is in the second part is
 pub among_right : (n : ℕ) (xs ys : List ℕ) → IsAmong n ys → IsAmong n (xs ++ ys)
 among_right n xs ys among = omega (arith, among, total-append (only n) xs ys)
 
@@ -80,6 +82,7 @@ module _ {T E : Type 0} where
     pub begins : Follow first whole.calls
     pub follow : All (λ pass. Follow pass whole.calls) met
 
+  -- at first it has met nobody
   pub met_none : (first : Known T E) (all : List (Known T E)) → Met first first all all
   met_none first all = record {
     met = [];
@@ -121,6 +124,7 @@ module _ {T E : Type 0} where
       )
 
 module _ {T E S : Type 0} (entries : T → List E) (setting : T → S) where
+  -- one pass that stands for all callers takes the value home
   pub ends : (key start : T) (callers id : ℕ) (ws : List ℕ) (xs : List T) (me : Me T (View T E)) (caller seen stands made : ℕ) (pass : Known T E) (value : T)
       → key ≡ start → Rests entries me caller seen stands made
       → me.0.calls ≡ pass.calls → me.0.callers ≡ pass.callers → callers ≤ length pass.callers → Final (Seen (Kept entries setting key callers) id me.0) ws xs

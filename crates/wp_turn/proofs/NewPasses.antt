@@ -1,5 +1,5 @@
 -- The passes at the opening.
-use Rattle.std.proofs.Common.{◌≡◌, ℕ, zero, suc, [], ◌∷◌, All, length, length-append, refl, arith}
+use Rattle.std.proofs.Common.{◌≡◌, ℕ, zero, suc, [], All, refl, arith}
 use Rattle.wp_turn.specs.Promises.{Opening, IsOf, own_calls, new_pass, new_passes}
 use Rattle.wp_turn.proofs.Closing.{all_snoc}
 
@@ -14,8 +14,3 @@ module _ {T : Type 0} (E : Type 0) (turn : Opening T) where
   new_without_calls zero k d inside = absurd (omega (arith, inside))
   new_without_calls (suc n) k d inside = all_snoc (λ pass. own_calls pass ≡ []) (new_passes {E = E} turn n) (new_pass turn (suc n)) (new_without_calls n)
       refl k d inside
-
-  -- there are as many as are numbered
-  pub new_length : (n : ℕ) → length (new_passes {E = E} turn n) ≡ n
-  new_length zero = refl
-  new_length (suc n) = omega (arith, length-append (new_passes {E = E} turn n) (new_pass turn (suc n) ∷ []), new_length n)

@@ -1,11 +1,10 @@
 -- Passes between two calls: what a step asks of them, and what they are after it.
-use Rattle.std.proofs.Common.{◌≡◌, ℕ, ◌+◌, List, [], ◌∷◌, ◌++◌, length, refl, ap, sym, ◌∙◌, subst, append-nil, length-append, arith}
+use Rattle.std.proofs.Common.{◌≡◌, ℕ, ◌+◌, List, [], ◌∷◌, ◌++◌, length, refl, ap, sym, ◌∙◌, subst, length-append, arith}
 use mathlib.Core.Option.{none}
 use Rattle.atomic_table.specs.Table.{Me, step, Allows, Joins}
-use Rattle.wp_turn.specs.Calls.{entries_of, opened}
 use Rattle.wp_turn.specs.Rests.{Rests}
 use Rattle.wp_turn.specs.Rule.{Kept}
-use Rattle.wp_turn.specs.Told.{Extends, Looked}
+use Rattle.wp_turn.specs.Told.{Looked}
 use Rattle.wp_turn.specs.Views.{rested, joined, spent}
 use Rattle.wp_turn.specs.declared.view.View.{View}
 use Rattle.wp_turn.specs.Weights.{only}
@@ -25,41 +24,6 @@ module _ {T E S : Type 0} (entries : T → List E) (setting : T → S) where
   looks_at_rest start callers slots id me caller seen stands made rests begun =
       subst (λ (m : Me T (View T E)). Allows (Kept entries setting start callers) slots id m 0 (λ n. n) (Looked entries setting (step slots 0 0 0 none) m))
       (sym (at_rest start me caller seen stands made rests begun)) (looks entries setting start callers slots id me.0.calls caller me.0.callers [] [] me.0.left)
-
-  -- what a pass at rest is after it looked
-  pub record LookedAtRest (me after : Me T (View T E)) (caller : ℕ) : Type 0 where
-    pub view : after ≡ (rested me.0.start after.0.calls caller me.0.callers me.0.left, [])
-    pub extends : Extends me.0.calls me.0.callers after.0.calls
-
-  pub looked : (slots : ℕ) (me after : Me T (View T E)) (caller seen stands made found : ℕ) → Rests entries me caller seen stands made
-      → Looked entries setting (step slots 0 0 0 none) me found after → LookedAtRest me after caller
-  looked slots me after caller seen stands made found rests told =
-      let plain = rests.still in
-      let others : me.0.callers ++ me.0.other_callers ≡ me.0.callers = ap (λ (m : Me T (View T E)). me.0.callers ++ m.0.other_callers) plain ∙
-      append-nil me.0.callers in
-      let form : after ≡ (rested me.0.start told.calls caller me.0.callers me.0.left, []) =
-      told.view ∙ (λ i. (rested me.0.start told.calls ((plain i).0.caller) (others i) me.0.left, (plain i).1)) in
-      let calls : after.0.calls ≡ told.calls = ap (λ (m : Me T (View T E)). m.0.calls) form in
-      record {
-        view = form ∙ ap (λ (l : List (ℕ × E)). (rested me.0.start l caller me.0.callers me.0.left, [])) (sym calls);
-        extends = subst (λ (l : List (ℕ × E)). Extends me.0.calls me.0.callers l) (sym calls) told.extends;
-      }
-
-  pub looked_rests : (slots : ℕ) (me after : Me T (View T E)) (caller seen stands made found : ℕ) → Rests entries me caller seen stands made
-      → Looked entries setting (step slots 0 0 0 none) me found after → Rests entries after caller found stands made
-  looked_rests slots me after caller seen stands made found rests told =
-      let is = looked slots me after caller seen stands made found rests told in
-      let calls : after.0.calls ≡ told.calls = ap (λ (m : Me T (View T E)). m.0.calls) told.view in
-      subst (λ (m : Me T (View T E)). Rests entries m caller found stands made) (sym is.view)
-      record {
-        still = refl;
-        own = rests.own;
-        stands_for = rests.stands_for;
-        few = rests.few;
-        count = told.counts ∙ ap (λ (l : List (ℕ × E)). length (opened entries me.0.start ++ entries_of l)) (sym calls);
-        calls = rests.calls ∙ ap length (sym (is.extends.own caller rests.own));
-        left = rests.left;
-      }
 
   -- two passes at rest may meet
   pub meets_at_rest : (start : T) (callers id other : ℕ) (me me' : Me T (View T E)) (caller seen stands made caller' seen' stands' made' : ℕ)

@@ -116,6 +116,7 @@ module _ {T E S : Type 0} (entries : T → List E) (setting : T → S) (start : 
     numbers = λ next is. nil_cons next is;
   }
 
+  -- a caller number may be drawn by who has the right to, and comes out as the next one
   pub draws_number : (slots id : ℕ) (begun : List T) (left next pending : ℕ)
       → Allows Rule slots id (numbering begun [] 0 [] left next (pending + 1), []) 2 (λ n. (n + 1) % 2 ^ 64)
       (Numbered entries setting (step slots 2 1 0 none) (numbering begun [] 0 [] left next (pending + 1), []))
@@ -170,6 +171,7 @@ module _ {T E S : Type 0} (entries : T → List E) (setting : T → S) (start : 
         (ap (λ (k : ℕ). k ∷ []) (knows.0 ∙ sym found), refl),
       )
 
+  -- the right to draw goes on to a new seat
   pub hands_on : (id : ℕ) (begun : List T) (calls : List (ℕ × E)) (caller : ℕ) (mine : List ℕ) (left next pending : ℕ) → most_calls ≤ left
       → Splits Rule id (numbering begun calls caller mine left next pending) (rested begun calls caller mine most_calls)
       (handed_on (numbering begun calls caller mine left next pending) (left - most_calls))
@@ -212,6 +214,7 @@ module _ {T E S : Type 0} (entries : T → List E) (setting : T → S) (start : 
         at_home = λ free. kept.at_home (calm s.views id m w me refl (λ k v at. free k v (at_longer (set s.views id w) (new ∷ []) k v at)));
       }
 
+  -- the rule holds at the opening
   pub opens : (n : ℕ) (xs : List T) → n ≡ length (entries start) → n < most_opened → xs ≡ start ∷ [] → callers ≤ most_callers
       → Rule (opening (n ∷ n ∷ 0 ∷ []) xs (numbering (start ∷ []) [] 0 [] (callers * most_calls) 0 callers))
   opens n xs length_is few slot not_many =
@@ -247,6 +250,7 @@ module _ {T E S : Type 0} (entries : T → List E) (setting : T → S) (start : 
         at_home = λ _. (start, subst (λ (l : List T). get_elem? (map some l) 0 ≡ some (some start)) (sym slot) refl);
       }
 
+  -- a load sees the whole history
   pub looks : (slots id : ℕ) (calls : List (ℕ × E)) (caller : ℕ) (mine : List ℕ) (other_calls : List (ℕ × E)) (others : List ℕ) (left : ℕ)
       → Allows Rule slots id (joined (start ∷ []) calls caller mine other_calls others left, []) 0 (λ n. n)
       (Looked entries setting (step slots 0 0 0 none) (joined (start ∷ []) calls caller mine other_calls others left, []))
@@ -296,6 +300,7 @@ module _ {T E S : Type 0} (entries : T → List E) (setting : T → S) (start : 
         },
       )
 
+  -- two views may be joined
   pub meets : (id other : ℕ) (begun begun' : List T) (calls calls' : List (ℕ × E)) (caller caller' : ℕ) (mine mine' : List ℕ) (left left' : ℕ)
       → Joins Rule id (rested begun calls caller mine left) other (rested begun' calls' caller' mine' left')
       (joined begun calls caller mine calls' mine' (left + left')) spent
@@ -338,6 +343,7 @@ module _ {T E S : Type 0} (entries : T → List E) (setting : T → S) (start : 
         at_home = λ all. kept.at_home (calm s.views id v both me refl (calm vs other u spent there refl all));
       }
 
+  -- a place may be drawn for a caller that the view stands for
   pub draws_place : (slots id : ℕ) (begun : List T) (calls : List (ℕ × E)) (caller : ℕ) (mine : List ℕ) (left : ℕ) → IsAmong caller mine
       → Allows Rule slots id (rested begun calls caller mine (left + 1), []) 1 (λ n. (n + 1) % 2 ^ 64)
       (Drew entries setting (step slots 1 1 0 none) (rested begun calls caller mine (left + 1), []))
@@ -418,6 +424,7 @@ module _ {T E S : Type 0} (entries : T → List E) (setting : T → S) (start : 
         up_to-once caller kept.drawn,
       )
 
+  -- a load at a place sees the whole history, and takes the slot if the place is due
   pub comes : (slots id : ℕ) (calls : List (ℕ × E)) (caller : ℕ) (mine : List ℕ) (p left : ℕ)
       → Allows Rule slots id (waiting (start ∷ []) calls caller mine p false left, []) 0 (λ n. n)
       (Came entries setting (step slots 0 0 0 none) (waiting (start ∷ []) calls caller mine p false left, []))
@@ -524,6 +531,7 @@ module _ {T E S : Type 0} (entries : T → List E) (setting : T → S) (start : 
   pub grows : (seen : List (ℕ × E)) (caller : ℕ) (e : E) → listed entries start (seen ++ (caller, e) ∷ []) ≡ listed entries start seen ++ e ∷ []
   grows seen caller e = ap (λ l. entries start ++ l) (entries_of-snoc seen caller e) ∙ sym (append_assoc (entries start) (entries_of seen) (e ∷ []))
 
+  -- who has the slot may append its call and give the slot back
   pub commits : (slots id : ℕ) (seen : List (ℕ × E)) (caller : ℕ) (mine : List ℕ) (p left : ℕ) (x : T) (e : E) → 0 < slots → IsAmong caller mine
       → length (calls_of caller seen) < most_calls
       → entries x ≡ listed entries start seen ++ e ∷ [] → setting x ≡ setting start
