@@ -1,0 +1,9 @@
+pub mod Members
+pub mod Unions
+pub mod Chains
+pub mod FurtherPairs
+pub mod KeptPairs
+pub mod PairNumbers
+pub mod Classes
+pub mod RowChanges
+pub mod Adding

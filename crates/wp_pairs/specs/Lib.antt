@@ -1,0 +1,4 @@
+pub mod Batches
+pub mod Words
+pub mod Permitted
+pub mod Kept

@@ -1,0 +1,14 @@
+//! Batches of a wave's orders, and the pairs of orders that are to go together or apart.
+#![tactic(auto)]
+
+mod batch;
+mod pair;
+mod pairs;
+mod rows;
+
+pub use batch::Batch;
+pub use pair::Pair;
+pub use pairs::Pairs;
+
+#[cfg(test)]
+mod tests;

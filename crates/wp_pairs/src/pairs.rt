@@ -1,0 +1,221 @@
+ghost use Rattle.std.specs.Prelude.{◌≡◌, ◌≤◌, ◌<◌, ◌+◌, ◌↔◌, ℕ, [], ◌∷◌, ◌++◌, IsTrue, IfNone, IfSome, Contains, length, take, true, false};
+ghost use Rattle.wp_pairs.specs.declared.pair.Pair.{Pair as PairData};
+ghost use Rattle.wp_pairs.specs.Batches.{IsBatch};
+ghost use Rattle.wp_pairs.specs.Permitted.{Pairing, IsPermitted, AreDecided, AreUndecided, AreDecidedBefore, AllDecided, IsHeld, IsDead, AreHeldBelow};
+ghost use Rattle.wp_pairs.specs.Kept.{FitsCapacity, IsPairing, KeepsOrder};
+
+use crate::batch::Batch;
+use crate::pair::Pair;
+use crate::rows::{empty_rows, orders_for, settle, single_rows};
+use std::marker::Model;
+
+/// How many pairs 64 orders have.
+const MOST_PAIRS: usize = 2016;
+
+/// The pairs of a wave's orders that are to go together or apart, and how many orders a batch may have. Contracts see the
+/// number of orders, the capacity and the pairs in the order of adding.
+#[derive(Drop)]
+pub struct Pairs {
+    orders: u32,
+    capacity: u32,
+    count: usize,
+    added: [Pair; 2016],
+    joined: [Batch; 64],
+    parted: [Batch; 64],
+}
+
+impl Model for Pairs {
+    ghost use Rattle.std.specs.Prelude.{◌≡◌, length, take};
+    ghost use Rattle.wp_pairs.specs.Permitted.{Pairing};
+    ghost use Rattle.wp_pairs.specs.Kept.{IsKept};
+
+    ghost Value = { Pairing };
+
+    ghost view = { λ p. record { orders = p.orders; capacity = p.capacity; pairs = take p.count p.added } };
+
+    ghost invariant = { λ p. (length (take p.count p.added) ≡ p.count) × IsKept (record {
+      orders = p.orders;
+      capacity = p.capacity;
+      pairs = take p.count p.added;
+    }) p.joined p.parted };
+}
+
+// Room for pairs, in which none counts yet.
+fn blank_pairs() -> [Pair; 2016]
+    ensures { length result ≡ 2016 }
+{
+    let blank = Pair {
+        first: 0,
+        second: 0,
+        together: false,
+    };
+    [blank; 2016]
+}
+
+// Puts a pair behind those that count.
+fn place(added: &mut [Pair; 2016], count: usize, pair: Pair)
+    requires { count < 2016 }
+    ensures { take (count + 1) added.new ≡ take count added.old ++ pair ∷ [] }
+{
+    added[count] = pair;
+}
+
+impl Pairs {
+    /// No pair, for a wave of so many orders and batches of so many.
+    pub fn new(orders: u32, capacity: u32) -> Pairs
+        requires some_orders { 1 ≤ orders }
+        requires most_orders { orders ≤ 64 }
+        requires some_capacity { 1 ≤ capacity }
+        requires most_capacity { capacity ≤ 8 }
+        ensures { result ≡ record { orders = orders; capacity = capacity; pairs = [] } }
+    {
+        Pairs {
+            orders,
+            capacity,
+            count: 0,
+            added: blank_pairs(),
+            joined: single_rows(),
+            parted: empty_rows(),
+        }
+    }
+
+    /// The number of orders of the wave, 1 to 64.
+    pub fn orders(&self) -> u32
+        ensures value { result ≡ self.now.orders }
+        ensures valid { IsPairing self.now }
+    {
+        self.orders
+    }
+
+    /// How many orders a batch may have, 1 to 8.
+    pub fn capacity(&self) -> u32
+        ensures value { result ≡ self.now.capacity }
+        ensures valid { IsPairing self.now }
+    {
+        self.capacity
+    }
+
+    /// Adds two orders that are to go together, or else to go apart.
+    pub fn add(&mut self, first: u32, second: u32, together: bool)
+        requires { AreUndecided self.old first second }
+        ensures { self.new ≡ record {
+          orders = self.old.orders;
+          capacity = self.old.capacity;
+          pairs = self.old.pairs ++ record { first = first; second = second; together = together } ∷ [];
+        } }
+    {
+        settle(&mut self.joined, &mut self.parted, first, second, together);
+        let pair = Pair {
+            first: first as u8,
+            second: second as u8,
+            together,
+        };
+        place(&mut self.added, self.count, pair);
+        self.count += 1;
+    }
+
+    /// Whether the pairs tell of two orders that they go together or apart.
+    pub fn decided(&self, first: u32, second: u32) -> bool
+        requires order { first < second }
+        requires known { second < self.now.orders }
+        ensures { IsTrue result ↔ AreDecided self.now.pairs first second }
+    {
+        orders_for(&self.joined, first).has(second) || orders_for(&self.parted, first).has(second)
+    }
+
+    /// Whether a batch is permitted: it has some orders of the wave and at most as many as the capacity, both or none of
+    /// each together pair, and not both of any apart pair.
+    pub fn permits(&self, batch: Batch) -> bool
+        ensures { IsTrue result ↔ IsPermitted self.now batch }
+    {
+        self.fits(batch) && self.keeps_all(batch)
+    }
+
+    /// The least pair of orders that is undecided: the lower first order, then the lower second one. None comes exactly
+    /// where all pairs are decided.
+    pub fn undecided(&self) -> Option<(u32, u32)>
+        ensures none { IfNone result (AllDecided self.now) }
+        ensures undecided { IfSome result (λ pair. AreUndecided self.now pair.0 pair.1) }
+        ensures least { IfSome result (λ pair. AreDecidedBefore self.now pair.0 pair.1) }
+    {
+        for first in 0..self.orders() {
+            if let Some(second) = self.undecided_with(first) {
+                return Some((first, second));
+            }
+        }
+        None
+    }
+
+    /// The least order that no permitted batch has. None comes exactly where each order is in some permitted batch.
+    pub fn dead(&self) -> Option<u32>
+        ensures none { IfNone result (AreHeldBelow self.now self.now.orders) }
+        ensures dead { IfSome result (IsDead self.now) }
+        ensures least { IfSome result (AreHeldBelow self.now) }
+    {
+        for order in 0..self.orders() {
+            if !self.is_held(order) {
+                return Some(order);
+            }
+        }
+        None
+    }
+}
+
+impl Pairs {
+    // Whether a batch has an order, and no more than the capacity.
+    fn fits(&self, batch: Batch) -> bool
+        ensures exact { IsTrue result ↔ FitsCapacity self.now batch }
+        ensures valid { IsBatch batch }
+    {
+        let orders = batch.len();
+        1 <= orders && orders <= self.capacity
+    }
+
+    // Whether an order is one of the wave, all that are joined to it are in the batch, and none that is parted from it.
+    fn keeps(&self, order: u32, batch: Batch) -> bool
+        ensures { IsTrue result ↔ KeepsOrder self.now batch order }
+    {
+        if self.orders <= order {
+            return false;
+        }
+        batch.holds_all(orders_for(&self.joined, order))
+            && !batch.meets(orders_for(&self.parted, order))
+    }
+
+    // Whether that is so of each order of a batch.
+    fn keeps_all(&self, batch: Batch) -> bool
+        requires { IsBatch batch }
+        ensures exact { IsTrue result ↔ ((order : ℕ) → Contains batch order → KeepsOrder self.now batch order) }
+    {
+        for order in 0..64 {
+            if batch.has(order) && !self.keeps(order, batch) {
+                return false;
+            }
+        }
+        true
+    }
+
+    // The least order after a first one with which it is undecided.
+    fn undecided_with(&self, first: u32) -> Option<u32>
+        requires { first < self.now.orders }
+        ensures none { IfNone result ((right : ℕ) → first < right → right < self.now.orders → AreDecided self.now.pairs first right) }
+        ensures undecided { IfSome result (AreUndecided self.now first) }
+        ensures least { IfSome result (λ second. (right : ℕ) → first < right → right < second → AreDecided self.now.pairs first right) }
+    {
+        for second in 0..self.orders() {
+            if first < second && !self.decided(first, second) {
+                return Some(second);
+            }
+        }
+        None
+    }
+
+    // Whether some permitted batch has an order: the orders that are joined to it are such a batch, if they are few enough.
+    fn is_held(&self, order: u32) -> bool
+        requires { order < self.now.orders }
+        ensures held { result ≡ true → IsHeld self.now order }
+        ensures dead { result ≡ false → IsDead self.now order }
+    {
+        orders_for(&self.joined, order).len() <= self.capacity
+    }
+}
