@@ -1,11 +1,14 @@
 -- Batches joined, one held in another, and two that meet, from the digits of their words.
+use Rattle.std.proofs.Common.{◌+◌, ◌/◌, ◌≤◌, ap₂, max}
 use Rattle.std.proofs.Common.{◌≡◌, ◌≢◌, ℕ, ◌*◌, ◌%◌, ◌^◌, ◌<◌, ◌↔◌, Bool, true, false, min, arith, refl, ap, sym, ◌∙◌, inl, inr, ◌⊎◌, ⊎_elim, Contains}
 use Rattle.std.proofs.Common.{IsTrue, eqb, eqb-true, eq-eqb, bit_or, bit_and, not, zero, suc}
 use Rattle.std.specs.Int.{bit_at, trailing_zeros, w64}
+use Rattle.std.specs.Int.Count.{ones, ones_step}
+use Rattle.std.proofs.Math.Nat.{div-add-mod, two-pow-succ}
 use Rattle.std.proofs.lemmas.Bool.{cases_eq}
 use Rattle.std.proofs.lemmas.Nat.{and_le_r, or_lt}
 use Rattle.std.proofs.lemmas.Nat.Bits.{bit_at-lt, bit_at_or, bit_at_and, bit_at_set_same, bit_at_set_other}
-use Rattle.std.proofs.lemmas.Nat.Bits.{same_from_bits_below, bit_at-trailing_zeros, bit_at-zero}
+use Rattle.std.proofs.lemmas.Nat.Bits.{same_from_bits_below, same_from_bits, bit_at_lowest, bit_at-suc, bit_at-trailing_zeros, bit_at-zero}
 use Rattle.wp_pairs.specs.Batches.{members}
 use Rattle.wp_pairs.proofs.Members.{member_at_one, one_at_member}
 
@@ -103,3 +106,24 @@ negated false never = refl
 pub unnegated : (b : Bool) → not b ≡ true → b ≡ false
 unnegated true e = absurd (cc e)
 unnegated false e = refl
+
+half_of_union : (a b : ℕ) → bit_or a b / 2 ≡ bit_or (a / 2) (b / 2)
+half_of_union a b = same_from_bits _ _ (λ i. sym (bit_at-suc (bit_or a b) i)
+    ∙ (bit_at_or a b (suc i) ∙ (ap₂ max (bit_at-suc a i) (bit_at-suc b i) ∙ sym (bit_at_or (a / 2) (b / 2) i))))
+
+lowest_of_union : (a b : ℕ) → bit_or a b % 2 ≤ a % 2 + b % 2
+lowest_of_union a b = omega (arith, bit_at_lowest (bit_or a b), bit_at_or a b 0, bit_at_lowest a, bit_at_lowest b)
+
+-- a union has no more ones than both words together
+pub ones_of_union : (k a b : ℕ) → a < 2 ^ k → b < 2 ^ k → ones (bit_or a b) ≤ ones a + ones b
+unfolding ones
+ones_of_union zero a b p q =
+    let none : a ≡ 0 = omega arith in
+    let none_too : b ≡ 0 = omega arith in
+    rw (none, none_too) (omega arith)
+ones_of_union (suc k) a b p q =
+    let left : a / 2 < 2 ^ k = omega (arith, div-add-mod a 2, two-pow-succ k) in
+    let right : b / 2 < 2 ^ k = omega (arith, div-add-mod b 2, two-pow-succ k) in
+    let rest = ones_of_union k (a / 2) (b / 2) left right in
+    let half = ap ones (half_of_union a b) in
+    omega (arith, ones_step (bit_or a b), ones_step a, ones_step b, lowest_of_union a b, half, rest)

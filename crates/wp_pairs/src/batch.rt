@@ -1,4 +1,4 @@
-ghost use Rattle.std.specs.Prelude.{◌≡◌, ◌<◌, ◌↔◌, ◌⊎◌, ℕ, [], IsTrue, Contains, false, length, slice_get};
+ghost use Rattle.std.specs.Prelude.{◌≡◌, ◌+◌, ◌≤◌, ◌<◌, ◌↔◌, ◌⊎◌, ℕ, [], IsTrue, Contains, false, length, slice_get};
 ghost use Rattle.wp_pairs.specs.Batches.{IsBatch};
 
 use std::marker::Model;
@@ -41,7 +41,8 @@ impl Batch {
     /// The batch and one more order, which may be in it already.
     pub fn with(self, i: u32) -> Batch
         requires { i < 64 }
-        ensures { (p : ℕ) → Contains result p ↔ (Contains self p ⊎ (p ≡ i)) }
+        ensures orders { (p : ℕ) → Contains result p ↔ (Contains self p ⊎ (p ≡ i)) }
+        ensures valid { IsBatch result }
     {
         Batch {
             word: self.word | (1 << i),
@@ -73,18 +74,20 @@ impl Batch {
         }
         Some(self.word.trailing_zeros())
     }
-}
 
-impl Batch {
-    // The orders of both batches.
-    pub(crate) fn union(self, other: Batch) -> Batch
-        ensures { (p : ℕ) → Contains result p ↔ (Contains self p ⊎ Contains other p) }
+    /// The orders of both batches.
+    pub fn union(self, other: Batch) -> Batch
+        ensures orders { (p : ℕ) → Contains result p ↔ (Contains self p ⊎ Contains other p) }
+        ensures count { length result ≤ length self + length other }
+        ensures valid { IsBatch result }
     {
         Batch {
             word: self.word | other.word,
         }
     }
+}
 
+impl Batch {
     // Whether each order of the other batch is in this one.
     pub(crate) fn holds_all(self, other: Batch) -> bool
         ensures { IsTrue result ↔ ((p : ℕ) → Contains other p → Contains self p) }

@@ -10,7 +10,7 @@ loop-order-init c = record {
 }
 
 pub loop-order-preserved : goal.loop-order-preserved
-loop-order-preserved c = one_more_single _ _ _ _ c.loop-order.invariant c.loop-order-test.true c.empty.ensures c.with.ensures
+loop-order-preserved c = one_more_single _ _ _ _ c.loop-order.invariant c.loop-order-test.true c.empty.ensures c.with.ensures.orders
 
 pub returns-clause-whole : goal.returns-clause-whole
 returns-clause-whole c = c.loop-order.invariant.whole

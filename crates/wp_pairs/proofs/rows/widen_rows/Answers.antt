@@ -15,7 +15,8 @@ loop-order-init c = record {
 pub loop-order-preserved : goal.loop-order-preserved
 loop-order-preserved c = elim c.if-has.branch [
   | then-has w ↦ rw w.rows-is
-      (one_more_widened _ _ _ _ _ _ _ c.loop-order.invariant c.loop-order-test.true (c.has.ensures.exact.0 w.if-has.true) w.orders_for.ensures w.union.ensures)
+      (one_more_widened _ _ _ _ _ _ _ c.loop-order.invariant c.loop-order-test.true (c.has.ensures.exact.0 w.if-has.true)
+      w.orders_for.ensures w.union.ensures.orders)
   | else-has w ↦ rw w.rows-is (one_more_kept _ _ _ _ _ c.loop-order.invariant (λ h. both_ways c.has.result w.if-has.false (c.has.ensures.exact.1 h)))
 ]
 
