@@ -1,0 +1,102 @@
+-- What is saved by joins, and which of them saves most.
+use Rattle.std.proofs.Common.{◌≡◌, ◌≢◌, ℕ, ◌+◌, ◌<◌, ◌≤◌, ◌↔◌, List, [], ◌++◌, length, get_or, arith, sym, ◌∙◌, subst, ◌⊎◌, ⊎_elim, Contains, All}
+use Rattle.std.proofs.lemmas.Bool.{cases_eq}
+use Rattle.std.proofs.lemmas.List.Elements.{Contains-append_cases, Contains-append_left, Contains-append_right}
+use Rattle.std.proofs.lemmas.List.{get_or_default}
+use Rattle.wp_model.specs.declared.point.Point.{Point}
+use Rattle.wp_model.specs.Tours.{IsShortest}
+use Rattle.wp_model.specs.Warehouse.{Layout}
+use Rattle.wp_graph.proofs.Members.{Contains-from_among, among-flat_map, among_from_Contains, flat_map_source}
+use Rattle.wp_batch.specs.declared.merge.Join.{Join}
+use Rattle.wp_batch.specs.Batchings.{IsBatching, NoGain, batch_at}
+use Rattle.wp_batch.specs.Joins.{AreKnown, CanJoin, IsBestBelow, IsBestWith}
+use Rattle.wp_batch.specs.Lengths.{IsLengthOf, batch_picks}
+use Rattle.wp_batch.specs.Waves.{WavePicks, picks_of}
+use Rattle.wp_batch.proofs.Unions.{same_shortest}
+
+-- all shortest tours past some picks are of one length
+one_length : (layout : Layout) (picks : List Point) (s t : ℕ) → IsShortest layout picks s → IsShortest layout picks t → s ≡ t
+one_length layout picks s t first second =
+    omega (arith, first.least second.some.0 t second.some.1, second.least first.some.0 s first.some.1)
+
+-- batches of the same orders pick at the same slots
+picks_same : (wave : WavePicks) (xs ys : List ℕ) → ((order : ℕ) → Contains xs order → Contains ys order) → (p : Point) → Contains (batch_picks wave xs) p
+    → Contains (batch_picks wave ys) p
+picks_same wave xs ys same p has =
+    let source = flat_map_source (picks_of wave) xs p (among_from_Contains _ p has) in
+    Contains-from_among _ p (among-flat_map (picks_of wave) ys source.0 p
+    (among_from_Contains ys source.0 (same source.0 (Contains-from_among xs source.0 source.1))) source.2)
+
+-- where the lengths of two batches and of their union show no saving, they don't gain by joining
+pub no_gain_from : (wave : WavePicks) (capacity : ℕ) (left right union : List ℕ) (one other both : ℕ)
+    → ((p : ℕ) → Contains union p ↔ (Contains left p ⊎ Contains right p)) → IsLengthOf wave left one → IsLengthOf wave right other
+    → IsLengthOf wave union both → one + other ≤ both → NoGain wave capacity left right
+no_gain_from wave capacity left right union one other both is l r u low = λ fits a b t la rb lt.
+    let joined = same_shortest wave.layout (batch_picks wave union) (batch_picks wave (left ++ right)) both
+    (λ p. (
+      picks_same wave union (left ++ right) (λ o has. ⊎_elim (λ x. Contains-append_left left right o x) (λ y. Contains-append_right left right o y)
+          ((is o).0 has)) p,
+      picks_same wave (left ++ right) union (λ o has. (is o).1 (Contains-append_cases left right o has)) p,
+    )) u in
+    let first = one_length wave.layout _ one a l la in
+    let second = one_length wave.layout _ other b r rb in
+    let third = one_length wave.layout _ both t joined lt in
+    omega (arith, first, second, third, low)
+
+-- one more batch before the same one
+pub one_more_before : (wave : WavePicks) (capacity : ℕ) (batches : List (List ℕ)) (place right : ℕ) (best found result : Join)
+    → IsBestWith wave capacity batches place right best → found.left ≡ place → found.right ≡ right → place < right → right < length batches
+    → (0 < found.saving → length (batch_at batches place) + length (batch_at batches right) ≤ capacity)
+    → (found.saving ≡ 0 → NoGain wave capacity (batch_at batches place) (batch_at batches right))
+    → (result ≡ best) ⊎ (result ≡ found) → (result.saving ≡ 0 → (best.saving ≡ 0) × (found.saving ≡ 0))
+    → IsBestWith wave capacity batches (place + 1) right result
+one_more_before wave capacity batches place right best found result before l r lt within fits none either zero_of = record {
+  can = λ some. ⊎_elim
+      (λ (e : result ≡ best). subst (CanJoin capacity batches) (sym e) (before.can (subst (λ (j : Join). 0 < j.saving) e some)))
+      (λ (e : result ≡ found). subst (CanJoin capacity batches) (sym e) (record {
+        order = omega (arith, l, r);
+        within = omega (arith, r);
+        fits = let sum = fits (subst (λ (j : Join). 0 < j.saving) e some) in
+            subst (λ (x : ℕ). length (batch_at batches x) + length (batch_at batches found.right) ≤ capacity) (sym l)
+            (subst (λ (y : ℕ). length (batch_at batches place) + length (batch_at batches y) ≤ capacity) (sym r) sum);
+      }))
+      either;
+  none = λ nothing left low. ⊎_elim
+      (λ (e : left ≡ place). subst (λ (x : ℕ). NoGain wave capacity (batch_at batches x) (batch_at batches right)) (sym e) (none (zero_of nothing).1))
+      (λ (ne : left ≢ place). before.none (zero_of nothing).0 left (omega arith))
+      (cases_eq left place);
+}
+
+-- all batches before one more
+pub one_more_after : (wave : WavePicks) (capacity : ℕ) (batches : List (List ℕ)) (place : ℕ) (best found result : Join)
+    → IsBestBelow wave capacity batches place best → IsBestWith wave capacity batches place place found
+    → (result ≡ best) ⊎ (result ≡ found) → (result.saving ≡ 0 → (best.saving ≡ 0) × (found.saving ≡ 0))
+    → IsBestBelow wave capacity batches (place + 1) result
+one_more_after wave capacity batches place best found result before with_one either zero_of = record {
+  can = λ some. ⊎_elim
+      (λ (e : result ≡ best). subst (CanJoin capacity batches) (sym e) (before.can (subst (λ (j : Join). 0 < j.saving) e some)))
+      (λ (e : result ≡ found). subst (CanJoin capacity batches) (sym e) (with_one.can (subst (λ (j : Join). 0 < j.saving) e some)))
+      either;
+  none = λ nothing left right lt low. ⊎_elim
+      (λ (e : right ≡ place). subst (λ (x : ℕ). NoGain wave capacity (batch_at batches left) (batch_at batches x)) (sym e)
+      (with_one.none (zero_of nothing).1 left (omega (arith, e))))
+      (λ (ne : right ≢ place). before.none (zero_of nothing).0 left right lt (omega arith))
+      (cases_eq right place);
+}
+
+-- the batches of a batching have orders of the wave alone
+pub batching_is_known : (wave : WavePicks) (orders capacity : ℕ) (batches : List (List ℕ)) → orders ≡ length wave.orders → IsBatching orders capacity batches
+    → AreKnown wave batches
+batching_is_known wave orders capacity batches all is = λ place within.
+    subst (λ (n : ℕ). All (λ order. order < n) (batch_at batches place)) all (is.each place within).known
+
+-- what is read at a place of the list is the batch there
+pub batch_read : (batches : List (List ℕ)) (place : ℕ) (read : List ℕ) → place < length batches → read ≡ get_or batches place read
+    → read ≡ batch_at batches place
+batch_read batches place read within is = is ∙ get_or_default batches place read [] within
+
+-- and so its orders are orders of the wave
+pub known_read : (wave : WavePicks) (batches : List (List ℕ)) (place : ℕ) (read : List ℕ) → AreKnown wave batches → place < length batches
+    → read ≡ get_or batches place read → All (λ order. order < length wave.orders) read
+known_read wave batches place read known within is =
+    subst (λ (xs : List ℕ). All (λ order. order < length wave.orders) xs) (sym (batch_read batches place read within is)) (known place within)

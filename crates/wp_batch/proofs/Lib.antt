@@ -1,0 +1,5 @@
+pub mod MarkLists
+pub mod Unions
+pub mod Joining
+pub mod Singles
+pub mod Gains

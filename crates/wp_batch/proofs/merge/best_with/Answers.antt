@@ -1,0 +1,31 @@
+use Rattle.std.proofs.Common.{◌+◌, ◌≤◌, List, ℕ, arith, refl, length, subst}
+use Rattle.wp_batch.specs.declared.merge.Join.{Join}
+use Rattle.wp_batch.specs.Batchings.{NoGain, batch_at}
+use Rattle.wp_batch.proofs.Gains.{batch_read, known_read, one_more_before}
+use Rattle.wp_batch.proofs.merge.best_with.Goals as goal
+
+pub saving_of-saving-requires-clause-left : goal.saving_of-saving-requires-clause-left
+saving_of-saving-requires-clause-left c =
+    known_read c.args.wave.now _ _ _ c.requires.known (omega (arith, c.requires.within, c.loop-left-test.true)) c.index-batches-left.is
+
+pub saving_of-saving-requires-clause-right : goal.saving_of-saving-requires-clause-right
+saving_of-saving-requires-clause-right c = known_read c.args.wave.now _ _ _ c.requires.known c.requires.within c.index-batches-right.is
+
+pub loop-left-preserved : goal.loop-left-preserved
+loop-left-preserved c =
+    let batches = c.args.batches.now in
+    let l = batch_read batches c.loop-left.left c.index-batches-left.result (omega (arith, c.requires.within, c.loop-left-test.true)) c.index-batches-left.is in
+    let r = batch_read batches c.args.right c.index-batches-right.result c.requires.within c.index-batches-right.is in
+    let found : Join = record { left = c.loop-left.left; right = c.args.right; saving = c.saving_of-saving.result } in
+    one_more_before _ _ _ _ _ c.loop-left.best found _ c.loop-left.invariant refl refl c.loop-left-test.true c.requires.within
+    (λ some. subst (λ (xs : List ℕ). length xs + length (batch_at batches c.args.right) ≤ c.args.capacity) l
+    (subst (λ (ys : List ℕ). length c.index-batches-left.result + length ys ≤ c.args.capacity) r (c.saving_of-saving.ensures.fits some)))
+    (λ nothing. subst (λ (xs : List ℕ). NoGain c.args.wave.now c.args.capacity xs (batch_at batches c.args.right)) l
+    (subst (λ (ys : List ℕ). NoGain c.args.wave.now c.args.capacity c.index-batches-left.result ys) r (c.saving_of-saving.ensures.none nothing)))
+    c.better_of-best.ensures.either c.better_of-best.ensures.none
+
+pub returns : goal.returns
+returns c = record {
+  can = c.loop-left.invariant.can;
+  none = λ nothing left low. c.loop-left.invariant.none nothing left (omega (arith, c.loop-left-test.false));
+}

@@ -1,0 +1,13 @@
+use Rattle.std.proofs.Common.{◌≤◌, vec_len}
+use Rattle.wp_batch.specs.Batchings.{IsBatching, IsListedByLeast}
+use Rattle.wp_batch.proofs.merge.merged_start.Given as goal
+
+abbrev pub invariant-loop-join : goal.invariant-loop-join
+invariant-loop-join l = record {
+  batching : IsBatching l.orders l.capacity l.batches.items;
+  listed : IsListedByLeast l.batches.items;
+  few : vec_len l.batches ≤ 64;
+}
+
+abbrev pub decreases-loop-join : goal.decreases-loop-join
+decreases-loop-join l = vec_len l.batches

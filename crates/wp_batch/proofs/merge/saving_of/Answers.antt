@@ -1,0 +1,14 @@
+use Rattle.std.proofs.Common.{◌<◌, ℕ, length, ⊎_elim}
+use Rattle.std.proofs.lemmas.List.Elements.{All-contains}
+use Rattle.wp_batch.proofs.Gains.{no_gain_from}
+use Rattle.wp_batch.proofs.Unions.{all_from_contained}
+use Rattle.wp_batch.proofs.merge.saving_of.Goals as goal
+
+pub batch_length-requires : goal.batch_length-requires
+batch_length-requires c = all_from_contained (λ (order : ℕ). order < length c.args.wave.now.orders) c.union.result
+    (λ order has. ⊎_elim (λ l. All-contains (λ (o : ℕ). o < length c.args.wave.now.orders) c.args.left order c.requires.left l)
+    (λ r. All-contains (λ (o : ℕ). o < length c.args.wave.now.orders) c.args.right order c.requires.right r) ((c.union.ensures.orders order).0 has))
+
+pub returns-clause-none : goal.returns-clause-none
+returns-clause-none c = λ zero. no_gain_from _ _ _ _ c.union.result _ _ _ c.union.ensures.orders c.batch_length-one.ensures c.batch_length-other.ensures
+    c.batch_length.ensures (c.saved.ensures zero)

@@ -1,0 +1,5 @@
+pub mod Waves
+pub mod Lengths
+pub mod Marks
+pub mod Batchings
+pub mod Joins

@@ -1,0 +1,15 @@
+//! Waves of orders, the lengths of their batches, and a first way to put their orders into batches.
+#![tactic(auto)]
+
+mod batching;
+mod marks;
+mod merge;
+mod wave;
+
+pub use batching::Batching;
+pub use marks::Marks;
+pub use merge::merged_start;
+pub use wave::Wave;
+
+#[cfg(test)]
+mod tests;

@@ -1,0 +1,152 @@
+ghost use Rattle.std.specs.Prelude.{◌≡◌, ◌+◌, ◌≤◌, ◌<◌, ◌↔◌, ◌⊎◌, All, IfNone, IfOk, IfSome, IsTrue, length, vec_len};
+ghost use Rattle.wp_batch.specs.Batchings.{IsBatching, IsListedByLeast, NoGain, NoJoinGains};
+ghost use Rattle.wp_batch.specs.Joins.{AreKnown, CanJoin, IsBestBelow, IsBestWith};
+
+use crate::batching::Batching;
+use crate::wave::Wave;
+use std::alloc::Global;
+use wp_model::Memory;
+use wp_pairs::Batch;
+
+/// Two places of a list of batches, and how much is saved where the two are joined.
+#[derive(Clone, Copy)]
+struct Join {
+    left: usize,
+    right: usize,
+    saving: u64,
+}
+
+// Whether two batches together have no more orders than the capacity.
+fn fits(capacity: u32, left: Batch, right: Batch) -> bool
+    ensures { IsTrue result ↔ (length left + length right ≤ capacity) }
+{
+    left.len() <= capacity && right.len() <= capacity - left.len()
+}
+
+// What is saved where two batches are joined, 0 where they don't fit into one.
+fn saving_of(wave: &Wave, capacity: u32, left: Batch, right: Batch) -> u64
+    requires left { All (λ order. order < length wave.now.orders) left }
+    requires right { All (λ order. order < length wave.now.orders) right }
+    ensures fits { 0 < result → length left + length right ≤ capacity }
+    ensures none { result ≡ 0 → NoGain wave.now capacity left right }
+{
+    if !fits(capacity, left, right) {
+        return 0;
+    }
+    let one = wave.batch_length(left);
+    let other = wave.batch_length(right);
+    saved(one, other, wave.batch_length(left.union(right)))
+}
+
+// How much less one length is than two others together.
+fn saved(one: u64, other: u64, both: u64) -> u64
+    ensures { result ≡ 0 → one + other ≤ both }
+{
+    if both < one {
+        return (one - both).saturating_add(other);
+    }
+    other.saturating_sub(both - one)
+}
+
+// The join of the greater saving, the first one among equals.
+fn better_of(first: Join, second: Join) -> Join
+    ensures either { (result ≡ first) ⊎ (result ≡ second) }
+    ensures none { result.saving ≡ 0 → (first.saving ≡ 0) × (second.saving ≡ 0) }
+{
+    if first.saving < second.saving {
+        return second;
+    }
+    first
+}
+
+// The best join of a batch with one before it.
+fn best_with(wave: &Wave, capacity: u32, batches: &[Batch], right: usize) -> Join
+    requires known { AreKnown wave.now batches.now }
+    requires within { right < length batches.now }
+    ensures { IsBestWith wave.now capacity batches.now right right result }
+{
+    let mut best = Join {
+        left: 0,
+        right: 0,
+        saving: 0,
+    };
+    for left in 0..right {
+        let saving = saving_of(wave, capacity, batches[left], batches[right]);
+        best = better_of(
+            best,
+            Join {
+                left,
+                right,
+                saving,
+            },
+        );
+    }
+    best
+}
+
+// The best join of two batches. None comes exactly where no two gain by joining.
+fn best_join(wave: &Wave, capacity: u32, batches: &[Batch]) -> Option<Join>
+    requires { AreKnown wave.now batches.now }
+    ensures none { IfNone result (NoJoinGains wave.now capacity batches.now) }
+    ensures some { IfSome result (CanJoin capacity batches.now) }
+{
+    let mut best = Join {
+        left: 0,
+        right: 0,
+        saving: 0,
+    };
+    for right in 0..batches.len() {
+        best = better_of(best, best_with(wave, capacity, batches, right));
+    }
+    if best.saving == 0 {
+        return None;
+    }
+    Some(best)
+}
+
+// Joins two batches: the later one goes into the earlier.
+fn join_batches(orders: u32, capacity: u32, batches: &mut Vec<Batch>, join: Join)
+    requires batching { IsBatching orders capacity batches.old.items }
+    requires listed { IsListedByLeast batches.old.items }
+    requires join { CanJoin capacity batches.old.items join }
+    ensures batching { IsBatching orders capacity batches.new.items }
+    ensures listed { IsListedByLeast batches.new.items }
+    ensures count { vec_len batches.new + 1 ≡ vec_len batches.old }
+{
+    let union = batches[join.left].union(batches[join.right]);
+    batches[join.left] = union;
+    batches.remove(join.right);
+}
+
+// Each order by itself.
+fn singles(alloc: Global, orders: u32, capacity: u32) -> Result<Vec<Batch>, Memory>
+    requires orders { orders ≤ 64 }
+    requires capacity { 1 ≤ capacity }
+    ensures batching { IfOk result (λ batches. IsBatching orders capacity batches.items) }
+    ensures listed { IfOk result (λ batches. IsListedByLeast batches.items) }
+    ensures count { IfOk result (λ batches. vec_len batches ≡ orders) }
+{
+    let mut batches = Vec::new(alloc);
+    for order in 0..orders {
+        batches.push(Batch::empty().with(order))?;
+    }
+    Ok(batches)
+}
+
+/// A batching of a wave's orders with at most so many in each batch, 1 to 8, in which no two batches that fit into one cost
+/// less as one. Batches are listed by their least orders. Orders that begin alone are joined by the greatest saving, as long
+/// as some join saves (Clarke and Wright, 1964).
+pub fn merged_start(alloc: Global, wave: &Wave, capacity: u32) -> Result<Batching, Memory>
+    requires some { 1 ≤ capacity }
+    requires most { capacity ≤ 8 }
+    ensures batching { IfOk result (IsBatching (length wave.now.orders) capacity) }
+    ensures listed { IfOk result IsListedByLeast }
+    ensures joined { IfOk result (NoJoinGains wave.now capacity) }
+{
+    let orders = wave.orders();
+    let mut batches = singles(alloc, orders, capacity)?;
+    while let Some(join) = best_join(wave, capacity, batches.as_slice()) {
+        join_batches(orders, capacity, &mut batches, join);
+    }
+    Ok(Batching::of(batches))
+}

@@ -1,0 +1,251 @@
+ghost use Rattle.std.specs.Prelude.{◌≡◌, ◌≤◌, ◌<◌, All, IfSome, length};
+ghost use Rattle.wp_model.specs.Warehouse.{IsSlot};
+
+use super::*;
+use std::alloc::Global;
+use wp_graph::{Layout, Picks, Point};
+use wp_pairs::Batch;
+
+/// Where each order picks in the small layout: 3 aisles of 4 slots, the depot at the first.
+type Slots = &'static [(u32, u32)];
+
+/// Three orders with a slot each.
+const APART: &[Slots] = &[&[(1, 4)], &[(2, 4)], &[(3, 1)]];
+
+/// Three orders at one slot.
+const SAME: &[Slots] = &[&[(3, 4)], &[(3, 4)], &[(3, 4)]];
+
+/// Orders with several slots.
+const MANY: &[Slots] = &[
+    &[(1, 4), (2, 1)],
+    &[(2, 4), (3, 1)],
+    &[(1, 1), (1, 4), (3, 4)],
+];
+
+/// Waves, the orders of a batch, and its length.
+const LENGTHS: &[(&[Slots], &[u32], u64)] = &[
+    (APART, &[], 0),
+    (APART, &[0], 14),
+    (APART, &[1], 24),
+    (APART, &[2], 22),
+    (APART, &[0, 1], 26),
+    (APART, &[0, 2], 36),
+    (APART, &[1, 2], 36),
+    (SAME, &[0], 34),
+    (SAME, &[1, 2], 34),
+    (SAME, &[0, 1, 2], 34),
+    (MANY, &[0, 1], 38),
+];
+
+fn small() -> Option<Layout> {
+    Layout::new(3, 4, 2, 1, 5, 1)
+}
+
+/// A point, where it is a slot of the layout.
+fn slot(layout: &Layout, at: (u32, u32)) -> Option<Point>
+    ensures { IfSome result (IsSlot layout.now) }
+{
+    let (aisle, slot) = at;
+    let within = 1 <= aisle && aisle <= layout.aisles() && 1 <= slot && slot <= layout.slots();
+    within.then_some(Point { aisle, slot })
+}
+
+/// The slots of the layout among these points.
+fn picked(layout: &Layout, slots: &[(u32, u32)]) -> Picks
+    ensures { result.layout ≡ layout.now }
+{
+    let mut picks = Picks::new(layout);
+    for at in slots {
+        if let Some(point) = slot(layout, *at) {
+            picks.add(point);
+        }
+    }
+    picks
+}
+
+/// What an order picks, if it picks at all.
+fn order_of(layout: &Layout, slots: &[(u32, u32)]) -> Option<Picks>
+    ensures layout { IfSome result (λ picks. picks.layout ≡ layout.now) }
+    ensures filled { IfSome result (λ picks. 0 < length picks.points) }
+{
+    let first = slot(layout, *slots.first()?)?;
+    let mut picks = picked(layout, slots);
+    picks.add(first);
+    if picks.has(first) {
+        return Some(picks);
+    }
+    None
+}
+
+/// What the orders pick, as often as they are repeated.
+fn orders_of(alloc: Global, layout: &Layout, orders: &[Slots], times: u32) -> Option<Vec<Picks>>
+    ensures layout { IfSome result (λ picked. All (λ picks. picks.layout ≡ layout.now) picked.items) }
+    ensures filled { IfSome result (λ picked. All (λ picks. 0 < length picks.points) picked.items) }
+{
+    let mut all = Vec::new(alloc);
+    for _ in 0..times {
+        for slots in orders {
+            all.push(order_of(layout, slots)?).ok()?;
+        }
+    }
+    Some(all)
+}
+
+/// The wave of these orders in the small layout, as often as they are repeated.
+fn wave_of(alloc: Global, orders: &[Slots], times: u32) -> Option<Wave> {
+    let layout = small()?;
+    let picks = orders_of(alloc, &layout, orders, times)?;
+    if picks.is_empty() || picks.len() > 64 {
+        return None;
+    }
+    Wave::of(alloc, layout, &picks).ok()
+}
+
+/// The batch of these orders, if they are orders of the wave.
+fn batch_of(wave: &Wave, orders: &[u32]) -> Option<Batch>
+    ensures { IfSome result (λ batch. All (λ order. order < length wave.now.orders) batch) }
+{
+    let mut batch = Batch::empty();
+    for order in orders {
+        if *order >= wave.orders() {
+            return None;
+        }
+        batch = batch.with(*order);
+    }
+    Some(batch)
+}
+
+fn length_of(wave: &Wave, orders: &[u32]) -> Option<u64> {
+    let batch = batch_of(wave, orders)?;
+    Some(wave.batch_length(batch))
+}
+
+fn wrong_length(alloc: Global) -> Option<usize> {
+    for (place, (orders, batch, expected)) in LENGTHS.iter().enumerate() {
+        if wave_of(alloc, orders, 1).and_then(|wave| length_of(&wave, batch)) != Some(*expected) {
+            return Some(place);
+        }
+    }
+    None
+}
+
+#[test]
+fn batches_have_the_lengths_of_their_tours(rt: HostRuntime) {
+    assert_eq!(rt; wrong_length(rt.alloc()), None);
+}
+
+/// Waves, how often their orders are repeated, a capacity, and the batches of the start.
+const STARTS: &[(&[Slots], u32, u32, &[&[u32]])] = &[
+    (APART, 1, 1, &[&[0], &[1], &[2]]),
+    (APART, 1, 2, &[&[0, 1], &[2]]),
+    (APART, 1, 3, &[&[0, 1, 2]]),
+    (SAME, 1, 2, &[&[0, 1], &[2]]),
+    (SAME, 1, 8, &[&[0, 1, 2]]),
+    (&[&[(2, 2)]], 1, 8, &[&[0]]),
+    (APART, 2, 2, &[&[0, 3], &[1, 4], &[2, 5]]),
+    (
+        &[&[(3, 4)]],
+        16,
+        8,
+        &[&[0, 1, 2, 3, 4, 5, 6, 7], &[8, 9, 10, 11, 12, 13, 14, 15]],
+    ),
+];
+
+/// Whether a batch has exactly these orders.
+fn has_exactly(batch: Batch, orders: &[u32]) -> bool {
+    for order in orders {
+        if !batch.has(*order) {
+            return false;
+        }
+    }
+    batch.len() as usize == orders.len()
+}
+
+/// Whether the batches are these, in this order.
+fn are_exactly(batching: &Batching, batches: &[&[u32]]) -> bool {
+    if batching.len() as usize != batches.len() {
+        return false;
+    }
+    for (batch, orders) in batching.as_slice().iter().zip(batches) {
+        if !has_exactly(*batch, orders) {
+            return false;
+        }
+    }
+    true
+}
+
+fn starts_as(
+    alloc: Global,
+    orders: &[Slots],
+    times: u32,
+    capacity: u32,
+    batches: &[&[u32]],
+) -> Option<bool> {
+    let wave = wave_of(alloc, orders, times)?;
+    if capacity < 1 || 8 < capacity {
+        return None;
+    }
+    let start = merged_start(alloc, &wave, capacity).ok()?;
+    Some(are_exactly(&start, batches))
+}
+
+fn wrong_start(alloc: Global) -> Option<usize> {
+    for (place, (orders, times, capacity, batches)) in STARTS.iter().enumerate() {
+        if starts_as(alloc, orders, *times, *capacity, batches) != Some(true) {
+            return Some(place);
+        }
+    }
+    None
+}
+
+#[test]
+fn starts_are_merged_by_the_greatest_saving(rt: HostRuntime) {
+    assert_eq!(rt; wrong_start(rt.alloc()), None);
+}
+
+fn count_batches(alloc: Global, orders: u32, capacity: u32) -> Option<u32> {
+    if capacity < 1 || 8 < capacity {
+        return None;
+    }
+    let wave = wave_of(alloc, &[&[(3, 4)]], orders)?;
+    Some(merged_start(alloc, &wave, capacity).ok()?.len())
+}
+
+#[test]
+fn sixty_four_equal_orders_fill_eight_batches(rt: HostRuntime) {
+    assert_eq!(rt; count_batches(rt.alloc(), 64, 8), Some(8));
+    assert_eq!(rt; count_batches(rt.alloc(), 64, 1), Some(64));
+}
+
+/// Marks: every third one is true.
+fn marked(alloc: Global, count: u64) -> Option<Marks> {
+    let mut marks = Marks::new(alloc);
+    for place in 0..count {
+        marks.push(place % 3 == 0).ok()?;
+    }
+    Some(marks)
+}
+
+/// Whether there are so many marks, and every third one is true.
+fn are_marked(marks: &Marks, count: u64) -> bool {
+    for place in 0..count {
+        if place >= marks.len() || marks.at(place) != (place % 3 == 0) {
+            return false;
+        }
+    }
+    marks.len() == count
+}
+
+fn wrong_marks(alloc: Global) -> Option<u64> {
+    for count in &[0, 1, 7, 8, 9, 16, 1000] {
+        if marked(alloc, *count).is_none_or(|marks| !are_marked(&marks, *count)) {
+            return Some(*count);
+        }
+    }
+    None
+}
+
+#[test]
+fn marks_are_read_as_they_were_added(rt: HostRuntime) {
+    assert_eq!(rt; wrong_marks(rt.alloc()), None);
+}
