@@ -2,12 +2,12 @@
 use Rattle.std.proofs.Common.{◌+◌, ◌/◌, ◌≤◌, ap₂, max}
 use Rattle.std.proofs.Common.{◌≡◌, ◌≢◌, ℕ, ◌*◌, ◌%◌, ◌^◌, ◌<◌, ◌↔◌, Bool, true, false, min, arith, refl, ap, sym, ◌∙◌, inl, inr, ◌⊎◌, ⊎_elim, Contains}
 use Rattle.std.proofs.Common.{IsTrue, eqb, eqb-true, eq-eqb, bit_or, bit_and, not, zero, suc}
-use Rattle.std.specs.Int.{bit_at, trailing_zeros, w64}
+use Rattle.std.specs.Int.{bit_at, bit_not, trailing_zeros, w64}
 use Rattle.std.specs.Int.Count.{ones, ones_step}
 use Rattle.std.proofs.Math.Nat.{div-add-mod, two-pow-succ}
 use Rattle.std.proofs.lemmas.Bool.{cases_eq}
-use Rattle.std.proofs.lemmas.Nat.{and_le_r, or_lt}
-use Rattle.std.proofs.lemmas.Nat.Bits.{bit_at-lt, bit_at_or, bit_at_and, bit_at_set_same, bit_at_set_other}
+use Rattle.std.proofs.lemmas.Nat.{and_le_l, and_le_r, or_lt}
+use Rattle.std.proofs.lemmas.Nat.Bits.{bit_at-lt, bit_at_clear_other, bit_at_clear_same, bit_at_or, bit_at_and, bit_at_set_same, bit_at_set_other}
 use Rattle.std.proofs.lemmas.Nat.Bits.{same_from_bits_below, same_from_bits, bit_at_lowest, bit_at-suc, bit_at-trailing_zeros, bit_at-zero}
 use Rattle.wp_pairs.specs.Batches.{members}
 use Rattle.wp_pairs.proofs.Members.{member_at_one, one_at_member}
@@ -127,3 +127,18 @@ ones_of_union (suc k) a b p q =
     let rest = ones_of_union k (a / 2) (b / 2) left right in
     let half = ap ones (half_of_union a b) in
     omega (arith, ones_step (bit_or a b), ones_step a, ones_step b, lowest_of_union a b, half, rest)
+
+-- without one of its ones a word has the other orders
+pub without_one : (a i : ℕ) → i < 64 → (p : ℕ) → Contains (members (bit_and a (bit_not w64 (1 * 2 ^ i % 2 ^ 64)))) p ↔ (Contains (members a) p × (p ≢ i))
+without_one a i small p =
+    let word = bit_and a (bit_not w64 (1 * 2 ^ i % 2 ^ 64)) in (
+      λ has. let m = one_at_member word p has in
+          let other : p ≢ i = λ (e : p ≡ i).
+          let clear : bit_at word p ≡ 0 = ap (bit_at word) e ∙ bit_at_clear_same w64 a i small in omega (arith, clear, m.1) in
+          (member_at_one a p m.0 (sym (bit_at_clear_other w64 a i small p m.0 other) ∙ m.1), other),
+      λ both. let m = one_at_member a p both.0 in member_at_one word p m.0 (bit_at_clear_other w64 a i small p m.0 both.1 ∙ m.1),
+    )
+
+-- common ones of a word that fits 64 bits fit them too
+pub common_fits : (a b : ℕ) → a < 2 ^ 64 → bit_and a b < 2 ^ 64
+common_fits a b small = omega (arith, and_le_l a b)

@@ -1,4 +1,4 @@
-ghost use Rattle.std.specs.Prelude.{◌≡◌, ◌+◌, ◌≤◌, ◌<◌, ◌↔◌, ◌⊎◌, ℕ, [], IsTrue, Contains, false, length, slice_get};
+ghost use Rattle.std.specs.Prelude.{◌≡◌, ◌≢◌, ◌+◌, ◌≤◌, ◌<◌, ◌↔◌, ◌⊎◌, ℕ, [], IsTrue, Contains, false, length, slice_get};
 ghost use Rattle.wp_pairs.specs.Batches.{IsBatch};
 
 use std::marker::Model;
@@ -47,6 +47,24 @@ impl Batch {
         Batch {
             word: self.word | (1 << i),
         }
+    }
+
+    /// The batch without one order, which need not be in it.
+    pub fn without(self, i: u32) -> Batch
+        requires { i < 64 }
+        ensures orders { (p : ℕ) → Contains result p ↔ (Contains self p × (p ≢ i)) }
+        ensures valid { IsBatch result }
+    {
+        Batch {
+            word: self.word & !(1 << i),
+        }
+    }
+
+    /// Whether two batches have the same orders.
+    pub fn is(self, other: Batch) -> bool
+        ensures { IsTrue result ↔ (self ≡ other) }
+    {
+        self.word == other.word
     }
 
     /// Whether an order is in the batch. A number from 64 on is in none.
