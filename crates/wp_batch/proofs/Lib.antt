@@ -3,3 +3,4 @@ pub mod Unions
 pub mod Joining
 pub mod Singles
 pub mod Gains
+pub mod KeptLengths

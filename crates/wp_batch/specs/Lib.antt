@@ -3,3 +3,4 @@ pub mod Lengths
 pub mod Marks
 pub mod Batchings
 pub mod Joins
+pub mod KeptLengths

@@ -2,8 +2,10 @@
 #![tactic(auto)]
 
 mod batching;
+mod lengths;
 mod marks;
 mod merge;
+mod places;
 mod wave;
 
 pub use batching::Batching;

@@ -2,6 +2,7 @@ ghost use Rattle.std.specs.Prelude.{◌≡◌, ◌≤◌, ◌<◌, All, IfSome, 
 ghost use Rattle.wp_model.specs.Warehouse.{IsSlot};
 
 use super::*;
+use crate::places::Places;
 use std::alloc::Global;
 use wp_graph::{Layout, Picks, Point};
 use wp_pairs::Batch;
@@ -115,6 +116,14 @@ fn batch_of(wave: &Wave, orders: &[u32]) -> Option<Batch>
     Some(batch)
 }
 
+/// The length of a batch as it is computed and as it is looked up, if both are the same.
+fn length_either_way(alloc: Global, orders: &[Slots], batch: &[u32], capacity: u32) -> Option<u64> {
+    let mut wave = wave_of(alloc, orders, 1)?;
+    let computed = length_of(&wave, batch)?;
+    wave.keep_lengths(alloc, capacity).ok()?;
+    (length_of(&wave, batch)? == computed).then_some(computed)
+}
+
 fn length_of(wave: &Wave, orders: &[u32]) -> Option<u64> {
     let batch = batch_of(wave, orders)?;
     Some(wave.batch_length(batch))
@@ -122,8 +131,10 @@ fn length_of(wave: &Wave, orders: &[u32]) -> Option<u64> {
 
 fn wrong_length(alloc: Global) -> Option<usize> {
     for (place, (orders, batch, expected)) in LENGTHS.iter().enumerate() {
-        if wave_of(alloc, orders, 1).and_then(|wave| length_of(&wave, batch)) != Some(*expected) {
-            return Some(place);
+        for capacity in 0..9 {
+            if length_either_way(alloc, orders, batch, capacity) != Some(*expected) {
+                return Some(place);
+            }
         }
     }
     None
@@ -215,6 +226,47 @@ fn count_batches(alloc: Global, orders: u32, capacity: u32) -> Option<u32> {
 fn sixty_four_equal_orders_fill_eight_batches(rt: HostRuntime) {
     assert_eq!(rt; count_batches(rt.alloc(), 64, 8), Some(8));
     assert_eq!(rt; count_batches(rt.alloc(), 64, 1), Some(64));
+}
+
+/// The batch of the orders whose bits a number has.
+fn batch_of_bits(bits: u32) -> Batch {
+    let mut batch = Batch::empty();
+    for order in 0..32 {
+        if (bits >> order) & 1 == 1 {
+            batch = batch.with(order);
+        }
+    }
+    batch
+}
+
+/// How many places are taken by a batch of at most so many orders, each by one batch alone.
+fn count_places(alloc: Global, orders: u32, capacity: u32) -> Option<u64> {
+    let places = Places::of(orders, capacity);
+    let mut taken: Vec<bool> = Vec::new(alloc);
+    for _ in 0..places.count(orders) {
+        taken.push(false).ok()?;
+    }
+    let mut count: u64 = 0;
+    for bits in 0..1024 {
+        if let Some(place) = places.place_of(batch_of_bits(bits)) {
+            if place >= taken.len() as u64 || taken[place as usize] {
+                return None;
+            }
+            taken[place as usize] = true;
+            count = count.saturating_add(1);
+        }
+    }
+    Some(count)
+}
+
+#[test]
+fn each_batch_has_a_place_of_its_own(rt: HostRuntime) {
+    assert_eq!(rt; count_places(rt.alloc(), 10, 0), Some(1));
+    assert_eq!(rt; count_places(rt.alloc(), 10, 1), Some(11));
+    assert_eq!(rt; count_places(rt.alloc(), 10, 3), Some(176));
+    assert_eq!(rt; count_places(rt.alloc(), 10, 8), Some(1013));
+    assert_eq!(rt; Places::of(64, 3).count(64), 43745);
+    assert_eq!(rt; Places::of(64, 8).count(64), 5130659561);
 }
 
 /// Marks: every third one is true.

@@ -1,9 +1,12 @@
-ghost use Rattle.std.specs.Prelude.{◌≡◌, ◌≤◌, ◌<◌, ◌↔◌, ℕ, All, Contains, IfOk, length};
+ghost use Rattle.std.specs.Prelude.{◌≡◌, ◌≤◌, ◌<◌, ◌↔◌, ℕ, All, Contains, IfOk, IfSome, length};
 ghost use Rattle.wp_model.specs.declared.point.Point.{Point as PointData};
 ghost use Rattle.wp_model.specs.Warehouse.{Layout as Block};
 ghost use Rattle.wp_batch.specs.Waves.{HaveSamePicks, IsWave, picks_of};
+ghost use Rattle.wp_batch.specs.KeptLengths.{HaveLengths};
 ghost use Rattle.wp_batch.specs.Lengths.{IsLengthOf, batch_picks};
 
+use crate::lengths::Length;
+use crate::places::Places;
 use std::alloc::Global;
 use std::marker::Model;
 use wp_classes::tour_length;
@@ -11,21 +14,28 @@ use wp_graph::{Layout, Picks};
 use wp_model::Memory;
 use wp_pairs::Batch;
 
+/// How many lengths are kept at most: 64 MiB have room for so many.
+const MOST_LENGTHS: u64 = 4_194_304;
+
 /// A wave of 1 to 64 orders: a layout, and the slots at which each order picks. An order is named by its place, from 0 on.
 #[derive(Drop)]
 pub struct Wave {
     layout: Layout,
     orders: Vec<Picks>,
+    places: Places,
+    lengths: Vec<Length>,
 }
 
 impl Model for Wave {
     ghost use Rattle.wp_batch.specs.Waves.{IsWave, WavePicks};
+    ghost use Rattle.wp_batch.specs.KeptLengths.{HaveLengths};
 
     ghost Value = { WavePicks };
 
     ghost view = { λ w. record { layout = w.layout; orders = w.orders.items } };
 
-    ghost invariant = { λ w. IsWave (record { layout = w.layout; orders = w.orders.items }) };
+    ghost invariant = { λ w. IsWave (record { layout = w.layout; orders = w.orders.items })
+        × HaveLengths (record { layout = w.layout; orders = w.orders.items }) w.lengths.items };
 }
 
 // The same slots once more.
@@ -65,6 +75,8 @@ impl Wave {
         Ok(Wave {
             layout,
             orders: copies_of(alloc, &layout, orders)?,
+            places: Places::none(),
+            lengths: Vec::new(alloc),
         })
     }
 
@@ -97,7 +109,104 @@ impl Wave {
         requires { All (λ order. order < length self.now.orders) batch }
         ensures { IsLengthOf self.now batch result }
     {
-        tour_length(&self.layout, &self.union_of(batch))
+        match self.kept_length(batch) {
+            Some(length) => length,
+            None => tour_length(&self.layout, &self.union_of(batch)),
+        }
+    }
+
+    /// Keeps the lengths of all batches of at most so many orders: from then on the length of such a batch is looked up. The
+    /// wave stays as it was, also where memory runs out. Nothing is kept where the capacity is above 8 or there are more than
+    /// 4,194,304 such batches, which is what 64 MiB have room for.
+    pub fn keep_lengths(&mut self, alloc: Global, capacity: u32) -> Result<(), Memory>
+        ensures { self.new ≡ self.old }
+    {
+        let places = Places::of(self.orders(), capacity);
+        let lengths = self.lengths_of(alloc, &places, capacity)?;
+        self.places = places;
+        self.lengths = lengths;
+        Ok(())
+    }
+
+    // The length of a batch, where it is kept.
+    fn kept_length(&self, batch: Batch) -> Option<u64>
+        ensures { IfSome result (IsLengthOf self.now batch) }
+    {
+        let place = self.places.place_of(batch)?;
+        if place < self.lengths.len() as u64 {
+            let kept = self.lengths[place as usize];
+            if kept.batch.is(batch) {
+                return Some(kept.length);
+            }
+        }
+        None
+    }
+
+    // The lengths of all batches of at most so many orders, each at its place.
+    fn lengths_of(
+        &self,
+        alloc: Global,
+        places: &Places,
+        capacity: u32,
+    ) -> Result<Vec<Length>, Memory>
+        ensures { IfOk result (λ lengths. HaveLengths self.now lengths.items) }
+    {
+        let count = places.count(self.orders());
+        if count > MOST_LENGTHS {
+            return Ok(Vec::new(alloc));
+        }
+        let mut lengths = self.blank_lengths(alloc, count)?;
+        self.keep_all(places, &mut lengths, Batch::empty(), 0, capacity);
+        Ok(lengths)
+    }
+
+    // So many times the batch of no order.
+    fn blank_lengths(&self, alloc: Global, count: u64) -> Result<Vec<Length>, Memory>
+        ensures { IfOk result (λ lengths. HaveLengths self.now lengths.items) }
+    {
+        let batch = Batch::empty();
+        let length = self.batch_length(batch);
+        let mut lengths = Vec::new(alloc);
+        for _ in 0..count {
+            lengths.push(Length { batch, length })?;
+        }
+        Ok(lengths)
+    }
+
+    // Keeps the length of a batch, and of each with up to so many further orders from this one on.
+    fn keep_all(
+        &self,
+        places: &Places,
+        lengths: &mut Vec<Length>,
+        batch: Batch,
+        first: u32,
+        more: u32,
+    )
+        requires known { All (λ order. order < length self.now.orders) batch }
+        requires kept { HaveLengths self.now lengths.old.items }
+        ensures { HaveLengths self.now lengths.new.items }
+    {
+        self.keep_one(places, lengths, batch);
+        if more == 0 {
+            return;
+        }
+        for order in first..self.orders() {
+            self.keep_all(places, lengths, batch.with(order), order + 1, more - 1);
+        }
+    }
+
+    // Keeps the length of a batch at its place.
+    fn keep_one(&self, places: &Places, lengths: &mut Vec<Length>, batch: Batch)
+        requires known { All (λ order. order < length self.now.orders) batch }
+        requires kept { HaveLengths self.now lengths.old.items }
+        ensures { HaveLengths self.now lengths.new.items }
+    {
+        let length = self.batch_length(batch);
+        if let Some(place) = places.place_of(batch) {
+            if place < lengths.len() as u64 {
+                lengths[place as usize] = Length { batch, length };
+            }
+        }
     }
 
     // The slots at which the orders of a batch pick.
