@@ -185,6 +185,19 @@ fn both_close(turn: Turn<Counter>, mut passes: Passes<Counter>, other: Pass<Coun
     }
 }
 
+/// The pass, where a look shows it the one entry and leaves its own calls at none.
+fn first_look(turn: &Turn<Counter>, pass: Pass<Counter>) -> Option<Pass<Counter>>
+    requires own { IsOf turn.now pass }
+    ensures { IfSome result (λ after. IsOf turn.now after) }
+{
+    let pass = turn.look(pass);
+    if pass.seen() == 1 && pass.made() == 0 && pass.caller() == 2 {
+        Some(pass)
+    } else {
+        None
+    }
+}
+
 /// Whether closing with one pass of two is refused, and with both it is not.
 fn closes_with_both<R: Wait>(rt: &R, alloc: Global) -> Result<bool, Memory> {
     let addition = Addition::of(alloc, 0)?;
@@ -193,6 +206,9 @@ fn closes_with_both<R: Wait>(rt: &R, alloc: Global) -> Result<bool, Memory> {
         return Ok(false);
     };
     let Some(one) = first_call(rt, &turn, one, addition) else {
+        return Ok(false);
+    };
+    let Some(two) = first_look(&turn, two) else {
         return Ok(false);
     };
     passes.put(one);
