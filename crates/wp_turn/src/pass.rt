@@ -1,4 +1,4 @@
-ghost use Rattle.std.specs.Prelude.{◌≡◌, ◌<◌, ◌≤◌, length};
+ghost use Rattle.std.specs.Prelude.{◌≡◌, ◌≤◌, length};
 ghost use Rattle.wp_turn.specs.Calls.{IsAmong};
 ghost use Rattle.wp_turn.specs.Promises.{own_calls, seen_by};
 ghost use Rattle.wp_turn.specs.Rule.{most_callers};

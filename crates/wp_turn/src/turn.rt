@@ -1,4 +1,4 @@
-ghost use Rattle.std.specs.Prelude.{◌≡◌, ◌<◌, ◌≤◌, ◌*◌, ◌+◌, ◌-◌, [], ◌∷◌, ◌++◌, length, IfOk, IfErr, IsErr, ◌↔◌, All, vec_capacity};
+ghost use Rattle.std.specs.Prelude.{◌≡◌, ◌<◌, ◌≤◌, ◌+◌, ◌-◌, [], ◌++◌, length, IfOk, IfErr, IsErr, ◌↔◌, All, vec_capacity};
 ghost use Rattle.wp_turn.specs.Promises.{Called, Closed, Ended, Follow, IsOf, given_by, new_pass, new_passes, own_calls, seeing, standing_for_both, callers_of};
 ghost use Rattle.wp_turn.specs.Rule.{most_callers, most_calls, most_opened};
 ghost use Rattle.wp_turn.specs.Dealt.{Deals};
