@@ -4,3 +4,6 @@ pub mod Joining
 pub mod Singles
 pub mod Gains
 pub mod KeptLengths
+pub mod Splits
+pub mod Replacing
+pub mod Listings

@@ -4,3 +4,4 @@ pub mod Marks
 pub mod Batchings
 pub mod Joins
 pub mod KeptLengths
+pub mod Splits

@@ -2,7 +2,9 @@
 #![tactic(auto)]
 
 mod batching;
+mod improve;
 mod lengths;
+mod listing;
 mod marks;
 mod merge;
 mod places;

@@ -3,6 +3,8 @@ ghost use Rattle.wp_batch.specs.Batchings.{IsBatching, IsListedByLeast, NoGain, 
 ghost use Rattle.wp_batch.specs.Joins.{AreKnown, CanJoin, IsBestBelow, IsBestWith};
 
 use crate::batching::Batching;
+use crate::improve::improve;
+use crate::listing::listed;
 use crate::wave::Wave;
 use std::alloc::Global;
 use wp_model::Memory;
@@ -118,6 +120,21 @@ fn join_batches(orders: u32, capacity: u32, batches: &mut Vec<Batch>, join: Join
     batches.remove(join.right);
 }
 
+// Joins batches by the greatest saving, until no join saves.
+fn merge(wave: &Wave, orders: u32, capacity: u32, batches: &mut Vec<Batch>)
+    requires orders { orders ≡ length wave.now.orders }
+    requires batching { IsBatching orders capacity batches.old.items }
+    requires listed { IsListedByLeast batches.old.items }
+    ensures batching { IsBatching orders capacity batches.new.items }
+    ensures listed { IsListedByLeast batches.new.items }
+    ensures joined { NoJoinGains wave.now capacity batches.new.items }
+    ensures fewer { vec_len batches.new ≤ vec_len batches.old }
+{
+    while let Some(join) = best_join(wave, capacity, batches.as_slice()) {
+        join_batches(orders, capacity, batches, join);
+    }
+}
+
 // Each order by itself.
 fn singles(alloc: Global, orders: u32, capacity: u32) -> Result<Vec<Batch>, Memory>
     requires orders { orders ≤ 64 }
@@ -135,7 +152,8 @@ fn singles(alloc: Global, orders: u32, capacity: u32) -> Result<Vec<Batch>, Memo
 
 /// A batching of a wave's orders with at most so many in each batch, 1 to 8, in which no two batches that fit into one cost
 /// less as one. Batches are listed by their least orders. Orders that begin alone are joined by the greatest saving, as long
-/// as some join saves (Clarke and Wright, 1964).
+/// as some join saves (Clarke and Wright, 1964). Then the orders of each two batches are divided anew, where that costs
+/// less, and joins that save then are made.
 pub fn merged_start(alloc: Global, wave: &Wave, capacity: u32) -> Result<Batching, Memory>
     requires some { 1 ≤ capacity }
     requires most { capacity ≤ 8 }
@@ -145,8 +163,9 @@ pub fn merged_start(alloc: Global, wave: &Wave, capacity: u32) -> Result<Batchin
 {
     let orders = wave.orders();
     let mut batches = singles(alloc, orders, capacity)?;
-    while let Some(join) = best_join(wave, capacity, batches.as_slice()) {
-        join_batches(orders, capacity, &mut batches, join);
-    }
-    Ok(Batching::of(batches))
+    merge(wave, orders, capacity, &mut batches);
+    improve(wave, orders, capacity, &mut batches);
+    let mut start = listed(alloc, orders, capacity, batches.as_slice())?;
+    merge(wave, orders, capacity, &mut start);
+    Ok(Batching::of(start))
 }

@@ -1,12 +1,12 @@
 use Rattle.std.proofs.Common.{◌≤◌, vec_len}
 use Rattle.wp_batch.specs.Batchings.{IsBatching, IsListedByLeast}
-use Rattle.wp_batch.proofs.merge.merged_start.Given as goal
+use Rattle.wp_batch.proofs.merge.merge.Given as goal
 
 abbrev pub invariant-loop-join : goal.invariant-loop-join
 invariant-loop-join l = record {
   batching : IsBatching l.orders l.capacity l.batches.items;
   listed : IsListedByLeast l.batches.items;
-  few : vec_len l.batches ≤ 64;
+  fewer : vec_len l.batches ≤ vec_len l.initial.batches;
 }
 
 abbrev pub decreases-loop-join : goal.decreases-loop-join
