@@ -1,4 +1,5 @@
 ghost use Rattle.std.specs.Prelude.{◌≡◌, ◌+◌, ◌*◌, ◌<◌, ◌≤◌, ◌^◌, ℕ, Some, None, IfSome, length, slice_index_or, if◌then◌else◌};
+ghost use Rattle.wp_model.specs.Limits.{most_aisles};
 ghost use Rattle.wp_classes.specs.Least.{by_cross, by_way, least_by_cross, least_by_way, length_at, lesser as lesser_of, sum_of};
 ghost use Rattle.wp_classes.specs.Tables.{is_whole, way_length};
 ghost use Rattle.wp_classes.specs.declared.class.Class.{Class as ClassData};
@@ -7,6 +8,7 @@ ghost use Rattle.wp_classes.specs.declared.lengths.Lengths.{Lengths as LengthsDa
 
 use crate::class::{Class, Cross, Way, after_cross, after_way, copies_of, length_of_way};
 use wp_graph::AisleWays;
+use wp_model::MOST_AISLES;
 
 /// For each class the least length from it to the end of a whole tour. None where there is none.
 #[derive(Clone, Copy, Debug)]
@@ -229,10 +231,10 @@ pub(crate) fn best_cross(spacing: u64, after: &Lengths, class: Class) -> Cross
 }
 
 /// The lengths at the end, for each aisle.
-pub(crate) fn all_at_the_end() -> [Lengths; 64]
-    ensures whole { length result ≡ 64 }
-    ensures each { (k : ℕ) (d : LengthsData) (class : ClassData) → k < 64 → length_at (slice_index_or result k d) class ≡
+pub(crate) fn all_at_the_end() -> [Lengths; MOST_AISLES as usize]
+    ensures whole { length result ≡ most_aisles }
+    ensures each { (k : ℕ) (d : LengthsData) (class : ClassData) → k < most_aisles → length_at (slice_index_or result k d) class ≡
         (if is_whole class then Some 0 else None) }
 {
-    [Lengths::at_the_end(); 64]
+    [Lengths::at_the_end(); MOST_AISLES as usize]
 }

@@ -1,4 +1,5 @@
 ghost use Rattle.std.specs.Prelude.{◌≡◌, ◌+◌, ◌-◌, ◌≤◌, ℕ, length, slice_index_or};
+ghost use Rattle.wp_model.specs.Limits.{most_aisles};
 ghost use Rattle.wp_model.specs.Tours.{IsShortest};
 ghost use Rattle.wp_model.specs.Warehouse.{IsLayout, IsUpTo};
 ghost use Rattle.wp_classes.specs.Choices.{IsChoiceOf, IsLeastRoute, block_of};
@@ -12,6 +13,7 @@ use crate::lengths::{
     Lengths, all_at_the_end, before_cross, before_way, best_cross, best_way, least_length_by_way,
 };
 use wp_graph::{Layout, Picks, aisle_ways};
+use wp_model::MOST_AISLES;
 
 // The least lengths on from an aisle, from those on from the next.
 fn onward_before(layout: &Layout, picks: &Picks, aisle: u32, after: &Lengths) -> Lengths
@@ -71,10 +73,10 @@ pub fn tour_length(layout: &Layout, picks: &Picks) -> u64
 }
 
 // The least lengths on from each aisle, the first aisle's first.
-fn onward_table(layout: &Layout, picks: &Picks) -> [Lengths; 64]
+fn onward_table(layout: &Layout, picks: &Picks) -> [Lengths; MOST_AISLES as usize]
     requires { picks.now.layout ≡ layout.now }
     ensures valid { IsLayout layout.now }
-    ensures whole { length result ≡ 64 }
+    ensures whole { length result ≡ most_aisles }
     ensures each { (aisle : ℕ) (d : LengthsData) → IsUpTo layout.now.aisles aisle
         → AreOnward (block_of layout.now picks.now.points) (layout.now.aisles - aisle) aisle (slice_index_or result (aisle - 1) d) }
 {
@@ -88,17 +90,17 @@ fn onward_table(layout: &Layout, picks: &Picks) -> [Lengths; 64]
 }
 
 // No way yet.
-fn blank_ways() -> [Way; 64]
-    ensures { length result ≡ 64 }
+fn blank_ways() -> [Way; MOST_AISLES as usize]
+    ensures { length result ≡ most_aisles }
 {
-    [Way::Skip; 64]
+    [Way::Skip; MOST_AISLES as usize]
 }
 
 // No crossing yet.
-fn blank_crosses() -> [Cross; 64]
-    ensures { length result ≡ 64 }
+fn blank_crosses() -> [Cross; MOST_AISLES as usize]
+    ensures { length result ≡ most_aisles }
 {
-    [Cross::C00; 64]
+    [Cross::C00; MOST_AISLES as usize]
 }
 
 /// Ways and crossings of a shortest tour of the picks: the tables allow them, and their sum is the length of a shortest

@@ -93,7 +93,7 @@ fn refuse_short(opening: &Opening, short: Short) -> Reply
     }
 }
 
-// What a submitted wave needs that can't go out, and why.
+/// What a submitted wave needs that can't go out, and why.
 #[derive(Drop)]
 pub struct Unmet {
     pub needs: Needs,

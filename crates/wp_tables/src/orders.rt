@@ -1,5 +1,6 @@
 ghost use Rattle.std.specs.Prelude.{◌≡◌, ◌<◌, ◌≤◌, ◌^◌, ◌==◌, Some, true, false, [], length, slice_get, map, IfNone, IfOk, IfSome, OnOk, Ok};
 ghost use Rattle.csv.specs.Records.{fields_of};
+ghost use Rattle.wp_model.specs.Limits.{most_file_orders};
 ghost use Rattle.wp_model.specs.Opening.{is_known_order, lines_of};
 ghost use Rattle.wp_model.specs.TableLines.{MayJoinOrders, add_order_line, article_in};
 ghost use Rattle.wp_model.specs.Tables.{AreReadOrders};
@@ -32,11 +33,12 @@ impl Model for Orders {
 
     ghost Value = { List opening.Order };
 
+    ghost use Rattle.wp_model.specs.Limits.{most_file_orders};
     ghost use Rattle.wp_tables.specs.Orders.{orders_of_parts};
 
     ghost view = { λ o. orders_of_parts o.names.keys o.lines.items };
 
-    ghost invariant = { λ o. (length o.lines.items ≡ length o.names.keys) × (length o.names.keys ≤ 10000) };
+    ghost invariant = { λ o. (length o.lines.items ≡ length o.names.keys) × (length o.names.keys ≤ most_file_orders) };
 }
 
 fn read_article(stock: &Stock, field: &[u8]) -> Result<u32, Why>
@@ -122,7 +124,7 @@ impl Orders {
 
     fn add_order(&mut self, alloc: Global, line: OrderLine) -> Result<(), Memory>
         requires new { is_known_order self.old line.order ≡ false }
-        requires room { length self.old < 10000 }
+        requires room { length self.old < most_file_orders }
         ensures { IfOk result (λ _. self.new ≡ add_order_line self.old line) }
     {
         let mut first = Vec::new(alloc);
@@ -134,7 +136,7 @@ impl Orders {
     }
 
     fn add(&mut self, alloc: Global, line: OrderLine) -> Result<(), Memory>
-        requires { is_known_order self.old line.order ≡ false → length self.old < 10000 }
+        requires { is_known_order self.old line.order ≡ false → length self.old < most_file_orders }
         ensures { IfOk result (λ _. self.new ≡ add_order_line self.old line) }
     {
         match self.names.get_index_of(&line.order) {

@@ -12,7 +12,7 @@ use crate::turns::turns_of;
 use std::alloc::Global;
 use wp_classes::{Choice, Class, Cross, Way, after_cross, after_way};
 use wp_graph::{Layout, Picks, Point};
-use wp_model::Memory;
+use wp_model::{MOST_AISLES, Memory};
 
 /// The part of a tour left of and with an aisle, and its class.
 #[derive(Drop)]
@@ -73,7 +73,7 @@ fn go_on(
     ensures { IfOk result (λ after. IsStepped layout.now picks.now.points left cross way before after) }
 {
     let aisles = layout.aisles();
-    let within = left < aisles && aisles <= 64;
+    let within = left < aisles && aisles <= MOST_AISLES;
     prove!(within);
     let Walked { paths, class } = before;
     let crossed = Walked {
