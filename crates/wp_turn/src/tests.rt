@@ -344,7 +344,7 @@ fn value_is_dropped(alloc: Global) -> Result<bool, Memory> {
     let Ok(lent) = Arc::try_clone(&kept) else {
         return Ok(false);
     };
-    let opened = Turn::open(alloc, Held { lent }, 2);
+    let opened = Turn::open(alloc, Held { lent, count: 0 }, 2);
     let is_open = opened.is_ok();
     let while_open = Arc::strong_count(&kept);
     drop(opened);

@@ -1,13 +1,14 @@
-ghost use Rattle.std.specs.Prelude.{[]};
+ghost use Rattle.std.specs.Prelude.{replicate};
 
 use crate::Turned;
 use std::alloc::Global;
 use std::sync::Arc;
 
-/// A value that no call changes but in its count, and that shows whether it was dropped.
+/// A value that counts its calls, and that shows whether it was dropped.
 #[derive(Drop)]
 pub struct Held {
     pub lent: Arc<u8, Global>,
+    pub count: u64,
 }
 
 impl Turned for Held {
@@ -19,21 +20,22 @@ impl Turned for Held {
 
     type Out = u8;
 
-    ghost entries = { λ _. [] };
+    ghost entries = { λ h. replicate h.count 0 };
 
     ghost setting = { λ _. 0 };
 
-    ghost fits = { λ _ _. ⊥ };
+    ghost fits = { λ _ _. Unit {0} };
 
     ghost entry = { λ _ _ _ _. 0 };
 
-    ghost answer = { λ _ _ _ _. 0 };
+    ghost answer = { λ _ _ _ ready. ready };
 
     fn count(&self) -> u64 {
-        0
+        self.count
     }
 
-    fn step(&mut self, _caller: u32, _ready: u8) -> u8 {
-        unreachable!()
+    fn step(&mut self, _caller: u32, ready: u8) -> u8 {
+        self.count += 1;
+        ready
     }
 }
