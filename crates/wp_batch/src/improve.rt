@@ -88,9 +88,8 @@ fn is_fit(capacity: u32, batch: Batch) -> bool
     1 <= orders && orders <= capacity
 }
 
-// A batch divided by a choice, if both parts fit and cost less than this.
-fn lesser_split(wave: &Wave, capacity: u32, union: Batch, choice: u32, least: u64) -> Option<Split>
-    requires { All (λ order. order < length wave.now.orders) union }
+// A batch divided by a choice, if both parts fit.
+fn fitting_split(capacity: u32, union: Batch, choice: u32) -> Option<Split>
     ensures { IfSome result (IsSplit capacity union) }
 {
     let split = divide(union, choice)?;
@@ -100,6 +99,15 @@ fn lesser_split(wave: &Wave, capacity: u32, union: Batch, choice: u32, least: u6
     if !is_fit(capacity, split.right) {
         return None;
     }
+    Some(split)
+}
+
+// A batch divided by a choice, if both parts fit and cost less than this.
+fn lesser_split(wave: &Wave, capacity: u32, union: Batch, choice: u32, least: u64) -> Option<Split>
+    requires { All (λ order. order < length wave.now.orders) union }
+    ensures { IfSome result (IsSplit capacity union) }
+{
+    let split = fitting_split(capacity, union, choice)?;
     let total = wave
         .batch_length(split.left)
         .saturating_add(wave.batch_length(split.right));
@@ -182,6 +190,27 @@ fn improve_pair(
             true
         }
         None => false,
+    }
+}
+
+/// Divides the orders of two batches by a choice, if both parts fit.
+pub fn shake_pair(
+    orders: u32,
+    capacity: u32,
+    batches: &mut Vec<Batch>,
+    left: usize,
+    right: usize,
+    choice: u32,
+)
+    requires batching { IsBatching orders capacity batches.old.items }
+    requires order { left < right }
+    requires within { right < length batches.old.items }
+    ensures batching { IsBatching orders capacity batches.new.items }
+    ensures count { length batches.new.items ≡ length batches.old.items }
+{
+    let union = batches[left].union(batches[right]);
+    if let Some(split) = fitting_split(capacity, union, choice) {
+        replace(orders, capacity, batches, left, right, split);
     }
 }
 

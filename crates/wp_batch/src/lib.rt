@@ -8,6 +8,7 @@ mod listing;
 mod marks;
 mod merge;
 mod places;
+mod starts;
 mod wave;
 
 pub use batching::Batching;

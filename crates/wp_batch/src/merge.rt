@@ -5,6 +5,7 @@ ghost use Rattle.wp_batch.specs.Joins.{AreKnown, CanJoin, IsBestBelow, IsBestWit
 use crate::batching::Batching;
 use crate::improve::improve;
 use crate::listing::listed;
+use crate::starts::best_of_starts;
 use crate::wave::Wave;
 use std::alloc::Global;
 use wp_model::Memory;
@@ -153,7 +154,8 @@ fn singles(alloc: Global, orders: u32, capacity: u32) -> Result<Vec<Batch>, Memo
 /// A batching of a wave's orders with at most so many in each batch, 1 to 8, in which no two batches that fit into one cost
 /// less as one. Batches are listed by their least orders. Orders that begin alone are joined by the greatest saving, as long
 /// as some join saves (Clarke and Wright, 1964). Then the orders of each two batches are divided anew, where that costs
-/// less, and joins that save then are made.
+/// less; so are those of other starts, drawn in the same way on every call. The cheapest is kept, and joins that save then
+/// are made.
 pub fn merged_start(alloc: Global, wave: &Wave, capacity: u32) -> Result<Batching, Memory>
     requires some { 1 ≤ capacity }
     requires most { capacity ≤ 8 }
@@ -165,7 +167,8 @@ pub fn merged_start(alloc: Global, wave: &Wave, capacity: u32) -> Result<Batchin
     let mut batches = singles(alloc, orders, capacity)?;
     merge(wave, orders, capacity, &mut batches);
     improve(wave, orders, capacity, &mut batches);
-    let mut start = listed(alloc, orders, capacity, batches.as_slice())?;
+    let best = best_of_starts(alloc, wave, orders, capacity, batches.as_slice())?;
+    let mut start = listed(alloc, orders, capacity, best.as_slice())?;
     merge(wave, orders, capacity, &mut start);
     Ok(Batching::of(start))
 }
