@@ -1,0 +1,7 @@
+//! Certificates: a bound on the cost of every batching of a wave, with what shows it. A tree splits the batchings on
+//! pairs of orders; at each node duals say how much each order costs at least.
+#![tactic(auto)]
+
+mod tree;
+
+pub use tree::{CertFault, CertWhy, Certificate, Duals, Node, Nodes, Own, Tree};
