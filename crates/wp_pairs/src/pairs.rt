@@ -1,7 +1,7 @@
 ghost use Rattle.std.specs.Prelude.{◌≡◌, ◌≤◌, ◌<◌, ◌+◌, ◌↔◌, ℕ, [], ◌∷◌, ◌++◌, IsTrue, IfNone, IfSome, Contains, length, take, true, false};
 ghost use Rattle.wp_pairs.specs.declared.pair.Pair.{Pair as PairData};
 ghost use Rattle.wp_pairs.specs.Batches.{IsBatch};
-ghost use Rattle.wp_pairs.specs.Permitted.{Pairing, IsPermitted, AreDecided, AreUndecided, AreDecidedBefore, AllDecided, IsHeld, IsDead, AreHeldBelow};
+ghost use Rattle.wp_pairs.specs.Permitted.{Pairing, IsPermitted, AreJoined, AreDecided, AreUndecided, AreDecidedBefore, AllDecided, IsHeld, IsDead, AreHeldBelow};
 ghost use Rattle.wp_pairs.specs.Kept.{FitsCapacity, IsPairing, KeepsOrder};
 
 use crate::batch::Batch;
@@ -121,6 +121,14 @@ impl Pairs {
         ensures { IsTrue result ↔ AreDecided self.now.pairs first second }
     {
         orders_for(&self.joined, first).has(second) || orders_for(&self.parted, first).has(second)
+    }
+
+    /// The orders that are to go together with an order: those to which a chain of together pairs leads, and itself.
+    pub fn joined_to(&self, order: u32) -> Batch
+        requires { order < self.now.orders }
+        ensures { (other : ℕ) → Contains result other ↔ AreJoined self.now.pairs order other }
+    {
+        orders_for(&self.joined, order)
     }
 
     /// Whether a batch is permitted: it has some orders of the wave and at most as many as the capacity, both or none of
