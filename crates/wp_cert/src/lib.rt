@@ -2,6 +2,8 @@
 //! pairs of orders; at each node duals say how much each order costs at least.
 #![tactic(auto)]
 
+mod laws;
 mod tree;
 
+pub use laws::no_batching_costs_less;
 pub use tree::{CertFault, CertWhy, Certificate, Duals, Node, Nodes, Own, Tree};

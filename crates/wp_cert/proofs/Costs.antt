@@ -1,0 +1,129 @@
+-- No batching costs less than the bound of a right tree.
+use Rattle.std.proofs.Common.{◌≡◌, ◌≢◌, ℕ, zero, suc, ◌*◌, ◌<◌, ◌≤◌, ◌↔◌, true, false, List, [], ◌∷◌, length, arith}
+use Rattle.std.proofs.Common.{ap, sym, ◌∙◌, subst, ⊎_elim, Contains}
+use Rattle.std.specs.Prelude.{sum, slice_index, Option, Some, None}
+use Rattle.std.proofs.lemmas.Bool.{cases_eq, true≢false, false≢true}
+use Rattle.std.proofs.lemmas.List.Sums.{sum_by-append}
+use Rattle.std.proofs.lemmas.List.Elements.{Contains-push_cases}
+use Rattle.wp_pairs.specs.declared.pair.Pair.{Pair}
+use Rattle.wp_pairs.specs.Permitted.{IsPermitted, Pairing}
+use Rattle.wp_batch.specs.Batchings.{IsCost, batch_at}
+use Rattle.wp_batch.specs.Waves.{WavePicks}
+use Rattle.wp_cert.specs.declared.tree.Node.{Node}
+use Rattle.wp_cert.specs.Duals.{AreFeasible, duals_of}
+use Rattle.wp_cert.specs.Trees.{IsRight, dead, kept, leaf, lower_of, split, with_pair}
+use Rattle.wp_cert.proofs.Sums.{all_of, covering_sum, in_all, sum_of_places, units_at_most}
+
+-- batches that are all permitted, such that each order is in one of them and in no other
+pub record Respects (pairing : Pairing) (batches : List (List ℕ)) : Type 0 where
+  pub each : (place : ℕ) → place < length batches → IsPermitted pairing (batch_at batches place)
+  pub covered : (order : ℕ) → order < pairing.orders → (place : ℕ) × (place < length batches) × Contains (batch_at batches place) order
+  pub once : (order left right : ℕ) → left < length batches → right < length batches → Contains (batch_at batches left) order
+      → Contains (batch_at batches right) order → left ≡ right
+
+-- with feasible duals, permitted batches have in duals no more than sixty times what they cost
+pub batches_within : (wave : WavePicks) (pairing : Pairing) (duals : List ℕ) (batches : List (List ℕ)) (cost : ℕ) → AreFeasible wave pairing duals
+    → ((place : ℕ) → place < length batches → IsPermitted pairing (batch_at batches place)) → IsCost wave batches cost
+    → duals_of duals (all_of batches) ≤ 60 * cost
+batches_within wave pairing duals [] cost feasible each is = omega arith
+batches_within wave pairing duals (batch ∷ batches) cost feasible each is =
+    let first = feasible batch is.0 (each zero (omega arith)) is.2 in
+    let rest = batches_within wave pairing duals batches is.1 feasible (λ place within. each (suc place) (omega arith)) is.3 in
+    omega (arith, sum_by-append (slice_index duals) batch (all_of batches), first, rest, is.4)
+
+-- feasible duals come to no more than sixty times the cost of any batching of permitted batches
+pub sum_within : (wave : WavePicks) (pairing : Pairing) (duals : List ℕ) (batches : List (List ℕ)) (cost : ℕ) → length duals ≡ pairing.orders
+    → AreFeasible wave pairing duals → Respects pairing batches → IsCost wave batches cost → sum duals ≤ 60 * cost
+sum_within wave pairing duals batches cost count feasible respects is =
+    let covers = covering_sum (slice_index duals) (length duals) (all_of batches) (λ order low.
+    let at = respects.covered order (subst (λ (n : ℕ). order < n) count low) in in_all batches at.0 order at.1 at.2) in
+    omega (arith, sum_of_places duals, covers, batches_within wave pairing duals batches cost feasible respects.each is)
+
+-- a permitted batch that has both or none of two more orders is permitted where they go together
+pub permitted_together : (pairing : Pairing) (first second : ℕ) (batch : List ℕ) → IsPermitted pairing batch
+    → (Contains batch first ↔ Contains batch second) → IsPermitted (with_pair pairing first second true) batch
+permitted_together pairing first second batch permitted both =
+    let new : Pair = record { first = first; second = second; together = true } in record {
+      ascending = permitted.ascending;
+      filled = permitted.filled;
+      fits = permitted.fits;
+      known = permitted.known;
+      together = λ pair added kind. ⊎_elim (λ old. permitted.together pair old kind)
+          (λ (e : new ≡ pair). subst (λ (p : Pair). Contains batch p.first ↔ Contains batch p.second) e both) (Contains-push_cases pairing.pairs new pair added);
+      apart = λ pair added kind. ⊎_elim (λ old. permitted.apart pair old kind)
+          (λ (e : new ≡ pair). absurd (true≢false (ap (λ (p : Pair). p.together) e ∙ kind))) (Contains-push_cases pairing.pairs new pair added);
+    }
+
+-- a permitted batch that doesn't have both of two more orders is permitted where they go apart
+pub permitted_apart : (pairing : Pairing) (first second : ℕ) (batch : List ℕ) → IsPermitted pairing batch
+    → ((Contains batch first × Contains batch second) → ⊥) → IsPermitted (with_pair pairing first second false) batch
+permitted_apart pairing first second batch permitted never =
+    let new : Pair = record { first = first; second = second; together = false } in record {
+      ascending = permitted.ascending;
+      filled = permitted.filled;
+      fits = permitted.fits;
+      known = permitted.known;
+      together = λ pair added kind. ⊎_elim (λ old. permitted.together pair old kind)
+          (λ (e : new ≡ pair). absurd (false≢true (ap (λ (p : Pair). p.together) e ∙ kind))) (Contains-push_cases pairing.pairs new pair added);
+      apart = λ pair added kind. ⊎_elim (λ old. permitted.apart pair old kind)
+          (λ (e : new ≡ pair). subst (λ (p : Pair). (Contains batch p.first × Contains batch p.second) → ⊥) e never)
+          (Contains-push_cases pairing.pairs new pair added);
+    }
+
+-- a batching that has two orders in one batch respects that they go together
+pub respects_together : (pairing : Pairing) (first second : ℕ) (batches : List (List ℕ)) (place : ℕ) → Respects pairing batches → place < length batches
+    → Contains (batch_at batches place) first → Contains (batch_at batches place) second → Respects (with_pair pairing first second true) batches
+respects_together pairing first second batches place respects within left right = record {
+  each = λ k low. permitted_together pairing first second (batch_at batches k) (respects.each k low) (
+    λ has. subst (λ (j : ℕ). Contains (batch_at batches j) second) (respects.once first place k within low left has) right,
+    λ has. subst (λ (j : ℕ). Contains (batch_at batches j) first) (respects.once second place k within low right has) left,
+  );
+  covered = respects.covered;
+  once = respects.once;
+}
+
+-- a batching that has two orders in different batches respects that they go apart
+pub respects_apart : (pairing : Pairing) (first second : ℕ) (batches : List (List ℕ)) (left right : ℕ) → Respects pairing batches → left < length batches
+    → right < length batches → Contains (batch_at batches left) first → Contains (batch_at batches right) second → left ≢ right
+    → Respects (with_pair pairing first second false) batches
+respects_apart pairing first second batches left right respects one other l r ne = record {
+  each = λ k low. permitted_apart pairing first second (batch_at batches k) (respects.each k low)
+      (λ both. ne (respects.once first left k one low l both.0 ∙ sym (respects.once second right k other low r both.1)));
+  covered = respects.covered;
+  once = respects.once;
+}
+
+-- a bound that is no more than a cost; a subtree whose leaves are all dead has no batching, and no bound
+abbrev pub IsNoMore : Option ℕ → ℕ → Type 0
+IsNoMore None cost = ⊥
+IsNoMore (Some bound) cost = bound ≤ cost
+
+lower_left : (left right : Option ℕ) (cost : ℕ) → IsNoMore left cost → IsNoMore (lower_of left right) cost
+lower_left None right cost low = absurd low
+lower_left (Some l) None cost low = low
+lower_left (Some l) (Some r) cost low = omega (arith, low)
+
+lower_right : (left right : Option ℕ) (cost : ℕ) → IsNoMore right cost → IsNoMore (lower_of left right) cost
+lower_right None right cost low = low
+lower_right (Some l) None cost low = absurd low
+lower_right (Some l) (Some r) cost low = omega (arith, low)
+
+-- the bound of a right tree is no more than the cost of any batching of permitted batches
+pub tree_bounds : (wave : WavePicks) (pairing : Pairing) (above : ℕ) (nodes rest : List Node) (bound : Option ℕ) (batches : List (List ℕ)) (cost : ℕ)
+    → IsRight wave pairing above nodes rest bound → Respects pairing batches → IsCost wave batches cost → above ≤ 60 * cost → IsNoMore bound cost
+tree_bounds wave pairing above _ rest _ batches cost kept respects is low = units_at_most above cost low
+tree_bounds wave pairing above _ rest _ batches cost (leaf {own} own_right) respects is low =
+    units_at_most (sum own.duals) cost (sum_within wave pairing own.duals batches cost own_right.all.duals own_right.feasible respects is)
+tree_bounds wave pairing above _ rest _ batches cost (dead {order} is_dead) respects is low =
+    let at = respects.covered order is_dead.known in is_dead.unheld (batch_at batches at.0) (respects.each at.0 at.1) at.2
+tree_bounds wave pairing above _ rest _ batches cost (split {first} {second} {own} {nodes} {between} {left} {right} own_right parted l r) respects is low =
+    let raised = sum_within wave pairing own.duals batches cost own_right.all.duals own_right.feasible respects is in
+    let one = respects.covered first (omega (arith, parted.order, parted.known)) in
+    let other = respects.covered second parted.known in
+    ⊎_elim
+    (λ (e : one.0 ≡ other.0). lower_left left right cost (tree_bounds wave (with_pair pairing first second true) (sum own.duals) nodes between left batches cost l
+    (respects_together pairing first second batches one.0 respects one.1 one.2 (subst (λ (k : ℕ). Contains (batch_at batches k) second) (sym e) other.2))
+    is raised))
+    (λ (ne : one.0 ≢ other.0). lower_right left right cost (tree_bounds wave (with_pair pairing first second false) (sum own.duals) between rest right batches cost r
+    (respects_apart pairing first second batches one.0 other.0 respects one.1 other.1 one.2 other.2 ne) is raised))
+    (cases_eq one.0 other.0)

@@ -1,0 +1,4 @@
+pub mod Sums
+pub mod Lengths
+pub mod Costs
+pub mod Shares

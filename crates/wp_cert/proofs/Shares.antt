@@ -1,0 +1,52 @@
+-- The share duals are feasible, and so no batching costs less than the bound of a right tree.
+use Rattle.std.proofs.Common.{ℕ, ◌*◌, ◌/◌, ◌<◌, ◌≤◌, List, [], ◌∷◌, length, arith, sym, subst, ⊎_elim, Contains}
+use Rattle.std.proofs.Common.{mul-le-mul_right, div-mul-le_self}
+use Rattle.std.specs.Prelude.{Some, slice_index}
+use Rattle.std.proofs.Math.Nat.{mul-div-le}
+use Rattle.std.proofs.lemmas.Nat.{le-div}
+use Rattle.std.proofs.lemmas.List.Sums.{sum_by-le}
+use Rattle.std.proofs.lemmas.List.Elements.{All-contains}
+use Rattle.wp_pairs.proofs.Members.{contains_cases, contains_none}
+use Rattle.wp_batch.specs.Batchings.{IsBatching, no_pairs}
+use Rattle.wp_batch.specs.Lengths.{IsLengthOf}
+use Rattle.wp_batch.specs.Waves.{WavePicks}
+use Rattle.wp_batch.proofs.Unions.{all_from_contained}
+use Rattle.wp_cert.specs.Bounds.{BoundsHold}
+use Rattle.wp_cert.specs.Duals.{AreFeasible, AreShares, IsShare}
+use Rattle.wp_cert.proofs.Costs.{Respects, sum_within, tree_bounds}
+use Rattle.wp_cert.proofs.Lengths.{more_orders_no_shorter}
+
+-- an order alone is no longer than a batch that has it, so its share is no more than the batch's
+share_within : (wave : WavePicks) (capacity order share : ℕ) (batch : List ℕ) (total : ℕ) → 1 ≤ capacity → IsShare wave capacity order share
+    → Contains batch order → IsLengthOf wave batch total → share ≤ 60 * total / capacity
+share_within wave capacity order share batch total some is has long =
+    let short = more_orders_no_shorter wave (order ∷ []) batch is.total total
+    (λ other one. ⊎_elim (λ e. subst (λ (o : ℕ). Contains batch o) e has) (λ none. absurd (contains_none other none)) (contains_cases order other [] one))
+    is.alone long in
+    let whole : 60 * is.total / capacity * capacity ≤ 60 * total = omega (arith, div-mul-le_self (60 * is.total) capacity, short) in
+    subst (λ (s : ℕ). s ≤ 60 * total / capacity) (sym is.is) (le-div (60 * is.total / capacity) (60 * total) capacity (omega (arith, some)) whole)
+
+-- the share duals are feasible where no pair was added
+pub shares_feasible : (wave : WavePicks) (capacity : ℕ) (shares : List ℕ) → 1 ≤ capacity → AreShares wave capacity shares
+    → AreFeasible wave (no_pairs (length wave.orders) capacity) shares
+shares_feasible wave capacity shares some are = λ batch total permitted long.
+    let each = all_from_contained (λ order. slice_index shares order ≤ 60 * total / capacity) batch
+    (λ order has. share_within wave capacity order (slice_index shares order) batch total some
+    (are.each order (All-contains (λ o. o < length wave.orders) batch order permitted.known has)) has long) in
+    let sums = sum_by-le (slice_index shares) (60 * total / capacity) batch each in
+    let wide : length batch * (60 * total / capacity) ≤ capacity * (60 * total / capacity) = mul-le-mul_right (60 * total / capacity) permitted.fits in
+    omega (arith, sums, wide, mul-div-le (60 * total) capacity)
+
+-- a batching respects that there is no pair
+batching_respects : (orders capacity : ℕ) (batches : List (List ℕ)) → IsBatching orders capacity batches → Respects (no_pairs orders capacity) batches
+batching_respects orders capacity batches is = record { each = is.each; covered = is.covered; once = is.once }
+
+-- no batching costs less than the bound of a right tree
+pub bounds_hold : BoundsHold
+bounds_hold = λ wave capacity nodes bound some right batches cost is costs.
+    let pairing = no_pairs (length wave.orders) capacity in
+    let respects = batching_respects (length wave.orders) capacity batches is in
+    let shares = right.1.0 in
+    let low = sum_within wave pairing shares batches cost right.1.1.count (shares_feasible wave capacity shares some right.1.1) respects costs in
+    let above : right.0 ≤ 60 * cost = omega (arith, low, right.1.2) in
+    tree_bounds wave pairing right.0 nodes [] (Some bound) batches cost right.2 respects costs above

@@ -1,0 +1,4 @@
+pub mod Duals
+pub mod Visits
+pub mod Trees
+pub mod Bounds
