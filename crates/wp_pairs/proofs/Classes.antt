@@ -12,10 +12,12 @@ use Rattle.wp_pairs.proofs.Members.{contains_first, contains_later, contains_cas
 
 -- ---- how many
 
-tail_ascends : (x : ℕ) (xs : List ℕ) → IsStrictlyIncreasing (x ∷ xs) → IsStrictlyIncreasing xs
+-- without its first an ascending list ascends
+pub tail_ascends : (x : ℕ) (xs : List ℕ) → IsStrictlyIncreasing (x ∷ xs) → IsStrictlyIncreasing xs
 tail_ascends x xs h = λ k within. let e : suc k + 1 ≡ suc (k + 1) = omega arith in let up = h (suc k) (omega arith) in rw e at up
 
-head_below : (x : ℕ) (xs : List ℕ) → IsStrictlyIncreasing (x ∷ xs) → (y : ℕ) → Contains xs y → x < y
+-- the first of an ascending list is below the others
+pub head_below : (x : ℕ) (xs : List ℕ) → IsStrictlyIncreasing (x ∷ xs) → (y : ℕ) → Contains xs y → x < y
 head_below x [] h y has = absurd (contains_none y has)
 head_below x (z ∷ zs) h y has =
     let next : x < z = h 0 (omega arith) in
