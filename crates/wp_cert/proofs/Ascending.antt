@@ -1,10 +1,11 @@
 -- Ascending lists: what is left of one without another, and lists of the same numbers.
-use Rattle.std.proofs.Common.{◌≡◌, ◌≢◌, ℕ, ◌+◌, ◌<◌, ◌≤◌, List, [], ◌∷◌, length, arith, refl, ap, sym, ◌∙◌, subst, inl, inr, ◌⊎◌, ⊎_elim, Contains}
+use Rattle.std.proofs.Common.{◌≡◌, ◌≢◌, ℕ, ◌+◌, ◌<◌, ◌≤◌, List, [], ◌∷◌, length, arith, refl, ap, sym, ◌∙◌, subst, inl, inr, ◌⊎◌, ◌↔◌, ⊎_elim, Contains}
 use Rattle.std.specs.Prelude.{sum_by}
 use Rattle.std.specs.List.Sorted.{IsStrictlyIncreasing}
 use Rattle.std.proofs.lemmas.Bool.{cases_eq}
 use Rattle.std.proofs.lemmas.List.Sums.{sum_by-cons}
 use Rattle.wp_pairs.proofs.Classes.{head_below, tail_ascends}
+use Rattle.wp_pairs.proofs.KeptPairs.{in_or_not}
 use Rattle.wp_pairs.proofs.Members.{ascending_cons, contains_cases, contains_first, contains_later, contains_none}
 
 -- an ascending list is split into another, all of which it has, and the rest
@@ -104,3 +105,38 @@ only_one x y has = ⊎_elim (λ e. e) (λ none. absurd (contains_none y none)) (
 -- a list without one of its numbers
 pub one_off : (f : ℕ → ℕ) (whole : List ℕ) (x : ℕ) → IsStrictlyIncreasing whole → Contains whole x → IsSplit f (x ∷ []) whole
 one_off f whole x down has = split_off f (x ∷ []) whole (single_ascends x) down (λ y one. subst (λ (k : ℕ). Contains whole k) (only_one x y one) has)
+
+-- an ascending list with one number alone has it once
+single_list : (xs : List ℕ) (x : ℕ) → IsStrictlyIncreasing xs → Contains xs x → ((y : ℕ) → Contains xs y → y ≡ x) → xs ≡ x ∷ []
+single_list [] x up has all = absurd (contains_none x has)
+single_list (y ∷ []) x up has all = ap (λ (k : ℕ). k ∷ []) (all y (contains_first y []))
+single_list (y ∷ z ∷ zs) x up has all =
+    let one = all y (contains_first y (z ∷ zs)) in
+    let other = all z (contains_later y z (z ∷ zs) (contains_first z zs)) in
+    absurd (omega (arith, one, other, head_below y (z ∷ zs) up z (contains_first z zs)))
+
+-- a list with one more number
+pub record IsOneMore (f : ℕ → ℕ) (xs ys : List ℕ) (x : ℕ) : Type 0 where
+  pub sums : sum_by f ys ≡ sum_by f xs + f x
+  pub counts : length ys ≡ length xs + 1
+
+-- with a new number the sum is larger by its value, and there is one more
+pub one_more : (f : ℕ → ℕ) (xs ys : List ℕ) (x : ℕ) → IsStrictlyIncreasing xs → IsStrictlyIncreasing ys
+    → ((y : ℕ) → Contains ys y ↔ (Contains xs y ⊎ (y ≡ x))) → (Contains xs x → ⊥) → IsOneMore f xs ys x
+one_more f xs ys x up down is new =
+    let s = split_off f xs ys up down (λ y has. (is y).1 (inl has)) in
+    let has = ⊎_elim (λ old. absurd (new old)) (λ (r : Contains s.rest x). r) (s.covers x ((is x).1 (inr refl))) in
+    let alone = single_list s.rest x s.ascending has
+    (λ y there. ⊎_elim (λ old. absurd (s.not_of_part y there old)) (λ (e : y ≡ x). e) ((is y).0 (s.of_whole y there))) in record {
+      sums = omega (arith, s.sums, ap (λ (zs : List ℕ). sum_by f zs) alone);
+      counts = omega (arith, s.counts, ap (λ (zs : List ℕ). length zs) alone);
+    }
+
+-- all of a list are in another, or one of it isn't
+pub all_in_or_out : (xs ys : List ℕ) → ((x : ℕ) → Contains xs x → Contains ys x) ⊎ ((x : ℕ) × Contains xs x × (Contains ys x → ⊥))
+all_in_or_out [] ys = inl (λ x has. absurd (contains_none x has))
+all_in_or_out (x ∷ xs) ys =
+    ⊎_elim
+    (λ here. ⊎_elim (λ rest. inl (λ y has. ⊎_elim (λ (e : x ≡ y). subst (λ (k : ℕ). Contains ys k) e here) (λ later. rest y later) (contains_cases x y xs has)))
+    (λ out. inr (out.0, contains_later x out.0 xs out.1, out.2)) (all_in_or_out xs ys))
+    (λ none. inr (x, contains_first x xs, none)) (in_or_not ys x)

@@ -2,3 +2,5 @@ pub mod Duals
 pub mod Visits
 pub mod Trees
 pub mod Bounds
+pub mod Reaches
+pub mod Refusals

@@ -3,7 +3,10 @@
 #![tactic(auto)]
 
 mod laws;
+mod reach;
+mod sums;
 mod tree;
+mod visit;
 
 pub use laws::no_batching_costs_less;
 pub use tree::{CertFault, CertWhy, Certificate, Duals, Node, Nodes, Own, Tree};

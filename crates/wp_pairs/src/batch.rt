@@ -85,7 +85,8 @@ impl Batch {
 
     /// The least order of the batch. None comes exactly where it has none.
     pub fn least(self) -> Option<u32>
-        ensures { result ≡ slice_get self 0 }
+        ensures first { result ≡ slice_get self 0 }
+        ensures valid { IsBatch self }
     {
         if self.word == 0 {
             return None;

@@ -1,0 +1,67 @@
+use Rattle.std.proofs.lemmas.Result.{err_from_is_err_and}
+use Rattle.std.proofs.lemmas.List.{drop_all}
+use Rattle.std.proofs.Common.{◌≡◌, Bool, true, false, [], drop, arith, ap, ◌∙◌}
+use Rattle.std.specs.Prelude.{Some}
+use Rattle.wp_cert.specs.Visits.{Children, IsWithin, Passed}
+use Rattle.wp_cert.specs.Visits.{all_added, entered, missing, onward, pruned, too_much, unsound}
+use Rattle.wp_cert.proofs.MarkSteps.{mark_first, passed_over, refused_child, refused_so}
+use Rattle.wp_cert.proofs.visit.+visit.Goals as goal
+use Rattle.wp_cert.proofs.visit.+visit.Goals.{in-Some+in_ok-after, in_default}
+
+pub returns-then-most-sum-clause-err : goal.returns-then-most-sum-clause-err
+returns-then-most-sum-clause-err t c =
+    too_much c.batch_length.ensures (omega (arith, c.if-most-sum.true, c.sum_of-sum.ensures, c.from-most.ensures))
+
+pub returns-then-next-len-clause-err : goal.returns-then-next-len-clause-err
+returns-then-next-len-clause-err t c =
+    let within : IsWithin c.args.wave.now c.args.own.now.duals c.args.place =
+    (c.batch_length.result, c.batch_length.ensures, omega (arith, c.if-most-sum.false, c.sum_of-sum.ensures, c.from-most.ensures)) in
+    let none : drop c.args.next c.args.own.now.marks ≡ [] =
+    drop_all c.args.next c.args.own.now.marks (omega (arith, c.if-next-len.true, c.len.ensures)) in rw none (missing within)
+
+pub returns-then-most-sum-2-clause-err : goal.returns-then-most-sum-2-clause-err
+returns-then-most-sum-2-clause-err t c =
+    let within : IsWithin c.args.wave.now c.args.own.now.duals c.args.place =
+    (c.batch_length.result, c.batch_length.ensures, omega (arith, c.if-most-sum.false, c.sum_of-sum.ensures, c.from-most.ensures)) in
+    let mark = mark_first c.args.own.now.marks c.args.next false (c.at.ensures ∙ ap (λ (b : Bool). Some b) c.if-not-at.true) in
+    rw mark (unsound within c.batch_length.ensures c.reach_of.ensures
+    (omega (arith, c.if-most-sum.false, c.if-most-sum-2.true, c.sum_of-sum.ensures, c.from-most.ensures)))
+
+pub returns-then-not-at-clause-ok : goal.returns-then-not-at-clause-ok
+returns-then-not-at-clause-ok t c =
+    let mark = mark_first c.args.own.now.marks c.args.next false (c.at.ensures ∙ ap (λ (b : Bool). Some b) c.if-not-at.true) in
+    rw mark (pruned c.batch_length.ensures c.reach_of.ensures
+    (omega (arith, c.if-most-sum.false, c.if-most-sum-2.false, c.sum_of-sum.ensures, c.from-most.ensures)))
+
+pub returns-in_err-after-clause-err : goal.returns-in_err-after-clause-err
+returns-in_err-after-clause-err t c =
+    let within : IsWithin c.args.wave.now c.args.own.now.duals c.args.place =
+    (c.batch_length.result, c.batch_length.ensures, omega (arith, c.if-most-sum.false, c.sum_of-sum.ensures, c.from-most.ensures)) in
+    let mark = mark_first c.args.own.now.marks c.args.next true (c.at.ensures ∙ ap (λ (b : Bool). Some b) c.if-not-at.false) in
+    let p = err_from_is_err_and c.from_residual.result c.from_residual.ensures.1 in
+    let child = refused_child c.args.wave.now c.args.pairs.now c.args.own.now.duals c.args.place c.in-Some.batch c.loop-item.item
+    (drop c.loop-item.after c.args.own.now.marks) c.in_err-after.field-0.0 c.in-Some.ensures.item c.in-Some.ensures.adds c.in-Some.ensures.permitted
+    c.in_err-after.ensures.err in
+    rw (p.1, p.2) (rw mark (refused_so _ _ _ (Children c.args.place c.loop-item.item) _ (drop c.loop-item.after c.args.own.now.marks) _ c.in_err-after.field-0.0
+    (λ visit is. entered within (c.loop-item.invariant.chain visit is)) child))
+
+pub loop-item-preserved : goal.loop-item-preserved
+loop-item-preserved t c = elim c.match-child_of.branch [
+  | in-Some+in_ok-after w ↦ rw w.after-is (record {
+    within = w.in_ok-after.ensures.within;
+    chain = λ visit is. c.loop-item.invariant.chain visit
+        (onward w.in-Some.ensures.item w.in-Some.ensures.adds w.in-Some.ensures.permitted w.in_ok-after.ensures.ok is);
+  })
+  | in_default w ↦ rw w.after-is (record {
+    within = c.loop-item.invariant.within;
+    chain = λ visit is. c.loop-item.invariant.chain visit (passed_over _ _ _ _ _ _ visit w.in_default.ensures.none is);
+  })
+]
+
+pub returns-clause-ok : goal.returns-clause-ok
+returns-clause-ok t c =
+    let within : IsWithin c.args.wave.now c.args.own.now.duals c.args.place =
+    (c.batch_length.result, c.batch_length.ensures, omega (arith, c.if-most-sum.false, c.sum_of-sum.ensures, c.from-most.ensures)) in
+    let mark = mark_first c.args.own.now.marks c.args.next true (c.at.ensures ∙ ap (λ (b : Bool). Some b) c.if-not-at.false) in
+    rw mark (entered within (c.loop-item.invariant.chain (Passed (drop c.loop-item.after c.args.own.now.marks))
+    (all_added (omega (arith, c.loop-item-test.false, c.orders-item-end.ensures.value)))))
