@@ -107,7 +107,7 @@ pub one_off : (f : ℕ → ℕ) (whole : List ℕ) (x : ℕ) → IsStrictlyIncre
 one_off f whole x down has = split_off f (x ∷ []) whole (single_ascends x) down (λ y one. subst (λ (k : ℕ). Contains whole k) (only_one x y one) has)
 
 -- an ascending list with one number alone has it once
-single_list : (xs : List ℕ) (x : ℕ) → IsStrictlyIncreasing xs → Contains xs x → ((y : ℕ) → Contains xs y → y ≡ x) → xs ≡ x ∷ []
+pub single_list : (xs : List ℕ) (x : ℕ) → IsStrictlyIncreasing xs → Contains xs x → ((y : ℕ) → Contains xs y → y ≡ x) → xs ≡ x ∷ []
 single_list [] x up has all = absurd (contains_none x has)
 single_list (y ∷ []) x up has all = ap (λ (k : ℕ). k ∷ []) (all y (contains_first y []))
 single_list (y ∷ z ∷ zs) x up has all =

@@ -73,25 +73,25 @@ item_from pairing place batch from order extends has out joined = record {
 }
 
 -- a place and an item of which a permitted batch has all orders make a permitted batch
-union_permitted : (pairing : Pairing) (place batch union : List ℕ) (from : ℕ) → IsPlace pairing place → Extends pairing place from batch
-    → Contains batch from → AddsItem pairing place from union → IsPermitted pairing union
-union_permitted pairing place batch union from is extends has adds =
-    let within = λ (x : ℕ) (h : Contains union x). ⊎_elim (λ old. extends.holds x old) (λ j. joined_in pairing batch from x extends.permitted j has)
+pub union_permitted : (pairing : Pairing) (place batch union : List ℕ) (from : ℕ) → IsPlace pairing place → IsPermitted pairing batch
+    → ((order : ℕ) → Contains place order → Contains batch order) → Contains batch from → AddsItem pairing place from union → IsPermitted pairing union
+union_permitted pairing place batch union from is permitted holds has adds =
+    let within = λ (x : ℕ) (h : Contains union x). ⊎_elim (λ old. holds x old) (λ j. joined_in pairing batch from x permitted j has)
     ((adds.orders x).0 h) in
     let one : Contains union from = (adds.orders from).1 (inr itself) in
-    let short = no_longer union batch adds.ascending extends.permitted.ascending within in
+    let short = no_longer union batch adds.ascending permitted.ascending within in
     let closed = λ (x y : ℕ) (j : AreJoined pairing.pairs x y) (h : Contains union x). (adds.orders y).1
     (⊎_elim (λ old. inl (is.closed x y old j)) (λ k. inr (joined_on k j)) ((adds.orders x).0 h)) in record {
       ascending = adds.ascending;
       filled = omega (arith, one.1);
-      fits = omega (arith, short, extends.permitted.fits);
+      fits = omega (arith, short, permitted.fits);
       known = all_from_contained (λ x. x < pairing.orders) union
-          (λ x h. All-contains (λ o. o < pairing.orders) batch x extends.permitted.known (within x h));
+          (λ x h. All-contains (λ o. o < pairing.orders) batch x permitted.known (within x h));
       together = λ pair added kind. (
         λ h. closed pair.first pair.second (chain_onward (record { pair = pair; added = added; kind = kind; both = inl (refl, refl) }) itself) h,
         λ h. closed pair.second pair.first (chain_onward (record { pair = pair; added = added; kind = kind; both = inr (refl, refl) }) itself) h,
       );
-      apart = λ pair added kind both. extends.permitted.apart pair added kind (within pair.first both.0, within pair.second both.1);
+      apart = λ pair added kind both. permitted.apart pair added kind (within pair.first both.0, within pair.second both.1);
     }
 
 -- a permitted batch that has the item extends the place with it
@@ -163,7 +163,7 @@ visit_says wave pairing duals _ marks left (no_item {place} {from} none rest) = 
     (extends_on pairing place batch from extends (λ order has out joined. none (item_from pairing place batch from order extends has out joined))) length_is
 visit_says wave pairing duals _ marks left (not_permitted {place} {batch = union} {from} adds never rest) = λ batch long is within extends length_is.
     visit_says wave pairing duals (Children place (from + 1)) marks left rest batch long is within
-    (extends_on pairing place batch from extends (λ order has out joined. never (union_permitted pairing place batch union from is extends
+    (extends_on pairing place batch from extends (λ order has out joined. never (union_permitted pairing place batch union from is extends.permitted extends.holds
     (joined_in pairing batch order from extends.permitted joined has) adds))) length_is
 visit_says wave pairing duals _ marks left (onward {place} {batch = union} {from} {left = between} item adds permitted first rest) = λ batch long is within extends length_is.
     ⊎_elim

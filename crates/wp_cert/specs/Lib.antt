@@ -4,3 +4,4 @@ pub mod Trees
 pub mod Bounds
 pub mod Reaches
 pub mod Refusals
+pub mod Paths

@@ -1,5 +1,5 @@
 -- Why a tree is refused: the first broken rule, in preorder of the nodes, and within a node in the order of its tests.
-use Rattle.std.specs.Prelude.{◌≡◌, ℕ, ◌+◌, ◌<◌, ◌≤◌, Bool, true, false, List, [], ◌∷◌, Option, Some, None, length, sum}
+use Rattle.std.specs.Prelude.{◌≡◌, ℕ, ◌+◌, ◌<◌, ◌≤◌, ◌⊎◌, Bool, true, false, List, [], ◌∷◌, Option, Some, None, length, sum}
 use Rattle.wp_pairs.specs.Permitted.{AreUndecided, IsDead, Pairing}
 use Rattle.wp_batch.specs.Batchings.{no_pairs}
 use Rattle.wp_batch.specs.Waves.{WavePicks}
@@ -19,20 +19,27 @@ IsRefusedVisit wave pairing duals due marks (why.NotFeasible batch) = IsVisit wa
 IsRefusedVisit wave pairing duals due marks why.BadMarks = IsVisit wave pairing duals due marks Wrong
 IsRefusedVisit wave pairing duals due marks _ = ⊥
 
+-- the marks of a node are refused: a visited batch has too much; or a mark is missing or doesn't hold, or marks are left
+abbrev pub AreRefused : WavePicks → Pairing → Own → CertWhy → Type 0
+AreRefused wave pairing own (why.NotFeasible batch) = IsVisitOfAll wave pairing own.duals own.marks (TooMuch batch)
+AreRefused wave pairing own why.BadMarks =
+    IsVisitOfAll wave pairing own.duals own.marks Wrong ⊎ ((left : List Bool) × IsVisitOfAll wave pairing own.duals own.marks (Passed left) × (0 < length left))
+AreRefused wave pairing own _ = ⊥
+
+-- the first order whose batch isn't tight for it
+pub record IsFirstSlack (wave : WavePicks) (pairing : Pairing) (own : Own) (order : ℕ) : Type 0 where
+  pub known : order < pairing.orders
+  pub before : (lower : ℕ) → lower < order → IsTightAt wave pairing own lower
+  pub slack : IsTightAt wave pairing own order → ⊥
+
 -- What a node has of its own breaks this rule, and none that is tested before: one dual and one tight batch for each order; duals that come to no less than
 -- those of the node above; marks that pass, with none left; the batches that are given are tight, order by order.
 pub data IsBrokenOwn (wave : WavePicks) (pairing : Pairing) (above : ℕ) (own : Own) : CertWhy → Type 0 where
   not_all : (HasAll pairing own → ⊥) → IsBrokenOwn wave pairing above own why.DualsLength
   low : HasAll pairing own → sum own.duals < above → IsBrokenOwn wave pairing above own why.SumLow
-  too_much : {batch : List ℕ} → HasAll pairing own → above ≤ sum own.duals → IsVisitOfAll wave pairing own.duals own.marks (TooMuch batch)
-      → IsBrokenOwn wave pairing above own (why.NotFeasible batch)
-  wrong_mark : HasAll pairing own → above ≤ sum own.duals → IsVisitOfAll wave pairing own.duals own.marks Wrong
-      → IsBrokenOwn wave pairing above own why.BadMarks
-  marks_left : {left : List Bool} → HasAll pairing own → above ≤ sum own.duals → IsVisitOfAll wave pairing own.duals own.marks (Passed left)
-      → 0 < length left → IsBrokenOwn wave pairing above own why.BadMarks
+  marks : {fault : CertWhy} → HasAll pairing own → above ≤ sum own.duals → AreRefused wave pairing own fault → IsBrokenOwn wave pairing above own fault
   not_tight : {order : ℕ} → HasAll pairing own → above ≤ sum own.duals → IsVisitOfAll wave pairing own.duals own.marks (Passed [])
-      → order < pairing.orders → ((lower : ℕ) → lower < order → IsTightAt wave pairing own lower) → (IsTightAt wave pairing own order → ⊥)
-      → IsBrokenOwn wave pairing above own (why.NotTight order)
+      → IsFirstSlack wave pairing own order → IsBrokenOwn wave pairing above own (why.NotTight order)
 
 -- The tree that is due first in a list of nodes breaks this rule, and none that is tested before, at the first of the nodes that are left: the list ends where a
 -- node is due; a dead leaf names no order that no permitted batch has; a split has nothing of its own; what a node has of its own breaks a rule; a split is

@@ -2,8 +2,13 @@
 //! pairs of orders; at each node duals say how much each order costs at least.
 #![tactic(auto)]
 
+mod check;
 mod laws;
+mod node;
+mod own;
+mod path;
 mod reach;
+mod shares;
 mod sums;
 mod tree;
 mod visit;

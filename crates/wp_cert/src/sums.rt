@@ -1,4 +1,4 @@
-ghost use Rattle.std.specs.Prelude.{◌≡◌, ◌<◌, All, length};
+ghost use Rattle.std.specs.Prelude.{◌≡◌, ◌<◌, All, length, sum};
 ghost use Rattle.wp_cert.specs.Duals.{duals_of};
 
 use crate::tree::Duals;
@@ -14,6 +14,17 @@ pub fn sum_of(duals: &Duals, batch: Batch) -> u128
         if batch.has(order) {
             total += u128::from(*duals.at(order));
         }
+    }
+    total
+}
+
+/// All duals together.
+pub fn total_of(duals: &Duals) -> u128
+    ensures { result ≡ sum duals.now }
+{
+    let mut total = 0;
+    for order in 0..duals.len() {
+        total += u128::from(*duals.at(order));
     }
     total
 }

@@ -1,0 +1,38 @@
+-- Paths from the root of a tree to a node: the pairs of the splits on the way.
+use Rattle.std.specs.Prelude.{◌≡◌, ℕ, ◌+◌, ◌<◌, List, ◌∷◌, Option, Some, length, drop, take, slice_index_or, sum}
+use Rattle.wp_pairs.specs.declared.pair.Pair.{Pair}
+use Rattle.wp_pairs.specs.Permitted.{AreUndecided, Pairing}
+use Rattle.wp_batch.specs.Waves.{WavePicks}
+use Rattle.wp_cert.specs.declared.tree.CertFault.{CertFault}
+use Rattle.wp_cert.specs.declared.tree.CertWhy.TheVariants as why
+use Rattle.wp_cert.specs.declared.tree.CertWhy.{CertWhy}
+use Rattle.wp_cert.specs.declared.tree.Node.{Node}
+use Rattle.wp_cert.specs.declared.tree.Own.{Own}
+use Rattle.wp_cert.specs.Trees.{IsRightOwn}
+use Rattle.wp_cert.specs.Refusals.{IsBroken}
+
+-- so many orders, such a capacity, and these pairs
+abbrev pub pairing_of : ℕ → ℕ → List Pair → Pairing
+pairing_of orders capacity pairs = record { orders = orders; capacity = capacity; pairs = pairs }
+
+-- each pair of a path was undecided by those before it
+pub record IsPath (orders capacity : ℕ) (pairs : List Pair) : Type 0 where
+  pub each : (k : ℕ) (d : Pair) → k < length pairs
+      → AreUndecided (pairing_of orders capacity (take k pairs)) (slice_index_or pairs k d).first (slice_index_or pairs k d).second
+
+-- a split has duals of its own, which are right and come to this, and is on an undecided pair
+pub record IsRightSplit (wave : WavePicks) (pairing : Pairing) (above first second : ℕ) (given : Option Own) (total : ℕ) : Type 0 where
+  pub own : Own
+  pub is : given ≡ Some own
+  pub right : IsRightOwn wave pairing above own
+  pub parts : AreUndecided pairing first second
+  pub sums : total ≡ sum own.duals
+
+-- a node breaks this rule, whatever follows it
+abbrev pub IsBrokenHere : WavePicks → Pairing → ℕ → Node → CertWhy → Type 0
+IsBrokenHere wave pairing above here fault = (rest : List Node) → IsBroken wave pairing above (here ∷ rest) (here ∷ rest) fault
+
+-- a tree that begins at a place of the list is refused with this fault, or memory is wanted
+abbrev pub IsRefusedFrom : WavePicks → Pairing → ℕ → List Node → ℕ → CertFault → Type 0
+IsRefusedFrom wave pairing above nodes at fault =
+    (fault.why ≡ why.Memory → ⊥) → (left : List Node) × IsBroken wave pairing above (drop at nodes) left fault.why × (fault.node + length left ≡ length nodes)

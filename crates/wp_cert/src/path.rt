@@ -1,0 +1,42 @@
+ghost use Rattle.std.specs.Prelude.{◌≡◌, ◌<◌, ◌≤◌, ◌↔◌, ℕ, IsTrue};
+ghost use Rattle.wp_pairs.specs.Permitted.{AreUndecided, IsDead};
+ghost use Rattle.wp_cert.specs.Paths.{IsPath, pairing_of};
+
+use wp_pairs::{Batch, Pair, Pairs};
+
+/// The pairs of a path, added one after the other.
+pub fn pairs_of(orders: u32, capacity: u32, path: &Vec<Pair>) -> Pairs
+    requires some_orders { 1 ≤ orders }
+    requires most_orders { orders ≤ 64 }
+    requires some_capacity { 1 ≤ capacity }
+    requires most_capacity { capacity ≤ 8 }
+    requires path { IsPath orders capacity path.now.items }
+    ensures { result ≡ pairing_of orders capacity path.now.items }
+{
+    let mut pairs = Pairs::new(orders, capacity);
+    for k in 0..path.len() {
+        let pair = path[k];
+        pairs.add(u32::from(pair.first), u32::from(pair.second), pair.together);
+    }
+    pairs
+}
+
+/// Whether two numbers are orders of the wave, the lower first, of which the pairs don't tell whether they go together.
+pub fn is_open(pairs: &Pairs, first: u32, second: u32) -> bool
+    ensures { IsTrue result ↔ AreUndecided pairs.now first second }
+{
+    if second <= first || pairs.orders() <= second {
+        return false;
+    }
+    !pairs.decided(first, second)
+}
+
+/// Whether a number is an order of the wave that no permitted batch has.
+pub fn is_dead(pairs: &Pairs, order: u32) -> bool
+    ensures { IsTrue result ↔ IsDead pairs.now order }
+{
+    if pairs.orders() <= order {
+        return false;
+    }
+    !pairs.permits(Batch::empty().union(pairs.joined_to(order)))
+}

@@ -1,0 +1,30 @@
+ghost use Rattle.std.specs.Prelude.{◌≤◌, ◌<◌, ◌^◌, length};
+ghost use Rattle.wp_cert.specs.Duals.{IsShare, IsSumOfShares};
+
+use wp_batch::Wave;
+use wp_pairs::Batch;
+
+// The share dual of an order.
+fn share_of(wave: &Wave, capacity: u32, order: u32) -> u128
+    requires capacity { 1 ≤ capacity }
+    requires known { order < length wave.now.orders }
+    ensures is { IsShare wave.now capacity order result }
+    ensures small { result < 2 ^ 70 }
+{
+    wave.orders();
+    let alone = wave.batch_length(Batch::empty().with(order));
+    60 * u128::from(alone) / u128::from(capacity)
+}
+
+/// The sum of the share duals: of each order sixty times the length of a tour for it alone, divided by the capacity and
+/// rounded down.
+pub fn shares_of(wave: &Wave, capacity: u32) -> u128
+    requires { 1 ≤ capacity }
+    ensures { IsSumOfShares wave.now capacity result }
+{
+    let mut total = 0;
+    for order in 0..wave.orders() {
+        total += share_of(wave, capacity, order);
+    }
+    total
+}
