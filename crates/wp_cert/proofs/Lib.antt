@@ -9,3 +9,5 @@ pub mod MarkSteps
 pub mod Nodes
 pub mod ShareSums
 pub mod TreeSteps
+pub mod Alive
+pub mod WholeTrees

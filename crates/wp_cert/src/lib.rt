@@ -2,7 +2,7 @@
 //! pairs of orders; at each node duals say how much each order costs at least.
 #![tactic(auto)]
 
-mod check;
+mod checking;
 mod laws;
 mod node;
 mod own;
@@ -13,5 +13,6 @@ mod sums;
 mod tree;
 mod visit;
 
+pub use checking::check;
 pub use laws::no_batching_costs_less;
 pub use tree::{CertFault, CertWhy, Certificate, Duals, Node, Nodes, Own, Tree};

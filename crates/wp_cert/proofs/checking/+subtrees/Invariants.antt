@@ -1,5 +1,5 @@
 use Rattle.std.proofs.Common.{◌+◌, ◌-◌, ◌*◌, length}
-use Rattle.wp_cert.proofs.check.+subtrees.Given as goal
+use Rattle.wp_cert.proofs.checking.+subtrees.Given as goal
 
 abbrev pub decreases-check_below : goal.decreases-check_below
 decreases-check_below l = 2 * (length l.nodes.now - l.at) + 1

@@ -139,3 +139,27 @@ fn check_below(
     path.pop();
     Ok(shown)
 }
+
+/// Checks a tree for a wave and a capacity, 1 to 8, and tells its bound, the least over its leaves that aren't dead: no
+/// batching of the wave within the capacity costs less. Otherwise the first broken rule is told, in preorder of the nodes and
+/// within a node in the order of its tests, with the number of the node; where the list of nodes is cut, with their number,
+/// and where nodes are left after the tree is whole, with the number of the first of them. `Memory` is answered where memory
+/// runs out, or a bound doesn't fit a u64. The method is branch and price (Ryan and Foster, 1981).
+pub fn check(alloc: Global, wave: &Wave, capacity: u32, tree: &Tree) -> Result<u64, CertFault>
+    requires some { 1 ≤ capacity }
+    requires most { capacity ≤ 8 }
+    ensures right { IfOk result (IsBoundOf wave.now capacity tree.now.nodes) }
+    ensures bound { IfOk result (NoBatchingCostsLess wave.now capacity) }
+    ensures refused { IfErr result (λ fault. (fault.why ≡ why.Memory → ⊥) → IsFirstBroken wave.now capacity tree.now.nodes fault) }
+{
+    let mut path = Vec::new(alloc);
+    let above = shares_of(wave, capacity);
+    let shown = check_from(wave, capacity, &tree.nodes, &mut path, above, 0)?;
+    if shown.next < tree.nodes.len() {
+        return Err(fault_at(shown.next, CertWhy::Cut));
+    }
+    match u64::try_from(shown.bound.unwrap()) {
+        Ok(bound) => Ok(bound),
+        Err(_) => Err(fault_at(shown.next, CertWhy::Memory)),
+    }
+}

@@ -7,7 +7,7 @@ use Rattle.wp_cert.specs.declared.tree.Node.TheVariants as node
 use Rattle.wp_cert.specs.Paths.{IsRefusedFrom, pairing_of}
 use Rattle.wp_cert.specs.Trees.{IsRight}
 use Rattle.wp_cert.proofs.TreeSteps.{apart_refused, cut_refused, here_refused, right_here, split_right, together_refused}
-use Rattle.wp_cert.proofs.check.+subtrees.Goals as goal
+use Rattle.wp_cert.proofs.checking.+subtrees.Goals as goal
 
 pub check_from-returns-then-at-len-clause-err : goal.check_from-returns-then-at-len-clause-err
 check_from-returns-then-at-len-clause-err t c =
