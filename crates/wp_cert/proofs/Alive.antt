@@ -124,7 +124,8 @@ tree_alive wave pairing above _ rest _ (dead {order} is) told held = let h = hel
 tree_alive wave pairing above _ rest _ (split {first} {second} {own} {nodes} {between} {left} {right} own_right parts l r) told held =
     let new : Pair = record { first = first; second = second; together = false } in
     bound_from left right (tree_alive wave (with_pair pairing first second false) (sum own.duals) between rest right r
-    (told_apart pairing.pairs new refl told (λ a b j. joined_more pairing.pairs new a b j)) (λ order low. held_apart pairing first second order told parts (held order low)))
+    (told_apart pairing.pairs new refl told (λ a b j. joined_more pairing.pairs new a b j)) (λ order low. held_apart pairing first second order told parts
+    (held order low)))
 
 -- with no pair, each order is in some permitted batch
 held_alone : (orders capacity order : ℕ) → 1 ≤ capacity → order < orders → IsHeld (no_pairs orders capacity) order

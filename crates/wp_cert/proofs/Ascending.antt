@@ -69,7 +69,8 @@ split_off f (x ∷ xs) (y ∷ ys) up down all =
     (λ z has. ⊎_elim (λ (same : y ≡ z). let above = head_below x xs up z has in absurd (omega (arith, e, same, above))) (λ later. later)
     (contains_cases y z ys (all z (contains_later x z xs has))))))
     (λ (ne : x ≢ y).
-    let first : y < x = ⊎_elim (λ (e : y ≡ x). absurd (ne (sym e))) (λ later. head_below y ys down x later) (contains_cases y x ys (all x (contains_first x xs))) in
+    let first : y < x = ⊎_elim (λ (e : y ≡ x). absurd (ne (sym e))) (λ later. head_below y ys down x later) (contains_cases y x ys (all x
+    (contains_first x xs))) in
     let least = λ (z : ℕ) (has : Contains (x ∷ xs) z). ⊎_elim (λ (e : x ≡ z). let l : y < z = omega (arith, first, e) in l)
     (λ later. let above = head_below x xs up z later in let l : y < z = omega (arith, first, above) in l) (contains_cases x z xs has) in
     split_other f y (x ∷ xs) ys (λ has. let l = least y has in omega (arith, l)) down (split_off f (x ∷ xs) ys up (tail_ascends y ys down)

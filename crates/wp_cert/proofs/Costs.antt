@@ -49,7 +49,8 @@ permitted_together pairing first second batch permitted both =
       fits = permitted.fits;
       known = permitted.known;
       together = λ pair added kind. ⊎_elim (λ old. permitted.together pair old kind)
-          (λ (e : new ≡ pair). subst (λ (p : Pair). Contains batch p.first ↔ Contains batch p.second) e both) (Contains-push_cases pairing.pairs new pair added);
+          (λ (e : new ≡ pair). subst (λ (p : Pair). Contains batch p.first ↔ Contains batch p.second) e both)
+          (Contains-push_cases pairing.pairs new pair added);
       apart = λ pair added kind. ⊎_elim (λ old. permitted.apart pair old kind)
           (λ (e : new ≡ pair). absurd (true≢false (ap (λ (p : Pair). p.together) e ∙ kind))) (Contains-push_cases pairing.pairs new pair added);
     }
@@ -121,9 +122,11 @@ tree_bounds wave pairing above _ rest _ batches cost (split {first} {second} {ow
     let one = respects.covered first (omega (arith, parted.order, parted.known)) in
     let other = respects.covered second parted.known in
     ⊎_elim
-    (λ (e : one.0 ≡ other.0). lower_left left right cost (tree_bounds wave (with_pair pairing first second true) (sum own.duals) nodes between left batches cost l
+    (λ (e : one.0 ≡ other.0). lower_left left right cost (tree_bounds wave (with_pair pairing first second true)
+    (sum own.duals) nodes between left batches cost l
     (respects_together pairing first second batches one.0 respects one.1 one.2 (subst (λ (k : ℕ). Contains (batch_at batches k) second) (sym e) other.2))
     is raised))
-    (λ (ne : one.0 ≢ other.0). lower_right left right cost (tree_bounds wave (with_pair pairing first second false) (sum own.duals) between rest right batches cost r
+    (λ (ne : one.0 ≢ other.0). lower_right left right cost (tree_bounds wave (with_pair pairing first second false)
+    (sum own.duals) between rest right batches cost r
     (respects_apart pairing first second batches one.0 other.0 respects one.1 other.1 one.2 other.2 ne) is raised))
     (cases_eq one.0 other.0)

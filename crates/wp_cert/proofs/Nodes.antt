@@ -76,7 +76,8 @@ split_broken wave built pairing above first second own given fault same is broke
 pub split_kept : (wave : WavePicks) (pairing : Pairing) (above first second : ℕ) (given : Option Own) → given ≡ None
     → IsBrokenHere wave pairing above (node.Split first second given) why.SplitKept
 split_kept wave pairing above first second given is = λ rest.
-    subst (λ (g : Option Own). IsBroken wave pairing above (node.Split first second g ∷ rest) (node.Split first second g ∷ rest) why.SplitKept) (sym is) kept_split
+    subst (λ (g : Option Own). IsBroken wave pairing above (node.Split first second g ∷ rest) (node.Split first second g ∷ rest) why.SplitKept)
+    (sym is) kept_split
 
 -- a split on no undecided pair
 pub split_decided : (wave : WavePicks) (built pairing : Pairing) (above first second : ℕ) (own : Own) (given : Option Own) → built ≡ pairing

@@ -1,5 +1,6 @@
 -- Sums over orders: over all orders below a number, over lists that have them, and over lists of batches.
-use Rattle.std.proofs.Common.{◌≡◌, ◌≢◌, ℕ, zero, suc, ◌+◌, ◌*◌, ◌/◌, ◌%◌, ◌<◌, ◌≤◌, ltb, cond, List, [], ◌∷◌, ◌++◌, length, get_or, take, arith, refl, ap, sym, ◌∙◌, subst}
+use Rattle.std.proofs.Common.{◌≡◌, ◌≢◌, ℕ, zero, suc, ◌+◌, ◌*◌, ◌/◌, ◌%◌, ◌<◌, ◌≤◌, ltb, cond}
+use Rattle.std.proofs.Common.{List, [], ◌∷◌, ◌++◌, length, get_or, take, arith, refl, ap, sym, ◌∙◌, subst}
 use Rattle.std.proofs.Common.{⊎_elim, Contains}
 use Rattle.std.specs.Prelude.{sum, sum_by, slice_index}
 use Rattle.std.proofs.Math.Nat.{div-add-mod, mod-lt}

@@ -163,9 +163,11 @@ visit_says wave pairing duals _ marks left (no_item {place} {from} none rest) = 
     (extends_on pairing place batch from extends (λ order has out joined. none (item_from pairing place batch from order extends has out joined))) length_is
 visit_says wave pairing duals _ marks left (not_permitted {place} {batch = union} {from} adds never rest) = λ batch long is within extends length_is.
     visit_says wave pairing duals (Children place (from + 1)) marks left rest batch long is within
-    (extends_on pairing place batch from extends (λ order has out joined. never (union_permitted pairing place batch union from is extends.permitted extends.holds
+    (extends_on pairing place batch from extends (λ order has out joined. never
+    (union_permitted pairing place batch union from is extends.permitted extends.holds
     (joined_in pairing batch order from extends.permitted joined has) adds))) length_is
-visit_says wave pairing duals _ marks left (onward {place} {batch = union} {from} {left = between} item adds permitted first rest) = λ batch long is within extends length_is.
+visit_says wave pairing duals _ marks left
+    (onward {place} {batch = union} {from} {left = between} item adds permitted first rest) = λ batch long is within extends length_is.
     ⊎_elim
     (λ has. visit_says wave pairing duals (Place union (from + 1)) marks between first batch long (permitted_place pairing union permitted)
     (extends_union pairing place batch union from extends has adds) length_is)

@@ -41,7 +41,8 @@ pub data IsBrokenOwn (wave : WavePicks) (pairing : Pairing) (above : ℕ) (own :
   not_tight : {order : ℕ} → HasAll pairing own → above ≤ sum own.duals → IsVisitOfAll wave pairing own.duals own.marks (Passed [])
       → IsFirstSlack wave pairing own order → IsBrokenOwn wave pairing above own (why.NotTight order)
 
--- The tree that is due first in a list of nodes breaks this rule, and none that is tested before, at the first of the nodes that are left: the list ends where a
+-- The tree that is due first in a list of nodes breaks this rule, and none that is tested before, at the first of the nodes that are left: the list ends
+-- where a
 -- node is due; a dead leaf names no order that no permitted batch has; a split has nothing of its own; what a node has of its own breaks a rule; a split is
 -- on no undecided pair; or the broken rule is in the tree with the pair together or, if that one is right, in the tree with it apart.
 pub data IsBroken (wave : WavePicks) : Pairing → ℕ → List Node → List Node → CertWhy → Type 0 where

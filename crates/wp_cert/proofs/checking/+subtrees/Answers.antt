@@ -26,7 +26,12 @@ check_from-returns-in_err-left-in-Ok-test_split-clause-err t c =
     c.in_err-left-in-Ok-test_split.field-0.0 c.in_err-left-in-Ok-test_split.ensures.err)
 
 pub check_from-overflow_cast-pair-in-Ok-test_split-2 : goal.check_from-overflow_cast-pair-in-Ok-test_split-2
-check_from-overflow_cast-pair-in-Ok-test_split-2 t c = let s = c.in-Ok-test_split.ensures.ok in omega (arith, s.parts.order, s.parts.known, c.in-Ok-test_split.ensures.few)
+check_from-overflow_cast-pair-in-Ok-test_split-2 t c = let s = c.in-Ok-test_split.ensures.ok in omega (
+  arith,
+  s.parts.order,
+  s.parts.known,
+  c.in-Ok-test_split.ensures.few,
+)
 
 pub check_from-overflow_cast-pair-in-Ok-test_split-3 : goal.check_from-overflow_cast-pair-in-Ok-test_split-3
 check_from-overflow_cast-pair-in-Ok-test_split-3 t c = let s = c.in-Ok-test_split.ensures.ok in omega (arith, s.parts.known, c.in-Ok-test_split.ensures.few)
@@ -53,7 +58,8 @@ check_from-returns-in-Err-clause-err t c =
 
 pub check_from-returns-in-Ok-test_dead-clause-ok : goal.check_from-returns-in-Ok-test_dead-clause-ok
 check_from-returns-in-Ok-test_dead-clause-ok t c =
-    right_here _ _ _ c.args.nodes.now c.args.at (node.Dead c.in-Dead.order) _ (c.at.ensures ∙ ap (λ (n : Node). Some n) c.in-Dead.is) c.in-Ok-test_dead.ensures.ok
+    right_here _ _ _ c.args.nodes.now c.args.at (node.Dead c.in-Dead.order) _ (c.at.ensures ∙ ap (λ (n : Node). Some n) c.in-Dead.is)
+    c.in-Ok-test_dead.ensures.ok
 
 pub check_from-returns-in-Err-test_dead-clause-err : goal.check_from-returns-in-Err-test_dead-clause-err
 check_from-returns-in-Err-test_dead-clause-err t c =

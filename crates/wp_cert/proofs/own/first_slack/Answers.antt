@@ -11,7 +11,8 @@ loop-order-preserved c = λ lower low.
     let there = get_or_from_slice_get own.tight c.loop-order.order c.at.result.now [] c.at.ensures in
     ⊎_elim
     (λ (e : lower ≡ c.loop-order.order). subst (λ (o : ℕ). IsTightAt c.args.wave.now c.args.pairs.now own o) (sym e)
-    (subst (λ (b : List ℕ). IsTightFor c.args.wave.now c.args.pairs.now own.duals c.loop-order.order b) (sym there) (c.is_tight.ensures.0 c.if-not-is_tight.false)))
+    (subst (λ (b : List ℕ). IsTightFor c.args.wave.now c.args.pairs.now own.duals c.loop-order.order b) (sym there) (c.is_tight.ensures.0
+    c.if-not-is_tight.false)))
     (λ (ne : lower ≢ c.loop-order.order). c.loop-order.invariant lower (omega (arith, low, ne)))
     (cases_eq lower c.loop-order.order)
 

@@ -12,4 +12,9 @@ loop-order-preserved c = record {
 }
 
 pub returns : goal.returns
-returns c = all_shares _ _ _ _ c.loop-order.invariant.below (omega (arith, c.loop-order-test.false, c.loop-order.auto.order-end, c.orders-order-end.ensures.value))
+returns c = all_shares _ _ _ _ c.loop-order.invariant.below (omega (
+  arith,
+  c.loop-order-test.false,
+  c.loop-order.auto.order-end,
+  c.orders-order-end.ensures.value,
+))

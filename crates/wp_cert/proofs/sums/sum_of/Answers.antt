@@ -14,7 +14,8 @@ pub loop-order-preserved : goal.loop-order-preserved
 loop-order-preserved c = elim c.if-has.branch [
   | then-has w ↦
       let value = get_or_from_slice_get c.args.duals.now c.loop-order.order w.at.result.now 0 w.at.ensures in
-      let more = under_with (slice_index c.args.duals.now) c.loop-order.order c.args.batch c.has.ensures.valid.ascending (c.has.ensures.exact.0 w.if-has.true) in
+      let more = under_with (slice_index c.args.duals.now) c.loop-order.order c.args.batch c.has.ensures.valid.ascending
+      (c.has.ensures.exact.0 w.if-has.true) in
       record {
         under = omega (arith, w.total-is, w.from-total.ensures, c.loop-order.invariant.under, value, more);
         small = omega (arith, w.total-is, w.from-total.ensures, c.loop-order.invariant.small);
