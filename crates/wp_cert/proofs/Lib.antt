@@ -11,3 +11,8 @@ pub mod ShareSums
 pub mod TreeSteps
 pub mod Alive
 pub mod WholeTrees
+mod TextBatches
+mod TextJson
+mod TextLists
+mod TextMembers
+mod TextPicks

@@ -5,3 +5,4 @@ pub mod Bounds
 pub mod Reaches
 pub mod Refusals
 pub mod Paths
+pub mod Text

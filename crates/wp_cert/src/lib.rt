@@ -10,9 +10,11 @@ mod path;
 mod reach;
 mod shares;
 mod sums;
+mod text;
 mod tree;
 mod visit;
 
 pub use checking::check;
 pub use laws::no_batching_costs_less;
+pub use text::read_certificate;
 pub use tree::{CertFault, CertWhy, Certificate, Duals, Node, Nodes, Own, Tree};

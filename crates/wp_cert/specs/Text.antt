@@ -1,0 +1,224 @@
+-- What a value of JSON says: the form of a certificate, and which numbers it may have.
+use Rattle.std.specs.Prelude.{◌≡◌, ℕ, suc, ◌+◌, ◌^◌, ◌==◌, ◌&&◌, ◌↔◌, Bool, true, false, List, [], ◌∷◌, Contains, Option, Some, None, option_map, option_and_then}
+use Rattle.std.specs.Prelude.{Result, Ok, Err, if◌then◌else◌, is_none, nat_le, nat_lt, length, codes, bytes_eq}
+use Rattle.std.specs.List.{AllZip, list_all}
+use Rattle.std.specs.Option.{ok_or, option_map_or}
+use Rattle.std.specs.Str.{is_utf8}
+use Rattle.serde_json.specs.Data.{Data, Items, no_items, item, Members, no_members, member}
+use Rattle.serde_json.specs.Find.{as_array, as_number, as_object, as_str, as_u64, at, get}
+use Rattle.serde_json.specs.Read.{read}
+use Rattle.wp_model.specs.declared.point.Point.{Point}
+use Rattle.wp_model.specs.Outcomes.{and_then}
+use Rattle.wp_model.specs.Warehouse.{Layout}
+use Rattle.wp_graph.specs.PickSets.{PickSet}
+use Rattle.wp_batch.specs.Waves.{WavePicks}
+use Rattle.wp_cert.specs.declared.tree.CertWhy.{CertWhy}
+use Rattle.wp_cert.specs.declared.tree.CertWhy.TheVariants as why
+use Rattle.wp_cert.specs.declared.tree.Node.{Node}
+use Rattle.wp_cert.specs.declared.tree.Node.TheVariants as node
+use Rattle.wp_cert.specs.declared.tree.Own.{Own}
+use Rattle.wp_cert.specs.declared.text.form.Form.{Form}
+use Rattle.wp_cert.specs.declared.text.form.Place.{Place}
+use Rattle.wp_cert.specs.declared.text.form.Unread.{Unread}
+use Rattle.wp_cert.specs.declared.text.form.Unread.TheVariants as unread
+
+-- ---- values
+
+-- what is read of each, where it is read of every one
+abbrev pub each_of : {A B : Type 0} → (A → Option B) → List A → Option (List B)
+each_of read [] = Some []
+each_of read (x ∷ xs) = option_and_then (λ y. option_map (λ ys. y ∷ ys) (each_of read xs)) (read x)
+
+-- what each item says, where each says something
+abbrev pub each_said : {A : Type 0} → (Data → Option A) → Items → Option (List A)
+each_said said no_items = Some []
+each_said said (item value values) = option_and_then (λ x. option_map (λ xs. x ∷ xs) (each_said said values)) (said value)
+
+-- a list of values, each of which says something
+abbrev pub list_said : {A : Type 0} → (Data → Option A) → Data → Option (List A)
+list_said said value = option_and_then (each_said said) (as_array value)
+
+-- what the value at a key says
+abbrev pub said_at : {A : Type 0} → (Data → Option A) → List ℕ → Data → Option A
+said_at said key value = option_and_then said (get key value)
+
+-- a whole number
+abbrev pub number_said : Data → Option ℕ
+number_said value = option_and_then as_u64 (as_number value)
+
+-- a number from the one bound on, and below the other
+abbrev pub within : ℕ → ℕ → ℕ → Option ℕ
+within least end n = if nat_le least n && nat_lt n end then Some n else None
+
+-- the place of an order: a whole number of 32 bits
+abbrev pub position_said : Data → Option ℕ
+position_said value = option_and_then (within 0 (2 ^ 32)) (number_said value)
+
+-- how many members there are; an object has each key once
+abbrev pub members_count : Members → ℕ
+members_count no_members = 0
+members_count (member key value more) = suc (members_count more)
+
+-- whether a value is an object with so many keys
+abbrev pub has_keys : ℕ → Data → Bool
+has_keys count value = option_map_or (λ members. members_count members == count) (as_object value) false
+
+-- ---- the parts of a certificate
+
+-- a slot that an order picks at: the numbers of its aisle and of the slot in it, and nothing else
+abbrev pub place_said : Data → Option Place
+place_said value =
+    if is_none (at 2 value)
+    then option_and_then
+    (λ aisle. option_map (λ slot. record { aisle = aisle; slot = slot }) (option_and_then number_said (at 1 value)))
+    (option_and_then number_said (at 0 value))
+    else None
+
+-- orders, each above the one before it; the first is at least this one, and all are below 64
+abbrev pub orders_from : ℕ → Items → Option (List ℕ)
+orders_from least no_items = Some []
+orders_from least (item value values) =
+    option_and_then (λ order. option_map (λ orders. order ∷ orders) (orders_from (order + 1) values)) (option_and_then (within least 64) (number_said value))
+
+-- a batch: orders in ascending order
+abbrev pub batch_said : Data → Option (List ℕ)
+batch_said value = option_and_then (orders_from 0) (as_array value)
+
+-- a mark as a character
+abbrev pub mark_said : ℕ → Option Bool
+mark_said code = if code == 49 then Some true else (if code == 48 then Some false else None)
+
+-- marks as a text
+abbrev pub marks_said : Data → Option (List Bool)
+marks_said value = option_and_then (each_of mark_said) (as_str value)
+
+-- the duals, the marks and the tight batches of a node
+abbrev pub own_said : Data → Option Own
+own_said value =
+    option_and_then (λ duals. option_and_then (λ marks. option_map (λ tight. record { duals = duals; marks = marks; tight = tight })
+    (said_at (list_said batch_said) (codes "tight") value)) (said_at marks_said (codes "marks") value))
+    (said_at (list_said number_said) (codes "duals") value)
+
+-- a leaf that keeps its parent's duals
+abbrev pub kept_said : Data → Option Node
+kept_said value = if has_keys 1 value then Some (node.Leaf None) else None
+
+-- a leaf with duals of its own
+abbrev pub leaf_said : Data → Option Node
+leaf_said value = if has_keys 4 value then option_map (λ own. node.Leaf (Some own)) (own_said value) else None
+
+-- what a split has of its own: all of it or nothing
+abbrev pub split_own_said : Data → Option (Option Own)
+split_own_said value = if has_keys 3 value then Some None else (if has_keys 6 value then option_map (λ own. Some own) (own_said value) else None)
+
+-- a split on a pair of orders
+abbrev pub split_said : Data → Option Node
+split_said value =
+    option_and_then (λ first. option_and_then (λ second. option_map (λ own. node.Split first second own)
+    (split_own_said value)) (said_at position_said (codes "second") value)) (said_at position_said (codes "first") value)
+
+-- a leaf with an order that no permitted batch holds
+abbrev pub dead_said : Data → Option Node
+dead_said value = if has_keys 2 value then option_map (λ order. node.Dead order) (said_at position_said (codes "order") value) else None
+
+-- a node of this kind
+abbrev pub node_of_kind : Data → List ℕ → Option Node
+node_of_kind value kind =
+    if bytes_eq kind (codes "kept") then kept_said value
+    else (if bytes_eq kind (codes "leaf") then leaf_said value
+    else (if bytes_eq kind (codes "split") then split_said value
+    else (if bytes_eq kind (codes "dead") then dead_said value else None)))
+
+-- a node
+abbrev pub node_said : Data → Option Node
+node_said value = option_and_then (node_of_kind value) (said_at as_str (codes "kind") value)
+
+-- the four parts of a certificate
+abbrev pub parts_said : Data → Option Form
+parts_said value =
+    option_and_then (λ version. option_and_then (λ capacity. option_and_then (λ orders. option_map
+    (λ nodes. record { version = version; capacity = capacity; orders = orders; nodes = nodes })
+    (said_at (list_said node_said) (codes "nodes") value))
+    (said_at (list_said (list_said place_said)) (codes "orders") value))
+    (said_at number_said (codes "capacity") value))
+    (said_at number_said (codes "version") value)
+
+-- the form of a certificate: an object with its four parts and no other key
+abbrev pub form_said : Data → Option Form
+form_said value = if has_keys 4 value then parts_said value else None
+
+-- ---- ranges
+
+-- whether a number is from 1 to this one
+abbrev pub is_up_to : ℕ → ℕ → Bool
+is_up_to most n = nat_le 1 n && nat_le n most
+
+-- whether a place is a slot of the layout
+abbrev pub is_slot_of : Layout → Place → Bool
+is_slot_of layout place = is_up_to layout.aisles place.aisle && is_up_to layout.slots place.slot
+
+-- whether an order picks at some slots, which are slots of the layout
+abbrev pub is_order_of : Layout → List Place → Bool
+is_order_of layout places = nat_le 1 (length places) && list_all (is_slot_of layout) places
+
+-- the greatest dual
+abbrev pub greatest_dual : ℕ
+greatest_dual = 1000000000000
+
+-- whether the duals, where there are some, are all within their range
+abbrev pub are_duals_within : Option Own → Bool
+are_duals_within None = true
+are_duals_within (Some own) = list_all (λ dual. nat_le dual greatest_dual) own.duals
+
+-- whether the duals of a node are within their range
+abbrev pub is_node_within : Node → Bool
+is_node_within (node.Leaf own) = are_duals_within own
+is_node_within (node.Split first second own) = are_duals_within own
+is_node_within (node.Dead order) = true
+
+-- whether version, capacity, orders and duals are in their ranges
+abbrev pub is_within : Layout → Form → Bool
+is_within layout form =
+    (form.version == 1) && (is_up_to 8 form.capacity && (is_up_to 64 (length form.orders)
+    && (list_all (is_order_of layout) form.orders && list_all is_node_within form.nodes)))
+
+-- ---- the whole text
+
+-- what a part that isn't read is told as
+abbrev pub why_unread : Unread → CertWhy
+why_unread unread.BadShape = why.BadShape
+why_unread unread.Memory = why.Memory
+
+-- the value that bytes are read as: they must be text, and the text must be JSON
+abbrev pub value_read : List ℕ → Result Data CertWhy
+value_read bytes = ok_or (if is_utf8 bytes then read bytes else None) why.NotJson
+
+-- the form comes first, and then the ranges
+abbrev pub value_says : Layout → Data → Result Form CertWhy
+value_says layout value =
+    and_then (ok_or (form_said value) why.BadShape) (λ form. if is_within layout form then Ok form else Err why.OutOfRange)
+
+-- what the bytes of a certificate say, or why they say none
+abbrev pub certificate_said : Layout → List ℕ → Result Form CertWhy
+certificate_said layout bytes = and_then (value_read bytes) (value_says layout)
+
+-- a point as the text has it
+abbrev pub place_of : Point → Place
+place_of point = record { aisle = point.aisle; slot = point.slot }
+
+-- an order picks just at the slots that the text has for it
+abbrev pub PicksAt : PickSet → List Place → Type 0
+PicksAt picks places = (p : Point) → Contains picks.points p ↔ Contains places (place_of p)
+
+-- each order picks just at the slots that the text has for it
+abbrev pub PickAt : List PickSet → List (List Place) → Type 0
+PickAt orders places = AllZip PicksAt orders places
+
+-- the bytes of a certificate tell this wave of the layout, this capacity, and a tree of these nodes
+pub record Tells (layout : Layout) (bytes : List ℕ) (wave : WavePicks) (capacity : ℕ) (nodes : List Node) : Type 0 where
+  pub form : Form
+  pub said : certificate_said layout bytes ≡ Ok form
+  pub layout_is : wave.layout ≡ layout
+  pub orders_pick : PickAt wave.orders form.orders
+  pub capacity_is : form.capacity ≡ capacity
+  pub nodes_are : form.nodes ≡ nodes

@@ -1,0 +1,27 @@
+use crate::Nodes;
+use wp_model::Listing;
+
+/// A slot as it stands in the text: the number of an aisle and that of a slot in it, which the layout may not have.
+#[derive(Clone, Copy, Debug)]
+pub(crate) struct Place {
+    pub(crate) aisle: u64,
+    pub(crate) slot: u64,
+}
+
+/// What a text of the right form has, whether or not its numbers are in their ranges.
+#[derive(Drop)]
+pub(crate) struct Form {
+    pub(crate) version: u64,
+    pub(crate) capacity: u64,
+    pub(crate) orders: Listing<Listing<Place>>,
+    pub(crate) nodes: Nodes,
+}
+
+/// Why a value isn't read as a part of a certificate.
+#[derive(Clone, Copy, Debug)]
+pub(crate) enum Unread {
+    /// It isn't of the part's form.
+    BadShape,
+    /// There was no memory for it.
+    Memory,
+}

@@ -1,0 +1,238 @@
+ghost use Rattle.std.specs.Prelude.{◌≡◌, ◌++◌, ◌<◌, ◌≤◌, ◌^◌, ◌∷◌, [], IfOk, IfErr, IfSome, None, Some, codes, option_and_then};
+ghost use Rattle.serde_json.specs.View.{view};
+ghost use Rattle.wp_cert.specs.Text.{batch_said, dead_said, each_of, has_keys, kept_said, leaf_said, list_said, mark_said, marks_said, number_said};
+ghost use Rattle.wp_cert.specs.Text.{node_of_kind, node_said, own_said, place_said, position_said, said_at, split_own_said, split_said, within};
+ghost use Rattle.wp_cert.specs.declared.text.form.Unread.TheVariants as unread;
+
+use crate::text::form::{Place, Unread};
+use crate::text::part::{Part, list_at, read_list};
+use crate::{Node, Own};
+use serde_json::Value;
+use std::alloc::Global;
+use wp_batch::Marks;
+use wp_model::Listing;
+use wp_pairs::Batch;
+
+impl Part for Place {
+    ghost said = { place_said };
+
+    fn read(_alloc: Global, value: &Value) -> Result<Place, Unread> {
+        if value.get(2usize).is_some() {
+            return Err(Unread::BadShape);
+        }
+        let aisle = value
+            .get(0usize)
+            .and_then(Value::as_u64)
+            .ok_or(Unread::BadShape)?;
+        let slot = value
+            .get(1usize)
+            .and_then(Value::as_u64)
+            .ok_or(Unread::BadShape)?;
+        Ok(Place { aisle, slot })
+    }
+}
+
+impl Part for Listing<Place> {
+    ghost said = { list_said place_said };
+
+    fn read(alloc: Global, value: &Value) -> Result<Listing<Place>, Unread> {
+        read_list(alloc, value)
+    }
+}
+
+// Whether a value is an object with so many keys.
+pub(crate) fn has_keys(value: &Value, count: usize) -> bool
+    ensures { result ≡ has_keys count (view value.now) }
+{
+    match value.as_object() {
+        Some(members) => members.len() == count,
+        None => false,
+    }
+}
+
+// The order that a value says, from the least on and below 64.
+fn order_in(value: &Value, least: u32) -> Option<u32>
+    requires { least < 65 }
+    ensures value { result ≡ option_and_then (within least 64) (number_said (view value.now)) }
+    ensures range { IfSome result (λ order. (least ≤ order) × (order < 64)) }
+{
+    let order = value.as_u64()?;
+    if u64::from(least) <= order && order < 64 {
+        Some(order as u32)
+    } else {
+        None
+    }
+}
+
+// The order at a key, which may be any number of 32 bits.
+fn order_at(value: &Value, key: &str) -> Result<u32, Unread>
+    ensures ok { IfOk result (λ order. said_at position_said key.now (view value.now) ≡ Some order) }
+    ensures bad { IfErr result (λ fault. said_at position_said key.now (view value.now) ≡ None) }
+{
+    let order = value
+        .get(key)
+        .and_then(Value::as_u64)
+        .ok_or(Unread::BadShape)?;
+    if order <= 4_294_967_295 {
+        Ok(order as u32)
+    } else {
+        Err(Unread::BadShape)
+    }
+}
+
+impl Part for Batch {
+    ghost said = { batch_said };
+
+    fn read(_alloc: Global, value: &Value) -> Result<Batch, Unread> {
+        let items = value.as_array().ok_or(Unread::BadShape)?;
+        let mut batch = Batch::empty();
+        let mut least = 0;
+        for item in items {
+            let order = order_in(item, least).ok_or(Unread::BadShape)?;
+            batch = batch.with(order);
+            least = order + 1;
+        }
+        Ok(batch)
+    }
+}
+
+// The mark that a character says.
+fn mark_in(code: u8) -> Option<bool>
+    ensures { result ≡ mark_said code }
+{
+    match code {
+        b'1' => Some(true),
+        b'0' => Some(false),
+        _ => None,
+    }
+}
+
+// The marks that the characters of a text say.
+fn read_marks(alloc: Global, text: &str) -> Result<Marks, Unread>
+    ensures ok { IfOk result (λ marks. each_of mark_said text.now ≡ Some marks) }
+    ensures bad { IfErr result (λ fault. fault ≡ unread.BadShape → each_of mark_said text.now ≡ None) }
+{
+    let mut marks = Marks::new(alloc);
+    for code in text.as_bytes() {
+        marks.push(mark_in(*code).ok_or(Unread::BadShape)?)?;
+    }
+    Ok(marks)
+}
+
+// The marks at a key.
+fn marks_at(alloc: Global, value: &Value, key: &str) -> Result<Marks, Unread>
+    ensures ok { IfOk result (λ marks. said_at marks_said key.now (view value.now) ≡ Some marks) }
+    ensures bad { IfErr result (λ fault. fault ≡ unread.BadShape → said_at marks_said key.now (view value.now) ≡ None) }
+{
+    let text = value
+        .get(key)
+        .and_then(Value::as_str)
+        .ok_or(Unread::BadShape)?;
+    read_marks(alloc, text)
+}
+
+// The duals, the marks and the tight batches of a node.
+fn read_own(alloc: Global, value: &Value) -> Result<Own, Unread>
+    ensures ok { IfOk result (λ own. own_said (view value.now) ≡ Some own) }
+    ensures bad { IfErr result (λ fault. fault ≡ unread.BadShape → own_said (view value.now) ≡ None) }
+{
+    let duals = list_at(alloc, value, "duals")?;
+    let marks = marks_at(alloc, value, "marks")?;
+    let tight = list_at(alloc, value, "tight")?;
+    Ok(Own {
+        duals,
+        marks,
+        tight,
+    })
+}
+
+// A leaf that keeps its parent's duals.
+fn read_kept(value: &Value) -> Result<Node, Unread>
+    ensures ok { IfOk result (λ node. kept_said (view value.now) ≡ Some node) }
+    ensures bad { IfErr result (λ fault. kept_said (view value.now) ≡ None) }
+{
+    if has_keys(value, 1) {
+        Ok(Node::Leaf(None))
+    } else {
+        Err(Unread::BadShape)
+    }
+}
+
+// A leaf with duals of its own.
+fn read_leaf(alloc: Global, value: &Value) -> Result<Node, Unread>
+    ensures ok { IfOk result (λ node. leaf_said (view value.now) ≡ Some node) }
+    ensures bad { IfErr result (λ fault. fault ≡ unread.BadShape → leaf_said (view value.now) ≡ None) }
+{
+    if has_keys(value, 4) {
+        Ok(Node::Leaf(Some(read_own(alloc, value)?)))
+    } else {
+        Err(Unread::BadShape)
+    }
+}
+
+// What a split has of its own: all of it or nothing.
+fn read_split_own(alloc: Global, value: &Value) -> Result<Option<Own>, Unread>
+    ensures ok { IfOk result (λ own. split_own_said (view value.now) ≡ Some own) }
+    ensures bad { IfErr result (λ fault. fault ≡ unread.BadShape → split_own_said (view value.now) ≡ None) }
+{
+    if has_keys(value, 3) {
+        Ok(None)
+    } else if has_keys(value, 6) {
+        Ok(Some(read_own(alloc, value)?))
+    } else {
+        Err(Unread::BadShape)
+    }
+}
+
+// A split on a pair of orders.
+fn read_split(alloc: Global, value: &Value) -> Result<Node, Unread>
+    ensures ok { IfOk result (λ node. split_said (view value.now) ≡ Some node) }
+    ensures bad { IfErr result (λ fault. fault ≡ unread.BadShape → split_said (view value.now) ≡ None) }
+{
+    let first = order_at(value, "first")?;
+    let second = order_at(value, "second")?;
+    let own = read_split_own(alloc, value)?;
+    Ok(Node::Split { first, second, own })
+}
+
+// A leaf with an order that no permitted batch holds.
+fn read_dead(value: &Value) -> Result<Node, Unread>
+    ensures ok { IfOk result (λ node. dead_said (view value.now) ≡ Some node) }
+    ensures bad { IfErr result (λ fault. dead_said (view value.now) ≡ None) }
+{
+    if has_keys(value, 2) {
+        Ok(Node::Dead(order_at(value, "order")?))
+    } else {
+        Err(Unread::BadShape)
+    }
+}
+
+// A node of this kind.
+fn read_kind(alloc: Global, value: &Value, kind: &str) -> Result<Node, Unread>
+    ensures ok { IfOk result (λ node. node_of_kind (view value.now) kind.now ≡ Some node) }
+    ensures bad { IfErr result (λ fault. fault ≡ unread.BadShape → node_of_kind (view value.now) kind.now ≡ None) }
+{
+    if kind == "kept" {
+        read_kept(value)
+    } else if kind == "leaf" {
+        read_leaf(alloc, value)
+    } else if kind == "split" {
+        read_split(alloc, value)
+    } else if kind == "dead" {
+        read_dead(value)
+    } else {
+        Err(Unread::BadShape)
+    }
+}
+
+impl Part for Node {
+    ghost said = { node_said };
+
+    fn read(alloc: Global, value: &Value) -> Result<Node, Unread> {
+        let kind = value
+            .get("kind")
+            .and_then(Value::as_str)
+            .ok_or(Unread::BadShape)?;
+        read_kind(alloc, value, kind)
+    }
+}

@@ -1,0 +1,112 @@
+ghost use Rattle.std.specs.Prelude.{◌≡◌, nat_le};
+ghost use Rattle.std.specs.List.{list_all};
+ghost use Rattle.wp_cert.specs.Text.{are_duals_within, greatest_dual, is_node_within, is_order_of, is_slot_of, is_up_to, is_within};
+
+use crate::text::form::{Form, Place};
+use crate::{Node, Own};
+use wp_graph::Layout;
+use wp_model::Listing;
+
+/// The greatest dual of a certificate, in sixtieths of a unit of length.
+const GREATEST_DUAL: u64 = 1_000_000_000_000;
+
+// Whether a number is from 1 to this one.
+fn is_up_to(number: u64, most: u32) -> bool
+    ensures { result ≡ is_up_to most number }
+{
+    1 <= number && number <= u64::from(most)
+}
+
+// Whether a place is a slot of the layout.
+fn is_slot_of(layout: &Layout, place: Place) -> bool
+    ensures { result ≡ is_slot_of layout.now place }
+{
+    is_up_to(place.aisle, layout.aisles()) && is_up_to(place.slot, layout.slots())
+}
+
+// Whether all places are slots of the layout.
+fn are_slots(layout: &Layout, places: &[Place]) -> bool
+    ensures { result ≡ list_all (is_slot_of layout.now) places.now }
+{
+    for place in places {
+        if !is_slot_of(layout, *place) {
+            return false;
+        }
+    }
+    true
+}
+
+// Whether an order picks at some slots, which are slots of the layout.
+fn is_order_of(layout: &Layout, places: &Listing<Place>) -> bool
+    ensures { result ≡ is_order_of layout.now places.now }
+{
+    1 <= places.len() && are_slots(layout, places.as_slice())
+}
+
+// Whether each order picks at slots of the layout.
+fn are_orders(layout: &Layout, orders: &[Listing<Place>]) -> bool
+    ensures { result ≡ list_all (is_order_of layout.now) orders.now }
+{
+    for places in orders {
+        if !is_order_of(layout, places) {
+            return false;
+        }
+    }
+    true
+}
+
+// Whether no dual is above the greatest.
+fn are_within(duals: &[u64]) -> bool
+    ensures { result ≡ list_all (λ dual. nat_le dual greatest_dual) duals.now }
+{
+    for dual in duals {
+        if *dual > GREATEST_DUAL {
+            return false;
+        }
+    }
+    true
+}
+
+// Whether the duals, where there are some, are all within their range.
+fn are_duals_within(own: &Option<Own>) -> bool
+    ensures { result ≡ are_duals_within own.now }
+{
+    match own {
+        None => true,
+        Some(own) => are_within(own.duals.as_slice()),
+    }
+}
+
+// Whether the duals of a node are within their range.
+fn is_node_within(node: &Node) -> bool
+    ensures { result ≡ is_node_within node.now }
+{
+    match node {
+        Node::Leaf(own) => are_duals_within(own),
+        Node::Split { own, .. } => are_duals_within(own),
+        Node::Dead(_) => true,
+    }
+}
+
+// Whether the duals of all nodes are within their range.
+fn are_nodes_within(nodes: &[Node]) -> bool
+    ensures { result ≡ list_all is_node_within nodes.now }
+{
+    for node in nodes {
+        if !is_node_within(node) {
+            return false;
+        }
+    }
+    true
+}
+
+/// Whether version, capacity, orders and duals are in their ranges.
+pub(crate) fn is_within(form: &Form, layout: &Layout) -> bool
+    ensures { result ≡ is_within layout.now form.now }
+{
+    form.version == 1
+        && is_up_to(form.capacity, 8)
+        && is_up_to(u64::from(form.orders.len()), 64)
+        && are_orders(layout, form.orders.as_slice())
+        && are_nodes_within(form.nodes.as_slice())
+}

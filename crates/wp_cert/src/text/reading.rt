@@ -1,0 +1,147 @@
+ghost use Rattle.std.specs.Prelude.{◌≡◌, ◌≢◌, IfOk, IfErr, None, Err, Ok, Some, true};
+ghost use Rattle.serde_json.specs.View.{view};
+ghost use Rattle.wp_cert.specs.Text.{PickAt, Tells, certificate_said, form_said, is_within, parts_said, value_read, value_says, why_unread};
+ghost use Rattle.wp_cert.specs.declared.text.form.Unread.TheVariants as unread;
+ghost use Rattle.wp_cert.specs.declared.tree.CertWhy.TheVariants as why;
+
+use crate::text::form::{Form, Unread};
+use crate::text::node::has_keys;
+use crate::text::part::{list_at, read_at};
+use crate::text::ranges::is_within;
+use crate::text::wave::wave_of;
+use crate::{CertFault, CertWhy, Certificate, Tree};
+use serde_json::Value;
+use std::alloc::Global;
+use wp_graph::Layout;
+use wp_model::Memory;
+
+// The value of a text.
+fn read_value(alloc: Global, text: &Vec<u8>) -> Result<Value, CertWhy>
+    ensures value { IfOk result (λ value. value_read text.now.items ≡ Ok (view value)) }
+    ensures refusal { IfErr result (λ refusal. refusal ≢ why.Memory → value_read text.now.items ≡ Err refusal) }
+{
+    match Value::from_slice(alloc, text) {
+        Ok(value) => Ok(value),
+        Err(error) => {
+            if error.is_memory() {
+                Err(CertWhy::Memory)
+            } else {
+                Err(CertWhy::NotJson)
+            }
+        }
+    }
+}
+
+// The four parts of a certificate.
+fn read_parts(alloc: Global, value: &Value) -> Result<Form, Unread>
+    ensures ok { IfOk result (λ form. parts_said (view value.now) ≡ Some form) }
+    ensures bad { IfErr result (λ fault. fault ≡ unread.BadShape → parts_said (view value.now) ≡ None) }
+{
+    let version = read_at(alloc, value, "version")?;
+    let capacity = read_at(alloc, value, "capacity")?;
+    let orders = list_at(alloc, value, "orders")?;
+    let nodes = list_at(alloc, value, "nodes")?;
+    Ok(Form {
+        version,
+        capacity,
+        orders,
+        nodes,
+    })
+}
+
+// What a value of the form of a certificate has.
+fn read_form(alloc: Global, value: &Value) -> Result<Form, Unread>
+    ensures ok { IfOk result (λ form. form_said (view value.now) ≡ Some form) }
+    ensures bad { IfErr result (λ fault. fault ≡ unread.BadShape → form_said (view value.now) ≡ None) }
+{
+    if has_keys(value, 4) {
+        read_parts(alloc, value)
+    } else {
+        Err(Unread::BadShape)
+    }
+}
+
+impl From<Unread> for CertWhy {
+    ghost from_gives = { λ unread fault. fault ≡ why_unread unread };
+
+    fn from(unread: Unread) -> CertWhy {
+        match unread {
+            Unread::BadShape => CertWhy::BadShape,
+            Unread::Memory => CertWhy::Memory,
+        }
+    }
+}
+
+// What a value says, with its numbers in their ranges.
+fn read_within(alloc: Global, value: &Value, layout: &Layout) -> Result<Form, CertWhy>
+    ensures ok { IfOk result (λ form. value_says layout.now (view value.now) ≡ Ok form) }
+    ensures within { IfOk result (λ form. is_within layout.now form ≡ true) }
+    ensures refusal { IfErr result (λ refusal. refusal ≢ why.Memory → value_says layout.now (view value.now) ≡ Err refusal) }
+{
+    let form = read_form(alloc, value)?;
+    if is_within(&form, layout) {
+        Ok(form)
+    } else {
+        Err(CertWhy::OutOfRange)
+    }
+}
+
+// What a text says, with its numbers in their ranges.
+fn read_text(alloc: Global, text: &Vec<u8>, layout: &Layout) -> Result<Form, CertWhy>
+    ensures ok { IfOk result (λ form. certificate_said layout.now text.now.items ≡ Ok form) }
+    ensures within { IfOk result (λ form. is_within layout.now form ≡ true) }
+    ensures refusal { IfErr result (λ refusal. refusal ≢ why.Memory → certificate_said layout.now text.now.items ≡ Err refusal) }
+{
+    let value = read_value(alloc, text)?;
+    read_within(alloc, &value, layout)
+}
+
+// The certificate of what a text says.
+fn certificate_of(alloc: Global, layout: &Layout, form: Form) -> Result<Certificate, Memory>
+    requires within { is_within layout.now form ≡ true }
+    ensures layout { IfOk result (λ certificate. certificate.wave.layout ≡ layout.now) }
+    ensures orders { IfOk result (λ certificate. PickAt certificate.wave.orders form.orders) }
+    ensures capacity { IfOk result (λ certificate. certificate.capacity ≡ form.capacity) }
+    ensures nodes { IfOk result (λ certificate. certificate.tree.nodes ≡ form.nodes) }
+{
+    let capacity = form.capacity as u32;
+    let wave = wave_of(alloc, layout, &form.orders)?;
+    let tree = Tree { nodes: form.nodes };
+    Ok(Certificate {
+        wave,
+        capacity,
+        tree,
+    })
+}
+
+// The certificate that a text says, or why it says none.
+fn read_told(alloc: Global, text: &Vec<u8>, layout: &Layout) -> Result<Certificate, CertWhy>
+    ensures told { IfOk result (λ read. Tells layout.now text.now.items read.wave read.capacity read.tree.nodes) }
+    ensures refusal { IfErr result (λ refusal. refusal ≢ why.Memory → certificate_said layout.now text.now.items ≡ Err refusal) }
+{
+    let form = read_text(alloc, text, layout)?;
+    match certificate_of(alloc, layout, form) {
+        Ok(certificate) => Ok(certificate),
+        Err(Memory) => Err(CertWhy::Memory),
+    }
+}
+
+/// The certificate that a text says for a layout: its wave has that layout, and its orders pick just at the slots of the
+/// text. A certificate is refused at node 0, in this order, as `NotJson` where the bytes aren't UTF-8 or `serde_json` reads
+/// no value in them, `BadShape` where the value isn't of a certificate's form, and `OutOfRange` where the version isn't 1,
+/// the capacity isn't 1 to 8, there aren't 1 to 64 orders, an order has no slot or one that the layout hasn't, or a dual is
+/// above 1,000,000,000,000 sixtieths. Of two members of one key the last counts. `Memory` comes where memory ran out.
+pub fn read_certificate(
+    alloc: Global,
+    text: &Vec<u8>,
+    layout: &Layout,
+) -> Result<Certificate, CertFault>
+    ensures told { IfOk result (λ read. Tells layout.now text.now.items read.wave read.capacity read.tree.nodes) }
+    ensures refusal { IfErr result (λ fault. fault.why ≢ why.Memory → certificate_said layout.now text.now.items ≡ Err fault.why) }
+    ensures node { IfErr result (λ fault. fault.node ≡ 0) }
+{
+    match read_told(alloc, text, layout) {
+        Ok(certificate) => Ok(certificate),
+        Err(why) => Err(CertFault { node: 0, why }),
+    }
+}
