@@ -14,5 +14,10 @@ pub mod WholeTrees
 mod TextBatches
 mod TextJson
 mod TextLists
-mod TextMembers
+mod TextOrders
 mod TextPicks
+mod TextPlain
+mod TextReadBack
+mod TextSame
+mod TextShown
+mod TextTold

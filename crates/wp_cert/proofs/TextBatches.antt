@@ -1,5 +1,6 @@
 -- Batches as ascending lists, and what the items of a list say of one.
-use Rattle.std.proofs.Common.{◌≡◌, ℕ, zero, suc, ◌+◌, ◌<◌, ◌≤◌, ◌⊎◌, List, [], ◌∷◌, ◌++◌, length, get_or, take, Option, Some, None, option_map, option_and_then, arith, refl, sym, ap, ◌∙◌}
+use Rattle.std.proofs.Common.{◌≡◌, ℕ, zero, suc, ◌+◌, ◌<◌, ◌≤◌, ◌⊎◌, List, [], ◌∷◌, ◌++◌, length, get_or, take, Option, Some, None, option_map}
+use Rattle.std.proofs.Common.{option_and_then, arith, refl, sym, ap, ◌∙◌}
 use Rattle.std.proofs.Common.{Contains, ⊎_elim, inl, inr, subst, ◌↔◌}
 use Rattle.std.proofs.lemmas.List.Elements.{Contains-append_cases, Contains-append_left, Contains-append_right}
 use Rattle.std.proofs.lemmas.Option.{same_Some}
@@ -14,10 +15,12 @@ use Rattle.wp_cert.specs.Text.{batch_said, number_said, orders_from, within}
 
 -- ---- ascending lists
 
-tail_ascends : (x : ℕ) (xs : List ℕ) → IsStrictlyIncreasing (x ∷ xs) → IsStrictlyIncreasing xs
+-- the rest of an ascending list ascends
+pub tail_ascends : (x : ℕ) (xs : List ℕ) → IsStrictlyIncreasing (x ∷ xs) → IsStrictlyIncreasing xs
 tail_ascends x xs h = λ k within. let e : suc k + 1 ≡ suc (k + 1) = omega arith in let up = h (suc k) (omega arith) in rw e at up
 
-head_below : (x : ℕ) (xs : List ℕ) → IsStrictlyIncreasing (x ∷ xs) → (y : ℕ) → Contains xs y → x < y
+-- the first of an ascending list is below the others
+pub head_below : (x : ℕ) (xs : List ℕ) → IsStrictlyIncreasing (x ∷ xs) → (y : ℕ) → Contains xs y → x < y
 head_below x [] h y has = absurd (contains_none y has)
 head_below x (z ∷ zs) h y has =
     let next : x < z = h 0 (omega arith) in
@@ -34,7 +37,8 @@ same_first x y xs ys up down one other =
 rest_of : (x : ℕ) (xs ys : List ℕ) → IsStrictlyIncreasing (x ∷ xs) → ((z : ℕ) → Contains (x ∷ xs) z → Contains (x ∷ ys) z) → (z : ℕ) → Contains xs z
     → Contains ys z
 rest_of x xs ys up all z has =
-    ⊎_elim (λ (e : x ≡ z). let above = head_below x xs up z has in absurd (omega arith)) (λ later. later) (contains_cases x z ys (all z (contains_later x z xs has)))
+    ⊎_elim (λ (e : x ≡ z). let above = head_below x xs up z has in absurd (omega arith)) (λ later. later)
+    (contains_cases x z ys (all z (contains_later x z xs has)))
 
 -- two ascending lists of the same numbers are the same
 pub same_ascending : (xs ys : List ℕ) → IsStrictlyIncreasing xs → IsStrictlyIncreasing ys → ((z : ℕ) → Contains xs z → Contains ys z)
@@ -50,11 +54,13 @@ same_ascending (x ∷ xs) (y ∷ ys) up down all back =
     let rest = same_ascending xs ys (tail_ascends x xs up) (tail_ascends y ys down) (rest_of x xs ys up all') (rest_of x ys xs down' back') in
     rw (e, rest) refl
 
-more_ascends : (xs : List ℕ) (x : ℕ) → IsStrictlyIncreasing xs → ((y : ℕ) → Contains xs y → y < x) → IsStrictlyIncreasing (xs ++ x ∷ [])
+-- an ascending list with one more above all ascends
+pub more_ascends : (xs : List ℕ) (x : ℕ) → IsStrictlyIncreasing xs → ((y : ℕ) → Contains xs y → y < x) → IsStrictlyIncreasing (xs ++ x ∷ [])
 more_ascends [] x up below = λ k within. absurd (omega arith)
 more_ascends (y ∷ ys) x up below =
     ascending_cons y (ys ++ x ∷ []) (λ z has. ⊎_elim (λ before. head_below y ys up z before)
-    (λ last. ⊎_elim (λ (e : x ≡ z). let low = below y (contains_first y ys) in omega arith) (λ none. absurd (contains_none z none)) (contains_cases x z [] last))
+    (λ last. ⊎_elim (λ (e : x ≡ z). let low = below y (contains_first y ys) in omega arith) (λ none. absurd (contains_none z none))
+    (contains_cases x z [] last))
     (Contains-append_cases ys (x ∷ []) z has))
     (more_ascends ys x (tail_ascends y ys up) (λ z has. below z (contains_later y z ys has)))
 

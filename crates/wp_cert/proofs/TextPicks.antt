@@ -1,5 +1,6 @@
 -- The slots at which orders pick, as they were read.
-use Rattle.std.proofs.Common.{◌≡◌, ℕ, zero, suc, ◌+◌, ◌<◌, ◌≤◌, ◌↔◌, ◌⊎◌, Bool, true, false, List, [], ◌∷◌, ◌++◌, length, get_or, take, Contains, arith, refl, sym, ap, ◌∙◌}
+use Rattle.std.proofs.Common.{◌≡◌, ℕ, zero, suc, ◌+◌, ◌<◌, ◌≤◌, ◌↔◌, ◌⊎◌, Bool, true, false, List, [], ◌∷◌, ◌++◌, length, get_or, take, Contains}
+use Rattle.std.proofs.Common.{arith, refl, sym, ap, ◌∙◌}
 use Rattle.std.proofs.Common.{⊎_elim, inl, inr, subst, ◌&&◌}
 use Rattle.std.specs.List.{AllZip, list_all}
 use Rattle.std.specs.Prelude.{nat_le}
@@ -12,7 +13,8 @@ use Rattle.wp_model.specs.Warehouse.{Layout}
 use Rattle.wp_cert.specs.Text.{PickAt, PicksAt, is_order_of, is_slot_of, is_up_to, place_of}
 use Rattle.wp_cert.specs.declared.text.form.Place.{Place}
 
-same_point : (p q : Point) → place_of p ≡ place_of q → p ≡ q
+-- two points with the same numbers are the same
+pub same_point : (p q : Point) → place_of p ≡ place_of q → p ≡ q
 same_point p q same =
     let aisle : p.aisle ≡ q.aisle = ap (λ (place : Place). place.aisle) same in
     let slot : p.slot ≡ q.slot = ap (λ (place : Place). place.slot) same in
@@ -34,11 +36,13 @@ one_more_slot places i d point before after within here had grown p =
     (subst (λ (xs : List Place). Contains xs (place_of p)) whole has))) in
     (forth, back)
 
-and_left : (a b : Bool) → (a && b) ≡ true → a ≡ true
+-- the first of two that both hold
+pub and_left : (a b : Bool) → (a && b) ≡ true → a ≡ true
 and_left true b both = refl
 and_left false b both = absurd (cc both)
 
-and_right : (a b : Bool) → (a && b) ≡ true → b ≡ true
+-- the second of two that both hold
+pub and_right : (a b : Bool) → (a && b) ≡ true → b ≡ true
 and_right true b both = both
 and_right false b both = absurd (cc both)
 

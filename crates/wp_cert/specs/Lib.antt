@@ -6,3 +6,4 @@ pub mod Reaches
 pub mod Refusals
 pub mod Paths
 pub mod Text
+pub mod TextData

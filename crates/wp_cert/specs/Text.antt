@@ -1,17 +1,19 @@
 -- What a value of JSON says: the form of a certificate, and which numbers it may have.
-use Rattle.std.specs.Prelude.{◌≡◌, ℕ, suc, ◌+◌, ◌^◌, ◌==◌, ◌&&◌, ◌↔◌, Bool, true, false, List, [], ◌∷◌, Contains, Option, Some, None, option_map, option_and_then}
+use Rattle.std.specs.Prelude.{◌≡◌, ℕ, ◌+◌, ◌^◌, ◌==◌, ◌&&◌, ◌↔◌, Bool, true, false, List, [], ◌∷◌, Contains, Option, Some, None, option_map}
+use Rattle.std.specs.Prelude.{option_and_then}
 use Rattle.std.specs.Prelude.{Result, Ok, Err, if◌then◌else◌, is_none, nat_le, nat_lt, length, codes, bytes_eq}
 use Rattle.std.specs.List.{AllZip, list_all}
 use Rattle.std.specs.Option.{ok_or, option_map_or}
 use Rattle.std.specs.Str.{is_utf8}
-use Rattle.serde_json.specs.Data.{Data, Items, no_items, item, Members, no_members, member}
+use Rattle.serde_json.specs.Data.{Data, Items, no_items, item}
+use Rattle.serde_json.specs.Events.{members_len}
 use Rattle.serde_json.specs.Find.{as_array, as_number, as_object, as_str, as_u64, at, get}
 use Rattle.serde_json.specs.Read.{read}
 use Rattle.wp_model.specs.declared.point.Point.{Point}
 use Rattle.wp_model.specs.Outcomes.{and_then}
 use Rattle.wp_model.specs.Warehouse.{Layout}
 use Rattle.wp_graph.specs.PickSets.{PickSet}
-use Rattle.wp_batch.specs.Waves.{WavePicks}
+use Rattle.wp_batch.specs.Waves.{HaveSamePicks, WavePicks}
 use Rattle.wp_cert.specs.declared.tree.CertWhy.{CertWhy}
 use Rattle.wp_cert.specs.declared.tree.CertWhy.TheVariants as why
 use Rattle.wp_cert.specs.declared.tree.Node.{Node}
@@ -54,14 +56,9 @@ within least end n = if nat_le least n && nat_lt n end then Some n else None
 abbrev pub position_said : Data → Option ℕ
 position_said value = option_and_then (within 0 (2 ^ 32)) (number_said value)
 
--- how many members there are; an object has each key once
-abbrev pub members_count : Members → ℕ
-members_count no_members = 0
-members_count (member key value more) = suc (members_count more)
-
--- whether a value is an object with so many keys
+-- whether a value is an object with so many keys; an object has each key once
 abbrev pub has_keys : ℕ → Data → Bool
-has_keys count value = option_map_or (λ members. members_count members == count) (as_object value) false
+has_keys count value = option_map_or (λ members. members_len members == count) (as_object value) false
 
 -- ---- the parts of a certificate
 
@@ -222,3 +219,10 @@ pub record Tells (layout : Layout) (bytes : List ℕ) (wave : WavePicks) (capaci
   pub orders_pick : PickAt wave.orders form.orders
   pub capacity_is : form.capacity ≡ capacity
   pub nodes_are : form.nodes ≡ nodes
+
+-- what is read is this wave, this capacity and this tree: each order picks at the same slots
+pub record IsSame (wave other : WavePicks) (capacity other_capacity : ℕ) (nodes other_nodes : List Node) : Type 0 where
+  pub layout : wave.layout ≡ other.layout
+  pub orders : HaveSamePicks wave.orders other.orders
+  pub capacity_is : capacity ≡ other_capacity
+  pub nodes_are : nodes ≡ other_nodes

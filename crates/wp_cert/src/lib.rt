@@ -16,5 +16,5 @@ mod visit;
 
 pub use checking::check;
 pub use laws::no_batching_costs_less;
-pub use text::read_certificate;
+pub use text::{print_certificate, read_certificate};
 pub use tree::{CertFault, CertWhy, Certificate, Duals, Node, Nodes, Own, Tree};

@@ -1,10 +1,13 @@
 //! The text of a certificate: JSON, read and written.
 
 mod form;
+mod json;
 mod node;
 mod part;
+mod printing;
 mod ranges;
 mod reading;
 mod wave;
 
+pub use printing::print_certificate;
 pub use reading::read_certificate;

@@ -1,6 +1,8 @@
-ghost use Rattle.std.specs.Prelude.{◌≡◌, ◌≢◌, IfOk, IfErr, None, Err, Ok, Some, true};
+ghost use Rattle.std.specs.Prelude.{ℕ, List, ◌≡◌, ◌≢◌, IfOk, IfErr, None, Err, Ok, Some, true};
 ghost use Rattle.serde_json.specs.View.{view};
-ghost use Rattle.wp_cert.specs.Text.{PickAt, Tells, certificate_said, form_said, is_within, parts_said, value_read, value_says, why_unread};
+ghost use Rattle.wp_batch.specs.Waves.{WavePicks};
+ghost use Rattle.wp_cert.specs.declared.tree.Node.{Node};
+ghost use Rattle.wp_cert.specs.Text.{IsSame, PickAt, Tells, certificate_said, form_said, is_within, parts_said, value_read, value_says, why_unread};
 ghost use Rattle.wp_cert.specs.declared.text.form.Unread.TheVariants as unread;
 ghost use Rattle.wp_cert.specs.declared.tree.CertWhy.TheVariants as why;
 
@@ -130,13 +132,16 @@ fn read_told(alloc: Global, text: &Vec<u8>, layout: &Layout) -> Result<Certifica
 /// text. A certificate is refused at node 0, in this order, as `NotJson` where the bytes aren't UTF-8 or `serde_json` reads
 /// no value in them, `BadShape` where the value isn't of a certificate's form, and `OutOfRange` where the version isn't 1,
 /// the capacity isn't 1 to 8, there aren't 1 to 64 orders, an order has no slot or one that the layout hasn't, or a dual is
-/// above 1,000,000,000,000 sixtieths. Of two members of one key the last counts. `Memory` comes where memory ran out.
+/// above 1,000,000,000,000 sixtieths. Of two members of one key the last counts. `Memory` comes where memory ran out. Of
+/// what is printed of a wave, a capacity and a tree it gives them back.
 pub fn read_certificate(
     alloc: Global,
     text: &Vec<u8>,
     layout: &Layout,
 ) -> Result<Certificate, CertFault>
     ensures told { IfOk result (λ read. Tells layout.now text.now.items read.wave read.capacity read.tree.nodes) }
+    ensures reads_back { (wave : WavePicks) (capacity : ℕ) (nodes : List Node) → Tells layout.now text.now.items wave capacity nodes
+        → IfOk result (λ read. IsSame read.wave wave read.capacity capacity read.tree.nodes nodes) }
     ensures refusal { IfErr result (λ fault. fault.why ≢ why.Memory → certificate_said layout.now text.now.items ≡ Err fault.why) }
     ensures node { IfErr result (λ fault. fault.node ≡ 0) }
 {

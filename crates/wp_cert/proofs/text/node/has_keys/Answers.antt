@@ -1,6 +1,6 @@
 use Rattle.std.proofs.Common.{refl, sym}
-use Rattle.wp_cert.proofs.TextMembers.{members_counted}
+use Rattle.serde_json.proofs.Views.{members_len-members_view}
 use Rattle.wp_cert.proofs.text.node.has_keys.Goals as goal
 
 pub returns-in-Some : goal.returns-in-Some
-returns-in-Some c = rw (sym c.in-Some.ensures, members_counted c.in-Some.members.now.entries, c.len.ensures.len) refl
+returns-in-Some c = rw (sym c.in-Some.ensures, members_len-members_view c.in-Some.members.now.entries, c.len.ensures.len) refl

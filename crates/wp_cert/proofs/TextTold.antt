@@ -1,0 +1,132 @@
+-- What is printed of a certificate tells its wave, its capacity and its tree.
+use Rattle.std.proofs.Common.{◌≡◌, ℕ, suc, ◌<◌, ◌≤◌, Bool, true, List, [], ◌∷◌, length, map, All, Contains, Some, Ok, ◌&&◌}
+use Rattle.std.proofs.Common.{arith, refl, ap, subst, IsUtf8}
+use Rattle.std.specs.List.{list_all}
+use Rattle.std.specs.Prelude.{nat_le}
+use Rattle.std.proofs.lemmas.List.Elements.{All-head, All-tail}
+use Rattle.serde_json.specs.Read.{read}
+use Rattle.wp_model.specs.declared.point.Point.{Point}
+use Rattle.wp_model.specs.Warehouse.{IsSlot, Layout}
+use Rattle.wp_batch.specs.Waves.{IsWave, WavePicks}
+use Rattle.wp_graph.proofs.Marks.{listed_passes, passing_listed}
+use Rattle.wp_graph.proofs.Members.{Contains-from_among, among-map, among_from_Contains, map_source}
+use Rattle.wp_graph.proofs.PointTests.{among_has, has_among}
+use Rattle.wp_graph.specs.PickSets.{AreSlots, PickSet, points_where}
+use Rattle.wp_graph.specs.Required.{has_point}
+use Rattle.wp_cert.specs.declared.text.form.Form.{Form}
+use Rattle.wp_cert.specs.declared.tree.Node.{Node}
+use Rattle.wp_cert.specs.Text.{PickAt, PicksAt, Tells, form_said, is_order_of, is_slot_of, is_up_to, is_within, place_of, value_says}
+use Rattle.wp_cert.specs.TextData.{HaveDualsWithin, HaveSlots, IsKeptNode, certificate_data, order_places, wave_places}
+use Rattle.wp_cert.proofs.TextJson.{value_read-text}
+use Rattle.wp_cert.proofs.TextPicks.{same_point}
+use Rattle.wp_cert.proofs.TextReadBack.{form_again}
+
+both : (a b : Bool) → a ≡ true → b ≡ true → (a && b) ≡ true
+both a b one other = rw (one, other) refl
+
+up_to : (most n : ℕ) → 1 ≤ n → n ≤ most → is_up_to most n ≡ true
+up_to most n low high = grind arith
+
+-- ---- the slots of an order
+
+listed_slot : (layout : Layout) (points : List Point) (p : Point) → Contains (points_where layout (has_point points)) p → IsSlot layout p
+listed_slot layout points p has =
+    (listed_passes layout (has_point points) p (among_from_Contains (points_where layout (has_point points)) p has)).0
+
+slot_listed : (layout : Layout) (points : List Point) (p : Point) → AreSlots layout points → Contains points p
+    → Contains (points_where layout (has_point points)) p
+slot_listed layout points p slots has =
+    Contains-from_among (points_where layout (has_point points)) p
+    (passing_listed layout (has_point points) p (slots.slots p has) (among_has points p (among_from_Contains points p has)))
+
+all_slots : (layout : Layout) (points : List Point) → ((p : Point) → Contains points p → IsSlot layout p)
+    → list_all (is_slot_of layout) (map place_of points) ≡ true
+all_slots layout [] slots = refl
+all_slots layout (p ∷ points) slots =
+    let slot = slots p (0, omega arith, refl) in
+    both _ _ (both _ _ (up_to layout.aisles p.aisle slot.aisle.0 slot.aisle.1) (up_to layout.slots p.slot slot.slot.0 slot.slot.1))
+    (all_slots layout points (λ q has. slots q (suc has.0, omega (arith, has.1), has.2)))
+
+some_place : (points : List Point) (p : Point) → Contains points p → nat_le 1 (length (map place_of points)) ≡ true
+some_place [] p has = absurd (omega (arith, has.1))
+some_place (q ∷ points) p has = grind arith
+
+first_point : (points : List Point) → 0 < length points → (p : Point) × Contains points p
+first_point [] some = absurd (omega arith)
+first_point (p ∷ points) some = (p, (0, omega arith, refl))
+
+order_within : (layout : Layout) (points : List Point) → AreSlots layout points → 0 < length points → is_order_of layout (order_places layout points) ≡ true
+order_within layout points slots some =
+    let first = first_point points some in
+    both _ _ (some_place (points_where layout (has_point points)) first.0 (slot_listed layout points first.0 slots first.1))
+    (all_slots layout (points_where layout (has_point points)) (listed_slot layout points))
+
+orders_within : (layout : Layout) (orders : List PickSet) → HaveSlots layout orders → All (λ (picks : PickSet). 0 < length picks.points) orders
+    → list_all (is_order_of layout) (map (λ (picks : PickSet). order_places layout picks.points) orders) ≡ true
+orders_within layout [] slots filled = refl
+orders_within layout (picks ∷ orders) slots filled =
+    both _ _
+    (order_within layout picks.points (All-head (λ (picks : PickSet). AreSlots layout picks.points) picks orders slots)
+    (All-head (λ (picks : PickSet). 0 < length picks.points) picks orders filled))
+    (orders_within layout orders (All-tail (λ (picks : PickSet). AreSlots layout picks.points) picks orders slots)
+    (All-tail (λ (picks : PickSet). 0 < length picks.points) picks orders filled))
+
+-- an order picks just at the places that are printed for it
+order_at : (layout : Layout) (picks : PickSet) → AreSlots layout picks.points → PicksAt picks (order_places layout picks.points)
+order_at layout picks slots p =
+    let listed = points_where layout (has_point picks.points) in (
+      λ has. Contains-from_among (map place_of listed) (place_of p)
+          (among-map place_of listed p (among_from_Contains listed p (slot_listed layout picks.points p slots has))),
+      λ has.
+          let source = map_source place_of listed (place_of p) (among_from_Contains (map place_of listed) (place_of p) has) in
+          let same = same_point source.0 p source.2 in
+          let passes = (listed_passes layout (has_point picks.points) source.0 source.1).1 in
+          subst (λ (q : Point). Contains picks.points q) same
+          (Contains-from_among picks.points source.0 (has_among picks.points source.0.aisle source.0.slot passes)),
+    )
+
+orders_at : (layout : Layout) (orders : List PickSet) → HaveSlots layout orders
+    → PickAt orders (map (λ (picks : PickSet). order_places layout picks.points) orders)
+orders_at layout [] slots = tt
+orders_at layout (picks ∷ orders) slots = (
+  order_at layout picks (All-head (λ (picks : PickSet). AreSlots layout picks.points) picks orders slots),
+  orders_at layout orders (All-tail (λ (picks : PickSet). AreSlots layout picks.points) picks orders slots),
+)
+
+as_many_places : (layout : Layout) (orders : List PickSet) → length (map (λ (picks : PickSet). order_places layout picks.points) orders) ≡ length orders
+as_many_places layout [] = refl
+as_many_places layout (picks ∷ orders) = ap suc (as_many_places layout orders)
+
+-- ---- the whole
+
+-- the form that is printed
+abbrev printed_form : WavePicks → ℕ → List Node → Form
+printed_form wave capacity nodes = record { version = 1; capacity = capacity; orders = wave_places wave; nodes = nodes }
+
+form_within : (wave : WavePicks) (capacity : ℕ) (nodes : List Node) → IsWave wave → HaveSlots wave.layout wave.orders → 1 ≤ capacity → capacity ≤ 8
+    → HaveDualsWithin nodes → is_within wave.layout (printed_form wave capacity nodes) ≡ true
+form_within wave capacity nodes valid slots some most duals =
+    let count = as_many_places wave.layout wave.orders in
+    both _ _ (up_to 8 capacity some most)
+    (both _ _ (up_to 64 (length (wave_places wave)) (omega (arith, count, valid.some)) (omega (arith, count, valid.most)))
+    (both _ _ (orders_within wave.layout wave.orders slots valid.filled) duals))
+
+said_within : (wave : WavePicks) (capacity : ℕ) (nodes : List Node)
+    → form_said (certificate_data (wave_places wave) capacity nodes) ≡ Some (printed_form wave capacity nodes)
+    → is_within wave.layout (printed_form wave capacity nodes) ≡ true
+    → value_says wave.layout (certificate_data (wave_places wave) capacity nodes) ≡ Ok (printed_form wave capacity nodes)
+said_within wave capacity nodes said inside = rw (said, inside) refl
+
+-- bytes that are text and are read as the certificate's value tell the certificate
+pub told_again : (wave : WavePicks) (capacity : ℕ) (nodes : List Node) (bytes : List ℕ) → IsWave wave → HaveSlots wave.layout wave.orders
+    → 1 ≤ capacity → capacity ≤ 8 → HaveDualsWithin nodes → All IsKeptNode nodes → IsUtf8 bytes
+    → read bytes ≡ Some (certificate_data (wave_places wave) capacity nodes) → Tells wave.layout bytes wave capacity nodes
+told_again wave capacity nodes bytes valid slots some most duals kept text is = record {
+  form = printed_form wave capacity nodes;
+  said = rw (value_read-text bytes (certificate_data (wave_places wave) capacity nodes) (text, is)) (said_within wave capacity nodes
+      (form_again (wave_places wave) capacity nodes kept) (form_within wave capacity nodes valid slots some most duals));
+  layout_is = refl;
+  orders_pick = orders_at wave.layout wave.orders slots;
+  capacity_is = refl;
+  nodes_are = refl;
+}

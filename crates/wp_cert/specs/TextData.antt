@@ -1,0 +1,134 @@
+-- The value of a certificate as it is printed.
+use Rattle.std.specs.Prelude.{◌<◌, ℕ, ◌^◌, Bool, true, false, List, map, All, IsTrue, Option, Some, None, codes, ⊤}
+use Rattle.std.specs.List.{filter, flat_map, list_all, range_with_len}
+use Rattle.serde_json.specs.Data.{Data, array, item, member, no_items, no_members, number, object, string, unsigned}
+use Rattle.serde_json.specs.View.{items_of}
+use Rattle.serde_json.specs.Written.{compact_text}
+use Rattle.wp_model.specs.declared.point.Point.{Point}
+use Rattle.wp_model.specs.Warehouse.{Layout}
+use Rattle.wp_graph.specs.PickSets.{AreSlots, PickSet, points_in, points_where, slots_where}
+use Rattle.wp_graph.specs.Required.{has_point}
+use Rattle.wp_batch.specs.Waves.{WavePicks}
+use Rattle.wp_pairs.specs.Batches.{IsBatch}
+use Rattle.wp_cert.specs.declared.tree.Node.{Node}
+use Rattle.wp_cert.specs.declared.tree.Node.TheVariants as node
+use Rattle.wp_cert.specs.declared.tree.Own.{Own}
+use Rattle.wp_cert.specs.declared.text.form.Place.{Place}
+use Rattle.wp_cert.specs.Text.{is_node_within, place_of}
+
+-- a list of values
+abbrev pub list_data : {A : Type 0} → (A → Data) → List A → Data
+list_data shown xs = array (items_of (map shown xs))
+
+-- a whole number
+abbrev pub number_data : ℕ → Data
+number_data n = number (unsigned n)
+
+-- a slot: the numbers of its aisle and of the slot in it
+abbrev pub place_data : Place → Data
+place_data place = array (item (number_data place.aisle) (item (number_data place.slot) no_items))
+
+-- a batch: its orders in ascending order
+abbrev pub batch_data : List ℕ → Data
+batch_data batch = list_data number_data batch
+
+-- a mark as a character
+abbrev pub mark_code : Bool → ℕ
+mark_code true = 49
+mark_code false = 48
+
+-- marks as a text
+abbrev pub marks_data : List Bool → Data
+marks_data marks = string (map mark_code marks)
+
+-- a leaf
+abbrev pub leaf_data : Option Own → Data
+leaf_data None = object (member (codes "kind") (string (codes "kept")) no_members)
+leaf_data (Some own) = object
+    (member (codes "duals") (list_data number_data own.duals)
+    (member (codes "kind") (string (codes "leaf"))
+    (member (codes "marks") (marks_data own.marks)
+    (member (codes "tight") (list_data batch_data own.tight) no_members))))
+
+-- a split on a pair of orders
+abbrev pub split_data : ℕ → ℕ → Option Own → Data
+split_data first second None = object
+    (member (codes "first") (number_data first)
+    (member (codes "kind") (string (codes "split"))
+    (member (codes "second") (number_data second) no_members)))
+split_data first second (Some own) = object
+    (member (codes "duals") (list_data number_data own.duals)
+    (member (codes "first") (number_data first)
+    (member (codes "kind") (string (codes "split"))
+    (member (codes "marks") (marks_data own.marks)
+    (member (codes "second") (number_data second)
+    (member (codes "tight") (list_data batch_data own.tight) no_members))))))
+
+-- a leaf with an order that no permitted batch holds
+abbrev pub dead_data : ℕ → Data
+dead_data order = object (member (codes "kind") (string (codes "dead")) (member (codes "order") (number_data order) no_members))
+
+-- a node
+abbrev pub node_data : Node → Data
+node_data (node.Leaf own) = leaf_data own
+node_data (node.Split first second own) = split_data first second own
+node_data (node.Dead order) = dead_data order
+
+-- a certificate; its keys stand in the order of their bytes
+abbrev pub certificate_data : List (List Place) → ℕ → List Node → Data
+certificate_data orders capacity nodes = object
+    (member (codes "capacity") (number_data capacity)
+    (member (codes "nodes") (list_data node_data nodes)
+    (member (codes "orders") (list_data (list_data place_data) orders)
+    (member (codes "version") (number_data 1) no_members))))
+
+-- the text of a certificate, with nothing between its parts
+unfoldable pub certificate_text : List (List Place) → ℕ → List Node → List ℕ
+certificate_text orders capacity nodes = compact_text (certificate_data orders capacity nodes)
+
+-- the slots of a set, in the order of their aisles and then of their slots, each once
+abbrev pub order_places : Layout → List Point → List Place
+order_places layout points = map place_of (points_where layout (has_point points))
+
+-- the slots of each order of a wave
+abbrev pub wave_places : WavePicks → List (List Place)
+wave_places wave = map (λ picks. order_places wave.layout picks.points) wave.orders
+
+-- no dual is above the greatest
+abbrev pub HaveDualsWithin : List Node → Type 0
+HaveDualsWithin nodes = IsTrue (list_all is_node_within nodes)
+
+-- a number of 32 bits
+abbrev pub IsPosition : ℕ → Type 0
+IsPosition n = n < 2 ^ 32
+
+-- the tight batches are batches
+abbrev pub AreTightBatches : Option Own → Type 0
+AreTightBatches None = ⊤
+AreTightBatches (Some own) = All IsBatch own.tight
+
+-- a node as the code keeps it: its orders are numbers of 32 bits, and its batches are batches
+abbrev pub IsKeptNode : Node → Type 0
+IsKeptNode (node.Leaf own) = AreTightBatches own
+IsKeptNode (node.Split first second own) = IsPosition first × IsPosition second × AreTightBatches own
+IsKeptNode (node.Dead order) = IsPosition order
+
+-- a slot of an order
+abbrev pub point_data : Point → Data
+point_data point = place_data (place_of point)
+
+-- what an order picks at
+abbrev pub order_data : Layout → PickSet → Data
+order_data layout picks = list_data place_data (order_places layout picks.points)
+
+-- the slots among the first of an aisle at which an order picks
+abbrev pub aisle_points : List Point → ℕ → ℕ → List Point
+aisle_points points aisle slots = points_in aisle (filter (has_point points aisle) (range_with_len 1 slots))
+
+-- the slots in the first aisles at which an order picks
+abbrev pub aisles_points : Layout → List Point → ℕ → List Point
+aisles_points layout points aisles = flat_map (λ aisle. points_in aisle (slots_where layout (has_point points) aisle)) (range_with_len 1 aisles)
+
+-- all orders pick at slots of the layout
+abbrev pub HaveSlots : Layout → List PickSet → Type 0
+HaveSlots layout orders = All (λ picks. AreSlots layout picks.points) orders

@@ -1,0 +1,128 @@
+ghost use Rattle.std.specs.Prelude.{◌≡◌, ◌≤◌, ◌<◌, ◌++◌, All, IfOk, OnOk, length, map};
+ghost use Rattle.serde_json.specs.Data.{array};
+ghost use Rattle.serde_json.specs.View.{items_of, view};
+ghost use Rattle.wp_model.specs.declared.point.Point.{Point as PointData};
+ghost use Rattle.wp_graph.specs.PickSets.{AreSlots};
+ghost use Rattle.wp_batch.specs.Waves.{IsWave, picks_of};
+ghost use Rattle.wp_cert.specs.Text.{Tells, place_of};
+ghost use Rattle.wp_cert.specs.TextData.{HaveDualsWithin, HaveSlots, IsKeptNode, aisle_points, certificate_data, certificate_text, list_data};
+ghost use Rattle.wp_cert.specs.TextData.{order_data, order_places, place_data, point_data, wave_places};
+
+use crate::Tree;
+use crate::text::json::list_json;
+use serde_json::{Map, Value, json};
+use std::alloc::{AllocError, Global};
+use wp_batch::Wave;
+use wp_graph::{Layout, Picks};
+use wp_model::{Memory, Point};
+
+// A slot as a value.
+fn point_json(alloc: Global, point: Point) -> Result<Value, AllocError>
+    ensures { IfOk result (λ value. view value ≡ point_data point) }
+{
+    json!(in alloc; [point.aisle, point.slot])
+}
+
+// Adds the slots of an aisle at which an order picks.
+fn push_aisle(
+    alloc: Global,
+    picks: &Picks,
+    aisle: u32,
+    slots: u32,
+    values: &mut Vec<Value>,
+) -> Result<(), AllocError>
+    requires some { 0 < slots }
+    requires most { slots ≤ 200 }
+    ensures values { OnOk result (map view values.new.items ≡ map view values.old.items ++ map point_data (aisle_points picks.now.points aisle slots)) }
+    ensures slots { OnOk result (AreSlots picks.now.layout picks.now.points) }
+{
+    for before in 0..slots {
+        let point = Point {
+            aisle,
+            slot: before + 1,
+        };
+        if picks.has(point) {
+            values.push(point_json(alloc, point)?)?;
+        }
+    }
+    Ok(())
+}
+
+// The slots of an order as a value.
+fn order_json(alloc: Global, layout: &Layout, picks: &Picks) -> Result<Value, AllocError>
+    ensures value { IfOk result (λ value. view value ≡ order_data layout.now picks.now) }
+    ensures slots { IfOk result (λ value. AreSlots picks.now.layout picks.now.points) }
+{
+    let slots = layout.slots();
+    let mut values = Vec::new(alloc);
+    for before in 0..layout.aisles() {
+        push_aisle(alloc, picks, before + 1, slots, &mut values)?;
+    }
+    Ok(Value::Array(values))
+}
+
+// The slots of an order of a wave as a value.
+fn wave_order_json(alloc: Global, wave: &Wave, order: u32) -> Result<Value, AllocError>
+    requires { order < length wave.now.orders }
+    ensures value { IfOk result (λ value. view value ≡ list_data place_data (order_places wave.now.layout (picks_of wave.now order))) }
+    ensures slots { IfOk result (λ value. AreSlots wave.now.layout (picks_of wave.now order)) }
+{
+    order_json(alloc, &wave.layout(), &wave.picks(order))
+}
+
+// The slots of all orders of a wave as a value.
+fn orders_json(alloc: Global, wave: &Wave) -> Result<Value, AllocError>
+    ensures value { IfOk result (λ value. view value ≡ list_data (list_data place_data) (wave_places wave.now)) }
+    ensures slots { IfOk result (λ value. HaveSlots wave.now.layout wave.now.orders) }
+    ensures valid { IfOk result (λ value. IsWave wave.now) }
+{
+    let mut values = Vec::new(alloc);
+    for order in 0..wave.orders() {
+        values.push(wave_order_json(alloc, wave, order)?)?;
+    }
+    Ok(Value::Array(values))
+}
+
+// A certificate as a value.
+fn certificate_json(
+    alloc: Global,
+    wave: &Wave,
+    capacity: u32,
+    tree: &Tree,
+) -> Result<Value, AllocError>
+    ensures value { IfOk result (λ value. view value ≡ certificate_data (wave_places wave.now) capacity tree.now.nodes) }
+    ensures slots { IfOk result (λ value. HaveSlots wave.now.layout wave.now.orders) }
+    ensures valid { IfOk result (λ value. IsWave wave.now) }
+    ensures nodes { IfOk result (λ value. All IsKeptNode tree.now.nodes) }
+{
+    let mut members = Map::new(alloc);
+    serde_json::put(&mut members, alloc, "version", Value::from(1u32))?;
+    serde_json::put(&mut members, alloc, "capacity", Value::from(capacity))?;
+    serde_json::put(&mut members, alloc, "orders", orders_json(alloc, wave)?)?;
+    serde_json::put(
+        &mut members,
+        alloc,
+        "nodes",
+        list_json(alloc, tree.nodes.as_slice())?,
+    )?;
+    Ok(Value::Object(members))
+}
+
+/// The text of a certificate: JSON with nothing between its parts, the keys of each object in the order of their bytes, and
+/// the slots of each order in the order of their aisles and then of their slots, each once. The capacity is 1 to 8, and no
+/// dual of the tree is above 1,000,000,000,000 sixtieths. It is read again as this wave, this capacity and this tree.
+pub fn print_certificate(
+    alloc: Global,
+    wave: &Wave,
+    capacity: u32,
+    tree: &Tree,
+) -> Result<Vec<u8>, Memory>
+    requires some { 1 ≤ capacity }
+    requires most { capacity ≤ 8 }
+    requires duals { HaveDualsWithin tree.now.nodes }
+    ensures text { IfOk result (λ text. text.items ≡ certificate_text (wave_places wave.now) capacity tree.now.nodes) }
+    ensures told { IfOk result (λ text. Tells wave.now.layout text.items wave.now capacity tree.now.nodes) }
+{
+    let value = certificate_json(alloc, wave, capacity, tree)?;
+    Ok(value.to_vec(alloc)?)
+}
