@@ -18,3 +18,6 @@ pub use checking::check;
 pub use laws::no_batching_costs_less;
 pub use text::{print_certificate, read_certificate};
 pub use tree::{CertFault, CertWhy, Certificate, Duals, Node, Nodes, Own, Tree};
+
+#[cfg(test)]
+mod tests;

@@ -1,0 +1,493 @@
+ghost use Rattle.std.specs.Prelude.{◌≡◌, ◌<◌, ◌^◌, All, IfSome, length, vec_len};
+ghost use Rattle.wp_model.specs.Warehouse.{IsSlot};
+
+use super::*;
+use std::alloc::Global;
+use wp_batch::{Batching, Marks, Wave};
+use wp_graph::{Layout, Picks, Point};
+use wp_pairs::Batch;
+
+/// Where each order picks in the small layout: 3 aisles of 4 slots, the depot at the first.
+type Slots = &'static [(u32, u32)];
+
+/// Three orders with a slot each.
+const ALONE: &[Slots] = &[&[(1, 4)], &[(2, 4)], &[(3, 1)]];
+
+/// Three orders at one slot.
+const SAME: &[Slots] = &[&[(3, 4)], &[(3, 4)], &[(3, 4)]];
+
+/// One order.
+const ONE: &[Slots] = &[&[(2, 2)]];
+
+/// Duals, marks and tight batches.
+type Shown = (&'static [u64], &'static [u8], &'static [&'static [u32]]);
+
+/// A node, as a table has it.
+enum Row {
+    Kept,
+    Leaf(Shown),
+    Bare(u32, u32),
+    Split(u32, u32, Shown),
+    Dead(u32),
+}
+
+/// What the check of a tree says: a bound, or a node and why it is refused.
+enum Says {
+    Bound(u64),
+    Fault(u64, Why),
+}
+
+/// Why a tree is refused.
+enum Why {
+    Cut,
+    SplitKept,
+    DualsLength,
+    SumLow,
+    NotFeasible(&'static [u32]),
+    BadMarks,
+    NotTight(u32),
+    BadPair,
+    NotDead(u32),
+}
+
+/// The root of the three orders at one slot, with batches of two.
+const ROOT: Shown = (&[1020, 1020, 1020], b"1000", &[&[0, 1], &[0, 1], &[0, 2]]);
+
+/// Its child with the first two orders together.
+const TOGETHER: Shown = (&[1020, 1020, 2040], b"100", &[&[0, 1], &[0, 1], &[2]]);
+
+/// Its child with them apart.
+const APART: Shown = (&[2040, 2040, 0], b"11000", &[&[0], &[1], &[0, 2]]);
+
+/// Waves, how often their orders are repeated, a capacity, the nodes of a tree, and what its check says.
+const TREES: &[(&[Slots], u32, u32, &[Row], Says)] = &[
+    (
+        SAME,
+        1,
+        2,
+        &[
+            Row::Split(0, 1, ROOT),
+            Row::Leaf(TOGETHER),
+            Row::Leaf(APART),
+        ],
+        Says::Bound(68),
+    ),
+    (SAME, 1, 2, &[Row::Kept], Says::Bound(51)),
+    (SAME, 1, 1, &[Row::Kept], Says::Bound(102)),
+    (SAME, 1, 8, &[Row::Kept], Says::Bound(13)),
+    (SAME, 1, 2, &[Row::Leaf(ROOT)], Says::Bound(51)),
+    (
+        SAME,
+        1,
+        2,
+        &[Row::Split(0, 1, ROOT), Row::Kept, Row::Leaf(APART)],
+        Says::Bound(51),
+    ),
+    (&[&[(3, 4)]], 16, 8, &[Row::Kept], Says::Bound(68)),
+    (ONE, 1, 8, &[Row::Kept], Says::Bound(2)),
+    (
+        ONE,
+        1,
+        1,
+        &[Row::Leaf((&[960], b"10", &[&[0]]))],
+        Says::Bound(16),
+    ),
+    (
+        ONE,
+        1,
+        1,
+        &[Row::Leaf((&[960], b"11", &[&[0]]))],
+        Says::Bound(16),
+    ),
+    (
+        ONE,
+        1,
+        8,
+        &[Row::Leaf((&[959], b"10", &[&[0]]))],
+        Says::Fault(0, Why::NotTight(0)),
+    ),
+    (ONE, 1, 1, &[Row::Dead(0)], Says::Fault(0, Why::NotDead(0))),
+    (
+        ALONE,
+        1,
+        2,
+        &[Row::Leaf((&[720, 840, 1320], b"1100100", &[&[0, 1], &[0, 1], &[2]]))],
+        Says::Bound(48),
+    ),
+    (
+        SAME,
+        1,
+        2,
+        &[
+            Row::Split(0, 1, ROOT),
+            Row::Split(0, 2, TOGETHER),
+            Row::Dead(0),
+            Row::Kept,
+            Row::Leaf(APART),
+        ],
+        Says::Bound(68),
+    ),
+    (
+        SAME,
+        1,
+        2,
+        &[
+            Row::Split(0, 1, ROOT),
+            Row::Split(0, 2, TOGETHER),
+            Row::Dead(7),
+            Row::Kept,
+            Row::Leaf(APART),
+        ],
+        Says::Fault(2, Why::NotDead(7)),
+    ),
+    (
+        SAME,
+        1,
+        2,
+        &[
+            Row::Split(0, 1, ROOT),
+            Row::Split(0, 1, TOGETHER),
+            Row::Kept,
+            Row::Kept,
+            Row::Kept,
+        ],
+        Says::Fault(1, Why::BadPair),
+    ),
+    (
+        SAME,
+        1,
+        2,
+        &[
+            Row::Split(0, 1, ROOT),
+            Row::Leaf(TOGETHER),
+            Row::Leaf(TOGETHER),
+        ],
+        Says::Fault(2, Why::BadMarks),
+    ),
+    (SAME, 1, 2, &[], Says::Fault(0, Why::Cut)),
+    (
+        SAME,
+        1,
+        2,
+        &[Row::Split(0, 1, ROOT), Row::Leaf(TOGETHER)],
+        Says::Fault(2, Why::Cut),
+    ),
+    (
+        SAME,
+        1,
+        2,
+        &[Row::Leaf((&[1021, 1020, 1020], b"1000", &[&[0, 1], &[0, 1], &[0, 2]]))],
+        Says::Fault(0, Why::BadMarks),
+    ),
+    (
+        SAME,
+        1,
+        2,
+        &[Row::Leaf((&[1021, 1020, 1020], b"11000", &[&[0, 1], &[0, 1], &[0, 2]]))],
+        Says::Fault(0, Why::NotFeasible(&[0, 1])),
+    ),
+    (
+        SAME,
+        1,
+        2,
+        &[Row::Leaf((&[1020, 1020, 1020], b"100", &[&[0, 1], &[0, 1], &[0, 2]]))],
+        Says::Fault(0, Why::BadMarks),
+    ),
+    (
+        SAME,
+        1,
+        2,
+        &[Row::Leaf((&[1020, 1020, 1020], b"10000", &[&[0, 1], &[0, 1], &[0, 2]]))],
+        Says::Fault(0, Why::BadMarks),
+    ),
+    (
+        SAME,
+        1,
+        2,
+        &[Row::Leaf((&[1020, 1020, 1019], b"1000", &[&[0, 1], &[0, 1], &[0, 2]]))],
+        Says::Fault(0, Why::SumLow),
+    ),
+    (
+        SAME,
+        1,
+        2,
+        &[Row::Leaf((&[1020, 1020], b"1000", &[&[0, 1], &[0, 1], &[0, 2]]))],
+        Says::Fault(0, Why::DualsLength),
+    ),
+    (
+        SAME,
+        1,
+        2,
+        &[Row::Bare(0, 1), Row::Leaf(TOGETHER), Row::Leaf(APART)],
+        Says::Fault(0, Why::SplitKept),
+    ),
+    (
+        SAME,
+        1,
+        2,
+        &[
+            Row::Split(1, 0, ROOT),
+            Row::Leaf(TOGETHER),
+            Row::Leaf(APART),
+        ],
+        Says::Fault(0, Why::BadPair),
+    ),
+    (
+        SAME,
+        1,
+        2,
+        &[
+            Row::Split(0, 3, ROOT),
+            Row::Leaf(TOGETHER),
+            Row::Leaf(APART),
+        ],
+        Says::Fault(0, Why::BadPair),
+    ),
+    (
+        SAME,
+        1,
+        2,
+        &[
+            Row::Split(0, 1, ROOT),
+            Row::Leaf((&[1020, 1020, 2040], b"100", &[&[0, 1], &[0, 1], &[0, 2]])),
+            Row::Leaf(APART),
+        ],
+        Says::Fault(1, Why::NotTight(2)),
+    ),
+    (
+        SAME,
+        1,
+        2,
+        &[Row::Split(0, 1, ROOT), Row::Dead(0), Row::Leaf(APART)],
+        Says::Fault(1, Why::NotDead(0)),
+    ),
+    (
+        SAME,
+        1,
+        2,
+        &[
+            Row::Split(0, 1, ROOT),
+            Row::Leaf(TOGETHER),
+            Row::Leaf(APART),
+            Row::Kept,
+        ],
+        Says::Fault(3, Why::Cut),
+    ),
+];
+
+fn small() -> Option<Layout> {
+    Layout::new(3, 4, 2, 1, 5, 1)
+}
+
+/// A point, where it is a slot of the layout.
+fn slot(layout: &Layout, at: (u32, u32)) -> Option<Point>
+    ensures { IfSome result (IsSlot layout.now) }
+{
+    let (aisle, slot) = at;
+    let within = 1 <= aisle && aisle <= layout.aisles() && 1 <= slot && slot <= layout.slots();
+    within.then_some(Point { aisle, slot })
+}
+
+/// The slots of the layout among these points.
+fn picked(layout: &Layout, slots: &[(u32, u32)]) -> Picks
+    ensures { result.layout ≡ layout.now }
+{
+    let mut picks = Picks::new(layout);
+    for at in slots {
+        if let Some(point) = slot(layout, *at) {
+            picks.add(point);
+        }
+    }
+    picks
+}
+
+/// What an order picks, if it picks at all.
+fn order_of(layout: &Layout, slots: &[(u32, u32)]) -> Option<Picks>
+    ensures layout { IfSome result (λ picks. picks.layout ≡ layout.now) }
+    ensures filled { IfSome result (λ picks. 0 < length picks.points) }
+{
+    let first = slot(layout, *slots.first()?)?;
+    let mut picks = picked(layout, slots);
+    picks.add(first);
+    if picks.has(first) {
+        return Some(picks);
+    }
+    None
+}
+
+/// What the orders pick, as often as they are repeated.
+fn orders_of(alloc: Global, layout: &Layout, orders: &[Slots], times: u32) -> Option<Vec<Picks>>
+    ensures layout { IfSome result (λ picked. All (λ picks. picks.layout ≡ layout.now) picked.items) }
+    ensures filled { IfSome result (λ picked. All (λ picks. 0 < length picks.points) picked.items) }
+{
+    let mut all = Vec::new(alloc);
+    for _ in 0..times {
+        for slots in orders {
+            all.push(order_of(layout, slots)?).ok()?;
+        }
+    }
+    Some(all)
+}
+
+/// The wave of these orders in the small layout, as often as they are repeated.
+fn wave_of(alloc: Global, orders: &[Slots], times: u32) -> Option<Wave> {
+    let layout = small()?;
+    let picks = orders_of(alloc, &layout, orders, times)?;
+    if picks.is_empty() || picks.len() > 64 {
+        return None;
+    }
+    Wave::of(alloc, layout, &picks).ok()
+}
+
+/// The duals of a row.
+fn duals_of(alloc: Global, row: &[u64]) -> Option<Duals> {
+    let mut duals = Vec::new(alloc);
+    for dual in row {
+        duals.push(*dual).ok()?;
+    }
+    if duals.len() > 64 {
+        return None;
+    }
+    Some(Duals::of(duals))
+}
+
+/// The marks of a row, a character each.
+fn marks_of(alloc: Global, row: &[u8]) -> Option<Marks> {
+    let mut marks = Marks::new(alloc);
+    for mark in row {
+        marks.push(*mark == b'1').ok()?;
+    }
+    Some(marks)
+}
+
+/// The batch of these orders below 64.
+fn batch_of(orders: &[u32]) -> Batch {
+    let mut batch = Batch::empty();
+    for order in orders {
+        if *order < 64 {
+            batch = batch.with(*order);
+        }
+    }
+    batch
+}
+
+/// The tight batches of a row.
+fn tight_of(alloc: Global, row: &[&[u32]]) -> Option<Batching> {
+    let mut tight = Vec::new(alloc);
+    for orders in row {
+        tight.push(batch_of(orders)).ok()?;
+    }
+    if tight.len() > 64 {
+        return None;
+    }
+    Some(Batching::of(tight))
+}
+
+fn own_of(alloc: Global, row: &Shown) -> Option<Own> {
+    let (duals, marks, tight) = *row;
+    Some(Own {
+        duals: duals_of(alloc, duals)?,
+        marks: marks_of(alloc, marks)?,
+        tight: tight_of(alloc, tight)?,
+    })
+}
+
+fn node_of(alloc: Global, row: &Row) -> Option<Node> {
+    match row {
+        Row::Kept => Some(Node::Leaf(None)),
+        Row::Leaf(shown) => Some(Node::Leaf(Some(own_of(alloc, shown)?))),
+        Row::Bare(first, second) => Some(Node::Split {
+            first: *first,
+            second: *second,
+            own: None,
+        }),
+        Row::Split(first, second, shown) => Some(Node::Split {
+            first: *first,
+            second: *second,
+            own: Some(own_of(alloc, shown)?),
+        }),
+        Row::Dead(order) => Some(Node::Dead(*order)),
+    }
+}
+
+fn tree_of(alloc: Global, rows: &[Row]) -> Option<Tree> {
+    let mut nodes = Vec::new(alloc);
+    for row in rows {
+        nodes.push(node_of(alloc, row)?).ok()?;
+    }
+    if nodes.len() > 64 {
+        return None;
+    }
+    Some(Tree {
+        nodes: Nodes::of(nodes),
+    })
+}
+
+/// Whether a tree is refused for this reason.
+fn is_why(why: CertWhy, wanted: &Why) -> bool {
+    match why {
+        CertWhy::Cut => matches!(wanted, Why::Cut),
+        CertWhy::SplitKept => matches!(wanted, Why::SplitKept),
+        CertWhy::DualsLength => matches!(wanted, Why::DualsLength),
+        CertWhy::SumLow => matches!(wanted, Why::SumLow),
+        CertWhy::BadMarks => matches!(wanted, Why::BadMarks),
+        CertWhy::BadPair => matches!(wanted, Why::BadPair),
+        CertWhy::NotFeasible(batch) => match wanted {
+            Why::NotFeasible(orders) => batch.is(batch_of(orders)),
+            _ => false,
+        },
+        CertWhy::NotTight(order) => match wanted {
+            Why::NotTight(other) => order == *other,
+            _ => false,
+        },
+        CertWhy::NotDead(order) => match wanted {
+            Why::NotDead(other) => order == *other,
+            _ => false,
+        },
+        _ => false,
+    }
+}
+
+/// Whether this is what a check said.
+fn is_said(answer: Result<u64, CertFault>, says: &Says) -> bool {
+    match answer {
+        Ok(bound) => match says {
+            Says::Bound(wanted) => bound == *wanted,
+            Says::Fault(..) => false,
+        },
+        Err(fault) => match says {
+            Says::Bound(_) => false,
+            Says::Fault(node, why) => fault.node == *node && is_why(fault.why, why),
+        },
+    }
+}
+
+fn says_so(
+    alloc: Global,
+    orders: &[Slots],
+    times: u32,
+    capacity: u32,
+    rows: &[Row],
+    says: &Says,
+) -> Option<bool> {
+    if capacity < 1 || 8 < capacity {
+        return None;
+    }
+    let wave = wave_of(alloc, orders, times)?;
+    let tree = tree_of(alloc, rows)?;
+    Some(is_said(check(alloc, &wave, capacity, &tree), says))
+}
+
+fn wrong_check(alloc: Global) -> Option<usize> {
+    for (place, (orders, times, capacity, rows, says)) in TREES.iter().enumerate() {
+        if says_so(alloc, orders, *times, *capacity, rows, says) != Some(true) {
+            return Some(place);
+        }
+    }
+    None
+}
+
+#[test]
+fn trees_are_right_or_have_a_first_broken_rule(rt: HostRuntime) {
+    assert_eq!(rt; wrong_check(rt.alloc()), None);
+}
