@@ -3,6 +3,8 @@ ghost use Rattle.serde_json.specs.View.{view};
 ghost use Rattle.wp_batch.specs.Waves.{WavePicks};
 ghost use Rattle.wp_cert.specs.declared.tree.Node.{Node};
 ghost use Rattle.wp_cert.specs.Text.{IsSame, PickAt, Tells, certificate_said, form_said, is_within, parts_said, value_read, value_says, why_unread};
+ghost use Rattle.wp_model.specs.Warehouse.{IsUpTo};
+ghost use Rattle.wp_cert.specs.TextData.{HaveDualsWithin};
 ghost use Rattle.wp_cert.specs.declared.text.form.Unread.TheVariants as unread;
 ghost use Rattle.wp_cert.specs.declared.tree.CertWhy.TheVariants as why;
 
@@ -105,6 +107,8 @@ fn certificate_of(alloc: Global, layout: &Layout, form: Form) -> Result<Certific
     ensures orders { IfOk result (λ certificate. PickAt certificate.wave.orders form.orders) }
     ensures capacity { IfOk result (λ certificate. certificate.capacity ≡ form.capacity) }
     ensures nodes { IfOk result (λ certificate. certificate.tree.nodes ≡ form.nodes) }
+    ensures range { IfOk result (λ certificate. IsUpTo 8 certificate.capacity) }
+    ensures duals { IfOk result (λ certificate. HaveDualsWithin certificate.tree.nodes) }
 {
     let capacity = form.capacity as u32;
     let wave = wave_of(alloc, layout, &form.orders)?;
@@ -119,6 +123,8 @@ fn certificate_of(alloc: Global, layout: &Layout, form: Form) -> Result<Certific
 // The certificate that a text says, or why it says none.
 fn read_told(alloc: Global, text: &Vec<u8>, layout: &Layout) -> Result<Certificate, CertWhy>
     ensures told { IfOk result (λ read. Tells layout.now text.now.items read.wave read.capacity read.tree.nodes) }
+    ensures range { IfOk result (λ read. IsUpTo 8 read.capacity) }
+    ensures duals { IfOk result (λ read. HaveDualsWithin read.tree.nodes) }
     ensures refusal { IfErr result (λ refusal. refusal ≢ why.Memory → certificate_said layout.now text.now.items ≡ Err refusal) }
 {
     let form = read_text(alloc, text, layout)?;
@@ -140,6 +146,8 @@ pub fn read_certificate(
     layout: &Layout,
 ) -> Result<Certificate, CertFault>
     ensures told { IfOk result (λ read. Tells layout.now text.now.items read.wave read.capacity read.tree.nodes) }
+    ensures range { IfOk result (λ read. IsUpTo 8 read.capacity) }
+    ensures duals { IfOk result (λ read. HaveDualsWithin read.tree.nodes) }
     ensures reads_back { (wave : WavePicks) (capacity : ℕ) (nodes : List Node) → Tells layout.now text.now.items wave capacity nodes
         → IfOk result (λ read. IsSame read.wave wave read.capacity capacity read.tree.nodes nodes) }
     ensures refusal { IfErr result (λ fault. fault.why ≢ why.Memory → certificate_said layout.now text.now.items ≡ Err fault.why) }
