@@ -96,6 +96,7 @@ pub record IsReadUpTo (batch : List ℕ) (least : ℕ) : Type 0 where
 pub none_read : IsReadUpTo [] 0
 none_read = record { end = refl; small = omega arith; ascending = λ k within. absurd (omega arith); below = λ p has. absurd (contains_none p has) }
 
+-- and so are those with one order more, above all of them
 pub one_more_read : (batch : List ℕ) (least order : ℕ) → IsReadUpTo batch least → least ≤ order → order < 64 → IsReadUpTo (batch ++ order ∷ []) (order + 1)
 one_more_read batch least order is above small = record {
   end = sym (end_more 0 batch order);

@@ -1,7 +1,8 @@
 ghost use Rattle.std.specs.Prelude.{◌≡◌, ◌≤◌, ◌<◌, ◌+◌, ◌↔◌, ℕ, [], ◌∷◌, ◌++◌, IsTrue, IfNone, IfSome, Contains, length, take, true, false};
 ghost use Rattle.wp_pairs.specs.declared.pair.Pair.{Pair as PairData};
 ghost use Rattle.wp_pairs.specs.Batches.{IsBatch};
-ghost use Rattle.wp_pairs.specs.Permitted.{Pairing, IsPermitted, AreJoined, AreDecided, AreUndecided, AreDecidedBefore, AllDecided, IsHeld, IsDead, AreHeldBelow};
+ghost use Rattle.wp_pairs.specs.Permitted.{Pairing, IsPermitted, AreJoined, AreDecided, AreUndecided, AreDecidedBefore, AllDecided, IsHeld, IsDead};
+ghost use Rattle.wp_pairs.specs.Permitted.{AreHeldBelow};
 ghost use Rattle.wp_pairs.specs.Kept.{FitsCapacity, IsPairing, KeepsOrder};
 
 use crate::batch::Batch;

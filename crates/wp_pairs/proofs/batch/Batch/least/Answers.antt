@@ -5,7 +5,8 @@ use Rattle.wp_pairs.proofs.Members.{members-zero, first_member, members_are_batc
 use Rattle.wp_pairs.proofs.batch.Batch.least.Goals as goal
 
 pub returns-then-self-eq0-clause-first : goal.returns-then-self-eq0-clause-first
-returns-then-self-eq0-clause-first c = rw (← c.self.view_is) (sym (ap (λ word. slice_get (members word) 0) c.if-self-eq0.true ∙ ap (λ xs. slice_get xs 0) members-zero))
+returns-then-self-eq0-clause-first c = rw (← c.self.view_is) (sym
+    (ap (λ word. slice_get (members word) 0) c.if-self-eq0.true ∙ ap (λ xs. slice_get xs 0) members-zero))
 
 pub returns-clause-first : goal.returns-clause-first
 returns-clause-first c =
