@@ -1,3 +1,5 @@
+ghost use Rattle.std.specs.Prelude.{◌≡◌, ◌-◌, ◌<◌, ◌≤◌, ◌^◌, ◌↔◌, IsSome, length};
+
 use wp_pairs::Batch;
 
 /// How many orders a batch has at most.
@@ -73,8 +75,10 @@ fn count_of_size(orders: u32, below: &[[u64; 64]; 9], size: usize) -> u64 {
 }
 
 impl Places {
-    /// No places.
-    pub fn none() -> Places {
+    /// The places of no list: only the batch of no order has one.
+    pub fn none() -> Places
+        ensures { result.capacity ≡ 0 }
+    {
         Places {
             capacity: 0,
             below: zeros(),
@@ -83,7 +87,9 @@ impl Places {
     }
 
     /// The places of batches of at most so many of a wave's orders.
-    pub fn of(orders: u32, capacity: u32) -> Places {
+    pub fn of(orders: u32, capacity: u32) -> Places
+        ensures { result.capacity ≡ capacity }
+    {
         let below = binomials();
         let fewer = counts_below(orders, &below);
         Places {
@@ -93,8 +99,10 @@ impl Places {
         }
     }
 
-    /// How many places there are.
-    pub fn count(&self, orders: u32) -> u64 {
+    /// How many places there are. Above a capacity of eight it is the greatest number, which no list has room for.
+    pub fn count(&self, orders: u32) -> u64
+        ensures { 8 < self.now.capacity → result ≡ 2 ^ 64 - 1 }
+    {
         if self.capacity > 8 {
             return u64::MAX;
         }
@@ -102,8 +110,10 @@ impl Places {
         self.fewer[size].saturating_add(count_of_size(orders, &self.below, size))
     }
 
-    /// The place of a batch. None comes for one with more orders than the capacity.
-    pub fn place_of(&self, batch: Batch) -> Option<u64> {
+    /// The place of a batch. None comes exactly for one with more orders than the capacity, or than eight.
+    pub fn place_of(&self, batch: Batch) -> Option<u64>
+        ensures { IsSome result ↔ ((length batch ≤ self.now.capacity) × (length batch ≤ 8)) }
+    {
         let size = batch.len();
         if self.capacity < size || 8 < size {
             return None;
