@@ -1,6 +1,6 @@
 -- The picks of a batch, order by order and as one set, and shortest tours past the same picks.
 use Rattle.std.proofs.Common.{◌≡◌, ◌≢◌, ℕ, ◌+◌, ◌<◌, ◌≤◌, ◌↔◌, List, [], ◌∷◌, ◌++◌, length}
-use Rattle.std.proofs.Common.{length-append, get_or, arith, ap, sym, ◌∙◌, subst, inl, inr, ◌⊎◌, ⊎_elim, Contains, All}
+use Rattle.std.proofs.Common.{length-append, get_or, arith, ap, sym, ◌∙◌, subst, inl, inr, refl, ◌⊎◌, ⊎_elim, Contains, All}
 use Rattle.std.proofs.lemmas.Bool.{cases_eq}
 use Rattle.std.proofs.lemmas.List.Elements.{All-contains, All-push, Contains-get_or}
 use Rattle.std.proofs.lemmas.List.{get_or_append_left, get_or_default, get_or_push}
@@ -73,6 +73,19 @@ picked_more wave batch place points more further of is_further joined before p =
       (cases_eq b.order place)),
 )
 
+-- what an order of the batch picks is picked by the batch
+picked_by : (wave : WavePicks) (batch : List ℕ) (order : ℕ) (p : Point) → Contains batch order → Contains (picks_of wave order) p
+    → Contains (batch_picks wave batch) p
+picked_by wave batch order p of picks =
+    Contains-from_among _ p (among-flat_map (picks_of wave) batch order p (among_from_Contains _ _ of) (among_from_Contains _ _ picks))
+
+-- what a batch picks is picked by one of its orders
+picking_order : (wave : WavePicks) (batch : List ℕ) (p : Point) → Contains (batch_picks wave batch) p
+    → (order : ℕ) × Contains batch order × Contains (picks_of wave order) p
+picking_order wave batch p has =
+    let source = flat_map_source (picks_of wave) batch p (among_from_Contains _ p has) in
+    (source.0, Contains-from_among batch source.0 source.1, Contains-from_among (picks_of wave source.0) p source.2)
+
 -- what some order of the batch picks is picked by the batch, where its orders are below this place
 pub picked_by_batch : (wave : WavePicks) (batch : List ℕ) (place : ℕ) (points : List Point) → All (λ order. order < place) batch
     → ((p : Point) → Contains points p ↔ IsPickedBelow wave batch place p) → (p : Point) → Contains points p ↔ Contains (batch_picks wave batch) p
@@ -87,6 +100,24 @@ picked_by_batch wave batch place points below before p = (
         of_batch = of;
         picks = Contains-from_among (picks_of wave source.0) p source.2;
       }),
+)
+
+-- with an order more in the batch and its picks in the union, the union is still that of the batch
+pub wider_union : (wave : WavePicks) (batch wider : List ℕ) (order : ℕ) (points more : List Point)
+    → ((o : ℕ) → Contains wider o ↔ (Contains batch o ⊎ (o ≡ order))) → ((p : Point) → Contains points p ↔ Contains (batch_picks wave batch) p)
+    → ((p : Point) → Contains more p ↔ (Contains points p ⊎ Contains (picks_of wave order) p)) → (p : Point)
+    → Contains more p ↔ Contains (batch_picks wave wider) p
+wider_union wave batch wider order points more with before joined p = (
+  λ has. ⊎_elim
+      (λ old. let source = picking_order wave batch p ((before p).0 old) in
+      picked_by wave wider source.0 p ((with source.0).1 (inl source.1)) source.2)
+      (λ new. picked_by wave wider order p ((with order).1 (inr refl)) new)
+      ((joined p).0 has),
+  λ has. let source = picking_order wave wider p has in
+      (joined p).1 (⊎_elim
+      (λ old. inl ((before p).1 (picked_by wave batch source.0 p old source.2)))
+      (λ new. inr (subst (λ (o : ℕ). Contains (picks_of wave o) p) new source.2))
+      ((with source.0).0 source.1)),
 )
 
 -- nothing is in a list that is empty

@@ -1,4 +1,4 @@
-ghost use Rattle.std.specs.Prelude.{◌≡◌, ◌≤◌, ◌<◌, ◌↔◌, ℕ, All, Contains, IfOk, IfSome, length};
+ghost use Rattle.std.specs.Prelude.{◌≡◌, ◌≤◌, ◌<◌, ◌↔◌, ◌⊎◌, ℕ, All, Contains, IfOk, IfSome, length};
 ghost use Rattle.wp_model.specs.declared.point.Point.{Point as PointData};
 ghost use Rattle.wp_model.specs.Warehouse.{Layout as Block};
 ghost use Rattle.wp_batch.specs.Waves.{HaveSamePicks, IsWave, picks_of};
@@ -156,7 +156,9 @@ impl Wave {
             return Ok(Vec::new(alloc));
         }
         let mut lengths = self.blank_lengths(alloc, count)?;
-        self.keep_all(places, &mut lengths, Batch::empty(), 0, capacity);
+        let batch = Batch::empty();
+        let union = self.union_of(batch);
+        self.keep_all(places, &mut lengths, batch, &union, 0, capacity);
         Ok(lengths)
     }
 
@@ -173,40 +175,64 @@ impl Wave {
         Ok(lengths)
     }
 
-    // Keeps the length of a batch, and of each with up to so many further orders from this one on.
+    // Keeps the length of a batch, of which the union has the slots, and of each with up to so many further orders from this
+    // one on.
     fn keep_all(
         &self,
         places: &Places,
         lengths: &mut Vec<Length>,
         batch: Batch,
+        union: &Picks,
         first: u32,
         more: u32,
     )
-        requires known { All (λ order. order < length self.now.orders) batch }
+        requires layout { union.now.layout ≡ self.now.layout }
+        requires points { (p : PointData) → Contains union.now.points p ↔ Contains (batch_picks self.now batch) p }
         requires kept { HaveLengths self.now lengths.old.items }
         ensures { HaveLengths self.now lengths.new.items }
     {
-        self.keep_one(places, lengths, batch);
+        self.keep_one(places, lengths, batch, union);
         if more == 0 {
             return;
         }
         for order in first..self.orders() {
-            self.keep_all(places, lengths, batch.with(order), order + 1, more - 1);
+            let wider = self.union_with(union, order);
+            self.keep_all(
+                places,
+                lengths,
+                batch.with(order),
+                &wider,
+                order + 1,
+                more - 1,
+            );
         }
     }
 
-    // Keeps the length of a batch at its place.
-    fn keep_one(&self, places: &Places, lengths: &mut Vec<Length>, batch: Batch)
-        requires known { All (λ order. order < length self.now.orders) batch }
+    // Keeps the length of a batch, of which the union has the slots, at its place.
+    fn keep_one(&self, places: &Places, lengths: &mut Vec<Length>, batch: Batch, union: &Picks)
+        requires layout { union.now.layout ≡ self.now.layout }
+        requires points { (p : PointData) → Contains union.now.points p ↔ Contains (batch_picks self.now batch) p }
         requires kept { HaveLengths self.now lengths.old.items }
         ensures { HaveLengths self.now lengths.new.items }
     {
-        let length = self.batch_length(batch);
+        let length = tour_length(&self.layout, union);
         if let Some(place) = places.place_of(batch) {
             if place < lengths.len() as u64 {
                 lengths[place as usize] = Length { batch, length };
             }
         }
+    }
+
+    // The slots of a union, and those at which one more order picks.
+    fn union_with(&self, union: &Picks, order: u32) -> Picks
+        requires known { order < length self.now.orders }
+        requires layout { union.now.layout ≡ self.now.layout }
+        ensures layout { result.layout ≡ self.now.layout }
+        ensures points { (p : PointData) → Contains result.points p ↔ (Contains union.now.points p ⊎ Contains (picks_of self.now order) p) }
+    {
+        let mut wider = copy_of(&self.layout, union);
+        wider.join(&self.orders[order as usize]);
+        wider
     }
 
     // The slots at which the orders of a batch pick.
