@@ -21,3 +21,4 @@ mod TextReadBack
 mod TextSame
 mod TextShown
 mod TextTold
+pub mod OneOutcome

@@ -42,6 +42,12 @@ pub sum_below : (ℕ → ℕ) → ℕ → ℕ
 sum_below f zero = 0
 sum_below f (suc n) = sum_below f n + f n
 
+-- the same numbers have the same sum
+pub same_below : (f g : ℕ → ℕ) (n : ℕ) → ((k : ℕ) → k < n → f k ≡ g k) → sum_below f n ≡ sum_below g n
+unfolding sum_below
+same_below f g zero same = refl
+same_below f g (suc n) same = omega (arith, same_below f g n (λ k within. same k (omega (arith, within))), same n (omega arith))
+
 -- a list that has all numbers below one has no smaller sum
 pub covering_sum : (f : ℕ → ℕ) (n : ℕ) (xs : List ℕ) → ((i : ℕ) → i < n → Contains xs i) → sum_below f n ≤ sum_by f xs
 unfolding sum_below

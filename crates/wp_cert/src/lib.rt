@@ -15,7 +15,7 @@ mod tree;
 mod visit;
 
 pub use checking::check;
-pub use laws::no_batching_costs_less;
+pub use laws::{no_batching_costs_less, right_trees_are_told_exactly};
 pub use text::{print_certificate, read_certificate};
 pub use tree::{CertFault, CertWhy, Certificate, Duals, Node, Nodes, Own, Tree};
 
