@@ -151,7 +151,7 @@ own_not_broken : (wave : WavePicks) (pairing : Pairing) (above : ℕ) (own : Own
 own_not_broken wave pairing above own _ right (not_all never) = never right.all
 own_not_broken wave pairing above own _ right (low all under) = omega (arith, right.raised, under)
 own_not_broken wave pairing above own fault right (marks all raised refused) = marks_not_refused wave pairing own fault right.marked refused
-own_not_broken wave pairing above own _ right (not_tight {order} all raised passed slack) = slack.slack (right.tight order slack.known)
+own_not_broken wave pairing above own _ right (not_tight {order} all raised passed slack) = slack.slack (right.shown order slack.known)
 
 -- two right trees at one place of the nodes end at one place, with one bound
 record Agree (rest others : List Node) (bound other : Option ℕ) : Type 0 where

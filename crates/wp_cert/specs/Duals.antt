@@ -24,13 +24,13 @@ pub record IsTightFor (wave : WavePicks) (pairing : Pairing) (duals : List ℕ) 
 abbrev pub AreTight : WavePicks → Pairing → List ℕ → Type 0
 AreTight wave pairing duals = (order : ℕ) → order < pairing.orders → (batch : List ℕ) × IsTightFor wave pairing duals order batch
 
--- a whole batch of orders like this one, each of the length of a tour for it alone, could not cost less: the share of a capacity in sixty times that length
+-- the share dual of an order: sixty times the length of a tour for it alone, divided by the capacity and rounded down
 pub record IsShare (wave : WavePicks) (capacity order share : ℕ) : Type 0 where
   pub total : ℕ
   pub alone : IsLengthOf wave (order ∷ []) total
   pub is : share ≡ 60 * total / capacity
 
--- the share duals: of each order the length of a shortest tour for it alone, in sixtieths, divided by the capacity and rounded down
+-- the share duals, one for each order
 pub record AreShares (wave : WavePicks) (capacity : ℕ) (shares : List ℕ) : Type 0 where
   pub count : length shares ≡ length wave.orders
   pub each : (order : ℕ) → order < length wave.orders → IsShare wave capacity order (slice_index shares order)

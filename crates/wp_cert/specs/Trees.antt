@@ -7,7 +7,7 @@ use Rattle.wp_batch.specs.Waves.{WavePicks}
 use Rattle.wp_cert.specs.declared.tree.Node.{Node}
 use Rattle.wp_cert.specs.declared.tree.Node.TheVariants as node
 use Rattle.wp_cert.specs.declared.tree.Own.{Own}
-use Rattle.wp_cert.specs.Duals.{AreFeasible, IsSumOfShares, IsTightFor, units_of}
+use Rattle.wp_cert.specs.Duals.{AreFeasible, AreTight, IsSumOfShares, IsTightFor, units_of}
 use Rattle.wp_cert.specs.Visits.{IsVisitOfAll, Passed}
 
 -- two more orders are to go together, or else apart
@@ -27,14 +27,15 @@ pub record HasAll (pairing : Pairing) (own : Own) : Type 0 where
 abbrev pub IsTightAt : WavePicks → Pairing → Own → ℕ → Type 0
 IsTightAt wave pairing own order = IsTightFor wave pairing own.duals order (slice_index_or own.tight order [])
 
--- What a node has of its own is right: duals that come to no less than those of the node above, are feasible, and are tight with the batches that are given;
--- and marks that show that they are feasible, with none left.
+-- What a node has of its own is right: duals that come to no less than those of the node above, are feasible, and are tight; marks that show that they are
+-- feasible, with none left; and for each order a batch that shows that they are tight.
 pub record IsRightOwn (wave : WavePicks) (pairing : Pairing) (above : ℕ) (own : Own) : Type 0 where
   pub all : HasAll pairing own
   pub raised : above ≤ sum own.duals
   pub feasible : AreFeasible wave pairing own.duals
+  pub tight : AreTight wave pairing own.duals
   pub marked : IsVisitOfAll wave pairing own.duals own.marks (Passed [])
-  pub tight : (order : ℕ) → order < pairing.orders → IsTightAt wave pairing own order
+  pub shown : (order : ℕ) → order < pairing.orders → IsTightAt wave pairing own order
 
 -- the lower of the bounds of two subtrees, of which one whose leaves are all dead has none
 abbrev pub lower_of : Option ℕ → Option ℕ → Option ℕ

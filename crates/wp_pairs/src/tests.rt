@@ -210,10 +210,19 @@ fn count_added(pairs: &mut Pairs, together: bool) -> u32 {
     count
 }
 
+/// How many orders go together with an order.
+fn count_joined(pairs: &Pairs, order: u32) -> Option<u32> {
+    if pairs.orders() <= order {
+        return None;
+    }
+    Some(pairs.joined_to(order).len())
+}
+
 #[test]
 fn all_pairs_of_64_orders_can_be_added(rt: HostRuntime) {
     let mut pairs = Pairs::new(64, 8);
     assert_eq!(rt; count_added(&mut pairs, APART), 2016);
+    assert_eq!(rt; count_joined(&pairs, 5), Some(1));
     assert_eq!(rt; (pairs.undecided(), pairs.dead()), (None, None));
 }
 
@@ -221,5 +230,6 @@ fn all_pairs_of_64_orders_can_be_added(rt: HostRuntime) {
 fn a_chain_of_64_orders_is_one_class(rt: HostRuntime) {
     let mut pairs = Pairs::new(64, 8);
     assert_eq!(rt; count_added(&mut pairs, TOGETHER), 63);
+    assert_eq!(rt; count_joined(&pairs, 5), Some(64));
     assert_eq!(rt; (pairs.undecided(), pairs.dead()), (None, Some(0)));
 }

@@ -1,3 +1,4 @@
+use Rattle.std.specs.Prelude.{slice_index_or, []}
 use Rattle.std.proofs.Common.{arith}
 use Rattle.std.proofs.lemmas.Bool.{both_ways}
 use Rattle.std.proofs.lemmas.Result.{err_from_is_err_and}
@@ -29,5 +30,6 @@ returns-in-None-clause-ok c = record {
   raised = omega (arith, c.if-total-above.false, c.total_of-total.ensures);
   feasible = marks_are_sound _ _ _ _ _ c.in_ok-test_marks.ensures.ok;
   marked = c.in_ok-test_marks.ensures.ok;
-  tight = c.in-None.ensures.none;
+  tight = λ order low. (slice_index_or c.args.own.now.tight order [], c.in-None.ensures.none order low);
+  shown = c.in-None.ensures.none;
 }
