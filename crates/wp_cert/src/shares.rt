@@ -7,11 +7,11 @@ use wp_pairs::Batch;
 // The share dual of an order.
 fn share_of(wave: &Wave, capacity: u32, order: u32) -> u128
     requires capacity { 1 ≤ capacity }
+    requires few { length wave.now.orders ≤ 64 }
     requires known { order < length wave.now.orders }
     ensures is { IsShare wave.now capacity order result }
     ensures small { result < 2 ^ 70 }
 {
-    wave.orders();
     let alone = wave.batch_length(Batch::empty().with(order));
     60 * u128::from(alone) / u128::from(capacity)
 }
