@@ -4,15 +4,19 @@ use wp_graph::Layout;
 use wp_model::Memory;
 
 /// Three orders at one slot, at most two in a batch: a split on the first two orders, and two leaves.
-const WORKED: &str =
-    "{\"capacity\":2,\"nodes\":[{\"duals\":[1020,1020,1020],\"first\":0,\"kind\":\"split\",\"marks\":\"1000\",\"second\":1,\"tight\":[[0,1],[0,1],[0,2]]},{\"duals\":[1020,1020,2040],\"kind\":\"leaf\",\"marks\":\"100\",\"tight\":[[0,1],[0,1],[2]]},{\"duals\":[2040,2040,0],\"kind\":\"leaf\",\"marks\":\"11000\",\"tight\":[[0],[1],[0,2]]}],\"orders\":[[[3,4]],[[3,4]],[[3,4]]],\"version\":1}";
+const WORKED: &str = "{\"capacity\":2,\"nodes\":[\
+    {\"duals\":[1020,1020,1020],\"first\":0,\"kind\":\"split\",\"marks\":\"1000\",\"second\":1,\"tight\":[[0,1],[0,1],[0,2]]},\
+    {\"duals\":[1020,1020,2040],\"kind\":\"leaf\",\"marks\":\"100\",\"tight\":[[0,1],[0,1],[2]]},\
+    {\"duals\":[2040,2040,0],\"kind\":\"leaf\",\"marks\":\"11000\",\"tight\":[[0],[1],[0,2]]}],\
+    \"orders\":[[[3,4]],[[3,4]],[[3,4]]],\"version\":1}";
 
 /// Certificates that are printed again as they are.
 const PRINTED: &[&str] = &[
     WORKED,
     "{\"capacity\":1,\"nodes\":[{\"kind\":\"kept\"}],\"orders\":[[[1,1]]],\"version\":1}",
     "{\"capacity\":8,\"nodes\":[],\"orders\":[[[1,1],[1,4],[2,2],[3,4]]],\"version\":1}",
-    "{\"capacity\":8,\"nodes\":[{\"kind\":\"dead\",\"order\":4294967295},{\"first\":4294967295,\"kind\":\"split\",\"second\":0}],\"orders\":[[[1,1]]],\"version\":1}",
+    "{\"capacity\":8,\"nodes\":[{\"kind\":\"dead\",\"order\":4294967295},\
+     {\"first\":4294967295,\"kind\":\"split\",\"second\":0}],\"orders\":[[[1,1]]],\"version\":1}",
     "{\"capacity\":8,\"nodes\":[{\"duals\":[],\"kind\":\"leaf\",\"marks\":\"\",\"tight\":[[],[63],[0,1,2,3,62,63]]}],\"orders\":[[[1,1]]],\"version\":1}",
     "{\"capacity\":8,\"nodes\":[{\"duals\":[1000000000000,0],\"kind\":\"leaf\",\"marks\":\"01\",\"tight\":[]}],\"orders\":[[[1,1]]],\"version\":1}",
 ];
