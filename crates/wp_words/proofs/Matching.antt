@@ -4,7 +4,7 @@ use Rattle.clap.specs.Words.{App, HasKind, Kinds, Row, is_simple, is_simple_and_
 use Rattle.clap.specs.declared.error.Error.{Error}
 use Rattle.clap.specs.declared.error.kind.ErrorKind.TheVariants as kind
 use Rattle.clap.proofs.OnLiterals.{clap_on_literals}
-use Rattle.wp_words.specs.Options.{audit_command, plan_command}
+use Rattle.wp_words.specs.Options.{audit_command, check_command, plan_command}
 use Rattle.wp_words.specs.Reading.{IsFaultOf}
 use Rattle.wp_words.specs.Words.{made_into, unless_faulty}
 use Rattle.wp_words.specs.declared.fault.WordsFault.{WordsFault}
@@ -15,7 +15,12 @@ pub plan_is_simple : is_simple_and_free plan_command ≡ true
 unfolding plan_command clap_on_literals
 plan_is_simple = refl
 
--- and so it does for the command of `audit`
+-- and so it does for the command of `check`
+pub check_is_simple : is_simple_and_free check_command ≡ true
+unfolding check_command clap_on_literals
+check_is_simple = refl
+
+-- and for that of `audit`
 pub audit_is_simple : is_simple_and_free audit_command ≡ true
 unfolding audit_command clap_on_literals
 audit_is_simple = refl

@@ -17,6 +17,10 @@ command_with mode options =
 unfoldable pub plan_command : App
 plan_command = command_with (codes "plan") (codes "layout" ∷ codes "stock" ∷ codes "orders" ∷ codes "desks" ∷ [])
 
+-- `check` takes the names of a layout and a certificate
+unfoldable pub check_command : App
+check_command = command_with (codes "check") (codes "layout" ∷ codes "certificate" ∷ [])
+
 -- `audit` takes the names of a layout, a stock file, an order file and a journal
 unfoldable pub audit_command : App
 audit_command = command_with (codes "audit") (codes "layout" ∷ codes "stock" ∷ codes "orders" ∷ codes "journal" ∷ [])

@@ -2,10 +2,11 @@
 use Rattle.std.specs.Prelude.{◌≡◌, Bool, true, false, List, map, codes, String, string_bytes, Result, Err}
 use Rattle.std.specs.declared.alloc.Global.{Global}
 use Rattle.clap.specs.Walk.{Text}
-use Rattle.wp_words.specs.Words.{AuditNames, JobNames, PlanNames, audit, plan}
+use Rattle.wp_words.specs.Words.{AuditNames, CheckNames, JobNames, PlanNames, audit, check, plan}
 use Rattle.wp_words.specs.declared.fault.WordsFault.{WordsFault}
 use Rattle.wp_words.specs.declared.fault.WordsFault.TheVariants as fault
 use Rattle.wp_words.specs.declared.job.AuditWords.{AuditWords}
+use Rattle.wp_words.specs.declared.job.CheckWords.{CheckWords}
 use Rattle.wp_words.specs.declared.job.Job.{Job}
 use Rattle.wp_words.specs.declared.job.Job.TheVariants as job
 use Rattle.wp_words.specs.declared.job.PlanWords.{PlanWords}
@@ -23,6 +24,10 @@ plan_names words = record {
   desks = string_bytes words.desks;
 }
 
+-- the names that the words of `check` hold
+abbrev pub check_names : CheckWords → CheckNames
+check_names words = record { layout = string_bytes words.layout; certificate = string_bytes words.certificate }
+
 -- the names that the words of `audit` hold
 abbrev pub audit_names : AuditWords → AuditNames
 audit_names words = record {
@@ -35,6 +40,7 @@ audit_names words = record {
 -- the names that a job holds
 abbrev pub job_names : Job → JobNames
 job_names (job.Plan words) = plan (plan_names words)
+job_names (job.Check words) = check (check_names words)
 job_names (job.Audit words) = audit (audit_names words)
 
 -- there was no memory

@@ -2,7 +2,7 @@
 use Rattle.std.specs.Prelude.{◌≡◌, List, [], ◌∷◌, codes, Some, unwrap_or, if◌then◌else◌, Result, Ok, Err}
 use Rattle.std.specs.Str.{bytes_eq}
 use Rattle.clap.specs.Words.{App, Kinds, Row, Text, fault_of, first_of, matches_of}
-use Rattle.wp_words.specs.Options.{audit_command, plan_command}
+use Rattle.wp_words.specs.Options.{audit_command, check_command, plan_command}
 use Rattle.wp_words.specs.declared.fault.WordsFault.{WordsFault}
 use Rattle.wp_words.specs.declared.fault.WordsFault.TheVariants as fault
 
@@ -12,6 +12,11 @@ pub record PlanNames : Type 0 where
   pub stock : Text
   pub orders : Text
   pub desks : Text
+
+-- the names that the options of `check` give
+pub record CheckNames : Type 0 where
+  pub layout : Text
+  pub certificate : Text
 
 -- the names that the options of `audit` give
 pub record AuditNames : Type 0 where
@@ -23,6 +28,7 @@ pub record AuditNames : Type 0 where
 -- a job, by the names that its words give
 pub data JobNames : Type 0 where
   plan : PlanNames → JobNames
+  check : CheckNames → JobNames
   audit : AuditNames → JobNames
 
 -- what was matched, where no kind of error comes of the words
@@ -47,6 +53,10 @@ plan_names_of rows = record {
   desks = value_of rows (codes "desks");
 }
 
+-- the names that were matched for `check`
+abbrev pub check_names_of : List Row → CheckNames
+check_names_of rows = record { layout = value_of rows (codes "layout"); certificate = value_of rows (codes "certificate") }
+
 -- the names that were matched for `audit`
 abbrev pub audit_names_of : List Row → AuditNames
 audit_names_of rows = record {
@@ -65,6 +75,10 @@ made_into make (Err why) = Err why
 abbrev pub plan_said : List Text → Result PlanNames WordsFault
 plan_said words = made_into plan_names_of (matched plan_command words)
 
+-- what words say after `check`
+abbrev pub check_said : List Text → Result CheckNames WordsFault
+check_said words = made_into check_names_of (matched check_command words)
+
 -- what words say after `audit`
 abbrev pub audit_said : List Text → Result AuditNames WordsFault
 audit_said words = made_into audit_names_of (matched audit_command words)
@@ -74,6 +88,7 @@ unfoldable pub job_said : List Text → Result JobNames WordsFault
 job_said [] = Err fault.NoMode
 job_said (mode ∷ words) =
     if bytes_eq mode (codes "plan") then made_into plan (plan_said words)
+    else if bytes_eq mode (codes "check") then made_into check (check_said words)
     else if bytes_eq mode (codes "audit") then made_into audit (audit_said words)
     else Err fault.UnknownMode
 
@@ -83,6 +98,11 @@ pub record ArePlanValues (rows : List Row) (names : PlanNames) : Type 0 where
   pub stock : first_of (codes "stock") rows ≡ Some names.stock
   pub orders : first_of (codes "orders") rows ≡ Some names.orders
   pub desks : first_of (codes "desks") rows ≡ Some names.desks
+
+-- clap states these values for the options of `check`
+pub record AreCheckValues (rows : List Row) (names : CheckNames) : Type 0 where
+  pub layout : first_of (codes "layout") rows ≡ Some names.layout
+  pub certificate : first_of (codes "certificate") rows ≡ Some names.certificate
 
 -- clap states these values for the options of `audit`
 pub record AreAuditValues (rows : List Row) (names : AuditNames) : Type 0 where
@@ -95,4 +115,5 @@ pub record AreAuditValues (rows : List Row) (names : AuditNames) : Type 0 where
 abbrev pub AreStated : List Text → JobNames → Type 0
 AreStated [] names = ⊥
 AreStated (mode ∷ words) (plan names) = ArePlanValues (matches_of plan_command words) names
+AreStated (mode ∷ words) (check names) = AreCheckValues (matches_of check_command words) names
 AreStated (mode ∷ words) (audit names) = AreAuditValues (matches_of audit_command words) names

@@ -3,6 +3,8 @@
 pub enum Job {
     /// Plans the waves of a day.
     Plan(PlanWords),
+    /// Checks a certificate over the layout that it is for.
+    Check(CheckWords),
     /// Holds a journal against the files that it came from.
     Audit(AuditWords),
 }
@@ -14,6 +16,13 @@ pub struct PlanWords {
     pub stock: String,
     pub orders: String,
     pub desks: String,
+}
+
+/// The names of a certificate, and of the layout that it is for.
+#[derive(Debug, Drop)]
+pub struct CheckWords {
+    pub layout: String,
+    pub certificate: String,
 }
 
 /// The names of a journal, and of the files that it came from.

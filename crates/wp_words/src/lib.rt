@@ -10,7 +10,7 @@ mod options;
 mod reading;
 
 pub use fault::WordsFault;
-pub use job::{AuditWords, Job, PlanWords};
+pub use job::{AuditWords, CheckWords, Job, PlanWords};
 pub use reading::read_words;
 
 #[cfg(test)]

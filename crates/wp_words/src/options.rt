@@ -1,6 +1,6 @@
 ghost use Rattle.std.specs.Prelude.{◌≡◌, [], IfOk, IfErr, Some, Ok, string_bytes, true, false};
 ghost use Rattle.clap.specs.Words.{app_of, rule_of, first_of, found_of, is_simple_and_free, rows_of};
-ghost use Rattle.wp_words.specs.Options.{audit_command, command_with, option_rule, plan_command};
+ghost use Rattle.wp_words.specs.Options.{audit_command, check_command, command_with, option_rule, plan_command};
 ghost use Rattle.wp_words.specs.Reading.{IsFaultOf, texts_of};
 ghost use Rattle.wp_words.specs.Words.{matched};
 
@@ -39,6 +39,16 @@ pub fn plan_command<'a>(alloc: Global) -> Result<Command<'a>, AllocError>
         .arg(required_option(alloc, "stock"))?
         .arg(required_option(alloc, "orders"))?
         .arg(required_option(alloc, "desks"))?;
+    Ok(command)
+}
+
+/// The options of `check`.
+pub fn check_command<'a>(alloc: Global) -> Result<Command<'a>, AllocError>
+    ensures { IfOk result (λ command. app_of command ≡ check_command) }
+{
+    let command = bare_command(alloc, "check")
+        .arg(required_option(alloc, "layout"))?
+        .arg(required_option(alloc, "certificate"))?;
     Ok(command)
 }
 

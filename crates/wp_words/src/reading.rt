@@ -1,12 +1,12 @@
 ghost use Rattle.std.specs.Prelude.{◌≡◌, IfOk, IfErr, Ok};
 ghost use Rattle.clap.specs.Words.{found_of, matches_of, rows_of};
-ghost use Rattle.wp_words.specs.Options.{audit_command, plan_command};
-ghost use Rattle.wp_words.specs.Reading.{IsFaultOf, audit_names, job_names, plan_names, texts_of};
-ghost use Rattle.wp_words.specs.Words.{AreAuditValues, ArePlanValues, AreStated, audit_said, job_said, plan_said};
+ghost use Rattle.wp_words.specs.Options.{audit_command, check_command, plan_command};
+ghost use Rattle.wp_words.specs.Reading.{IsFaultOf, audit_names, check_names, job_names, plan_names, texts_of};
+ghost use Rattle.wp_words.specs.Words.{AreAuditValues, AreCheckValues, ArePlanValues, AreStated, audit_said, check_said, job_said, plan_said};
 
 use crate::fault::WordsFault;
-use crate::job::{AuditWords, Job, PlanWords};
-use crate::options::{audit_command, matched, plan_command, value_of};
+use crate::job::{AuditWords, CheckWords, Job, PlanWords};
+use crate::options::{audit_command, check_command, matched, plan_command, value_of};
 use clap::ArgMatches;
 use std::alloc::Global;
 use wp_model::Memory;
@@ -23,6 +23,17 @@ fn plan_words(alloc: Global, matches: &ArgMatches<'_>) -> Result<PlanWords, Memo
         stock,
         orders,
         desks,
+    })
+}
+
+fn check_words(alloc: Global, matches: &ArgMatches<'_>) -> Result<CheckWords, Memory>
+    ensures { IfOk result (λ words. AreCheckValues (rows_of (found_of matches.now)) (check_names words)) }
+{
+    let layout = value_of(alloc, matches, "layout")?;
+    let certificate = value_of(alloc, matches, "certificate")?;
+    Ok(CheckWords {
+        layout,
+        certificate,
     })
 }
 
@@ -53,6 +64,18 @@ fn read_plan(alloc: Global, words: &[String]) -> Result<PlanWords, WordsFault>
     Ok(plan)
 }
 
+/// The words after `check`.
+fn read_check(alloc: Global, words: &[String]) -> Result<CheckWords, WordsFault>
+    ensures said { IfOk result (λ check. check_said (texts_of words.now) ≡ Ok (check_names check)) }
+    ensures stated { IfOk result (λ check. AreCheckValues (matches_of check_command (texts_of words.now)) (check_names check)) }
+    ensures fault { IfErr result (IsFaultOf (check_said (texts_of words.now))) }
+{
+    let command = check_command(alloc)?;
+    let matches = matched(command, words)?;
+    let check = check_words(alloc, &matches)?;
+    Ok(check)
+}
+
 /// The words after `audit`.
 fn read_audit(alloc: Global, words: &[String]) -> Result<AuditWords, WordsFault>
     ensures said { IfOk result (λ audit. audit_said (texts_of words.now) ≡ Ok (audit_names audit)) }
@@ -65,9 +88,9 @@ fn read_audit(alloc: Global, words: &[String]) -> Result<AuditWords, WordsFault>
     Ok(audit)
 }
 
-/// Reads the words of a command line, without the program's name: a mode, `plan` or `audit`, and its options. NoMode
-/// comes exactly where there is no word, UnknownMode exactly where the first word is no mode, and BadWords exactly where
-/// the words after it aren't accepted for the mode's command.
+/// Reads the words of a command line, without the program's name: a mode, `plan`, `check` or `audit`, and its
+/// options. NoMode comes exactly where there is no word, UnknownMode exactly where the first word is no mode, and
+/// BadWords exactly where the words after it aren't accepted for the mode's command.
 #[tactic(auto, unfolding(crate::specs::Words::job_said))]
 pub fn read_words(alloc: Global, words: &Vec<String>) -> Result<Job, WordsFault>
     ensures job { IfOk result (λ job. job_said (texts_of words.now.items) ≡ Ok (job_names job)) }
@@ -79,6 +102,7 @@ pub fn read_words(alloc: Global, words: &Vec<String>) -> Result<Job, WordsFault>
     };
     match mode.as_str() {
         "plan" => Ok(Job::Plan(read_plan(alloc, words)?)),
+        "check" => Ok(Job::Check(read_check(alloc, words)?)),
         "audit" => Ok(Job::Audit(read_audit(alloc, words)?)),
         _ => Err(WordsFault::UnknownMode),
     }

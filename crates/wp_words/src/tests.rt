@@ -20,6 +20,14 @@ fn plan_text(alloc: Global, words: &PlanWords) -> Result<String, AllocError> {
     format!(in alloc; "plan {layout}, {stock}, {orders}, {desks}")
 }
 
+fn check_text(alloc: Global, words: &CheckWords) -> Result<String, AllocError> {
+    let CheckWords {
+        layout,
+        certificate,
+    } = words;
+    format!(in alloc; "check {layout}, {certificate}")
+}
+
 fn audit_text(alloc: Global, words: &AuditWords) -> Result<String, AllocError> {
     let AuditWords {
         layout,
@@ -34,6 +42,7 @@ fn audit_text(alloc: Global, words: &AuditWords) -> Result<String, AllocError> {
 fn told(alloc: Global, read: &Result<Job, WordsFault>) -> Result<String, AllocError> {
     match read {
         Ok(Job::Plan(words)) => plan_text(alloc, words),
+        Ok(Job::Check(words)) => check_text(alloc, words),
         Ok(Job::Audit(words)) => audit_text(alloc, words),
         Err(fault) => fault.to_string(alloc),
     }
@@ -100,6 +109,18 @@ const JOBS: &[(&str, &str)] = &[
         "plan --layout a/b.json --stock ../s.csv --orders /o --desks größe.csv",
         "plan a/b.json, ../s.csv, /o, größe.csv",
     ),
+    ("check --layout l --certificate c", "check l, c"),
+    ("check --layout=l --certificate=c", "check l, c"),
+    ("check --layout l --certificate=c", "check l, c"),
+    ("check --layout=l --certificate c", "check l, c"),
+    ("check --certificate c --layout l", "check l, c"),
+    ("check --certificate=c --layout=l", "check l, c"),
+    ("check --layout a --certificate a", "check a, a"),
+    (
+        "check --layout check --certificate layout",
+        "check check, layout",
+    ),
+    ("check --certificate=--layout --layout=", "check , --layout"),
     (
         "audit --layout l --stock s --orders o --journal j",
         "audit l, s, o, j",
@@ -161,7 +182,10 @@ const NO_MODES: &[&str] = &[
     "plans",
     "pla",
     "plan=",
-    "check --layout l --certificate c",
+    "Check --layout l --certificate c",
+    "checks --layout l --certificate c",
+    "certificate --layout l --certificate c",
+    "--layout l check --certificate c",
     "--help",
     "-h",
     "help",
@@ -214,6 +238,8 @@ const BAD_PLANS: &[&str] = &[
     " --layout l --stock s --orders o --desks d --colour",
     " --layout l --stock s --orders o --desks d --journal j",
     " --layout l --stock s --orders o --journal j",
+    " --layout l --stock s --orders o --desks d --certificate c",
+    " --layout l --certificate c",
     " --layout l --stock s --orders o --desk d",
     " --layout l --stock s --orders o --Desks d",
     " -layout l --stock s --orders o --desks d",
@@ -235,6 +261,42 @@ fn words_of_plan_are_refused(rt: HostRuntime) {
     );
 }
 
+/// What may not stand after the word `check`.
+const BAD_CHECKS: &[&str] = &[
+    "",
+    " --certificate c",
+    " --layout l",
+    " --layout l --certificate c --layout l",
+    " --layout=l --layout=m --certificate c",
+    " --layout l --certificate c --certificate=c",
+    " --layout l --certificate",
+    " --layout --certificate c",
+    " --layout l --certificate -c",
+    " --layout l --certificate c now",
+    " now --layout l --certificate c",
+    " --layout l --certificate c -- now",
+    " --layout l --certificate c ",
+    " l c",
+    " --layout l --certificate c --colour=1",
+    " --layout l --certificate c --stock s",
+    " --layout l --certificate c --journal=j",
+    " --layout l --stock s",
+    " --layout l --stock s --orders o --journal j",
+    " --layout l --certificates c",
+    " --layout l --Certificate c",
+    " -l l -c c",
+    " check --layout l --certificate c",
+    " --help",
+];
+
+#[test]
+fn words_of_check_are_refused(rt: HostRuntime) {
+    assert_eq!(rt;
+        misrefused_words(rt.alloc(), "check", BAD_CHECKS, "bad-words"),
+        Ok(None)
+    );
+}
+
 /// What may not stand after the word `audit`.
 const BAD_AUDITS: &[&str] = &[
     "",
@@ -244,6 +306,7 @@ const BAD_AUDITS: &[&str] = &[
     " --layout l --stock s --orders o",
     " --layout l --stock s --orders o --desks d",
     " --layout l --stock s --orders o --journal j --desks d",
+    " --layout l --stock s --orders o --journal j --certificate c",
     " --layout l --stock s --orders o --journal j --journal=j",
     " --layout l --stock s --orders o --journal j now",
     " --layout l --stock s --orders o --journal j --colour=1",

@@ -1,0 +1,23 @@
+use Rattle.std.proofs.Common.{◌∙◌, ap, sym, subst, List}
+use Rattle.std.proofs.lemmas.Result.{err_from_is_err_and}
+use Rattle.clap.specs.Words.{App, Row, is_simple_and_free}
+use Rattle.wp_words.specs.Reading.{IsFaultOf, check_names, texts_of}
+use Rattle.wp_words.specs.Words.{AreCheckValues, matched, check_names_of}
+use Rattle.wp_words.proofs.Matching.{fault_after, check_is_simple, rows_matched}
+use Rattle.wp_words.proofs.reading.read_check.Goals as goal
+
+pub matched-requires : goal.matched-requires
+matched-requires c = record { simple = ap is_simple_and_free c.in_ok-command.ensures ∙ check_is_simple }
+
+pub returns-in_err-matches-clause-fault : goal.returns-in_err-matches-clause-fault
+returns-in_err-matches-clause-fault c =
+    let p = err_from_is_err_and c.from_residual-in_err-matches.result c.from_residual-in_err-matches.ensures.1 in
+    let why = c.in_err-matches.field-0.0 in
+    let of_command = subst (λ (a : App). IsFaultOf (matched a (texts_of c.args.words.now)) why) c.in_ok-command.ensures c.in_err-matches.ensures.fault in
+    rw (p.1, p.2) (fault_after check_names_of _ why of_command)
+
+pub returns-clause-stated : goal.returns-clause-stated
+returns-clause-stated c =
+    let command = ap (λ (a : App). matched a (texts_of c.args.words.now)) c.in_ok-command.ensures in
+    let rows = rows_matched _ _ _ (sym command ∙ c.in_ok-matches.ensures.rows) in
+    subst (λ (rows : List Row). AreCheckValues rows (check_names c.in_ok-check.check)) (sym rows) c.in_ok-check.ensures
