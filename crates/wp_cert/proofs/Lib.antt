@@ -22,3 +22,5 @@ mod TextSame
 mod TextShown
 mod TextTold
 pub mod OneOutcome
+pub mod OneVerdict
+mod OrdersBelow

@@ -7,3 +7,4 @@ pub mod Refusals
 pub mod Paths
 pub mod Text
 pub mod TextData
+pub mod FaultTexts
