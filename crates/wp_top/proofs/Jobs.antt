@@ -23,7 +23,7 @@ use Rattle.wp_top.specs.declared.input.Input.TheVariants as input
 use Rattle.wp_words.specs.Words.{AuditNames, JobNames, PlanNames, audit, plan}
 
 -- a stop among a job's files is one of the job
-stop_of : (holds : Holding) (job : JobNames) (before after : Counts) (s : Stop) → StopsAmong holds (files_of job) before after s
+pub stop_of : (holds : Holding) (job : JobNames) (before after : Counts) (s : Stop) → StopsAmong holds (files_of job) before after s
     → IsStop holds (Ok job) before after s
 stop_of holds job before after (stop.Complaint (complaint.Words why)) stops = absurd stops
 stop_of holds job before after (stop.Complaint (complaint.Refused kind why)) stops = (job, refl, stops)
@@ -77,6 +77,8 @@ stop_at_fault : (holds held : Holding) (names : AuditNames) (before after : Coun
 stop_at_fault holds held names before after layout opening text (stop.Complaint (complaint.Words why)) same said read wrong = absurd wrong
 stop_at_fault holds held names before after layout opening text (stop.Complaint (complaint.Refused f why)) same said read wrong = absurd wrong
 stop_at_fault holds held names before after layout opening text (stop.Complaint (complaint.Fault f)) same said read wrong = absurd wrong
+stop_at_fault holds held names before after layout opening text (stop.Complaint (complaint.Wrong (finding.Certificate fault))) same said read wrong =
+    absurd wrong
 stop_at_fault holds held names before after layout opening text (stop.Complaint (complaint.Wrong (finding.Journal fault))) same said read wrong = record {
   job = audit names;
   asked_for = refl;

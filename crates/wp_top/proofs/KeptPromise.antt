@@ -20,8 +20,9 @@ use Rattle.wp_top.specs.declared.ending.Ending.{Ending}
 use Rattle.wp_top.specs.declared.ending.Ending.TheVariants as ending
 use Rattle.wp_top.specs.declared.status.Status.{Status}
 use Rattle.wp_top.specs.declared.status.Status.TheVariants as status
-use Rattle.wp_words.specs.Words.{JobNames, audit, plan}
+use Rattle.wp_words.specs.Words.{JobNames, audit, check, plan}
 use Rattle.wp_words.specs.declared.fault.WordsFault.{WordsFault}
+use Rattle.wp_top.proofs.Checks.{bound_no_fault}
 use Rattle.wp_top.proofs.RisenCounts.{bad_before_rise, none_rose}
 use Rattle.wp_top.proofs.Statuses.{HasEnded, due, few_statuses, part_taken, sink_rose, stands, when_done, when_fault, when_refused, when_words, when_wrong}
 use Rattle.wp_top.proofs.Statuses.{whole}
@@ -64,12 +65,17 @@ ok_no_err a fault e = cc e
 -- what a job holds against its files isn't both right and wrong
 right_no_wrong : (job : JobNames) (said : Said) (found : Finding) → IsRight job said → IsWrong job said found → ⊥
 right_no_wrong (plan names) said found right wrong = wrong
+right_no_wrong (check names) said (finding.Journal fault) right wrong = wrong
+right_no_wrong (check names) said (finding.Certificate fault) (bound, right) wrong =
+    bound_no_fault said.layout said.certificate bound fault right wrong
+right_no_wrong (audit names) said (finding.Certificate fault) right wrong = wrong
 right_no_wrong (audit names) said (finding.Journal fault) (entries, right) wrong =
     ok_no_err (record { entries = entries }) fault (shows_one said.opening said.journal (Ok (record { entries = entries })) (Err fault) right wrong)
 
 -- an output is what right files come to
 right_output : (job : JobNames) (said : Said) (output : List ℕ) → ComesTo job said output → IsRight job said
 right_output (plan names) said output comes = tt
+right_output (check names) said output comes = (comes.bound, comes.shows.tree)
 right_output (audit names) said output comes = (comes.entries, comes.shows)
 
 -- what the files of the job say is what they are told to say
@@ -131,7 +137,7 @@ keeps asked run ended frame so =
       most = few_statuses ended;
       bad_words = λ why bad stand. stands run ended 1 e so.finishes stand (ends_for_words asked run e why so.cause bad);
       bad_file = λ bad stand. stands run ended 2 e so.finishes stand (ends_for_bad_file asked run e so.cause bad);
-      bad_journal = λ job said found good wrong stand. stands run ended 6 e so.finishes stand (ends_for_wrong asked run e job said found so.cause good wrong);
+      bad_content = λ job said found good wrong stand. stands run ended 6 e so.finishes stand (ends_for_wrong asked run e job said found so.cause good wrong);
       complete = λ job said good right stand. stands run ended 0 e so.finishes stand (ends_for_good asked run e job said so.cause good right);
       same = frame.same;
       counts = frame.counts;
@@ -155,7 +161,7 @@ keeps_nothing asked run frame took = record {
   most = omega arith;
   bad_words = λ why bad stand. inr refl;
   bad_file = λ bad stand. inr refl;
-  bad_journal = λ job said found good wrong stand. inr refl;
+  bad_content = λ job said found good wrong stand. inr refl;
   complete = λ job said good right stand. inr refl;
   same = frame.same;
   counts = frame.counts;

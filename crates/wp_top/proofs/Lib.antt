@@ -5,6 +5,7 @@ pub mod Taken
 pub mod Writing
 pub mod Output
 pub mod Jobs
+pub mod Checks
 pub mod Statuses
 pub mod ToldFiles
 pub mod RisenCounts

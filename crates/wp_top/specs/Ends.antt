@@ -1,6 +1,7 @@
 -- The lines of complaints, and what each has for its cause.
 use Rattle.std.specs.Prelude.{◌≡◌, ◌++◌, ℕ, ◌<◌, List, ◌∷◌, Option, String, Result, Ok, Err, codes, map}
 use Rattle.std.specs.declared.alloc.Global.{Global}
+use Rattle.wp_cert.specs.FaultTexts.{cert_fault_text}
 use Rattle.wp_journal.specs.FaultTexts.{audit_fault_text}
 use Rattle.wp_model.specs.Journal.{after_space, line}
 use Rattle.wp_top.specs.Runs.{ComesTo, IsWrong}
@@ -11,9 +12,10 @@ use Rattle.wp_top.specs.declared.complaint.Finding.{Finding}
 use Rattle.wp_top.specs.declared.complaint.Finding.TheVariants as finding
 use Rattle.wp_top.specs.declared.input.Input.{Input}
 use Rattle.wp_top.specs.declared.input.Refusal.{Refusal}
-use Rattle.wp_words.specs.Reading.{audit_names, fault_text, plan_names, texts_of}
-use Rattle.wp_words.specs.Words.{JobNames, audit, job_said, plan}
+use Rattle.wp_words.specs.Reading.{audit_names, check_names, fault_text, plan_names, texts_of}
+use Rattle.wp_words.specs.Words.{JobNames, audit, check, job_said, plan}
 use Rattle.wp_words.specs.declared.job.AuditWords.{AuditWords}
+use Rattle.wp_words.specs.declared.job.CheckWords.{CheckWords}
 use Rattle.wp_words.specs.declared.job.PlanWords.{PlanWords}
 use Rattle.wp_words.specs.declared.fault.WordsFault.{WordsFault}
 
@@ -25,6 +27,10 @@ Asked = Result JobNames WordsFault
 abbrev pub audit_job : AuditWords → JobNames
 audit_job words = audit (audit_names words)
 
+-- the job that the words of a check ask for
+abbrev pub check_job : CheckWords → JobNames
+check_job words = check (check_names words)
+
 -- the job that the words of a plan ask for
 abbrev pub plan_job : PlanWords → JobNames
 plan_job words = plan (plan_names words)
@@ -35,9 +41,10 @@ asked_by words = job_said (texts_of words)
 
 -- what is found
 abbrev pub finding_text : Finding → List ℕ
+finding_text (finding.Certificate fault) = codes "certificate" ++ after_space (cert_fault_text fault)
 finding_text (finding.Journal fault) = codes "journal" ++ after_space (audit_fault_text fault)
 
--- what is said of words that ask for no job, of a refused file, of a file that could not be read, and of a journal that isn't right
+-- what is said of words that ask for no job, of a refused file, of a file that could not be read, and of a certificate or a journal that isn't right
 abbrev pub complaint_text : Complaint → List ℕ
 complaint_text (complaint.Words why) = codes "refused words" ++ after_space (fault_text why)
 complaint_text (complaint.Refused file why) = codes "refused" ++ after_space (input_text file) ++ after_space (refusal_text why)

@@ -96,7 +96,7 @@ pub record Keeps (asked : Asked) (run : Course) (status : ℕ) : Type 0 where
   pub sink : status ≡ 4 → run.sink < run.sink'
   -- 4 or 5: the sink took nothing, or a beginning of a text that was due
   pub partial : (status ≡ 4) ⊎ (status ≡ 5) → Took run [] ⊎ ((text : List ℕ) × IsDue asked run text × TookPrefix run.taken run.taken' text)
-  -- 6: no file is refused, but the journal isn't right, and the sink took the line that says where
+  -- 6: no file is refused, but the certificate or the journal isn't right, and the sink took the line that says where
   pub wrong : status ≡ 6 → (found : Finding) × Complains asked run (complaint.Wrong found)
   -- there is no other status
   pub most : status ≤ 6
@@ -104,8 +104,8 @@ pub record Keeps (asked : Asked) (run : Course) (status : ℕ) : Type 0 where
   pub bad_words : (why : WordsFault) → asked ≡ Err why → SinkStands run → EndsWith 1 status
   -- a refused file ends with 2
   pub bad_file : IsBadFile asked run → SinkStands run → EndsWith 2 status
-  -- a journal that isn't right ends with 6
-  pub bad_journal : (job : JobNames) (said : Said) (found : Finding) → AreGoodFiles asked run job said → IsWrong job said found → SinkStands run
+  -- a certificate or a journal that isn't right ends with 6
+  pub bad_content : (job : JobNames) (said : Said) (found : Finding) → AreGoodFiles asked run job said → IsWrong job said found → SinkStands run
       → EndsWith 6 status
   -- and else the run ends with 0
   pub complete : (job : JobNames) (said : Said) → AreGoodFiles asked run job said → IsRight job said → SinkStands run → EndsWith 0 status

@@ -1,15 +1,23 @@
 -- What a job comes to.
-use Rattle.std.specs.Prelude.{◌≡◌, ◌++◌, ℕ, ⊤, List, Err, codes}
+use Rattle.std.specs.Prelude.{◌≡◌, ◌⊎◌, ◌++◌, ℕ, ⊤, List, Err, codes}
+use Rattle.wp_batch.specs.Waves.{WavePicks}
+use Rattle.wp_cert.specs.Bounds.{NoBatchingCostsLess}
+use Rattle.wp_cert.specs.Refusals.{IsFirstBroken}
+use Rattle.wp_cert.specs.Text.{Tells, certificate_said}
+use Rattle.wp_cert.specs.Trees.{IsBoundOf}
+use Rattle.wp_cert.specs.declared.tree.CertFault.{CertFault}
+use Rattle.wp_cert.specs.declared.tree.Node.{Node}
 use Rattle.wp_journal.specs.Journals.{IsJournalOf, Shows}
 use Rattle.wp_machine.specs.Machine.{EachStateIsSound}
 use Rattle.wp_model.specs.History.{History, IsLegal}
 use Rattle.wp_model.specs.Journal.{line, number_after_space}
 use Rattle.wp_model.specs.History.{part_of, script_of}
+use Rattle.wp_model.specs.Warehouse.{Layout}
 use Rattle.wp_top.specs.Sections.{output_of}
 use Rattle.wp_top.specs.Texts.{Said}
 use Rattle.wp_top.specs.declared.complaint.Finding.{Finding}
 use Rattle.wp_top.specs.declared.complaint.Finding.TheVariants as finding
-use Rattle.wp_words.specs.Words.{JobNames, audit, plan}
+use Rattle.wp_words.specs.Words.{JobNames, audit, check, plan}
 
 -- the output of a plan: that of one legal history whose part for each desk is that desk's script, and each of whose states is sound
 pub record IsPlan (said : Said) (output : List ℕ) : Type 0 where
@@ -30,17 +38,62 @@ pub record IsAudit (said : Said) (output : List ℕ) : Type 0 where
   pub shows : IsJournalOf said.opening said.journal entries
   pub is : output ≡ audit_line entries
 
+-- the line of a bound
+abbrev pub bound_line : ℕ → List ℕ
+bound_line bound = line (codes "bound" ++ number_after_space bound)
+
+-- the text of a certificate tells a wave of the layout, a capacity and a tree that is right, with this bound
+pub record TellsBound (layout : Layout) (text : List ℕ) (bound : ℕ) : Type 0 where
+  pub wave : WavePicks
+  pub capacity : ℕ
+  pub nodes : List Node
+  pub told : Tells layout text wave capacity nodes
+  pub right : IsBoundOf wave capacity nodes bound
+
+-- and no batching of that wave within the capacity costs less
+pub record ShowsBound (layout : Layout) (text : List ℕ) (bound : ℕ) : Type 0 where
+  pub tree : TellsBound layout text bound
+  pub least : NoBatchingCostsLess tree.wave tree.capacity bound
+
+-- it tells a wave of the layout, a capacity and a tree whose first broken rule is this fault
+pub record TellsBroken (layout : Layout) (text : List ℕ) (fault : CertFault) : Type 0 where
+  pub wave : WavePicks
+  pub capacity : ℕ
+  pub nodes : List Node
+  pub told : Tells layout text wave capacity nodes
+  pub broken : IsFirstBroken wave capacity nodes fault
+
+-- it tells no certificate of the layout, and this is why, at node 0
+pub record TellsNone (layout : Layout) (text : List ℕ) (fault : CertFault) : Type 0 where
+  pub refused : certificate_said layout text ≡ Err fault.why
+  pub first : fault.node ≡ 0
+
+-- a certificate is refused with this fault: its text tells none, or the tree that it tells breaks a rule
+abbrev pub IsRefusedCertificate : Layout → List ℕ → CertFault → Type 0
+IsRefusedCertificate layout text fault = TellsNone layout text fault ⊎ TellsBroken layout text fault
+
+-- the output of a check: the certificate shows a bound, and this is its line
+pub record IsBound (said : Said) (output : List ℕ) : Type 0 where
+  pub bound : ℕ
+  pub shows : ShowsBound said.layout said.certificate bound
+  pub is : output ≡ bound_line bound
+
 -- the output of a job, by what its files say
 abbrev pub ComesTo : JobNames → Said → List ℕ → Type 0
 ComesTo (plan names) said output = IsPlan said output
+ComesTo (check names) said output = IsBound said output
 ComesTo (audit names) said output = IsAudit said output
 
 -- what a job holds against its files isn't right, and this is found
 abbrev pub IsWrong : JobNames → Said → Finding → Type 0
 IsWrong (plan names) said found = ⊥
+IsWrong (check names) said (finding.Journal fault) = ⊥
+IsWrong (check names) said (finding.Certificate fault) = IsRefusedCertificate said.layout said.certificate fault
+IsWrong (audit names) said (finding.Certificate fault) = ⊥
 IsWrong (audit names) said (finding.Journal fault) = Shows said.opening said.journal (Err fault)
 
 -- it is right
 abbrev pub IsRight : JobNames → Said → Type 0
 IsRight (plan names) said = ⊤
+IsRight (check names) said = (bound : ℕ) × TellsBound said.layout said.certificate bound
 IsRight (audit names) said = (entries : ℕ) × IsJournalOf said.opening said.journal entries

@@ -1,6 +1,9 @@
 -- What comes of the files, one after the other, why a job stops, and how a run ends. The code is held against these; what they come to is in Promise.
 use Rattle.std.specs.Prelude.{◌≡◌, ◌⊎◌, ℕ, ◌<◌, ⊤, Bool, true, false, List, [], ◌∷◌, Option, String, Result, Ok, Err, if◌then◌else◌, string_bytes}
 use Rattle.std.specs.declared.alloc.Global.{Global}
+use Rattle.wp_cert.specs.declared.tree.CertFault.{CertFault}
+use Rattle.wp_cert.specs.declared.tree.CertWhy.{CertWhy}
+use Rattle.wp_cert.specs.declared.tree.CertWhy.TheVariants as cert_why
 use Rattle.wp_journal.specs.Journals.{IsJournalOf, Shows}
 use Rattle.wp_layout.specs.declared.fault.LayoutFault.{LayoutFault}
 use Rattle.wp_layout.specs.declared.fault.LayoutFault.TheVariants as layout_fault
@@ -10,6 +13,7 @@ use Rattle.wp_model.specs.declared.command.Command.{Command}
 use Rattle.wp_outside.specs.Outside.{Grows, TookPrefix}
 use Rattle.wp_top.specs.Ends.{Asked, HasRisen, IsCause, IsFirstRefused, IsOutput, complaint_line}
 use Rattle.wp_top.specs.OneDesk.{desk_history, only_script}
+use Rattle.wp_top.specs.Runs.{IsRefusedCertificate, ShowsBound}
 use Rattle.wp_top.specs.Sections.{output_of}
 use Rattle.wp_top.specs.Texts.{File, IsHeld, Said, file_of, nothing_said, scripts_in, text_in}
 use Rattle.wp_top.specs.declared.complaint.Complaint.TheVariants as complaint
@@ -90,6 +94,7 @@ abbrev pub StopsAudit : Opening → List ℕ → Stop → Type 0
 StopsAudit opening text (stop.Complaint (complaint.Words why)) = ⊥
 StopsAudit opening text (stop.Complaint (complaint.Refused file why)) = ⊥
 StopsAudit opening text (stop.Complaint (complaint.Fault file)) = ⊥
+StopsAudit opening text (stop.Complaint (complaint.Wrong (finding.Certificate fault))) = ⊥
 StopsAudit opening text (stop.Complaint (complaint.Wrong (finding.Journal fault))) = Shows opening text (Err fault)
 StopsAudit opening text stop.Memory = ⊤
 
@@ -103,6 +108,46 @@ pub record IsRightJournal (holds : List ℕ → Option (List ℕ)) (opening : Op
 abbrev pub StopsFinding : (List ℕ → Option (List ℕ)) → Opening → List ℕ → ℕ → ℕ → Stop → Type 0
 StopsFinding holds opening name before after why = IsUnsaid text_in holds name before after input.Journal why
     ⊎ ((text : List ℕ) × IsRead holds name text × StopsAudit opening text why)
+
+-- there was no memory for the check of a certificate
+abbrev pub is_memory : CertWhy → Bool
+is_memory cert_why.NotJson = false
+is_memory cert_why.BadShape = false
+is_memory cert_why.OutOfRange = false
+is_memory cert_why.Cut = false
+is_memory cert_why.SplitKept = false
+is_memory cert_why.DualsLength = false
+is_memory cert_why.SumLow = false
+is_memory (cert_why.NotFeasible batch) = false
+is_memory cert_why.BadMarks = false
+is_memory (cert_why.NotTight order) = false
+is_memory cert_why.BadPair = false
+is_memory (cert_why.NotDead order) = false
+is_memory cert_why.Memory = true
+
+-- why the fault of a certificate stops a run
+abbrev pub stop_at_certificate : CertFault → Stop
+stop_at_certificate fault = if is_memory fault.why then stop.Memory else stop.Complaint (complaint.Wrong (finding.Certificate fault))
+
+-- a certificate stops a run where it isn't right
+abbrev pub StopsCheck : Layout → List ℕ → Stop → Type 0
+StopsCheck layout text (stop.Complaint (complaint.Words why)) = ⊥
+StopsCheck layout text (stop.Complaint (complaint.Refused file why)) = ⊥
+StopsCheck layout text (stop.Complaint (complaint.Fault file)) = ⊥
+StopsCheck layout text (stop.Complaint (complaint.Wrong (finding.Certificate fault))) = IsRefusedCertificate layout text fault
+StopsCheck layout text (stop.Complaint (complaint.Wrong (finding.Journal fault))) = ⊥
+StopsCheck layout text stop.Memory = ⊤
+
+-- the certificate of this name shows a bound
+pub record IsRightCertificate (holds : List ℕ → Option (List ℕ)) (layout : Layout) (name : List ℕ) (bound : ℕ) : Type 0 where
+  pub text : List ℕ
+  pub read : IsRead holds name text
+  pub shows : ShowsBound layout text bound
+
+-- it shows none: nothing came of the file, or the certificate isn't right
+abbrev pub StopsShowing : (List ℕ → Option (List ℕ)) → Layout → List ℕ → ℕ → ℕ → Stop → Type 0
+StopsShowing holds layout name before after why = IsUnsaid text_in holds name before after input.Certificate why
+    ⊎ ((text : List ℕ) × IsRead holds name text × StopsCheck layout text why)
 
 -- the ending of an output, or of a stop
 abbrev pub IsEndOf : Result (String Global) Stop → Ending → Type 0

@@ -15,7 +15,7 @@ use Rattle.wp_top.specs.declared.input.Input.{Input}
 use Rattle.wp_top.specs.declared.input.Input.TheVariants as input
 use Rattle.wp_top.specs.declared.input.Refusal.{Refusal}
 use Rattle.wp_top.specs.declared.input.Refusal.TheVariants as refusal
-use Rattle.wp_words.specs.Words.{JobNames, audit, plan}
+use Rattle.wp_words.specs.Words.{JobNames, audit, check, plan}
 use Rattle.wp_model.specs.Outcomes.{and_then}
 
 -- a file that a job reads: which it is, and its name
@@ -30,6 +30,7 @@ file_of kind name = record { kind = kind; name = name }
 abbrev pub files_of : JobNames → List File
 files_of (plan names) =
     file_of input.Layout names.layout ∷ file_of input.Stock names.stock ∷ file_of input.Orders names.orders ∷ file_of input.Desks names.desks ∷ []
+files_of (check names) = file_of input.Layout names.layout ∷ file_of input.Certificate names.certificate ∷ []
 files_of (audit names) =
     file_of input.Layout names.layout ∷ file_of input.Stock names.stock ∷ file_of input.Orders names.orders ∷ file_of input.Journal names.journal ∷ []
 
@@ -50,11 +51,12 @@ AreHeld holds files = All (λ read. IsHeld holds read.file.name read.text) files
 abbrev pub AreTold : (List ℕ → Option (List ℕ)) → List ReadFile → Type 0
 AreTold holds files = All (λ read. holds read.file.name ≡ Some read.text) files
 
--- what was said so far: the layout, the stock and the orders, the scripts of the desks, and the text of a journal
+-- what was said so far: the layout, the stock and the orders, the scripts of the desks, and the texts of a certificate and of a journal
 pub record Said : Type 0 where
   pub layout : Layout
   pub opening : Opening
   pub scripts : List Script
+  pub certificate : List ℕ
   pub journal : List ℕ
 
 -- nothing yet
@@ -63,6 +65,7 @@ nothing_said = record {
   layout = record { aisles = 0; slots = 0; pitch = 0; clearance = 0; spacing = 0; depot = 0 };
   opening = record { stock = record { rows = []; articles = [] }; orders = [] };
   scripts = [];
+  certificate = [];
   journal = [];
 }
 
@@ -102,6 +105,7 @@ said_with said input.Stock text = and_then (stock_in said.layout text) (λ stock
 said_with said input.Orders text = and_then (orders_in said.opening.stock text)
     (λ orders. Ok (record said { opening = record { stock = said.opening.stock; orders = orders } }))
 said_with said input.Desks text = and_then (scripts_in text) (λ scripts. Ok (record said { scripts = scripts }))
+said_with said input.Certificate text = and_then (text_in text) (λ certificate. Ok (record said { certificate = certificate }))
 said_with said input.Journal text = and_then (text_in text) (λ journal. Ok (record said { journal = journal }))
 
 -- what files say, one after the other, after what was said before them; or why the first is refused that is
@@ -119,6 +123,7 @@ input_text input.Layout = codes "layout"
 input_text input.Stock = codes "stock"
 input_text input.Orders = codes "orders"
 input_text input.Desks = codes "desks"
+input_text input.Certificate = codes "certificate"
 input_text input.Journal = codes "journal"
 
 -- what a refusal is called

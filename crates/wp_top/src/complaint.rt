@@ -5,12 +5,13 @@ ghost use Rattle.wp_top.specs.declared.complaint.Stop.TheVariants as stop;
 
 use crate::input::{Input, Refusal};
 use std::fmt;
+use wp_cert::CertFault;
 use wp_journal::AuditFault;
 use wp_model::Memory;
 use wp_words::WordsFault;
 
 /// Why a run has no output.
-#[derive(Clone, Copy, Debug, PartialEq, Eq)]
+#[derive(Clone, Copy, Debug)]
 pub enum Complaint {
     /// The words ask for no job.
     Words(WordsFault),
@@ -23,13 +24,14 @@ pub enum Complaint {
 }
 
 /// What isn't right.
-#[derive(Clone, Copy, Debug, PartialEq, Eq)]
+#[derive(Clone, Copy, Debug)]
 pub enum Finding {
+    Certificate(CertFault),
     Journal(AuditFault),
 }
 
 /// Why a job stops before its output.
-#[derive(Clone, Copy, Debug, PartialEq, Eq)]
+#[derive(Clone, Copy, Debug)]
 pub enum Stop {
     Complaint(Complaint),
     Memory,
@@ -40,6 +42,7 @@ impl fmt::Display for Finding {
 
     fn fmt<W: fmt::Write>(&self, f: &mut fmt::Formatter<W>) -> fmt::Result {
         match self {
+            Finding::Certificate(fault) => write!(f, "certificate {fault}"),
             Finding::Journal(fault) => write!(f, "journal {fault}"),
         }
     }

@@ -1,11 +1,12 @@
 ghost use Rattle.std.specs.Prelude.{◌≡◌, ◌<◌, ◌≤◌, Ok, IfOk, IfErr, OnOk, OnErr, IsErrOf, map, string_bytes};
 ghost use Rattle.wp_outside.specs.Outside.{Grows, NoneFalls, SameBytes, TookPrefix};
 ghost use Rattle.wp_outside.specs.declared.sink.SinkFault.TheVariants as sink_fault;
-ghost use Rattle.wp_top.specs.Ends.{IsOutput, asked_by, audit_job, complaint_line};
+ghost use Rattle.wp_top.specs.Ends.{IsOutput, asked_by, audit_job, check_job, complaint_line};
 ghost use Rattle.wp_top.specs.declared.status.Status.TheVariants as status;
 ghost use Rattle.wp_top.specs.Stops.{Finishes, IsEndOf, IsEnding, IsStop, status_of, text_of};
 
 use crate::audit::audit_output;
+use crate::check::check_output;
 use crate::complaint::{Complaint, Stop};
 use crate::plan::plan_output;
 use crate::status::Status;
@@ -13,7 +14,7 @@ use std::alloc::Global;
 use std::fmt::Write;
 use wp_model::Memory;
 use wp_outside::{Files, Sink, SinkFault, write_text};
-use wp_words::{AuditWords, Job, read_words};
+use wp_words::{AuditWords, CheckWords, Job, read_words};
 
 /// How a run ends, where its text is taken.
 #[derive(Debug, Drop)]
@@ -58,6 +59,7 @@ fn job_output<F: Files>(alloc: Global, words: &Vec<String>, files: &mut F) -> Re
     let job = read_words(alloc, words)?;
     match &job {
         Job::Plan(words) => plan_output(alloc, files, words),
+        Job::Check(words) => check_output(alloc, files, words),
         Job::Audit(words) => audit_output(alloc, files, words),
     }
 }
@@ -73,6 +75,19 @@ pub fn ending_of<F: Files>(
     ensures counts { NoneFalls (F.faults files.old) (F.faults files.new) }
 {
     ending_with(job_output(alloc, words, files))
+}
+
+/// How a check with these words ends.
+pub fn check_ending<F: Files>(
+    alloc: Global,
+    words: &CheckWords,
+    files: &mut F,
+) -> Result<Ending, Memory>
+    ensures is { IfOk result (IsEnding (F.holds files.old) (Ok (check_job words.now)) (F.faults files.old) (F.faults files.new)) }
+    ensures same { SameBytes (F.holds files.old) (F.holds files.new) }
+    ensures counts { NoneFalls (F.faults files.old) (F.faults files.new) }
+{
+    ending_with(check_output(alloc, files, words))
 }
 
 /// How an audit with these words ends.

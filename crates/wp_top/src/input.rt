@@ -12,6 +12,7 @@ pub enum Input {
     Stock,
     Orders,
     Desks,
+    Certificate,
     Journal,
 }
 
@@ -35,6 +36,7 @@ impl fmt::Display for Input {
             Input::Stock => "stock",
             Input::Orders => "orders",
             Input::Desks => "desks",
+            Input::Certificate => "certificate",
             Input::Journal => "journal",
         })
     }

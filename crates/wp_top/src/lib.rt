@@ -1,11 +1,13 @@
 //! The whole run: from the words of the command line and the files to the text that goes out.
 //!
-//! The words ask for a job, and each job has a file of its own: planning a day, and auditing a journal. A job reads its
+//! The words ask for a job, and each job has a file of its own: planning a day, checking a certificate, and
+//! auditing a journal. A job reads its
 //! files one after the other, and gives its output or stops; then the text of its ending goes out.
 #![tactic(auto)]
 
 mod answering;
 mod audit;
+mod check;
 mod complaint;
 mod ending;
 mod input;
@@ -16,18 +18,18 @@ mod reading;
 mod status;
 
 ghost use Rattle.std.specs.Prelude.{Ok};
-ghost use Rattle.wp_top.specs.Ends.{asked_by, audit_job};
+ghost use Rattle.wp_top.specs.Ends.{asked_by, audit_job, check_job};
 ghost use Rattle.wp_top.specs.Promise.{Keeps, course};
 
-use crate::ending::{audit_ending, ending_of, finish};
+use crate::ending::{audit_ending, check_ending, ending_of, finish};
 pub use laws::plans_print_right_journals;
 use std::alloc::Global;
 use wp_outside::{Files, Sink};
-pub use wp_words::AuditWords;
+pub use wp_words::{AuditWords, CheckWords};
 
 /// Runs the job that the words ask for, and gives its status: 0 the whole output was taken; 1 the words ask for no job;
-/// 2 a file is refused; 3 a file could not be read; 4 the output could not be written; 5 memory ran out; 6 the journal
-/// isn't right. With 1, 2, 3 and 6 one line was written; with 4 and 5 a beginning of the text, or nothing.
+/// 2 a file is refused; 3 a file could not be read; 4 the output could not be written; 5 memory ran out; 6 the
+/// certificate or the journal isn't right. With 1, 2, 3 and 6 one line was written; with 4 and 5 a beginning of the text, or nothing.
 pub fn run<R: Sync, F: Files, K: Sink>(
     _rt: &R,
     alloc: Global,
@@ -39,6 +41,20 @@ pub fn run<R: Sync, F: Files, K: Sink>(
         (K.taken out.new) (K.faults out.old) (K.faults out.new)) result }
 {
     let ending = ending_of(alloc, words, files);
+    finish(alloc, ending, out).number()
+}
+
+/// Checks the certificate that the words name, and gives the status as `run` does: each but 1.
+pub fn run_check<F: Files, K: Sink>(
+    alloc: Global,
+    words: &CheckWords,
+    files: &mut F,
+    out: &mut K,
+) -> u8
+    ensures { Keeps (Ok (check_job words.now)) (course (F.holds files.old) (F.holds files.new) (F.faults files.old) (F.faults files.new) (K.taken out.old)
+        (K.taken out.new) (K.faults out.old) (K.faults out.new)) result }
+{
+    let ending = check_ending(alloc, words, files);
     finish(alloc, ending, out).number()
 }
 

@@ -66,7 +66,8 @@ fn stop_at(file: Input, fault: RowFault) -> Stop
     }
 }
 
-fn layout_from<F: Files>(alloc: Global, files: &mut F, name: &str) -> Result<Layout, Stop>
+/// The layout that a layout file says.
+pub fn layout_from<F: Files>(alloc: Global, files: &mut F, name: &str) -> Result<Layout, Stop>
     ensures said { IfOk result (IsSaid layout_in (F.holds files.old) name.now) }
     ensures stops { IfErr result (IsUnsaid layout_in (F.holds files.old) name.now (F.faults files.old name.now) (F.faults files.new name.now) Input.Layout) }
     ensures same { SameBytes (F.holds files.old) (F.holds files.new) }

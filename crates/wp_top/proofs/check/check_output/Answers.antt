@@ -1,0 +1,32 @@
+use Rattle.std.specs.Prelude.{string_bytes}
+use Rattle.std.proofs.lemmas.Result.{err_from_is_err_and}
+use Rattle.wp_top.proofs.Checks.{check_is, stop_at_layout, stop_at_showing}
+use Rattle.wp_top.proofs.check.check_output.Goals as goal
+use Rattle.wp_words.specs.Reading.{check_names}
+
+pub returns-in_err-layout-clause-stops : goal.returns-in_err-layout-clause-stops
+returns-in_err-layout-clause-stops g c =
+    let holds = g.F.Files.holds in
+    let faults = g.F.Files.faults in
+    let p = err_from_is_err_and c.from_residual.result c.from_residual.ensures.1 in
+    rw (p.1, p.2)
+    (stop_at_layout (holds c.args.files.now) (check_names c.args.words.now) (faults c.args.files.now) (faults c.layout_from.new.files)
+    c.in_err-layout.field-0.0 c.layout_from.ensures.counts (rw c.as_str.ensures.value at c.in_err-layout.ensures.stops))
+
+pub returns-in_err-bound-clause-stops : goal.returns-in_err-bound-clause-stops
+returns-in_err-bound-clause-stops g c =
+    let holds = g.F.Files.holds in
+    let faults = g.F.Files.faults in
+    let p = err_from_is_err_and c.from_residual-in_err-bound.result c.from_residual-in_err-bound.ensures.1 in
+    let said = rw c.as_str.ensures.value at c.in_ok-layout.ensures.said in
+    rw (p.1, p.2)
+    (stop_at_showing (holds c.args.files.now) (holds c.layout_from.new.files) (check_names c.args.words.now) (faults c.args.files.now)
+    (faults c.layout_from.new.files) (faults c.shown_in.new.files) c.in_ok-layout.layout c.in_err-bound.field-0.0 c.layout_from.ensures.same said
+    c.layout_from.ensures.counts (rw c.as_str-2.ensures.value at c.in_err-bound.ensures.stops))
+
+pub returns-clause-output : goal.returns-clause-output
+returns-clause-output g c =
+    let holds = g.F.Files.holds in
+    let said = rw c.as_str.ensures.value at c.in_ok-layout.ensures.said in
+    check_is (holds c.args.files.now) (holds c.layout_from.new.files) (check_names c.args.words.now) c.in_ok-layout.layout c.in_ok-bound.bound
+    (string_bytes c.in_ok-text.text) c.layout_from.ensures.same said (rw c.as_str-2.ensures.value at c.in_ok-bound.ensures.shown) c.in_ok-text.ensures
