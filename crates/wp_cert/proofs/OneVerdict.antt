@@ -172,7 +172,8 @@ module _ (wave other : WavePicks) (same : HaveSameLengths wave other) where
         → one ≡ two
     one_visit _ marks _ two (too_much {place} {from} {total} long much) second =
         much_again place from total marks two long much (place_goes other pairing duals place from marks two second)
-    one_visit _ _ _ two (missing {place} {from} within) second = sym (not_much place from [] two within (place_goes other pairing duals place from [] two second))
+    one_visit _ _ _ two (missing {place} {from} within) second =
+        sym (not_much place from [] two within (place_goes other pairing duals place from [] two second))
     one_visit _ _ _ two (pruned {place} {from} {total} {reach} {marks} long reaches fits) second =
         pruned_again place from total reach marks two long reaches fits
         (not_much place from (false ∷ marks) two (total, long, omega (arith, fits)) (place_goes other pairing duals place from (false ∷ marks) two second))
@@ -241,7 +242,7 @@ module _ (wave other : WavePicks) (same : HaveSameLengths wave other) where
   own_right pairing above own _ right (sum_low all less) = omega (arith, less, right.raised)
   own_right pairing above own fault right (marks_refused all raised refused) = marks_pass pairing own fault right.marked refused
   own_right pairing above own _ right (not_tight {order} all raised passed first) =
-      first.slack (tight_too pairing own.duals order (slice_index_or own.tight order []) (right.tight order first.known))
+      first.slack (tight_too pairing own.duals order (slice_index_or own.tight order []) (right.shown order first.known))
 
   -- one list of nodes follows a right tree
   one_rest : (pairing : Pairing) (above : ℕ) (nodes rest more : List Node) (bound found : Option ℕ) → IsRight wave pairing above nodes rest bound
