@@ -16,7 +16,7 @@ const BEGINNINGS: [&str; 10] = [
     "failing write ",
     "each write fails in turn",
     "one byte a write",
-    "audit by itself",
+    "by itself",
 ];
 
 fn is_known(line: &str) -> bool {

@@ -15,7 +15,7 @@ use std::process::ExitCode;
 use std::{fs, io};
 use wp_model::Memory;
 use wp_outside::{Files, MemFiles, RealFiles, Sink, StdSink, SystemFiles, write_text};
-use wp_top::{run, run_audit};
+use wp_top::{run, run_audit, run_check};
 use wp_words::{Job, read_words};
 
 /// How many writes of a case may fail in turn.
@@ -46,14 +46,15 @@ fn print_end<K: Sink>(
     Ok(())
 }
 
-/// The status of an audit that is asked for by itself.
-fn audit_status<F: Files, K: Sink>(
+/// The status of a check or an audit that is asked for by itself.
+fn own_status<F: Files, K: Sink>(
     alloc: Global,
     words: &Vec<String>,
     files: &mut F,
     out: &mut K,
 ) -> Result<u8, CaseFault> {
     match read_words(alloc, words) {
+        Ok(Job::Check(words)) => Ok(run_check(alloc, &words, files, out)),
         Ok(Job::Audit(words)) => Ok(run_audit(alloc, &words, files, out)),
         _ => Err(CaseFault::Line),
     }
@@ -68,8 +69,8 @@ fn status_of<R: Sync, F: Files, K: Sink>(
     out: &mut K,
 ) -> Result<u8, CaseFault> {
     let words = words_of(alloc, lines)?;
-    if has_line(lines, "audit by itself") {
-        audit_status(alloc, &words, files, out)
+    if has_line(lines, "by itself") {
+        own_status(alloc, &words, files, out)
     } else {
         Ok(run(rt, alloc, &words, files, out))
     }
