@@ -94,6 +94,14 @@ impl Batch {
         Some(self.word.trailing_zeros())
     }
 
+    /// Whether some order is in both batches.
+    pub fn meets(self, other: Batch) -> bool
+        ensures some { IsTrue result → (p : ℕ) × Contains self p × Contains other p }
+        ensures none { result ≡ false → (p : ℕ) → Contains self p → Contains other p → ⊥ }
+    {
+        self.word & other.word != 0
+    }
+
     /// The orders of both batches.
     pub fn union(self, other: Batch) -> Batch
         ensures orders { (p : ℕ) → Contains result p ↔ (Contains self p ⊎ Contains other p) }
@@ -112,13 +120,5 @@ impl Batch {
         ensures { IsTrue result ↔ ((p : ℕ) → Contains other p → Contains self p) }
     {
         self.word & other.word == other.word
-    }
-
-    // Whether some order is in both batches.
-    pub(crate) fn meets(self, other: Batch) -> bool
-        ensures some { IsTrue result → (p : ℕ) × Contains self p × Contains other p }
-        ensures none { result ≡ false → (p : ℕ) → Contains self p → Contains other p → ⊥ }
-    {
-        self.word & other.word != 0
     }
 }

@@ -1,7 +1,7 @@
 ghost use Rattle.std.specs.Prelude.{◌≡◌, ◌≤◌, ◌<◌, ◌+◌, ◌↔◌, ℕ, [], ◌∷◌, ◌++◌, IsTrue, IfNone, IfSome, Contains, length, take, true, false};
 ghost use Rattle.wp_pairs.specs.declared.pair.Pair.{Pair as PairData};
 ghost use Rattle.wp_pairs.specs.Batches.{IsBatch};
-ghost use Rattle.wp_pairs.specs.Permitted.{Pairing, IsPermitted, AreJoined, AreDecided, AreUndecided, AreDecidedBefore, AllDecided, IsHeld, IsDead};
+ghost use Rattle.wp_pairs.specs.Permitted.{Pairing, IsPermitted, AreJoined, AreParted, AreDecided, AreUndecided, AreDecidedBefore, AllDecided, IsHeld, IsDead};
 ghost use Rattle.wp_pairs.specs.Permitted.{AreHeldBelow};
 ghost use Rattle.wp_pairs.specs.Kept.{FitsCapacity, IsPairing, KeepsOrder};
 
@@ -130,6 +130,15 @@ impl Pairs {
         ensures { (other : ℕ) → Contains result other ↔ AreJoined self.now.pairs order other }
     {
         orders_for(&self.joined, order)
+    }
+
+    /// The orders that are to go apart from an order: those between which and an order that is joined to it, or one that is
+    /// joined to them, an apart pair lies.
+    pub fn parted_from(&self, order: u32) -> Batch
+        requires { order < self.now.orders }
+        ensures { (other : ℕ) → Contains result other ↔ AreParted self.now.pairs order other }
+    {
+        orders_for(&self.parted, order)
     }
 
     /// Whether a batch is permitted: it has some orders of the wave and at most as many as the capacity, both or none of
