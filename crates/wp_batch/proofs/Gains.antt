@@ -15,7 +15,7 @@ use Rattle.wp_batch.specs.Waves.{WavePicks, picks_of}
 use Rattle.wp_batch.proofs.Unions.{same_shortest}
 
 -- all shortest tours past some picks are of one length
-one_length : (layout : Layout) (picks : List Point) (s t : ℕ) → IsShortest layout picks s → IsShortest layout picks t → s ≡ t
+pub one_length : (layout : Layout) (picks : List Point) (s t : ℕ) → IsShortest layout picks s → IsShortest layout picks t → s ≡ t
 one_length layout picks s t first second =
     omega (arith, first.least second.some.0 t second.some.1, second.least first.some.0 s first.some.1)
 

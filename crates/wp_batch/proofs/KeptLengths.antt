@@ -1,20 +1,25 @@
 -- Lengths that a wave keeps: none, one more, one in place of another, and one that is read.
-use Rattle.std.proofs.Common.{◌≡◌, ℕ, ◌<◌, List, [], length, get_or, sym, subst}
+use Rattle.std.proofs.Common.{◌≡◌, ℕ, ◌<◌, List, [], length, get_or, sym, subst, ◌^◌}
 use Rattle.std.proofs.lemmas.List.Elements.{All-get_or, All-nil}
 use Rattle.wp_batch.specs.declared.lengths.Length.{Length}
-use Rattle.wp_batch.specs.KeptLengths.{HaveLengths}
+use Rattle.wp_batch.specs.KeptLengths.{HaveLengths, IsKept}
 use Rattle.wp_batch.specs.Lengths.{IsLengthOf}
 use Rattle.wp_batch.specs.Waves.{WavePicks}
 
 -- where nothing is kept, nothing is wrong
 pub none_kept : (wave : WavePicks) (lengths : List Length) → lengths ≡ [] → HaveLengths wave lengths
 none_kept wave lengths empty =
-    subst (λ (xs : List Length). HaveLengths wave xs) (sym empty) (All-nil (λ (kept : Length). IsLengthOf wave kept.batch kept.length))
+    subst (λ (xs : List Length). HaveLengths wave xs) (sym empty) (All-nil (IsKept wave))
+
+-- what is read is kept
+pub kept_there : (now wave : WavePicks) (lengths : List Length) (place : ℕ) (kept : Length) → wave ≡ now → HaveLengths wave lengths
+    → place < length lengths → kept ≡ get_or lengths place kept → IsKept now kept
+kept_there now wave lengths place kept view all within is =
+    let there = All-get_or (IsKept wave) lengths place kept within all in
+    subst (λ (v : WavePicks). IsKept v kept) view (subst (IsKept wave) (sym is) there)
 
 -- what is read for a batch is its length
 pub kept_read : (now wave : WavePicks) (lengths : List Length) (place : ℕ) (kept : Length) (batch : List ℕ) → wave ≡ now → HaveLengths wave lengths
     → place < length lengths → kept ≡ get_or lengths place kept → kept.batch ≡ batch → IsLengthOf now batch kept.length
 kept_read now wave lengths place kept batch view all within is same =
-    let there = All-get_or (λ (k : Length). IsLengthOf wave k.batch k.length) lengths place kept within all in
-    let it = subst (λ (k : Length). IsLengthOf wave k.batch k.length) (sym is) there in
-    subst (λ (v : WavePicks). IsLengthOf v batch kept.length) view (subst (λ (xs : List ℕ). IsLengthOf wave xs kept.length) same it)
+    subst (λ (xs : List ℕ). IsLengthOf now xs kept.length) same (kept_there now wave lengths place kept view all within is).is

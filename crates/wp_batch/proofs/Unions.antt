@@ -17,7 +17,7 @@ pub all_from_contained : {X : Type 0} (P : X → Type 0) (xs : List X) → ((x :
 all_from_contained P xs each = λ k d within. each (get_or xs k d) (Contains-get_or xs k d within)
 
 -- a tour past some picks is one past the same picks in another list
-same_tour : (layout : Layout) (xs ys points : List Point) (total : ℕ) → ((p : Point) → Contains ys p → Contains xs p) → IsTour layout xs points total
+pub same_tour : (layout : Layout) (xs ys points : List Point) (total : ℕ) → ((p : Point) → Contains ys p → Contains xs p) → IsTour layout xs points total
     → IsTour layout ys points total
 same_tour layout xs ys points total same tour = record {
   closed = tour.closed;

@@ -1,6 +1,8 @@
 ghost use Rattle.std.specs.Prelude.{◌≡◌, ◌≤◌, ◌<◌, All, IfSome, length};
 ghost use Rattle.wp_model.specs.Warehouse.{IsSlot};
 
+mod made;
+
 use super::*;
 use crate::places::Places;
 use std::alloc::Global;
@@ -212,6 +214,33 @@ fn wrong_start(alloc: Global) -> Option<usize> {
 #[test]
 fn starts_are_merged_by_the_greatest_saving(rt: HostRuntime) {
     assert_eq!(rt; wrong_start(rt.alloc()), None);
+}
+
+/// What a batching of the wave costs.
+fn sum_of_lengths(wave: &Wave, batching: &Batching) -> u64 {
+    let mut sum: u64 = 0;
+    for batch in batching.as_slice() {
+        sum = sum.saturating_add(length_within(wave, *batch));
+    }
+    sum
+}
+
+/// The length of a batch of the wave.
+fn length_within(wave: &Wave, batch: Batch) -> u64 {
+    wave.batch_length(known_part(wave, batch))
+}
+
+/// The orders of a batch that are of the wave: all of them.
+fn known_part(wave: &Wave, batch: Batch) -> Batch
+    ensures { All (λ order. order < length wave.now.orders) result }
+{
+    let mut known = Batch::empty();
+    for order in 0..wave.orders() {
+        if batch.has(order) {
+            known = known.with(order);
+        }
+    }
+    known
 }
 
 fn count_batches(alloc: Global, orders: u32, capacity: u32) -> Option<u32> {

@@ -1,4 +1,4 @@
-ghost use Rattle.std.specs.Prelude.{◌≡◌, ◌≤◌, ◌<◌, ◌↔◌, ◌⊎◌, ℕ, All, Contains, IfOk, IfSome, length};
+ghost use Rattle.std.specs.Prelude.{◌≡◌, ◌≤◌, ◌<◌, ◌^◌, ◌↔◌, ◌⊎◌, ℕ, All, Contains, IfOk, IfSome, length};
 ghost use Rattle.wp_model.specs.declared.point.Point.{Point as PointData};
 ghost use Rattle.wp_model.specs.Warehouse.{Layout as Block};
 ghost use Rattle.wp_batch.specs.Waves.{HaveSamePicks, IsWave, picks_of};
@@ -104,10 +104,11 @@ impl Wave {
         copy_of(&self.layout, &self.orders[i as usize])
     }
 
-    /// The length of a shortest tour past all slots at which the orders of a batch pick, 0 for no order.
+    /// The length of a shortest tour past all slots at which the orders of a batch pick, 0 for no order. It is below 2 ^ 28.
     pub fn batch_length(&self, batch: Batch) -> u64
         requires { All (λ order. order < length self.now.orders) batch }
-        ensures { IsLengthOf self.now batch result }
+        ensures is { IsLengthOf self.now batch result }
+        ensures small { result < 2 ^ 28 }
     {
         match self.kept_length(batch) {
             Some(length) => length,
@@ -130,7 +131,8 @@ impl Wave {
 
     // The length of a batch, where it is kept.
     fn kept_length(&self, batch: Batch) -> Option<u64>
-        ensures { IfSome result (IsLengthOf self.now batch) }
+        ensures is { IfSome result (IsLengthOf self.now batch) }
+        ensures small { IfSome result (λ length. length < 2 ^ 28) }
     {
         let place = self.places.place_of(batch)?;
         if place < self.lengths.len() as u64 {
@@ -235,8 +237,8 @@ impl Wave {
         wider
     }
 
-    // The slots at which the orders of a batch pick.
-    fn union_of(&self, batch: Batch) -> Picks
+    /// The slots at which the orders of a batch pick.
+    pub fn union_of(&self, batch: Batch) -> Picks
         requires { All (λ order. order < length self.now.orders) batch }
         ensures layout { result.layout ≡ self.now.layout }
         ensures points { (p : PointData) → Contains result.points p ↔ Contains (batch_picks self.now batch) p }

@@ -1,5 +1,5 @@
 -- Bounds of lengths, which show that no sum of them wraps.
-use Rattle.std.proofs.Common.{◌≡◌, ℕ, zero, suc, ◌+◌, ◌-◌, ◌*◌, ◌^◌, ◌≤◌, List, subst, Option, Some, None, IfSome, ap, arith, lit≤, sym, ◌∙◌}
+use Rattle.std.proofs.Common.{◌≡◌, ℕ, zero, suc, ◌+◌, ◌-◌, ◌*◌, ◌^◌, ◌<◌, ◌≤◌, List, subst, Option, Some, None, IfSome, ap, arith, lit≤, sym, ◌∙◌}
 use Rattle.std.proofs.lemmas.Nat.{mul-le}
 use Rattle.std.proofs.lemmas.Option.{same_Some}
 use Rattle.wp_model.specs.declared.point.Point.{Point}
@@ -8,6 +8,7 @@ use Rattle.wp_graph.specs.declared.ways.AisleWays.{AisleWays}
 use Rattle.wp_graph.specs.AisleLengths.{AreAtMost, ways_of}
 use Rattle.wp_graph.proofs.WayBounds.{ways_small}
 use Rattle.wp_classes.specs.declared.class.Class.{Class}
+use Rattle.wp_classes.specs.declared.class.Class.TheVariants.{Z00}
 use Rattle.wp_classes.specs.declared.class.Way.{Way}
 use Rattle.wp_classes.specs.declared.class.Way.TheVariants.{Pass, Back, Front, Gap, Double, Skip}
 use Rattle.wp_classes.specs.declared.class.Cross.{Cross}
@@ -18,6 +19,7 @@ use Rattle.wp_classes.specs.Least.{least_by_cross, least_by_way, length_at}
 use Rattle.wp_classes.specs.Onward.{Across, AreOnward, IsLeastOf, Onward, Through}
 use Rattle.wp_classes.specs.Tables.{copies, way_length}
 use Rattle.wp_classes.proofs.LeastLengths.{least_ways, onward_left}
+use Rattle.wp_classes.proofs.Routes.{IsLeastFirst}
 
 -- the lengths of a layout of greatest size
 pub record IsSmall (block : Block) : Type 0 where
@@ -74,6 +76,17 @@ onward_small block small (suc left) aisle class t h =
     let whole = across_small (λ c r. Through (λ next more. Onward block left (suc aisle) next more) (block.ways (suc aisle)) c r) (block.spacing aisle)
     (4020000 + left * 4060000) (small.spacing aisle) between class t h in
     omega (arith, whole)
+
+-- the least length from the first aisle of a layout on is below 2 ^ 28
+pub first_small : (layout : Layout) (picks : List Point) (total : ℕ) → IsLayout layout →
+    IsLeastFirst (block_of layout picks) (layout.aisles - 1) (Some total) → total < 2 ^ 28
+first_small layout picks total valid is =
+    let block = block_of layout picks in
+    let small = block_small layout picks valid in
+    let left = layout.aisles - 1 in
+    let whole = through_small (λ next rest. Onward block left 1 next rest) (block.ways 1) (left * 4060000) (small.ways 1)
+    (λ c r on. onward_small block small left 1 c r on) Z00 total is.is.0 in
+    omega (arith, whole, valid.aisles)
 
 -- a bound of all numbers with a property is one of the least
 pub least_small : (P : ℕ → Type 0) (least : Option ℕ) (most : ℕ) → IsLeastOf P least → ((t : ℕ) → P t → t ≤ most) → IfSome least (λ t. t ≤ most)

@@ -1,4 +1,4 @@
-ghost use Rattle.std.specs.Prelude.{◌≡◌, ◌+◌, ◌-◌, ◌≤◌, ℕ, length, slice_index_or};
+ghost use Rattle.std.specs.Prelude.{◌≡◌, ◌+◌, ◌-◌, ◌<◌, ◌≤◌, ◌^◌, ℕ, length, slice_index_or};
 ghost use Rattle.wp_model.specs.Limits.{most_aisles};
 ghost use Rattle.wp_model.specs.Tours.{IsShortest};
 ghost use Rattle.wp_model.specs.Warehouse.{IsLayout, IsUpTo};
@@ -59,11 +59,12 @@ fn best_step(layout: &Layout, picks: &Picks, aisle: u32, after: &Lengths, class:
 }
 
 /// The length of the shortest tour of the picks: some closed walk from the depot past all picks has this length, and
-/// none is shorter. It is the least sum over all ways and crossings that the tables allow.
+/// none is shorter. It is the least sum over all ways and crossings that the tables allow, and below 2 ^ 28.
 pub fn tour_length(layout: &Layout, picks: &Picks) -> u64
     requires { picks.now.layout ≡ layout.now }
     ensures least { IsLeastRoute layout.now picks.now.points result }
     ensures shortest { IsShortest layout.now picks.now.points result }
+    ensures small { result < 2 ^ 28 }
 {
     let mut onward = Lengths::at_the_end();
     for done in 1..layout.aisles() {

@@ -10,5 +10,5 @@ batch_length-requires c = all_from_contained (λ (order : ℕ). order < length c
     (λ r. All-contains (λ (o : ℕ). o < length c.args.wave.now.orders) c.args.right order c.requires.right r) ((c.union.ensures.orders order).0 has))
 
 pub returns-clause-none : goal.returns-clause-none
-returns-clause-none c = λ zero. no_gain_from _ _ _ _ c.union.result _ _ _ c.union.ensures.orders c.batch_length-one.ensures c.batch_length-other.ensures
-    c.batch_length.ensures (c.saved.ensures zero)
+returns-clause-none c = λ zero. no_gain_from _ _ _ _ c.union.result _ _ _ c.union.ensures.orders c.batch_length-one.ensures.is c.batch_length-other.ensures.is
+    c.batch_length.ensures.is (c.saved.ensures zero)

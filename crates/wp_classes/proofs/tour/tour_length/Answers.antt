@@ -3,7 +3,7 @@ use Rattle.wp_classes.specs.Choices.{block_of}
 use Rattle.wp_classes.specs.Onward.{AreOnward}
 use Rattle.wp_classes.proofs.Routes.{IsLeastFirst, at_first, least_first, least_route, some_way_on}
 use Rattle.wp_classes.proofs.Shortest.{shortest}
-use Rattle.wp_classes.proofs.Small.{lengths_within, ways_within}
+use Rattle.wp_classes.proofs.Small.{first_small, lengths_within, ways_within}
 use Rattle.wp_classes.proofs.tour.tour_length.Goals as goal
 use Rattle.wp_classes.proofs.tour.tour_length.Goals.{After-aisle_ways, After-least_length_by_way}
 
@@ -37,3 +37,7 @@ pub returns-clause-shortest : goal.returns-clause-shortest
 returns-clause-shortest c =
     let route = least_route _ _ _ (rw c.unwrap.ensures at (least (goal.at.returns-clause-shortest c).After-least_length_by_way)) in
     shortest _ _ _ c.aisle_ways.ensures.slots route
+
+pub returns-clause-small : goal.returns-clause-small
+returns-clause-small c =
+    first_small _ _ _ c.aisles-done-end.ensures.valid (rw c.unwrap.ensures at (least (goal.at.returns-clause-small c).After-least_length_by_way))

@@ -6,8 +6,8 @@ use Rattle.wp_batch.specs.Waves.{WavePicks}
 use Rattle.wp_batch.proofs.Unions.{same_shortest}
 use Rattle.wp_batch.proofs.wave.Wave.batch_length.Goals as goal
 
-pub returns-in-None : goal.returns-in-None
-returns-in-None c =
+pub returns-in-None-clause-is : goal.returns-in-None-clause-is
+returns-in-None-clause-is c =
     subst (λ (layout : Layout). IsShortest layout (batch_picks c.args.self.now c.args.batch) c.tour_length.result)
     (ap (λ (w : WavePicks). w.layout) c.self.view_is)
     (same_shortest _ _ _ _ c.union_of.ensures.points c.tour_length.ensures.shortest)

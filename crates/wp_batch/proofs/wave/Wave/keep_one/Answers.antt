@@ -2,7 +2,7 @@ use Rattle.std.proofs.Common.{ap, subst}
 use Rattle.std.proofs.lemmas.List.Elements.{All-set}
 use Rattle.wp_model.specs.Tours.{IsShortest}
 use Rattle.wp_model.specs.Warehouse.{Layout}
-use Rattle.wp_batch.specs.declared.lengths.Length.{Length}
+use Rattle.wp_batch.specs.KeptLengths.{IsKept}
 use Rattle.wp_batch.specs.Lengths.{IsLengthOf, batch_picks}
 use Rattle.wp_batch.specs.Waves.{WavePicks}
 use Rattle.wp_batch.proofs.Unions.{same_shortest}
@@ -14,4 +14,4 @@ returns-then-place-len c =
     subst (λ (layout : Layout). IsShortest layout (batch_picks c.args.self.now c.args.batch) c.tour_length-length.result)
     (ap (λ (w : WavePicks). w.layout) c.self.view_is)
     (same_shortest _ _ _ _ c.requires.points c.tour_length-length.ensures.shortest) in
-    All-set (λ (kept : Length). IsLengthOf c.args.self.now kept.batch kept.length) _ _ _ is c.requires.kept
+    All-set (IsKept c.args.self.now) _ _ _ (record { is = is; small = c.tour_length-length.ensures.small }) c.requires.kept
