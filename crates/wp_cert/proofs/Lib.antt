@@ -1,13 +1,7 @@
-pub mod OrderSums
-pub mod Lengths
 pub mod Costs
 pub mod BoundsHold
-pub mod Ascending
-pub mod Visits
-pub mod Further
 pub mod MarkSteps
 pub mod Nodes
-pub mod ShareSums
 pub mod TreeSteps
 pub mod Alive
 pub mod WholeTrees

@@ -14,6 +14,7 @@ use Rattle.wp_model.specs.Outcomes.{and_then}
 use Rattle.wp_model.specs.Warehouse.{Layout}
 use Rattle.wp_graph.specs.PickSets.{PickSet}
 use Rattle.wp_batch.specs.Waves.{HaveSamePicks, WavePicks}
+use Rattle.wp_duals.specs.Duals.{greatest_dual}
 use Rattle.wp_cert.specs.declared.tree.CertWhy.{CertWhy}
 use Rattle.wp_cert.specs.declared.tree.CertWhy.TheVariants as why
 use Rattle.wp_cert.specs.declared.tree.Node.{Node}
@@ -157,10 +158,6 @@ is_slot_of layout place = is_up_to layout.aisles place.aisle && is_up_to layout.
 -- whether an order picks at some slots, which are slots of the layout
 abbrev pub is_order_of : Layout → List Place → Bool
 is_order_of layout places = nat_le 1 (length places) && list_all (is_slot_of layout) places
-
--- the greatest dual
-abbrev pub greatest_dual : ℕ
-greatest_dual = 1000000000000
 
 -- whether the duals, where there are some, are all within their range
 abbrev pub are_duals_within : Option Own → Bool

@@ -7,10 +7,10 @@ ghost use Rattle.wp_cert.specs.Refusals.{IsFirstBroken};
 ghost use Rattle.wp_cert.specs.Trees.{IsBoundOf, IsRight, lower_of};
 
 use crate::node::{test_dead, test_leaf, test_split};
-use crate::shares::shares_of;
 use crate::tree::{CertFault, CertWhy, Node, Nodes, Tree};
 use std::alloc::Global;
 use wp_batch::Wave;
+use wp_duals::shares_of;
 use wp_pairs::Pair;
 
 /// What a subtree shows: its bound, which it has not where all of its leaves are dead; and the place of the node after it.

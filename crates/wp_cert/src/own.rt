@@ -1,13 +1,13 @@
 ghost use Rattle.std.specs.Prelude.{◌≡◌, ◌<◌, ◌≤◌, ◌↔◌, [], ℕ, IfErr, IfNone, IfOk, IfSome, IsTrue, OnOk, length, sum};
-ghost use Rattle.wp_cert.specs.Duals.{IsTightFor};
+ghost use Rattle.wp_duals.specs.Duals.{IsTightFor};
 ghost use Rattle.wp_cert.specs.Refusals.{AreRefused, IsBrokenOwn, IsFirstSlack};
 ghost use Rattle.wp_cert.specs.Trees.{HasAll, IsRightOwn, IsTightAt};
-ghost use Rattle.wp_cert.specs.Visits.{IsVisitOfAll, Passed};
+ghost use Rattle.wp_duals.specs.Visits.{IsVisitOfAll, Passed};
 
-use crate::sums::{sum_of, total_of};
 use crate::tree::{CertWhy, Own};
 use crate::visit::visit;
 use wp_batch::Wave;
+use wp_duals::{sum_of, total_of};
 use wp_pairs::{Batch, Pairs};
 
 // Whether there is one dual and one tight batch for each order.
@@ -40,7 +40,7 @@ fn is_tight(wave: &Wave, pairs: &Pairs, own: &Own, order: u32, batch: Batch) -> 
     if !pairs.permits(batch) || !batch.has(order) {
         return false;
     }
-    sum_of(&own.duals, batch) == 60 * u128::from(wave.batch_length(batch))
+    sum_of(own.duals.as_slice(), batch) == 60 * u128::from(wave.batch_length(batch))
 }
 
 // The first order whose batch isn't tight for it. None comes exactly where all are.
@@ -69,7 +69,7 @@ pub fn test_own(wave: &Wave, pairs: &Pairs, own: &Own, above: u128) -> Result<u1
     if !has_all(pairs, own) {
         return Err(CertWhy::DualsLength);
     }
-    let total = total_of(&own.duals);
+    let total = total_of(own.duals.as_slice());
     if total < above {
         return Err(CertWhy::SumLow);
     }

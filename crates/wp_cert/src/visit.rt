@@ -1,12 +1,11 @@
 ghost use Rattle.std.specs.Prelude.{◌≡◌, ◌<◌, ◌≤◌, ◌⊎◌, List, ℕ, All, IfErr, IfNone, IfOk, IfSome, drop, length};
 ghost use Rattle.wp_pairs.specs.Permitted.{IsPermitted};
 ghost use Rattle.wp_cert.specs.Refusals.{IsRefusedVisit};
-ghost use Rattle.wp_cert.specs.Visits.{AddsItem, IsItem, IsVisit, Passed, Place};
+ghost use Rattle.wp_duals.specs.Visits.{AddsItem, IsItem, IsVisit, Passed, Place};
 
-use crate::reach::{is_later, reach_of};
-use crate::sums::sum_of;
 use crate::tree::{CertWhy, Own};
 use wp_batch::Wave;
+use wp_duals::{is_later, reach_of, sum_of};
 use wp_pairs::{Batch, Pairs};
 
 // A place and one more item, where this order names one and both together are permitted.
@@ -49,7 +48,7 @@ pub fn visit(
     ensures err { IfErr result (IsRefusedVisit wave.now pairs.now own.now.duals (Place place from) (drop next own.now.marks)) }
 {
     let most = 60 * u128::from(wave.batch_length(place));
-    let sum = sum_of(&own.duals, place);
+    let sum = sum_of(own.duals.as_slice(), place);
     if most < sum {
         return Err(CertWhy::NotFeasible(place));
     }
@@ -57,7 +56,7 @@ pub fn visit(
         return Err(CertWhy::BadMarks);
     }
     if !own.marks.at(next) {
-        if most - sum < reach_of(pairs, &own.duals, place, from) {
+        if most - sum < reach_of(pairs, own.duals.as_slice(), place, from) {
             return Err(CertWhy::BadMarks);
         }
         return Ok(next + 1);

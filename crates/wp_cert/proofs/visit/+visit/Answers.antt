@@ -2,41 +2,48 @@ use Rattle.std.proofs.lemmas.Result.{err_from_is_err_and}
 use Rattle.std.proofs.lemmas.List.{drop_all}
 use Rattle.std.proofs.Common.{◌≡◌, Bool, true, false, [], drop, arith, ap, ◌∙◌}
 use Rattle.std.specs.Prelude.{Some}
-use Rattle.wp_cert.specs.Visits.{Children, IsWithin, Passed}
-use Rattle.wp_cert.specs.Visits.{all_added, entered, missing, onward, pruned, too_much, unsound}
+use Rattle.wp_duals.specs.Visits.{Children, IsWithin, Passed}
+use Rattle.wp_duals.specs.Visits.{all_added, entered, missing, onward, pruned, too_much, unsound}
 use Rattle.wp_cert.proofs.MarkSteps.{mark_first, passed_over, refused_child, refused_so}
 use Rattle.wp_cert.proofs.visit.+visit.Goals as goal
 use Rattle.wp_cert.proofs.visit.+visit.Goals.{in-Some+in_ok-after, in_default}
 
 pub returns-then-most-sum-clause-err : goal.returns-then-most-sum-clause-err
 returns-then-most-sum-clause-err t c =
-    too_much c.batch_length.ensures (omega (arith, c.if-most-sum.true, c.sum_of-sum.ensures, c.from-most.ensures))
+    let sum = rw c.as_slice.ensures at c.sum_of-sum.ensures in
+    too_much c.batch_length.ensures.is (omega (arith, c.if-most-sum.true, sum, c.from-most.ensures))
 
 pub returns-then-next-len-clause-err : goal.returns-then-next-len-clause-err
 returns-then-next-len-clause-err t c =
+    let sum = rw c.as_slice.ensures at c.sum_of-sum.ensures in
     let within : IsWithin c.args.wave.now c.args.own.now.duals c.args.place =
-    (c.batch_length.result, c.batch_length.ensures, omega (arith, c.if-most-sum.false, c.sum_of-sum.ensures, c.from-most.ensures)) in
+    (c.batch_length.result, c.batch_length.ensures.is, omega (arith, c.if-most-sum.false, sum, c.from-most.ensures)) in
     let none : drop c.args.next c.args.own.now.marks ≡ [] =
     drop_all c.args.next c.args.own.now.marks (omega (arith, c.if-next-len.true, c.len.ensures)) in rw none (missing within)
 
 pub returns-then-most-sum-2-clause-err : goal.returns-then-most-sum-2-clause-err
 returns-then-most-sum-2-clause-err t c =
+    let sum = rw c.as_slice.ensures at c.sum_of-sum.ensures in
+    let reach = rw c.as_slice-then-not-at.ensures at c.reach_of.ensures in
     let within : IsWithin c.args.wave.now c.args.own.now.duals c.args.place =
-    (c.batch_length.result, c.batch_length.ensures, omega (arith, c.if-most-sum.false, c.sum_of-sum.ensures, c.from-most.ensures)) in
+    (c.batch_length.result, c.batch_length.ensures.is, omega (arith, c.if-most-sum.false, sum, c.from-most.ensures)) in
     let mark = mark_first c.args.own.now.marks c.args.next false (c.at.ensures ∙ ap (λ (b : Bool). Some b) c.if-not-at.true) in
-    rw mark (unsound within c.batch_length.ensures c.reach_of.ensures
-    (omega (arith, c.if-most-sum.false, c.if-most-sum-2.true, c.sum_of-sum.ensures, c.from-most.ensures)))
+    rw mark (unsound within c.batch_length.ensures.is reach
+    (omega (arith, c.if-most-sum.false, c.if-most-sum-2.true, sum, c.from-most.ensures)))
 
 pub returns-then-not-at-clause-ok : goal.returns-then-not-at-clause-ok
 returns-then-not-at-clause-ok t c =
+    let sum = rw c.as_slice.ensures at c.sum_of-sum.ensures in
+    let reach = rw c.as_slice-then-not-at.ensures at c.reach_of.ensures in
     let mark = mark_first c.args.own.now.marks c.args.next false (c.at.ensures ∙ ap (λ (b : Bool). Some b) c.if-not-at.true) in
-    rw mark (pruned c.batch_length.ensures c.reach_of.ensures
-    (omega (arith, c.if-most-sum.false, c.if-most-sum-2.false, c.sum_of-sum.ensures, c.from-most.ensures)))
+    rw mark (pruned c.batch_length.ensures.is reach
+    (omega (arith, c.if-most-sum.false, c.if-most-sum-2.false, sum, c.from-most.ensures)))
 
 pub returns-in_err-after-clause-err : goal.returns-in_err-after-clause-err
 returns-in_err-after-clause-err t c =
+    let sum = rw c.as_slice.ensures at c.sum_of-sum.ensures in
     let within : IsWithin c.args.wave.now c.args.own.now.duals c.args.place =
-    (c.batch_length.result, c.batch_length.ensures, omega (arith, c.if-most-sum.false, c.sum_of-sum.ensures, c.from-most.ensures)) in
+    (c.batch_length.result, c.batch_length.ensures.is, omega (arith, c.if-most-sum.false, sum, c.from-most.ensures)) in
     let mark = mark_first c.args.own.now.marks c.args.next true (c.at.ensures ∙ ap (λ (b : Bool). Some b) c.if-not-at.false) in
     let p = err_from_is_err_and c.from_residual.result c.from_residual.ensures.1 in
     let child = refused_child c.args.wave.now c.args.pairs.now c.args.own.now.duals c.args.place c.in-Some.batch c.loop-item.item
@@ -60,8 +67,9 @@ loop-item-preserved t c = elim c.match-child_of.branch [
 
 pub returns-clause-ok : goal.returns-clause-ok
 returns-clause-ok t c =
+    let sum = rw c.as_slice.ensures at c.sum_of-sum.ensures in
     let within : IsWithin c.args.wave.now c.args.own.now.duals c.args.place =
-    (c.batch_length.result, c.batch_length.ensures, omega (arith, c.if-most-sum.false, c.sum_of-sum.ensures, c.from-most.ensures)) in
+    (c.batch_length.result, c.batch_length.ensures.is, omega (arith, c.if-most-sum.false, sum, c.from-most.ensures)) in
     let mark = mark_first c.args.own.now.marks c.args.next true (c.at.ensures ∙ ap (λ (b : Bool). Some b) c.if-not-at.false) in
     rw mark (entered within (c.loop-item.invariant.chain (Passed (drop c.loop-item.after c.args.own.now.marks))
     (all_added (omega (arith, c.loop-item-test.false, c.orders-item-end.ensures.value)))))

@@ -1,0 +1,3 @@
+pub mod Duals
+pub mod Visits
+pub mod Reaches
