@@ -1,0 +1,79 @@
+-- Short marks of feasible duals pass the visit.
+use Rattle.std.proofs.Common.{◌≡◌, ℕ, ◌+◌, ◌*◌, ◌≤◌, Bool, List, [], ◌++◌, arith, refl, ap, sym, ◌∙◌, subst, inl, inr, ⊎_elim, Contains}
+use Rattle.std.proofs.Common.{append_assoc, append-nil}
+use Rattle.std.specs.Prelude.{⊤}
+use Rattle.wp_pairs.specs.Permitted.{IsPermitted, Pairing}
+use Rattle.wp_batch.specs.Lengths.{IsLengthOf}
+use Rattle.wp_batch.specs.Waves.{WavePicks}
+use Rattle.wp_duals.specs.Duals.{AreFeasible, duals_of}
+use Rattle.wp_duals.specs.Visits.{AddsItem, Children, Due, IsItem, IsVisit, IsVisitOfAll, IsWithin, Passed, Place}
+use Rattle.wp_duals.specs.Visits as visit
+use Rattle.wp_price.specs.Searches.{IsNoChild, IsReached, NamesBelow}
+use Rattle.wp_price.specs.ShortMarks.{AddsShort, AreShort, AreShortMarks}
+use Rattle.wp_price.specs.ShortMarks as short
+
+-- where a place is due, it is one that a search comes to
+abbrev IsDueAt : Pairing → Due → Type 0
+IsDueAt pairing (Place place from) = IsReached pairing place
+IsDueAt pairing (Children place from) = ⊤
+
+-- what a search comes to has no more in duals than sixty times its length
+within : (wave : WavePicks) (pairing : Pairing) (duals place : List ℕ) (total : ℕ) → AreFeasible wave pairing duals → IsReached pairing place
+    → IsLengthOf wave place total → IsWithin wave duals place
+within wave pairing duals place total feasible reached is = (
+  total,
+  is,
+  ⊎_elim (λ (none : place ≡ []). subst (λ (xs : List ℕ). duals_of duals xs ≤ 60 * total) (sym none) (omega arith))
+      (λ permitted. feasible place total permitted is) reached,
+)
+
+-- short marks of feasible duals pass, and leave the marks that follow them
+short_pass : (wave : WavePicks) (pairing : Pairing) (duals : List ℕ) (due : Due) (marks more : List Bool) → AreFeasible wave pairing duals
+    → IsDueAt pairing due → AreShort wave pairing duals due marks → IsVisit wave pairing duals due (marks ++ more) (Passed more)
+short_pass wave pairing duals _ _ more feasible at (short.closed long reaches low) = visit.pruned long reaches low
+short_pass wave pairing duals _ _ more feasible at (short.entered {place} {from} {total} {marks} long reaches high rest) =
+    visit.entered (within wave pairing duals place total feasible at long) (short_pass wave pairing duals (Children place from) marks more feasible _ rest)
+short_pass wave pairing duals _ _ more feasible at (short.all_added past) = visit.all_added past
+short_pass wave pairing duals _ marks more feasible at (short.no_item {place} {from} none rest) =
+    visit.no_item none (short_pass wave pairing duals (Children place (from + 1)) marks more feasible _ rest)
+short_pass wave pairing duals _ marks more feasible at (short.not_permitted {place} {from} adds never rest) =
+    visit.not_permitted adds never (short_pass wave pairing duals (Children place (from + 1)) marks more feasible _ rest)
+short_pass wave pairing duals _ _ more feasible at (short.onward {place} {batch} {from} {marks} {more = others} item adds permitted first rest) =
+    subst (λ (ms : List Bool). IsVisit wave pairing duals (Children place from) ms (Passed more)) (sym (append_assoc marks others more))
+    (visit.onward item adds permitted (short_pass wave pairing duals (Place batch (from + 1)) marks (others ++ more) feasible (inr permitted) first)
+    (short_pass wave pairing duals (Children place (from + 1)) others more feasible _ rest))
+
+-- short marks of feasible duals pass the visit of all
+pub short_marks_pass : (wave : WavePicks) (pairing : Pairing) (duals : List ℕ) (marks : List Bool) → AreFeasible wave pairing duals
+    → AreShortMarks wave pairing duals marks → IsVisitOfAll wave pairing duals marks (Passed [])
+short_marks_pass wave pairing duals marks feasible short =
+    subst (λ (ms : List Bool). IsVisitOfAll wave pairing duals ms (Passed [])) (append-nil marks)
+    (short_pass wave pairing duals (Place [] 0) marks [] feasible (inl refl) short)
+
+-- a child's marks follow those so far
+pub short_onward : (wave : WavePicks) (pairing : Pairing) (duals place union : List ℕ) (from order : ℕ) (so_far marks : List Bool) → IsItem pairing order
+    → AddsItem pairing place order union → IsPermitted pairing union → AreShort wave pairing duals (Place union (order + 1)) marks
+    → ((rest : List Bool) → AreShort wave pairing duals (Children place order) rest → AreShort wave pairing duals (Children place from) (so_far ++ rest))
+    → (rest : List Bool) → AreShort wave pairing duals (Children place (order + 1)) rest
+    → AreShort wave pairing duals (Children place from) ((so_far ++ marks) ++ rest)
+short_onward wave pairing duals place union from order so_far marks item adds permitted first chain rest more =
+    subst (λ (ms : List Bool). AreShort wave pairing duals (Children place from) ms) (sym (append_assoc so_far marks rest))
+    (chain (marks ++ rest) (short.onward item adds permitted first more))
+
+-- an order that adds nothing has no mark
+pub short_past : (wave : WavePicks) (pairing : Pairing) (duals place : List ℕ) (from order : ℕ) (rest : List Bool) → from ≤ order
+    → NamesBelow pairing place from → IsNoChild pairing place order → AreShort wave pairing duals (Children place (order + 1)) rest
+    → AreShort wave pairing duals (Children place order) rest
+short_past wave pairing duals place from order rest low below none more = ⊎_elim
+    (λ (has : Contains place order). short.no_item (λ item. let l = below order has item in omega (arith, low, l)) more)
+    (λ adds_none. ⊎_elim (λ never. short.no_item never more)
+    (λ (u : (union : List ℕ) × AddsItem pairing place order union × (IsPermitted pairing union → ⊥)). short.not_permitted {batch = u.0} u.1 u.2 more)
+    adds_none) none
+
+-- the short marks of the place of no order, put behind none, are those of a node
+pub adds_all : (wave : WavePicks) (pairing : Pairing) (duals root : List ℕ) (old new : List Bool) → root ≡ [] → old ≡ []
+    → AddsShort wave pairing duals (Place root 0) old new → AreShortMarks wave pairing duals new
+adds_all wave pairing duals root old new empty none adds =
+    let same : new ≡ adds.marks = adds.is ∙ ap (λ (ms : List Bool). ms ++ adds.marks) none in
+    subst (AreShortMarks wave pairing duals) (sym same)
+    (subst (λ (place : List ℕ). AreShort wave pairing duals (Place place 0) adds.marks) empty adds.short)

@@ -1,0 +1,11 @@
+use Rattle.std.proofs.Common.{◌≡◌, length}
+use Rattle.wp_duals.specs.Reaches.{HaveMost}
+use Rattle.wp_price.specs.Items.{AreReachesBelow}
+use Rattle.wp_price.proofs.item.reaches_of.Given as goal
+
+abbrev pub invariant-loop-room : goal.invariant-loop-room
+invariant-loop-room l = record {
+  below : AreReachesBelow l.pairs l.duals l.from l.room l.reaches;
+  have : HaveMost l.pairs l.duals l.from l.room l.taken;
+  filled : length l.reaches ≡ 9;
+}

@@ -1,0 +1,85 @@
+-- The search: the places that it comes to, and what it has found when it has visited all batches that extend a place.
+use Rattle.std.specs.Prelude.{◌≡◌, ℕ, ◌+◌, ◌*◌, ◌<◌, ◌≤◌, ◌⊎◌, ◌↔◌, List, [], All, Option, Some, None, IfSome, Contains, length}
+use Rattle.wp_pairs.specs.Kept.{IsPairing}
+use Rattle.wp_pairs.specs.Permitted.{AreParted, IsPermitted, Pairing}
+use Rattle.wp_batch.specs.Lengths.{IsLengthOf}
+use Rattle.wp_batch.specs.Waves.{WavePicks}
+use Rattle.wp_duals.specs.Duals.{duals_of, greatest_dual}
+use Rattle.wp_duals.specs.Visits.{AddsItem, IsItem}
+use Rattle.wp_duals.proofs.Visits.{Extends}
+use Rattle.wp_price.specs.declared.best.Best.{Best}
+use Rattle.wp_price.specs.declared.item.Item.{Item}
+use Rattle.wp_price.specs.declared.place.Place.{Place}
+use Rattle.wp_price.specs.Bests.{IsNoWorse}
+use Rattle.wp_price.specs.Items.{AreItemsBelow}
+
+-- what is searched: a wave, its pairs and the duals of its orders
+pub record Task : Type 0 where
+  pub wave : WavePicks
+  pub pairing : Pairing
+  pub duals : List ℕ
+
+-- as many orders in the pairs as in the wave, a dual for each, and what each brings
+pub record IsTask (task : Task) (items : List Item) : Type 0 where
+  pub orders : task.pairing.orders ≡ length task.wave.orders
+  pub count : length task.duals ≡ task.pairing.orders
+  pub bounded : All (λ dual. dual ≤ greatest_dual) task.duals
+  pub valid : IsPairing task.pairing
+  pub filled : length items ≡ task.pairing.orders
+  pub each : AreItemsBelow task.pairing task.duals task.pairing.orders items
+
+-- by how much slacks are raised
+abbrev pub raise : ℕ
+raise = 8000000000000
+
+-- the slack of a batch, raised
+pub record IsRaised (task : Task) (batch : List ℕ) (raised : ℕ) : Type 0 where
+  pub total : ℕ
+  pub long : IsLengthOf task.wave batch total
+  pub is : raised + duals_of task.duals batch ≡ 60 * total + raise
+
+-- what the search comes to: no order, or a permitted batch
+abbrev pub IsReached : Pairing → List ℕ → Type 0
+IsReached pairing batch = (batch ≡ []) ⊎ IsPermitted pairing batch
+
+-- an order is parted from one of a batch
+pub record IsBlocked (pairing : Pairing) (batch : List ℕ) (order : ℕ) : Type 0 where
+  pub by : ℕ
+  pub has : Contains batch by
+  pub parted : AreParted pairing.pairs by order
+
+-- a place says of its batch what it has in orders and duals, and what it blocks
+pub record IsAt (task : Task) (place : Place) : Type 0 where
+  pub reached : IsReached task.pairing place.batch
+  pub size : place.size ≡ length place.batch
+  pub fits : place.size ≤ task.pairing.capacity
+  pub sum : place.sum ≡ duals_of task.duals place.batch
+  pub small : place.sum ≤ greatest_dual * place.size
+  pub blocked : (order : ℕ) → Contains place.blocked order ↔ IsBlocked task.pairing place.batch order
+
+-- an order adds nothing: the place has it, or it names no item, or with the place that makes no permitted batch
+abbrev pub IsNoChild : Pairing → List ℕ → ℕ → Type 0
+IsNoChild pairing place order =
+    Contains place order ⊎ ((IsItem pairing order → ⊥) ⊎ ((batch : List ℕ) × AddsItem pairing place order batch × (IsPermitted pairing batch → ⊥)))
+
+-- all orders of a place that name items are below an order
+abbrev pub NamesBelow : Pairing → List ℕ → ℕ → Type 0
+NamesBelow pairing place from = (order : ℕ) → Contains place order → IsItem pairing order → order < from
+
+-- a batch is no better than the best
+abbrev pub IsBeaten : Task → Option Best → List ℕ → Type 0
+IsBeaten task None batch = ⊥
+IsBeaten task (Some best) batch = (raised : ℕ) → IsRaised task batch raised → IsNoWorse best (record { batch = batch; raised = raised })
+
+-- a permitted batch that has all orders of a place, with its slack
+pub record IsFound (task : Task) (place : List ℕ) (best : Best) : Type 0 where
+  pub permitted : IsPermitted task.pairing best.batch
+  pub holds : (order : ℕ) → Contains place order → Contains best.batch order
+  pub is : IsRaised task best.batch best.raised
+
+-- The best after the search of all batches that extend a place: it is the old best or has all orders of the place, and no batch that was no better than the
+-- old best is better than it, nor any that extends the place.
+pub record IsSearched (task : Task) (place : List ℕ) (from : ℕ) (old best : Option Best) : Type 0 where
+  pub found : IfSome best (λ (b : Best). (old ≡ Some b) ⊎ IsFound task place b)
+  pub kept : (batch : List ℕ) → IsBeaten task old batch → IsBeaten task best batch
+  pub covered : (batch : List ℕ) → Extends task.pairing place from batch → IsBeaten task best batch

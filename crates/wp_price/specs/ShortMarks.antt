@@ -1,0 +1,34 @@
+-- Short marks: those of the visit that enters a place only where its reach is too much.
+use Rattle.std.specs.Prelude.{◌≡◌, ℕ, ◌+◌, ◌*◌, ◌<◌, ◌≤◌, Bool, true, false, List, [], ◌∷◌, ◌++◌}
+use Rattle.wp_pairs.specs.Permitted.{IsPermitted, Pairing}
+use Rattle.wp_batch.specs.Lengths.{IsLengthOf}
+use Rattle.wp_batch.specs.Waves.{WavePicks}
+use Rattle.wp_duals.specs.Duals.{duals_of}
+use Rattle.wp_duals.specs.Visits.{AddsItem, Children, Due, IsItem, IsReach, Place}
+
+-- The short marks of what is due. A place is marked as not to be entered exactly where its reach doesn't make it too much; else it is entered, and the places
+-- with one more item follow in the order of the items. An item that with the place makes no permitted batch is passed over.
+pub data AreShort (wave : WavePicks) (pairing : Pairing) (duals : List ℕ) : Due → List Bool → Type 0 where
+  closed : {place : List ℕ} {from total reach : ℕ} → IsLengthOf wave place total → IsReach pairing duals place from reach
+      → duals_of duals place + reach ≤ 60 * total → AreShort wave pairing duals (Place place from) (false ∷ [])
+  entered : {place : List ℕ} {from total reach : ℕ} {marks : List Bool} → IsLengthOf wave place total → IsReach pairing duals place from reach
+      → 60 * total < duals_of duals place + reach → AreShort wave pairing duals (Children place from) marks
+      → AreShort wave pairing duals (Place place from) (true ∷ marks)
+  all_added : {place : List ℕ} {from : ℕ} → pairing.orders ≤ from → AreShort wave pairing duals (Children place from) []
+  no_item : {place : List ℕ} {from : ℕ} {marks : List Bool} → (IsItem pairing from → ⊥)
+      → AreShort wave pairing duals (Children place (from + 1)) marks → AreShort wave pairing duals (Children place from) marks
+  not_permitted : {place batch : List ℕ} {from : ℕ} {marks : List Bool} → AddsItem pairing place from batch → (IsPermitted pairing batch → ⊥)
+      → AreShort wave pairing duals (Children place (from + 1)) marks → AreShort wave pairing duals (Children place from) marks
+  onward : {place batch : List ℕ} {from : ℕ} {marks more : List Bool} → IsItem pairing from → AddsItem pairing place from batch
+      → IsPermitted pairing batch → AreShort wave pairing duals (Place batch (from + 1)) marks
+      → AreShort wave pairing duals (Children place (from + 1)) more → AreShort wave pairing duals (Children place from) (marks ++ more)
+
+-- the short marks of a node: from the empty place on
+abbrev pub AreShortMarks : WavePicks → Pairing → List ℕ → List Bool → Type 0
+AreShortMarks wave pairing duals marks = AreShort wave pairing duals (Place [] 0) marks
+
+-- the short marks of what is due, put behind others
+pub record AddsShort (wave : WavePicks) (pairing : Pairing) (duals : List ℕ) (due : Due) (old new : List Bool) : Type 0 where
+  pub marks : List Bool
+  pub short : AreShort wave pairing duals due marks
+  pub is : new ≡ old ++ marks

@@ -1,0 +1,119 @@
+ghost use Rattle.std.specs.Prelude.{◌≡◌, ◌+◌, ◌<◌, ◌↔◌, List, ℕ, Contains, IfNone, IfSome, Some, false};
+ghost use Rattle.wp_pairs.specs.Permitted.{AreJoined, IsPermitted};
+ghost use Rattle.wp_duals.proofs.Visits.{Extends};
+ghost use Rattle.wp_price.specs.Bests.{IsNoWorse};
+ghost use Rattle.wp_price.specs.Searches.{IsAt, IsBeaten, IsRaised, IsSearched};
+ghost use Rattle.wp_price.specs.Slacks.{HasNoCandidate, IsCandidate};
+
+use crate::best::{Best, better_of};
+use crate::place::Place;
+use crate::search::Search;
+
+/// By how much slacks are raised: eight times the greatest dual.
+const RAISE: u64 = 8_000_000_000_000;
+
+impl Search<'_> {
+    // The slack of a place, raised.
+    fn raised_of(&self, place: &Place) -> u64
+        requires { IsAt self.now place.now }
+        ensures { IsRaised self.now place.now.batch result }
+    {
+        let _room = self.room_at(place);
+        60 * self.length_of(place) + RAISE - place.sum
+    }
+
+    // A place as the best, with its slack, raised.
+    fn best_at(&self, place: &Place) -> Best
+        requires { IsAt self.now place.now }
+        ensures batch { result.batch ≡ place.now.batch }
+        ensures is { IsRaised self.now place.now.batch result.raised }
+    {
+        Best {
+            batch: place.batch,
+            raised: self.raised_of(place),
+        }
+    }
+
+    // Whether a batch that extends a place, with items after this order, may be better than the best.
+    fn can_better(&self, order: u32, place: &Place, raised: u64, best: &Best) -> bool
+        requires known { order < self.now.pairing.orders }
+        requires place { IsAt self.now place.now }
+        requires raised { IsRaised self.now place.now.batch raised }
+        requires best { IsNoWorse best.now (record { batch = place.now.batch; raised = raised }) }
+        ensures { result ≡ false → (batch : List ℕ) → Extends self.now.pairing place.now.batch (order + 1) batch → IsBeaten self.now (Some best.now) batch }
+    {
+        self.room_at(place) > 0 && raised - best.raised <= self.reach_after(order, place)
+    }
+
+    /// The best of the best batch so far and all batches that extend a place, with items from an order on.
+    pub fn search(&self, place: &Place, from: u32, best: Option<Best>) -> Option<Best>
+        requires place { IsAt self.now place.now }
+        requires known { IsPermitted self.now.pairing place.now.batch → IsBeaten self.now best place.now.batch }
+        ensures { IsSearched self.now place.now.batch from best result }
+    {
+        let mut found = best;
+        for order in from..self.orders() {
+            if let Some(child) = self.child_of(place, order) {
+                let raised = self.raised_of(&child);
+                let next = better_of(
+                    found,
+                    Best {
+                        batch: child.batch,
+                        raised,
+                    },
+                );
+                found = if self.can_better(order, &child, raised, &next) {
+                    self.search(&child, order + 1, Some(next))
+                } else {
+                    Some(next)
+                };
+            }
+        }
+        found
+    }
+
+    // The place of the orders that are joined to an order. None comes exactly where they aren't a permitted batch.
+    fn place_through(&self, order: u32) -> Option<Place>
+        requires { order < self.now.pairing.orders }
+        ensures at { IfSome result (IsAt self.now) }
+        ensures class { IfSome result (λ place. (other : ℕ) → Contains place.batch other ↔ AreJoined self.now.pairing.pairs order other) }
+        ensures permitted { IfSome result (λ place. IsPermitted self.now.pairing place.batch) }
+        ensures none { IfNone result (HasNoCandidate self.now.pairing (Some order)) }
+    {
+        let root = self.root();
+        self.child_of(&root, self.joined_to(order).least()?)
+    }
+
+    /// The best of all permitted batches, or of those that have an order where one is given.
+    pub fn best(&self, through: Option<u32>) -> Option<Best>
+        requires { IfSome through (λ order. order < self.now.pairing.orders) }
+        ensures candidate { IfSome result (λ best. IsCandidate self.now.pairing through best.batch) }
+        ensures is { IfSome result (λ best. IsRaised self.now best.batch best.raised) }
+        ensures all { (batch : List ℕ) → IsCandidate self.now.pairing through batch → IsBeaten self.now result batch }
+    {
+        match through {
+            None => self.best_of_all(),
+            Some(order) => self.best_with(order),
+        }
+    }
+
+    // The best of all permitted batches.
+    fn best_of_all(&self) -> Option<Best>
+        ensures candidate { IfSome result (λ best. IsPermitted self.now.pairing best.batch) }
+        ensures is { IfSome result (λ best. IsRaised self.now best.batch best.raised) }
+        ensures all { (batch : List ℕ) → IsPermitted self.now.pairing batch → IsBeaten self.now result batch }
+    {
+        self.search(&self.root(), 0, None)
+    }
+
+    // The best of all permitted batches that have an order.
+    fn best_with(&self, order: u32) -> Option<Best>
+        requires { order < self.now.pairing.orders }
+        ensures candidate { IfSome result (λ best. IsCandidate self.now.pairing (Some order) best.batch) }
+        ensures is { IfSome result (λ best. IsRaised self.now best.batch best.raised) }
+        ensures all { (batch : List ℕ) → IsCandidate self.now.pairing (Some order) batch → IsBeaten self.now result batch }
+    {
+        let place = self.place_through(order)?;
+        self.search(&place, 0, Some(self.best_at(&place)))
+    }
+}

@@ -1,0 +1,11 @@
+use wp_pairs::Batch;
+
+/// A place of the visit: a batch, how many orders it has, what they have in duals, and the orders that are parted from one of
+/// them.
+#[derive(Clone, Copy)]
+pub struct Place {
+    pub batch: Batch,
+    pub size: u32,
+    pub sum: u64,
+    pub blocked: Batch,
+}

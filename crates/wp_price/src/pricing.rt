@@ -1,0 +1,90 @@
+ghost use Rattle.std.specs.Prelude.{◌≡◌, ◌≤◌, ◌<◌, ◌↔◌, [], All, IfOk, IfSome, IfNone, IsSome, None, length, pos, ◌≤ℤ◌};
+ghost use Rattle.wp_duals.specs.Duals.{AreFeasible, greatest_dual};
+ghost use Rattle.wp_duals.specs.Visits.{IsVisitOfAll, Passed};
+ghost use Rattle.wp_price.specs.ShortMarks.{AreShortMarks};
+ghost use Rattle.wp_price.specs.Slacks.{HasNoCandidate, IsLeastSlack};
+
+use crate::priced::Priced;
+use crate::search::Search;
+use std::alloc::Global;
+use std::thread::Threads;
+use wp_batch::{Marks, Wave};
+use wp_model::Memory;
+use wp_pairs::Pairs;
+
+// The short marks, where no order is given and the least slack isn't below 0.
+fn marks_of(
+    alloc: Global,
+    search: &Search<'_>,
+    through: Option<u32>,
+    slack: i64,
+) -> Result<Option<Marks>, Memory>
+    requires feasible { through ≡ None → pos 0 ≤ℤ slack → AreFeasible search.now.wave search.now.pairing search.now.duals }
+    ensures marked { IfOk result (λ marks. IsSome marks ↔ ((through ≡ None) × (pos 0 ≤ℤ slack))) }
+    ensures short { IfOk result (λ marks. IfSome marks (AreShortMarks search.now.wave search.now.pairing search.now.duals)) }
+    ensures pass { IfOk result (λ marks. IfSome marks (λ marks.
+        IsVisitOfAll search.now.wave search.now.pairing search.now.duals marks (Passed []))) }
+{
+    if through.is_some() || slack < 0 {
+        return Ok(None);
+    }
+    let mut marks = Marks::new(alloc);
+    search.push_marks(&search.root(), 0, search.whole_reach(), &mut marks)?;
+    Ok(Some(marks))
+}
+
+// The batch of least slack of a search, of those with an order where one is given, and the short marks.
+fn price(alloc: Global, search: &Search<'_>, through: Option<u32>) -> Result<Option<Priced>, Memory>
+    requires through { IfSome through (λ order. order < search.now.pairing.orders) }
+    ensures none { IfOk result (λ found. IfNone found (HasNoCandidate search.now.pairing through)) }
+    ensures least { IfOk result (λ found. IfSome found (λ priced.
+        IsLeastSlack search.now.wave search.now.pairing search.now.duals through priced.batch priced.slack)) }
+    ensures marked { IfOk result (λ found. IfSome found (λ priced. IsSome priced.marks ↔ ((through ≡ None) × (pos 0 ≤ℤ priced.slack)))) }
+    ensures short { IfOk result (λ found. IfSome found (λ priced.
+        IfSome priced.marks (AreShortMarks search.now.wave search.now.pairing search.now.duals))) }
+    ensures pass { IfOk result (λ found. IfSome found (λ priced. IfSome priced.marks (λ marks.
+        IsVisitOfAll search.now.wave search.now.pairing search.now.duals marks (Passed [])))) }
+{
+    let Some(best) = search.best(through) else {
+        return Ok(None);
+    };
+    let slack = search.slack_of(best.batch);
+    let marks = marks_of(alloc, search, through, slack)?;
+    Ok(Some(Priced {
+        batch: best.batch,
+        slack,
+        marks,
+    }))
+}
+
+/// The permitted batch of least slack, of those with an order where one is given: sixty times its length less the duals of
+/// its orders, one dual for each order of the wave, 0 to 1,000,000,000,000 sixtieths. Of batches with the same slack it is
+/// the one whose list of orders comes first. None comes exactly where there is no such batch. Where no order is given and
+/// the slack isn't below 0 the duals are feasible, and their short marks come with it. The workers, 1 to 16, aren't used
+/// yet: the answer is found on one thread.
+pub fn least_slack<R: Threads + Sync>(
+    rt: &R,
+    alloc: Global,
+    wave: &Wave,
+    pairs: &Pairs,
+    duals: &Vec<u64>,
+    through: Option<u32>,
+    workers: u32,
+) -> Result<Option<Priced>, Memory>
+    requires orders { pairs.now.orders ≡ length wave.now.orders }
+    requires count { length duals.now.items ≡ length wave.now.orders }
+    requires duals { All (λ dual. dual ≤ greatest_dual) duals.now.items }
+    requires through { IfSome through (λ order. order < length wave.now.orders) }
+    requires some_workers { 1 ≤ workers }
+    requires most_workers { workers ≤ 16 }
+    ensures none { IfOk result (λ found. IfNone found (HasNoCandidate pairs.now through)) }
+    ensures least { IfOk result (λ found. IfSome found (λ priced.
+        IsLeastSlack wave.now pairs.now duals.now.items through priced.batch priced.slack)) }
+    ensures marked { IfOk result (λ found. IfSome found (λ priced. IsSome priced.marks ↔ ((through ≡ None) × (pos 0 ≤ℤ priced.slack)))) }
+    ensures short { IfOk result (λ found. IfSome found (λ priced. IfSome priced.marks (AreShortMarks wave.now pairs.now duals.now.items))) }
+    ensures pass { IfOk result (λ found. IfSome found (λ priced. IfSome priced.marks (λ marks.
+        IsVisitOfAll wave.now pairs.now duals.now.items marks (Passed [])))) }
+{
+    let search = Search::of(alloc, wave, pairs, duals)?;
+    price(alloc, &search, through)
+}

@@ -1,0 +1,335 @@
+ghost use Rattle.std.specs.Prelude.{◌≡◌, ◌≤◌, ◌<◌, All, IfSome, length};
+ghost use Rattle.wp_duals.specs.Duals.{greatest_dual};
+ghost use Rattle.wp_model.specs.Warehouse.{IsSlot};
+
+mod slow;
+
+use super::*;
+use std::alloc::Global;
+use std::thread::Threads;
+use wp_batch::{Marks, Wave};
+use wp_graph::{Layout, Picks, Point};
+use wp_pairs::{Batch, Pairs};
+
+/// Where each order picks in the small layout: 3 aisles of 4 slots, the depot at the first.
+type Slots = &'static [(u32, u32)];
+
+/// Two orders, and whether they are to go together.
+type Row = (u32, u32, bool);
+
+/// What is priced: the orders of a wave, how many go into a batch, their pairs and their duals.
+#[derive(Clone, Copy)]
+struct Given {
+    orders: &'static [Slots],
+    capacity: u32,
+    pairs: &'static [Row],
+    duals: &'static [u64],
+}
+
+/// The orders of a batch, its slack, and the marks, 1 and 0, where there are marks.
+type Found = (&'static [u32], i64, Option<&'static [u8]>);
+
+/// Three orders with a slot each. The tours of the first, the second and the third are 14, 24 and 22 long, those of two are
+/// 26, 36 and 36.
+const APART: &[Slots] = &[&[(1, 4)], &[(2, 4)], &[(3, 1)]];
+
+/// Three orders at one slot. Each tour is 34 long.
+const SAME: &[Slots] = &[&[(3, 4)], &[(3, 4)], &[(3, 4)]];
+
+const DUALS: &[u64] = &[720, 840, 1320];
+
+const FREE: Given = Given {
+    orders: APART,
+    capacity: 2,
+    pairs: &[],
+    duals: DUALS,
+};
+
+const HIGH: Given = Given {
+    orders: APART,
+    capacity: 2,
+    pairs: &[],
+    duals: &[720, 840, 1321],
+};
+
+const TOGETHER: Given = Given {
+    orders: APART,
+    capacity: 2,
+    pairs: &[(0, 1, true)],
+    duals: DUALS,
+};
+
+const PARTED: Given = Given {
+    orders: APART,
+    capacity: 2,
+    pairs: &[(0, 1, false)],
+    duals: DUALS,
+};
+
+const TOO_MANY: Given = Given {
+    orders: APART,
+    capacity: 2,
+    pairs: &[(0, 1, true), (1, 2, true)],
+    duals: DUALS,
+};
+
+const ONE_BY_ONE: Given = Given {
+    orders: APART,
+    capacity: 1,
+    pairs: &[],
+    duals: DUALS,
+};
+
+const FOR_NOTHING: Given = Given {
+    orders: APART,
+    capacity: 8,
+    pairs: &[],
+    duals: &[0, 0, 0],
+};
+
+const EQUAL: Given = Given {
+    orders: SAME,
+    capacity: 8,
+    pairs: &[],
+    duals: &[680, 680, 680],
+};
+
+const FIRST: Given = Given {
+    orders: SAME,
+    capacity: 2,
+    pairs: &[],
+    duals: &[2040, 0, 0],
+};
+
+const LAST: Given = Given {
+    orders: SAME,
+    capacity: 2,
+    pairs: &[],
+    duals: &[0, 0, 2040],
+};
+
+const DEAREST: Given = Given {
+    orders: SAME,
+    capacity: 3,
+    pairs: &[],
+    duals: &[1_000_000_000_000, 1_000_000_000_000, 1_000_000_000_000],
+};
+
+/// What is priced, through which order, and what is found.
+const CASES: &[(Given, Option<u32>, Option<Found>)] = &[
+    (FREE, None, Some((&[0, 1], 0, Some(b"1100100")))),
+    (FREE, Some(0), Some((&[0, 1], 0, None))),
+    (FREE, Some(2), Some((&[1, 2], 0, None))),
+    (HIGH, None, Some((&[1, 2], -1, None))),
+    (HIGH, Some(0), Some((&[0, 1], 0, None))),
+    (TOGETHER, None, Some((&[0, 1], 0, Some(b"100")))),
+    (TOGETHER, Some(1), Some((&[0, 1], 0, None))),
+    (TOGETHER, Some(2), Some((&[2], 0, None))),
+    (PARTED, None, Some((&[1, 2], 0, Some(b"110100")))),
+    (PARTED, Some(0), Some((&[0], 120, None))),
+    (TOO_MANY, None, None),
+    (TOO_MANY, Some(1), None),
+    (ONE_BY_ONE, None, Some((&[2], 0, Some(b"1000")))),
+    (FOR_NOTHING, None, Some((&[0], 840, Some(b"0")))),
+    (EQUAL, None, Some((&[0, 1, 2], 0, Some(b"1000")))),
+    (FIRST, None, Some((&[0], 0, Some(b"1000")))),
+    (LAST, None, Some((&[0, 2], 0, Some(b"1000")))),
+    (DEAREST, None, Some((&[0, 1, 2], -2_999_999_997_960, None))),
+];
+
+fn small() -> Option<Layout> {
+    Layout::new(3, 4, 2, 1, 5, 1)
+}
+
+/// A point, where it is a slot of the layout.
+fn slot(layout: &Layout, at: (u32, u32)) -> Option<Point>
+    ensures { IfSome result (IsSlot layout.now) }
+{
+    let (aisle, slot) = at;
+    let within = 1 <= aisle && aisle <= layout.aisles() && 1 <= slot && slot <= layout.slots();
+    within.then_some(Point { aisle, slot })
+}
+
+/// The slots of the layout among these points.
+fn picked(layout: &Layout, slots: &[(u32, u32)]) -> Picks
+    ensures { result.layout ≡ layout.now }
+{
+    let mut picks = Picks::new(layout);
+    for at in slots {
+        if let Some(point) = slot(layout, *at) {
+            picks.add(point);
+        }
+    }
+    picks
+}
+
+/// What an order picks, if it picks at all.
+fn order_of(layout: &Layout, slots: &[(u32, u32)]) -> Option<Picks>
+    ensures layout { IfSome result (λ picks. picks.layout ≡ layout.now) }
+    ensures filled { IfSome result (λ picks. 0 < length picks.points) }
+{
+    let first = slot(layout, *slots.first()?)?;
+    let mut picks = picked(layout, slots);
+    picks.add(first);
+    if picks.has(first) {
+        return Some(picks);
+    }
+    None
+}
+
+/// What the orders pick.
+fn orders_of(alloc: Global, layout: &Layout, orders: &[Slots]) -> Option<Vec<Picks>>
+    ensures layout { IfSome result (λ picked. All (λ picks. picks.layout ≡ layout.now) picked.items) }
+    ensures filled { IfSome result (λ picked. All (λ picks. 0 < length picks.points) picked.items) }
+{
+    let mut all = Vec::new(alloc);
+    for slots in orders {
+        all.push(order_of(layout, slots)?).ok()?;
+    }
+    Some(all)
+}
+
+/// The wave of these orders in the small layout.
+fn wave_of(alloc: Global, orders: &[Slots]) -> Option<Wave> {
+    let layout = small()?;
+    let picks = orders_of(alloc, &layout, orders)?;
+    if picks.is_empty() || picks.len() > 64 {
+        return None;
+    }
+    Wave::of(alloc, layout, &picks).ok()
+}
+
+/// Adds the pairs, where each can be added.
+fn are_added(pairs: &mut Pairs, rows: &[Row]) -> bool {
+    for (first, second, together) in rows {
+        if !is_added(pairs, *first, *second, *together) {
+            return false;
+        }
+    }
+    true
+}
+
+fn is_added(pairs: &mut Pairs, first: u32, second: u32, together: bool) -> bool {
+    if first < second && second < pairs.orders() && !pairs.decided(first, second) {
+        pairs.add(first, second, together);
+        return pairs.decided(first, second);
+    }
+    false
+}
+
+/// The pairs of so many orders.
+fn pairs_of(orders: u32, capacity: u32, rows: &[Row]) -> Option<Pairs> {
+    let within = 1 <= orders && orders <= 64 && 1 <= capacity && capacity <= 8;
+    if !within {
+        return None;
+    }
+    let mut pairs = Pairs::new(orders, capacity);
+    are_added(&mut pairs, rows).then_some(pairs)
+}
+
+/// Duals, where none is above the greatest.
+fn duals_of(alloc: Global, rows: &[u64]) -> Option<Vec<u64>>
+    ensures { IfSome result (λ duals. All (λ dual. dual ≤ greatest_dual) duals.items) }
+{
+    let mut duals = Vec::new(alloc);
+    for dual in rows {
+        if *dual > 1_000_000_000_000 {
+            return None;
+        }
+        duals.push(*dual).ok()?;
+    }
+    Some(duals)
+}
+
+/// What is found, where it can be asked for; by one worker and by many, as they find the same.
+fn asked<R: Threads + Sync>(
+    rt: &R,
+    alloc: Global,
+    wave: &Wave,
+    pairs: &Pairs,
+    duals: &Vec<u64>,
+    through: Option<u32>,
+) -> Option<Option<Priced>>
+    requires { All (λ dual. dual ≤ greatest_dual) duals.now.items }
+{
+    if pairs.orders() != wave.orders() || duals.len() != wave.orders() as usize {
+        return None;
+    }
+    if let Some(order) = through {
+        if order >= wave.orders() {
+            return None;
+        }
+    }
+    least_slack(rt, alloc, wave, pairs, duals, through, 16).ok()
+}
+
+/// Whether a batch has exactly these orders.
+fn has_exactly(batch: Batch, orders: &[u32]) -> bool {
+    for order in orders {
+        if !batch.has(*order) {
+            return false;
+        }
+    }
+    batch.len() as usize == orders.len()
+}
+
+/// Whether the marks are these.
+fn are_exactly(marks: &Marks, expected: &[u8]) -> bool {
+    for (place, mark) in expected.iter().enumerate() {
+        if place as u64 >= marks.len() || marks.at(place as u64) != (*mark == b'1') {
+            return false;
+        }
+    }
+    marks.len() == expected.len() as u64
+}
+
+fn is_marked(marks: &Option<Marks>, expected: Option<&[u8]>) -> bool {
+    match (marks, expected) {
+        (Some(marks), Some(expected)) => are_exactly(marks, expected),
+        (None, None) => true,
+        _ => false,
+    }
+}
+
+fn is_found(priced: &Priced, expected: Found) -> bool {
+    let (orders, slack, marks) = expected;
+    has_exactly(priced.batch, orders) && priced.slack == slack && is_marked(&priced.marks, marks)
+}
+
+/// Whether pricing finds what is expected, with lengths that are kept and without.
+fn finds<R: Threads + Sync>(
+    rt: &R,
+    alloc: Global,
+    given: Given,
+    through: Option<u32>,
+    expected: Option<Found>,
+    kept: bool,
+) -> Option<bool> {
+    let mut wave = wave_of(alloc, given.orders)?;
+    if kept {
+        wave.keep_lengths(alloc, given.capacity).ok()?;
+    }
+    let pairs = pairs_of(wave.orders(), given.capacity, given.pairs)?;
+    let duals = duals_of(alloc, given.duals)?;
+    match (asked(rt, alloc, &wave, &pairs, &duals, through)?, expected) {
+        (Some(priced), Some(expected)) => Some(is_found(&priced, expected)),
+        (None, None) => Some(true),
+        _ => Some(false),
+    }
+}
+
+fn wrong_case<R: Threads + Sync>(rt: &R, alloc: Global) -> Option<usize> {
+    for (place, (given, through, expected)) in CASES.iter().enumerate() {
+        for kept in [false, true] {
+            if finds(rt, alloc, *given, *through, *expected, kept) != Some(true) {
+                return Some(place);
+            }
+        }
+    }
+    None
+}
+
+#[test]
+fn the_batch_of_least_slack_is_found_with_its_marks(rt: HostRuntime) {
+    assert_eq!(rt; wrong_case(&rt, rt.alloc()), None);
+}
