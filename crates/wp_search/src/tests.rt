@@ -1,0 +1,305 @@
+ghost use Rattle.std.specs.Prelude.{◌≡◌, ◌<◌, All, IfSome, length};
+ghost use Rattle.wp_model.specs.Warehouse.{IsSlot};
+
+mod made;
+
+use super::*;
+use std::alloc::Global;
+use std::thread::Threads;
+use wp_batch::{Batching, Wave};
+use wp_cert::{Node, Tree, check};
+use wp_graph::{Layout, Picks, Point};
+use wp_pairs::Batch;
+
+/// Where each order picks in the small layout: 3 aisles of 4 slots, the depot at the first.
+type Slots = &'static [(u32, u32)];
+
+/// Three orders with a slot each.
+const APART: &[Slots] = &[&[(1, 4)], &[(2, 4)], &[(3, 1)]];
+
+/// Three orders at one slot.
+const SAME: &[Slots] = &[&[(3, 4)], &[(3, 4)], &[(3, 4)]];
+
+/// One order.
+const ONE: &[Slots] = &[&[(2, 2)]];
+
+/// Orders that share slots.
+const SHARED: &[Slots] = &[
+    &[(1, 4), (2, 1)],
+    &[(2, 1), (3, 1)],
+    &[(1, 1), (1, 4), (3, 4)],
+    &[(3, 1), (3, 4)],
+    &[(2, 1)],
+];
+
+/// A wave, a capacity, a budget; the batches, the cost and the bound of its plan, and whether its root has duals of its own.
+struct Case {
+    orders: &'static [Slots],
+    capacity: u32,
+    budget: u64,
+    batches: &'static [&'static [u32]],
+    cost: u64,
+    bound: u64,
+    own: bool,
+}
+
+const CASES: &[Case] = &[
+    Case {
+        orders: APART,
+        capacity: 1,
+        budget: 0,
+        batches: &[&[0], &[1], &[2]],
+        cost: 60,
+        bound: 60,
+        own: false,
+    },
+    Case {
+        orders: APART,
+        capacity: 2,
+        budget: 112,
+        batches: &[&[0, 1], &[2]],
+        cost: 48,
+        bound: 48,
+        own: true,
+    },
+    Case {
+        orders: APART,
+        capacity: 2,
+        budget: 0,
+        batches: &[&[0, 1], &[2]],
+        cost: 48,
+        bound: 30,
+        own: false,
+    },
+    Case {
+        orders: SAME,
+        capacity: 2,
+        budget: 0,
+        batches: &[&[0, 1], &[2]],
+        cost: 68,
+        bound: 51,
+        own: false,
+    },
+    Case {
+        orders: SAME,
+        capacity: 2,
+        budget: 111,
+        batches: &[&[0, 1], &[2]],
+        cost: 68,
+        bound: 51,
+        own: false,
+    },
+    Case {
+        orders: SAME,
+        capacity: 2,
+        budget: 112,
+        batches: &[&[0, 1], &[2]],
+        cost: 68,
+        bound: 51,
+        own: true,
+    },
+    Case {
+        orders: ONE,
+        capacity: 1,
+        budget: 0,
+        batches: &[&[0]],
+        cost: 16,
+        bound: 16,
+        own: false,
+    },
+    Case {
+        orders: ONE,
+        capacity: 8,
+        budget: 0,
+        batches: &[&[0]],
+        cost: 16,
+        bound: 2,
+        own: false,
+    },
+    Case {
+        orders: ONE,
+        capacity: 8,
+        budget: 1_000_000_000_000_000_000,
+        batches: &[&[0]],
+        cost: 16,
+        bound: 16,
+        own: true,
+    },
+];
+
+fn small() -> Option<Layout> {
+    Layout::new(3, 4, 2, 1, 5, 1)
+}
+
+/// A point, where it is a slot of the layout.
+fn slot(layout: &Layout, at: (u32, u32)) -> Option<Point>
+    ensures { IfSome result (IsSlot layout.now) }
+{
+    let (aisle, slot) = at;
+    let within = 1 <= aisle && aisle <= layout.aisles() && 1 <= slot && slot <= layout.slots();
+    within.then_some(Point { aisle, slot })
+}
+
+/// The slots of the layout among these points.
+fn picked(layout: &Layout, slots: &[(u32, u32)]) -> Picks
+    ensures { result.layout ≡ layout.now }
+{
+    let mut picks = Picks::new(layout);
+    for at in slots {
+        if let Some(point) = slot(layout, *at) {
+            picks.add(point);
+        }
+    }
+    picks
+}
+
+/// What an order picks, if it picks at all.
+fn order_of(layout: &Layout, slots: &[(u32, u32)]) -> Option<Picks>
+    ensures layout { IfSome result (λ picks. picks.layout ≡ layout.now) }
+    ensures filled { IfSome result (λ picks. 0 < length picks.points) }
+{
+    let first = slot(layout, *slots.first()?)?;
+    let mut picks = picked(layout, slots);
+    picks.add(first);
+    if picks.has(first) {
+        return Some(picks);
+    }
+    None
+}
+
+/// What the orders pick.
+fn orders_of(alloc: Global, layout: &Layout, orders: &[Slots]) -> Option<Vec<Picks>>
+    ensures layout { IfSome result (λ picked. All (λ picks. picks.layout ≡ layout.now) picked.items) }
+    ensures filled { IfSome result (λ picked. All (λ picks. 0 < length picks.points) picked.items) }
+{
+    let mut all = Vec::new(alloc);
+    for slots in orders {
+        all.push(order_of(layout, slots)?).ok()?;
+    }
+    Some(all)
+}
+
+/// The wave of these orders in the small layout.
+fn wave_of(alloc: Global, orders: &[Slots]) -> Option<Wave> {
+    let layout = small()?;
+    let picks = orders_of(alloc, &layout, orders)?;
+    if picks.is_empty() || picks.len() > 64 {
+        return None;
+    }
+    Wave::of(alloc, layout, &picks).ok()
+}
+
+/// Whether a batch has exactly these orders.
+fn has_exactly(batch: Batch, orders: &[u32]) -> bool {
+    for order in orders {
+        if !batch.has(*order) {
+            return false;
+        }
+    }
+    batch.len() as usize == orders.len()
+}
+
+/// Whether the batches are these, in this order.
+fn are_exactly(batching: &Batching, batches: &[&[u32]]) -> bool {
+    if batching.len() as usize != batches.len() {
+        return false;
+    }
+    for (batch, orders) in batching.as_slice().iter().zip(batches) {
+        if !has_exactly(*batch, orders) {
+            return false;
+        }
+    }
+    true
+}
+
+/// Whether a tree is one leaf, with duals of its own or without, as is asked.
+fn has_root(tree: &Tree, own: bool) -> bool {
+    if tree.nodes.len() != 1 {
+        return false;
+    }
+    match tree.nodes.at(0) {
+        Node::Leaf(shown) => shown.is_some() == own,
+        _ => false,
+    }
+}
+
+/// The plan of a wave within the ranges of budget and workers, if the check accepts its tree with its bound.
+fn checked_plan<R: Threads + Sync>(
+    rt: &R,
+    alloc: Global,
+    wave: &Wave,
+    capacity: u32,
+    budget: u64,
+    workers: u32,
+) -> Option<Planned> {
+    if capacity < 1 || 8 < capacity || workers < 1 || 16 < workers {
+        return None;
+    }
+    let budget = budget.min(1_000_000_000_000_000_000);
+    let planned = plan_wave(rt, alloc, wave, capacity, budget, workers).ok()?;
+    let bound = check(alloc, wave, capacity, &planned.tree).ok()?;
+    (bound == planned.bound).then_some(planned)
+}
+
+/// Whether a plan is that of a case.
+fn is_as(planned: &Planned, case: &Case) -> bool {
+    let proven = planned.state == State::Proven;
+    planned.cost == case.cost
+        && planned.bound == case.bound
+        && proven == (case.bound == case.cost)
+        && has_root(&planned.tree, case.own)
+        && are_exactly(&planned.batching, case.batches)
+}
+
+fn planned_as<R: Threads + Sync>(rt: &R, alloc: Global, case: &Case) -> Option<bool> {
+    let wave = wave_of(alloc, case.orders)?;
+    let planned = checked_plan(rt, alloc, &wave, case.capacity, case.budget, 1)?;
+    Some(is_as(&planned, case))
+}
+
+fn wrong_plan<R: Threads + Sync>(rt: &R, alloc: Global) -> Option<usize> {
+    for (place, case) in CASES.iter().enumerate() {
+        if planned_as(rt, alloc, case) != Some(true) {
+            return Some(place);
+        }
+    }
+    None
+}
+
+#[test]
+fn plans_have_the_batches_and_bounds_of_their_waves(rt: HostRuntime) {
+    assert_eq!(rt; wrong_plan(&rt, rt.alloc()), None);
+}
+
+/// Bounds of plans of the orders that share slots, whatever the budget, for the capacities from 1 on.
+const BOUNDS: &[u64] = &[132, 80, 62, 48, 38, 38, 38, 38];
+
+/// The bound of a plan that the budget pays for, whose root has duals of its own or shows it to be cheapest.
+fn bound_with<R: Threads + Sync>(
+    rt: &R,
+    alloc: Global,
+    capacity: u32,
+    workers: u32,
+) -> Option<u64> {
+    let wave = wave_of(alloc, SHARED)?;
+    let planned = checked_plan(rt, alloc, &wave, capacity, u64::MAX, workers)?;
+    let shown = planned.state == State::Proven || has_root(&planned.tree, true);
+    shown.then_some(planned.bound)
+}
+
+fn wrong_bound<R: Threads + Sync>(rt: &R, alloc: Global) -> Option<usize> {
+    for (place, bound) in BOUNDS.iter().enumerate() {
+        let capacity = place as u32 + 1;
+        for workers in [1, 16] {
+            if bound_with(rt, alloc, capacity, workers) != Some(*bound) {
+                return Some(place);
+            }
+        }
+    }
+    None
+}
+
+#[test]
+fn paid_plans_of_orders_that_share_slots_are_accepted(rt: HostRuntime) {
+    assert_eq!(rt; wrong_bound(&rt, rt.alloc()), None);
+}
