@@ -1,0 +1,3 @@
+pub mod PicksByRow
+pub mod OnePicking
+pub mod OrdersAhead

@@ -1,0 +1,3 @@
+pub mod StockLines
+pub mod Picks
+pub mod Sheets
