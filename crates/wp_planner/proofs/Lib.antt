@@ -1,0 +1,6 @@
+pub mod Filled
+pub mod ListedHolds
+pub mod OrderPicks
+pub mod Outgoing
+pub mod BatchTours
+pub mod SheetParts

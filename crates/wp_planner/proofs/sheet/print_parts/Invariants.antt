@@ -1,0 +1,7 @@
+use Rattle.std.proofs.Common.{take}
+use Rattle.wp_planner.specs.Sheets.{AreParts, GrowsBy}
+use Rattle.wp_planner.proofs.sheet.print_parts.Given as goal
+
+abbrev pub invariant-loop-place : goal.invariant-loop-place
+invariant-loop-place l =
+    GrowsBy (AreParts l.stock l.released l.plan.wave 1 (take l.place l.plan.planned.batching)) l.initial.text.items l.text.items

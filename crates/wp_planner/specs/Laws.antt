@@ -1,0 +1,26 @@
+-- What every wave that goes out keeps.
+use Rattle.std.specs.Prelude.{◌≡◌, ℕ, List, Contains}
+use Rattle.wp_model.specs.History.{History}
+use Rattle.wp_model.specs.Opening.{Opening}
+use Rattle.wp_model.specs.Sound.{IsSound}
+use Rattle.wp_model.specs.State.{State, opening_state}
+use Rattle.wp_model.specs.Step.{step}
+use Rattle.wp_model.specs.Tables.{IsReadOpening}
+use Rattle.wp_model.specs.declared.command.Command.TheVariants as command
+use Rattle.wp_floor.specs.Floor.{AreSameRows}
+use Rattle.wp_machine.specs.Outcome.{outcome_of, outcomes_from}
+use Rattle.wp_machine.specs.declared.outcome.Outcome.TheVariants as outcome
+use Rattle.wp_machine.specs.declared.outcome.WaveHolds.{WaveHolds}
+use Rattle.wp_planner.specs.Released.{IsReleased}
+
+-- a release that sends a wave out, in a sound state of an opening that was read, tells a wave whose orders all hold units
+abbrev pub EachReleaseFills : Type 0
+EachReleaseFills = (opening : Opening) (number : ℕ) (state : State) (name : List ℕ) (out : WaveHolds) → IsReadOpening opening → IsSound opening state
+    → AreSameRows opening state.rows
+    → outcome_of number state (command.Release name) (step opening state (command.Release name)) ≡ outcome.Released out → IsReleased opening.stock out
+
+-- every wave that goes out in a history of an opening that was read holds units for each of its orders
+abbrev pub EachWaveOutIsFilled : Type 0
+EachWaveOutIsFilled = (history : History) (out : WaveHolds) → IsReadOpening history.opening
+    → Contains (outcomes_from history.opening 0 (opening_state history.opening) history.entries) (outcome.Released out)
+    → IsReleased history.opening.stock out

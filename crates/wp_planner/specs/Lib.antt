@@ -1,0 +1,5 @@
+pub mod Slots
+pub mod Released
+pub mod Plans
+pub mod Sheets
+pub mod Laws

@@ -1,0 +1,59 @@
+-- The sheet of a wave that went out.
+use Rattle.std.specs.Prelude.{◌≡◌, ℕ, ◌+◌, Bool, true, false, List, [], ◌∷◌, ◌++◌, codes}
+use Rattle.wp_model.specs.Journal.{line}
+use Rattle.wp_model.specs.Opening.{Stock}
+use Rattle.wp_model.specs.Tours.{IsTour}
+use Rattle.wp_model.specs.declared.point.Point.{Point}
+use Rattle.wp_machine.specs.declared.outcome.WaveHolds.{WaveHolds}
+use Rattle.wp_batch.specs.Lengths.{IsLengthOf, batch_picks}
+use Rattle.wp_batch.specs.Waves.{WavePicks}
+use Rattle.wp_cert.specs.TextData.{certificate_text, wave_places}
+use Rattle.wp_search.specs.declared.plan.Planned.{Planned}
+use Rattle.wp_search.specs.declared.plan.State.{State}
+use Rattle.wp_search.specs.declared.plan.State.TheVariants as state
+use Rattle.wp_sheets.specs.Sheets.{IsBatchText, end_line, heading_line}
+use Rattle.wp_planner.specs.declared.planner.Terms.{Terms}
+use Rattle.wp_planner.specs.declared.planner.WavePlan.{WavePlan}
+
+-- a shortest tour past all that the orders of a batch pick, and its length
+pub record IsShortestTour (wave : WavePicks) (batch : List ℕ) (walk : List Point) (total : ℕ) : Type 0 where
+  pub shortest : IsLengthOf wave batch total
+  pub tour : IsTour wave.layout (batch_picks wave batch) walk total
+
+-- the part of a batch on a wave's sheet: its number, the length of its tour, its orders, a shortest tour, and its picks by row
+pub record IsPart (stock : Stock) (released : WaveHolds) (wave : WavePicks) (number : ℕ) (batch part : List ℕ) : Type 0 where
+  pub total : ℕ
+  pub walk : List Point
+  pub tours : IsShortestTour wave batch walk total
+  pub is : IsBatchText number released stock batch total walk part
+
+-- the parts of batches, one after the other, where the first has this number
+abbrev pub AreParts : Stock → WaveHolds → WavePicks → ℕ → List (List ℕ) → List ℕ → Type 0
+AreParts stock released wave number [] parts = parts ≡ []
+AreParts stock released wave number (batch ∷ batches) parts =
+    (first : List ℕ) × (others : List ℕ) × IsPart stock released wave number batch first
+    × AreParts stock released wave (number + 1) batches others × (parts ≡ first ++ others)
+
+-- a plan is open: its bound is below its cost
+abbrev pub is_open : State → Bool
+is_open state.Proven = false
+is_open state.Open = true
+
+-- the first line of a plan's sheet
+abbrev pub plan_line : WaveHolds → ℕ → Planned → Bool → List ℕ
+plan_line released capacity planned cancelled_later =
+    heading_line released capacity planned.cost planned.bound (is_open planned.state) cancelled_later
+
+-- the line of a plan's certificate
+abbrev pub certificate_line : WavePicks → ℕ → Planned → List ℕ
+certificate_line wave capacity planned = line (codes "certificate " ++ certificate_text (wave_places wave) capacity planned.tree.nodes)
+
+-- the sheet of a wave that went out and its plan: a first line, the parts of its batches, numbered from 1, its certificate, and a last line
+pub record IsSheet (stock : Stock) (released : WaveHolds) (terms : Terms) (plan : WavePlan) (cancelled_later : Bool) (sheet : List ℕ) : Type 0 where
+  pub parts : List ℕ
+  pub are : AreParts stock released plan.wave 1 plan.planned.batching parts
+  pub is : sheet ≡ plan_line released terms.capacity plan.planned cancelled_later ++ parts ++ certificate_line plan.wave terms.capacity plan.planned ++ end_line
+
+-- a text has grown by a part
+abbrev pub GrowsBy : (List ℕ → Type 0) → List ℕ → List ℕ → Type 0
+GrowsBy Says old new = (part : List ℕ) × Says part × (new ≡ old ++ part)

@@ -1,0 +1,17 @@
+//! The plan of a wave that went out: its batches and their bound, and its sheet.
+#![tactic(auto)]
+
+mod laws;
+mod planner;
+mod sheet;
+mod slots;
+mod tours;
+mod waves;
+
+pub use laws::waves_that_go_out_are_filled;
+pub use planner::{Terms, WavePlan, plan_of};
+pub use sheet::print_sheet;
+pub use waves::wave_of;
+
+#[cfg(test)]
+mod tests;

@@ -1,0 +1,95 @@
+ghost use Rattle.std.specs.Prelude.{◌≤◌, ◌^◌, IfOk};
+ghost use Rattle.wp_planner.specs.Plans.{IsPlanOf};
+ghost use Rattle.wp_planner.specs.Released.{IsReleased, LiesIn};
+
+use crate::waves::wave_of;
+use std::alloc::Global;
+use std::thread::Threads;
+use wp_batch::Wave;
+use wp_graph::Layout;
+use wp_machine::WaveHolds;
+use wp_model::Memory;
+use wp_search::{Planned, pays, plan_wave};
+use wp_tables::Stock;
+
+/// How many lengths are kept at most where the budget doesn't pay for duals of a node's own.
+const MOST_KEPT: u64 = 50_000;
+
+/// What waves are planned with: how many orders a batch may have, 1 to 8; what may be spent on a wave's bound, 0 to 10 ^ 18;
+/// and on how many threads, 1 to 16.
+#[derive(Clone, Copy, Debug)]
+pub struct Terms {
+    pub capacity: u32,
+    pub budget: u64,
+    pub workers: u32,
+}
+
+/// A wave and its plan.
+#[derive(Drop)]
+pub struct WavePlan {
+    pub wave: Wave,
+    pub planned: Planned,
+}
+
+// Up to how many orders the batches have of which no more than so many lengths are to be kept.
+fn orders_within(wave: &Wave, capacity: u32, most: u64) -> u32
+    requires { capacity ≤ 8 }
+    ensures { result ≤ capacity }
+{
+    let visits = u64::from(4 * wave.orders() + 4);
+    let mut kept = 0;
+    for size in 1..capacity + 1 {
+        if pays(wave.orders(), size, most.saturating_mul(visits)) {
+            kept = size;
+        }
+    }
+    kept
+}
+
+// Up to how many orders the batches have whose lengths are kept while a wave is planned: those of all batches are asked for again
+// and again where the budget pays for duals of a node's own. Where it doesn't, the start asks for the lengths of batches of few
+// orders more often than it takes to keep them, as long as these aren't too many.
+fn kept_orders(wave: &Wave, terms: &Terms) -> u32
+    requires { terms.now.capacity ≤ 8 }
+    ensures { result ≤ terms.now.capacity }
+{
+    if pays(wave.orders(), terms.capacity, terms.budget) {
+        terms.capacity
+    } else {
+        orders_within(wave, terms.capacity, MOST_KEPT)
+    }
+}
+
+/// The plan of a wave that went out: a good plan, for the terms' capacity and budget, of the wave whose orders pick at the slots
+/// of the layout at which they hold units.
+pub fn plan_of<R: Threads + Sync>(
+    rt: &R,
+    alloc: Global,
+    layout: &Layout,
+    stock: &Stock,
+    released: &WaveHolds,
+    terms: &Terms,
+) -> Result<WavePlan, Memory>
+    requires some { 1 ≤ terms.now.capacity }
+    requires most { terms.now.capacity ≤ 8 }
+    requires budget { terms.now.budget ≤ 10 ^ 18 }
+    requires some_workers { 1 ≤ terms.now.workers }
+    requires most_workers { terms.now.workers ≤ 16 }
+    requires released { IsReleased stock.now released.now }
+    requires lies { LiesIn layout.now stock.now }
+    ensures { IfOk result (IsPlanOf layout.now stock.now released.now terms.now) }
+{
+    let mut wave = wave_of(alloc, layout, stock, released)?;
+    let kept = kept_orders(&wave, terms);
+    wave.keep_lengths(alloc, kept)?;
+    let planned = plan_wave(
+        rt,
+        alloc,
+        &wave,
+        terms.capacity,
+        terms.budget,
+        terms.workers,
+    )?;
+    wave.keep_lengths(alloc, 0)?;
+    Ok(WavePlan { wave, planned })
+}
