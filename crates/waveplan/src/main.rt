@@ -14,6 +14,7 @@ ghost use Rattle.wp_words.specs.Words.{job_said};
 use std::alloc::{AllocError, Global};
 use std::env::Args;
 use std::process::ExitCode;
+use std::thread::Threads;
 use std::{env, io};
 use wp_outside::{Files, RealFiles, Sink, StdSink, SystemFiles};
 use wp_top::run;
@@ -59,7 +60,7 @@ fn words_given(alloc: Global, given: io::Result<Args>) -> Result<Vec<String>, Al
 }
 
 // The end of a run of these words, where there was memory for them.
-fn end_of<R: Sync, F: Files, K: Sink>(
+fn end_of<R: Threads + Sync, F: Files, K: Sink>(
     rt: &R,
     alloc: Global,
     words: Result<Vec<String>, AllocError>,
@@ -80,7 +81,7 @@ fn end_of<R: Sync, F: Files, K: Sink>(
 
 // The end of the run that the system's words ask for: as `run` promises for the words after the program's name, or for
 // bad words where one isn't UTF-8; or 5, and nothing done, where there is no memory for the words.
-fn run_given<R: Sync, F: Files, K: Sink>(
+fn run_given<R: Threads + Sync, F: Files, K: Sink>(
     rt: &R,
     alloc: Global,
     given: io::Result<Args>,

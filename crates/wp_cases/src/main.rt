@@ -12,6 +12,7 @@ use crate::lines::{has_line, sink_of, test_lines, words_of};
 use crate::narrow::NarrowSink;
 use std::alloc::Global;
 use std::process::ExitCode;
+use std::thread::Threads;
 use std::{fs, io};
 use wp_model::Memory;
 use wp_outside::{Files, MemFiles, RealFiles, Sink, StdSink, SystemFiles, write_text};
@@ -61,7 +62,7 @@ fn own_status<F: Files, K: Sink>(
 }
 
 /// The status of the run that the lines of a case ask for.
-fn status_of<R: Sync, F: Files, K: Sink>(
+fn status_of<R: Threads + Sync, F: Files, K: Sink>(
     rt: &R,
     alloc: Global,
     lines: &str,
@@ -77,7 +78,7 @@ fn status_of<R: Sync, F: Files, K: Sink>(
 }
 
 /// Runs a case over its files and into a sink, prints how that ends, and gives the status.
-fn run_into<R: Sync, K: Sink>(
+fn run_into<R: Threads + Sync, K: Sink>(
     rt: &R,
     alloc: Global,
     (name, lines): (&str, &str),
@@ -91,7 +92,7 @@ fn run_into<R: Sync, K: Sink>(
 }
 
 /// Runs a case with its write of this number failing.
-fn run_up_to<R: Sync, K: Sink>(
+fn run_up_to<R: Threads + Sync, K: Sink>(
     rt: &R,
     alloc: Global,
     (name, lines): (&str, &str),
@@ -105,7 +106,7 @@ fn run_up_to<R: Sync, K: Sink>(
 }
 
 /// Runs a case again and again, with the first write failing, the second, and so on, up to the run in which none fails.
-fn run_each<R: Sync, K: Sink>(
+fn run_each<R: Threads + Sync, K: Sink>(
     rt: &R,
     alloc: Global,
     case: (&str, &str),
@@ -121,7 +122,7 @@ fn run_each<R: Sync, K: Sink>(
 }
 
 /// Runs the words of a case over its files, and prints how that ends.
-fn run_over<R: Sync, K: Sink>(
+fn run_over<R: Threads + Sync, K: Sink>(
     rt: &R,
     alloc: Global,
     (name, lines): (&str, &str),
@@ -137,7 +138,7 @@ fn run_over<R: Sync, K: Sink>(
     }
 }
 
-fn run_case<R: Sync, F: Files, K: Sink>(
+fn run_case<R: Threads + Sync, F: Files, K: Sink>(
     rt: &R,
     alloc: Global,
     case: &str,
@@ -154,7 +155,7 @@ fn run_case<R: Sync, F: Files, K: Sink>(
 }
 
 /// Runs the cases of a text one after the other. What stands before the first holds for every case.
-fn run_cases<R: Sync, F: Files, K: Sink>(
+fn run_cases<R: Threads + Sync, F: Files, K: Sink>(
     rt: &R,
     alloc: Global,
     text: &str,
@@ -169,17 +170,18 @@ fn run_cases<R: Sync, F: Files, K: Sink>(
     Ok(())
 }
 
-fn run_file(rt: &HostRuntime) -> Result<(), CaseFault> {
+/// Runs the cases of the file `cases.txt`. The handle for threads is that of `main`, which alone has it.
+fn run_file<R: Threads + Sync>(rt: &HostRuntime, threads: &R) -> Result<(), CaseFault> {
     let Ok(text) = fs::read_to_string(rt, "cases.txt") else {
         return Err(CaseFault::File);
     };
     let mut source = RealFiles::new(SystemFiles::of(rt));
     let mut out = StdSink::new(io::writer(rt));
-    run_cases(rt, rt.alloc(), text.as_str(), &mut source, &mut out)
+    run_cases(threads, rt.alloc(), text.as_str(), &mut source, &mut out)
 }
 
 fn main(rt: HostRuntime) -> ExitCode {
-    match run_file(&rt) {
+    match run_file(&rt, &rt) {
         Ok(()) => ExitCode::from(0),
         Err(fault) => {
             let _told = eprintln!(rt; "the cases stop at {fault}");

@@ -13,6 +13,7 @@ use Rattle.wp_top.proofs.OneDesk.{parts_are}
 use Rattle.wp_top.specs.Ends.{HaveSaid, IsOutput}
 use Rattle.wp_top.specs.OneDesk.{desk_history, only_script}
 use Rattle.wp_top.specs.Runs.{audit_line}
+use Rattle.wp_top.specs.Sheets.{terms_of}
 use Rattle.wp_top.specs.Stops.{IsDay, IsRead, IsRightJournal, IsStop, IsUnsaid, StopsAmong, StopsAudit, StopsFinding, opening_files, opening_said}
 use Rattle.wp_top.specs.Texts.{File, Said, files_of, scripts_in, text_in}
 use Rattle.wp_top.specs.declared.complaint.Complaint.TheVariants as complaint
@@ -100,7 +101,7 @@ stop_at_finding holds held names before first after layout opening s same said s
 -- the output of a plan
 pub plan_is : (holds held : Holding) (names : PlanNames) (layout : Layout) (opening : Opening) (output : List ℕ)
     → SameBytes holds held → HaveSaid holds (opening_files names.layout names.stock names.orders) (opening_said layout opening) → IsReadOpening opening
-    → IsDay held opening names.desks output
+    → IsDay held layout opening (terms_of names) names.desks output
     → IsOutput holds (Ok (plan names)) output
 plan_is holds held names layout opening output same said read day =
     let script = day.script in
@@ -119,7 +120,9 @@ plan_is holds held names layout opening output same said read day =
         legal = all_answered_is_legal (opened opening) 1 script tt;
         parts = parts_are opening script;
         sound = states_sound history (subst IsOpening (sym begun) (is_opening opening read));
-        is = day.is;
+        sheets = day.day.sheets;
+        planned = day.day.planned;
+        is = day.day.is;
       };
     }
 

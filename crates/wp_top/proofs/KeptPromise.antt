@@ -1,6 +1,6 @@
 -- A run keeps its promise, however it ended.
 use Rattle.std.proofs.Common.{◌≡◌, ◌∙◌, refl, sym, ap, subst, ℕ, ◌≤◌, inl, inr, List, [], Option, Some, None}
-use Rattle.std.proofs.Common.{Result, Ok, Err, arith, string_bytes}
+use Rattle.std.proofs.Common.{Result, Ok, Err, arith}
 use Rattle.std.specs.Prelude.{IfOk, OnErr}
 use Rattle.wp_model.specs.declared.memory.Memory.{Memory}
 use Rattle.std.proofs.lemmas.List.{append-nil}
@@ -89,8 +89,8 @@ ends_for_wrong : (asked : Asked) (run : Course) (e : Ending) (job : JobNames) (s
     → IsEnding run.holds asked run.faults run.faults' e → AreGoodFiles asked run job said → IsWrong job said found → number_of (status_of e) ≡ 6
 ends_for_wrong asked run (ending.Done text) job said found is good wrong =
     let same = said_is asked run job is.job said is.said good is.asked_for is.accepted in
-    absurd (right_no_wrong job said found (right_output job said (string_bytes text)
-    (subst (λ (s : Said). ComesTo job s (string_bytes text)) same.1 (subst (λ (j : JobNames). ComesTo j is.said (string_bytes text)) same.0 is.comes)))
+    absurd (right_no_wrong job said found (right_output job said text.items
+    (subst (λ (s : Said). ComesTo job s text.items) same.1 (subst (λ (j : JobNames). ComesTo j is.said text.items) same.0 is.comes)))
     wrong)
 ends_for_wrong asked run (ending.Complaint (complaint.Words why)) job said found is good wrong = absurd (not_both asked job why good.asked_for is)
 ends_for_wrong asked run (ending.Complaint (complaint.Refused f why)) job said found is good wrong =

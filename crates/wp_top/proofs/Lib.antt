@@ -1,8 +1,12 @@
 pub mod FilesRead
 pub mod OneDesk
+pub mod StockInLayout
 pub mod RowsKept
 pub mod Taken
 pub mod Writing
+pub mod Waves
+pub mod SheetsGrow
+pub mod DayTexts
 pub mod Output
 pub mod Jobs
 pub mod Checks

@@ -1,12 +1,14 @@
 -- The one desk's script is answered command by command.
 use Rattle.std.proofs.Common.{◌≡◌, ◌∙◌, refl, sym, ap, ℕ, zero, suc, ◌+◌, Bool, true, false, List, [], ◌∷◌, ◌++◌, length, take, Some, slice_get}
-use Rattle.std.proofs.Common.{append_assoc, arith}
+use Rattle.std.proofs.Common.{append_assoc, arith, subst, Contains}
 use Rattle.std.specs.Prelude.{◌==◌, if◌then◌else◌}
-use Rattle.std.specs.List.{flat_map}
+use Rattle.std.specs.List.{All, flat_map}
 use Rattle.std.proofs.lemmas.Grind.{flat_map-append}
 use Rattle.std.proofs.lemmas.List.{append-nil}
+use Rattle.std.proofs.lemmas.List.Elements.{All-cons, All-nil, Contains-push}
 use Rattle.wp_model.specs.History.{History, answered, answered_all, next_entry, opened, state_after, state_from}
-use Rattle.wp_model.specs.Opening.{Opening}
+use Rattle.wp_model.specs.Opening.{Opening, Stock}
+use Rattle.wp_machine.specs.declared.outcome.WaveHolds.{WaveHolds}
 use Rattle.wp_model.specs.State.{State, opening_state}
 use Rattle.wp_model.specs.Step.{step}
 use Rattle.wp_model.specs.declared.command.Command.{Command}
@@ -15,6 +17,12 @@ use Rattle.wp_machine.specs.Outcome.{outcome_of}
 use Rattle.wp_model.specs.History.{part_of, script_of}
 use Rattle.wp_top.specs.OneDesk.{desk_history, only_script}
 use Rattle.wp_machine.specs.Outcome.{outcomes_from, refill_in, refills_of}
+use Rattle.wp_machine.specs.declared.outcome.Outcome.{Outcome}
+use Rattle.wp_machine.specs.declared.outcome.Outcome.TheVariants as outcome
+use Rattle.wp_model.specs.Tables.{IsReadOpening}
+use Rattle.wp_planner.proofs.Outgoing.{each_wave_out_is_filled}
+use Rattle.wp_planner.specs.Released.{IsReleased}
+use Rattle.wp_top.specs.Sheets.{released_in, released_of}
 
 one_more : (i : ℕ) → suc i ≡ i + 1
 one_more i = omega arith
@@ -97,16 +105,60 @@ outcomes-append opening number state (entry ∷ entries) more =
 zero_more : (n : ℕ) → 0 + n ≡ n
 zero_more n = omega arith
 
--- one more answer, and the refill that its step tells
-pub refills_of-answered : (history : History) (desk : ℕ) (command : Command)
-    → refills_of (answered history desk command) ≡ refills_of history
-    ++ refill_in (outcome_of (length history.entries) (state_after history) command (step history.opening (state_after history) command))
-refills_of-answered history desk command =
+-- what the step of one more command tells
+abbrev pub next_outcome : History → Command → Outcome
+next_outcome history command =
+    outcome_of (length history.entries) (state_after history) command (step history.opening (state_after history) command)
+
+told_answered : {X : Type 0} (told_in : Outcome → List X) (history : History) (desk : ℕ) (command : Command)
+    → flat_map told_in (outcomes_from history.opening 0 (opening_state history.opening) (answered history desk command).entries)
+    ≡ flat_map told_in (outcomes_from history.opening 0 (opening_state history.opening) history.entries) ++ told_in (next_outcome history command)
+told_answered told_in history desk command =
     let start = opening_state history.opening in
     let entry = next_entry history desk command in
     let told = outcomes_from history.opening 0 start history.entries in
-    ap (flat_map refill_in) (outcomes-append history.opening 0 start history.entries (entry ∷ []))
-    ∙ (flat_map-append refill_in told _
-    ∙ ap (λ refills. flat_map refill_in told ++ refills)
-    (append-nil _ ∙ ap (λ n. refill_in (outcome_of n (state_after history) command (step history.opening (state_after history) command)))
+    ap (flat_map told_in) (outcomes-append history.opening 0 start history.entries (entry ∷ []))
+    ∙ (flat_map-append told_in told _
+    ∙ ap (λ more. flat_map told_in told ++ more)
+    (append-nil _ ∙ ap (λ n. told_in (outcome_of n (state_after history) command (step history.opening (state_after history) command)))
     (zero_more (length history.entries))))
+
+-- one more answer, and the refill that its step tells
+pub refills_of-answered : (history : History) (desk : ℕ) (command : Command)
+    → refills_of (answered history desk command) ≡ refills_of history ++ refill_in (next_outcome history command)
+refills_of-answered history desk command = told_answered refill_in history desk command
+
+-- one more answer, and the wave that its step sends out
+pub released_of-answered : (history : History) (desk : ℕ) (command : Command)
+    → released_of (answered history desk command) ≡ released_of history ++ released_in (next_outcome history command)
+released_of-answered history desk command = told_answered released_in history desk command
+
+-- what the step tells is among what the history tells with it
+next_told : (history : History) (desk : ℕ) (command : Command)
+    → Contains (outcomes_from history.opening 0 (opening_state history.opening) (answered history desk command).entries) (next_outcome history command)
+next_told history desk command =
+    let start = opening_state history.opening in
+    let told = outcomes_from history.opening 0 start history.entries in
+    subst (λ (os : List Outcome). Contains os (next_outcome history command))
+    (sym (outcomes-append history.opening 0 start history.entries (next_entry history desk command ∷ [])))
+    (subst (λ (n : ℕ). Contains (told ++ outcome_of n (state_after history) command (step history.opening (state_after history) command) ∷ [])
+    (next_outcome history command)) (sym (zero_more (length history.entries))) (Contains-push told (next_outcome history command)))
+
+-- where a step sends a wave out, that wave holds units for each of its orders
+sent_filled : (stock : Stock) (told : Outcome) → ((out : WaveHolds) → told ≡ outcome.Released out → IsReleased stock out)
+    → All (IsReleased stock) (released_in told)
+sent_filled stock outcome.Plain filled = All-nil (IsReleased stock)
+sent_filled stock (outcome.Refilled refill) filled = All-nil (IsReleased stock)
+sent_filled stock (outcome.Released out) filled = All-cons (IsReleased stock) out [] (filled out refl) (All-nil (IsReleased stock))
+
+-- a wave that the step sends out holds units for each of its orders
+pub next_filled : (history : History) (desk : ℕ) (command : Command) → IsReadOpening history.opening
+    → All (IsReleased history.opening.stock) (released_in (next_outcome history command))
+next_filled history desk command read =
+    sent_filled history.opening.stock (next_outcome history command) (λ out is. each_wave_out_is_filled (answered history desk command) out read
+    (subst (λ (o : Outcome). Contains (outcomes_from history.opening 0 (opening_state history.opening) (answered history desk command).entries) o) is
+    (next_told history desk command)))
+
+-- the stock of the opening stays
+pub next_stock : (history : History) (desk : ℕ) (command : Command) → (answered history desk command).opening.stock ≡ history.opening.stock
+next_stock history desk command = refl

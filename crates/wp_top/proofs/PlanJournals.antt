@@ -22,6 +22,7 @@ use Rattle.wp_model.specs.Tables.{AreReadScripts, IsReadOpening}
 use Rattle.wp_model.specs.declared.command.Command.{Command}
 use Rattle.wp_model.specs.declared.entry.Entry.{Entry}
 use Rattle.wp_top.specs.Runs.{IsPlan}
+use Rattle.wp_words.specs.Words.{PlanNames}
 use Rattle.wp_top.specs.Sections.{output_of, refills_section, stock_section}
 use Rattle.wp_top.specs.Texts.{Said}
 
@@ -85,10 +86,11 @@ of_script script entries own parts =
     }
 
 -- the history of a plan is that of a day
-plan_is_day : (said : Said) (output : List ℕ) (scripts : List Script) → scripts ≡ said.scripts → IsReadOpening said.opening → AreReadScripts scripts
-    → (plan : IsPlan said output) → IsDay plan.history × (length plan.history.entries ≡ length (script_of scripts 1))
-plan_is_day said output [] same read are plan = absurd (omega (arith, are.desks))
-plan_is_day said output (script ∷ []) same read are plan =
+plan_is_day : (names : PlanNames) (said : Said) (output : List ℕ) (scripts : List Script) → scripts ≡ said.scripts
+    → IsReadOpening said.opening → AreReadScripts scripts
+    → (plan : IsPlan names said output) → IsDay plan.history × (length plan.history.entries ≡ length (script_of scripts 1))
+plan_is_day names said output [] same read are plan = absurd (omega (arith, are.desks))
+plan_is_day names said output (script ∷ []) same read are plan =
     let entries = plan.history.entries in
     let own : script.desk ≡ 1 = are.numbered 0 in
     let P : Script → Type 0 = λ s. All (λ command. IsTrue (is_plain command)) s.commands in
@@ -110,20 +112,23 @@ plan_is_day said output (script ∷ []) same read are plan =
       },
       count ∙ ap length (sym one),
     )
-plan_is_day said output (first ∷ second ∷ more) same read are plan = absurd (omega (arith, are.desks))
+plan_is_day names said output (first ∷ second ∷ more) same read are plan = absurd (omega (arith, are.desks))
 
 -- the output of a plan is a right journal
-pub plan_journal : (said : Said) (output : List ℕ) → IsReadOpening said.opening → AreReadScripts said.scripts → IsPlan said output
+pub plan_journal : (names : PlanNames) (said : Said) (output : List ℕ) → IsReadOpening said.opening → AreReadScripts said.scripts → IsPlan names said output
     → IsJournalOf said.opening output (length (script_of said.scripts 1))
-plan_journal said output read are plan =
-    let day = plan_is_day said output said.scripts refl read are plan in
+plan_journal names said output read are plan =
+    let day = plan_is_day names said output said.scripts refl read are plan in
     let history = plan.history in
     let first = journal history.entries in
-    let refills = refills_section history.opening (refills_of history) in
-    let stock = stock_section history.opening (state_after history).rows in
+    let sheets = plan.sheets in
+    let refills = refills_section history.opening.stock (refills_of history) in
+    let stock = stock_section history.opening.stock (state_after history).rows in
     let last = line (codes "end") in
-    let more = refills ++ stock ++ last in
-    let parts : output_of history ≡ first ++ more = ap (λ text. text ++ last) (append_assoc first refills stock) ∙ append_assoc first (refills ++ stock) last in
+    let more = sheets ++ refills ++ stock ++ last in
+    let parts : output_of history sheets ≡ first ++ more =
+    ap (λ text. text ++ last) (ap (λ text. text ++ stock) (append_assoc first sheets refills) ∙ append_assoc first (sheets ++ refills) stock)
+    ∙ append_assoc first (sheets ++ refills ++ stock) last in
     let right : IsJournalOf history.opening (first ++ more) (length history.entries) = day_journal history more day.0 in
     let counted : IsJournalOf history.opening (first ++ more) (length (script_of said.scripts 1)) =
     subst (λ n. IsJournalOf history.opening (first ++ more) n) day.1 right in

@@ -1,6 +1,6 @@
 -- What the status says of a run, by the ending that it had.
 use Rattle.std.proofs.Common.{◌≡◌, ◌∙◌, refl, sym, ap, ℕ, ◌<◌, ◌≤◌, ◌⊎◌, inl, inr, List}
-use Rattle.std.proofs.Common.{arith, string_bytes}
+use Rattle.std.proofs.Common.{arith}
 use Rattle.wp_outside.specs.Outside.{TookPrefix}
 use Rattle.wp_top.specs.Ends.{Asked, IsOutput}
 use Rattle.wp_top.specs.Promise.{Complains, Course, EndsWith, IsDue, SinkStands, Took}
@@ -46,7 +46,7 @@ whole asked run ended n e (inr (inr (is, took))) same other = absurd (neither n 
 -- a run that ended with 0 gave its output
 pub when_done : (asked : Asked) (run : Course) (e : Ending) → IsEnding run.holds asked run.faults run.faults' e → number_of (status_of e) ≡ 0
     → Took run (text_of e) → (output : List ℕ) × IsOutput run.holds asked output × Took run output
-when_done asked run (ending.Done text) is status took = (string_bytes text, is, took)
+when_done asked run (ending.Done text) is status took = (text.items, is, took)
 when_done asked run (ending.Complaint (complaint.Words why)) is status took = absurd (omega (arith, status))
 when_done asked run (ending.Complaint (complaint.Refused f why)) is status took = absurd (omega (arith, status))
 when_done asked run (ending.Complaint (complaint.Fault f)) is status took = absurd (omega (arith, status))

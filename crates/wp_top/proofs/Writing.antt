@@ -12,6 +12,10 @@ take_next (first ∷ xs) (suc i) x is = ap (λ ys. first ∷ ys) (take_next xs i
 one_more : (i : ℕ) → i + 1 ≡ suc i
 one_more i = omega arith
 
+-- the items up to the next
+pub take_more : {X : Type 0} (xs : List X) (i : ℕ) (x : X) → slice_get xs i ≡ Some x → take (i + 1) xs ≡ take i xs ++ x ∷ []
+take_more xs i x is = ap (λ n. take n xs) (one_more i) ∙ take_next xs i x is
+
 -- the texts of one more item of a list
 pub flat_map-next : {X : Type 0} (f : X → List ℕ) (xs : List X) (i : ℕ) (x : X) → slice_get xs i ≡ Some x
     → flat_map f (take (i + 1) xs) ≡ flat_map f (take i xs) ++ f x

@@ -14,19 +14,23 @@ use Rattle.wp_model.specs.Journal.{line, number_after_space}
 use Rattle.wp_model.specs.History.{part_of, script_of}
 use Rattle.wp_model.specs.Warehouse.{Layout}
 use Rattle.wp_top.specs.Sections.{output_of}
+use Rattle.wp_top.specs.Sheets.{AreSheets, released_of, terms_of}
 use Rattle.wp_top.specs.Texts.{Said}
 use Rattle.wp_top.specs.declared.complaint.Finding.{Finding}
 use Rattle.wp_top.specs.declared.complaint.Finding.TheVariants as finding
-use Rattle.wp_words.specs.Words.{JobNames, audit, check, plan}
+use Rattle.wp_words.specs.Words.{JobNames, PlanNames, audit, check, plan}
 
--- the output of a plan: that of one legal history whose part for each desk is that desk's script, and each of whose states is sound
-pub record IsPlan (said : Said) (output : List ℕ) : Type 0 where
+-- the output of a plan: that of one legal history whose part for each desk is that desk's script, and each of whose states is sound; with a sheet for each
+-- wave that goes out in it, of a good plan
+pub record IsPlan (names : PlanNames) (said : Said) (output : List ℕ) : Type 0 where
   pub history : History
   pub starts : history.opening ≡ said.opening
   pub legal : IsLegal history
   pub parts : (desk : ℕ) → part_of desk history.entries ≡ script_of said.scripts desk
   pub sound : EachStateIsSound history
-  pub is : output ≡ output_of history
+  pub sheets : List ℕ
+  pub planned : AreSheets said.layout history.opening.stock (terms_of names) history (released_of history) sheets
+  pub is : output ≡ output_of history sheets
 
 -- the line of a journal that is right, with so many entries
 abbrev pub audit_line : ℕ → List ℕ
@@ -80,7 +84,7 @@ pub record IsBound (said : Said) (output : List ℕ) : Type 0 where
 
 -- the output of a job, by what its files say
 abbrev pub ComesTo : JobNames → Said → List ℕ → Type 0
-ComesTo (plan names) said output = IsPlan said output
+ComesTo (plan names) said output = IsPlan names said output
 ComesTo (check names) said output = IsBound said output
 ComesTo (audit names) said output = IsAudit said output
 

@@ -1,5 +1,5 @@
 -- What comes of the files, one after the other, why a job stops, and how a run ends. The code is held against these; what they come to is in Promise.
-use Rattle.std.specs.Prelude.{◌≡◌, ◌⊎◌, ℕ, ◌<◌, ⊤, Bool, true, false, List, [], ◌∷◌, Option, String, Result, Ok, Err, if◌then◌else◌, string_bytes}
+use Rattle.std.specs.Prelude.{◌≡◌, ◌⊎◌, ℕ, ◌<◌, ⊤, Bool, true, false, List, [], ◌∷◌, Option, Vec, Result, Ok, Err, if◌then◌else◌}
 use Rattle.std.specs.declared.alloc.Global.{Global}
 use Rattle.wp_cert.specs.declared.tree.CertFault.{CertFault}
 use Rattle.wp_cert.specs.declared.tree.CertWhy.{CertWhy}
@@ -7,6 +7,7 @@ use Rattle.wp_cert.specs.declared.tree.CertWhy.TheVariants as cert_why
 use Rattle.wp_journal.specs.Journals.{IsJournalOf, Shows}
 use Rattle.wp_layout.specs.declared.fault.LayoutFault.{LayoutFault}
 use Rattle.wp_layout.specs.declared.fault.LayoutFault.TheVariants as layout_fault
+use Rattle.wp_model.specs.History.{History}
 use Rattle.wp_model.specs.Opening.{Opening}
 use Rattle.wp_model.specs.Warehouse.{Layout}
 use Rattle.wp_model.specs.declared.command.Command.{Command}
@@ -14,7 +15,9 @@ use Rattle.wp_outside.specs.Outside.{Grows, TookPrefix}
 use Rattle.wp_top.specs.Ends.{Asked, HasRisen, IsCause, IsFirstRefused, IsOutput, complaint_line}
 use Rattle.wp_top.specs.OneDesk.{desk_history, only_script}
 use Rattle.wp_top.specs.Runs.{IsRefusedCertificate, ShowsBound}
+use Rattle.wp_planner.specs.declared.planner.Terms.{Terms}
 use Rattle.wp_top.specs.Sections.{output_of}
+use Rattle.wp_top.specs.Sheets.{AreSheets, released_of}
 use Rattle.wp_top.specs.Texts.{File, IsHeld, Said, file_of, nothing_said, scripts_in, text_in}
 use Rattle.wp_top.specs.declared.complaint.Complaint.TheVariants as complaint
 use Rattle.wp_top.specs.declared.complaint.Finding.TheVariants as finding
@@ -83,11 +86,17 @@ abbrev pub IsStop : (List ℕ → Option (List ℕ)) → Asked → (List ℕ →
 IsStop holds asked before after (stop.Complaint why) = IsCause holds asked before after why
 IsStop holds asked before after stop.Memory = ⊤
 
--- the output of an opening and of the desk file of this name
-pub record IsDay (holds : List ℕ → Option (List ℕ)) (opening : Opening) (name output : List ℕ) : Type 0 where
+-- the output of a history and of the sheets of its waves, each with a good plan
+pub record IsTextOf (layout : Layout) (terms : Terms) (history : History) (output : List ℕ) : Type 0 where
+  pub sheets : List ℕ
+  pub planned : AreSheets layout history.opening.stock terms history (released_of history) sheets
+  pub is : output ≡ output_of history sheets
+
+-- the output of a layout, of an opening and of the desk file of this name
+pub record IsDay (holds : List ℕ → Option (List ℕ)) (layout : Layout) (opening : Opening) (terms : Terms) (name output : List ℕ) : Type 0 where
   pub script : List Command
   pub desk_file : IsSaid scripts_in holds name (only_script script)
-  pub is : output ≡ output_of (desk_history opening script)
+  pub day : IsTextOf layout terms (desk_history opening script) output
 
 -- a journal stops a run where it isn't right
 abbrev pub StopsAudit : Opening → List ℕ → Stop → Type 0
@@ -150,14 +159,14 @@ StopsShowing holds layout name before after why = IsUnsaid text_in holds name be
     ⊎ ((text : List ℕ) × IsRead holds name text × StopsCheck layout text why)
 
 -- the ending of an output, or of a stop
-abbrev pub IsEndOf : Result (String Global) Stop → Ending → Type 0
+abbrev pub IsEndOf : Result (Vec ℕ Global) Stop → Ending → Type 0
 IsEndOf (Ok text) end = end ≡ ending.Done text
 IsEndOf (Err (stop.Complaint why)) end = end ≡ ending.Complaint why
 IsEndOf (Err stop.Memory) end = ⊥
 
 -- the text of an ending
 abbrev pub text_of : Ending → List ℕ
-text_of (ending.Done text) = string_bytes text
+text_of (ending.Done text) = text.items
 text_of (ending.Complaint why) = complaint_line why
 
 -- the status of an ending whose text was taken
@@ -180,7 +189,7 @@ number_of status.Wrong = 6
 
 -- an ending has its cause
 abbrev pub IsEnding : (List ℕ → Option (List ℕ)) → Asked → (List ℕ → ℕ) → (List ℕ → ℕ) → Ending → Type 0
-IsEnding holds asked before after (ending.Done text) = IsOutput holds asked (string_bytes text)
+IsEnding holds asked before after (ending.Done text) = IsOutput holds asked text.items
 IsEnding holds asked before after (ending.Complaint why) = IsCause holds asked before after why
 
 -- the text of an ending was taken, or the sink failed, or memory ran out

@@ -58,8 +58,8 @@ pub fn audit_output<F: Files>(
     alloc: Global,
     files: &mut F,
     words: &AuditWords,
-) -> Result<String, Stop>
-    ensures output { IfOk result (λ text. IsOutput (F.holds files.old) (Ok (audit_job words.now)) (string_bytes text)) }
+) -> Result<Vec<u8>, Stop>
+    ensures output { IfOk result (λ text. IsOutput (F.holds files.old) (Ok (audit_job words.now)) text.items) }
     ensures stops { IfErr result (IsStop (F.holds files.old) (Ok (audit_job words.now)) (F.faults files.old) (F.faults files.new)) }
     ensures same { SameBytes (F.holds files.old) (F.holds files.new) }
     ensures counts { NoneFalls (F.faults files.old) (F.faults files.new) }
@@ -72,6 +72,6 @@ pub fn audit_output<F: Files>(
         words.orders.as_str(),
     )?;
     let found = found_in(alloc, files, &warehouse.opening, words.journal.as_str())?;
-    let text = line_of(alloc, found)?;
-    Ok(text)
+    let line = line_of(alloc, found)?;
+    Ok(line.into_bytes())
 }

@@ -75,14 +75,14 @@ pub fn check_output<F: Files>(
     alloc: Global,
     files: &mut F,
     words: &CheckWords,
-) -> Result<String, Stop>
-    ensures output { IfOk result (λ text. IsOutput (F.holds files.old) (Ok (check_job words.now)) (string_bytes text)) }
+) -> Result<Vec<u8>, Stop>
+    ensures output { IfOk result (λ text. IsOutput (F.holds files.old) (Ok (check_job words.now)) text.items) }
     ensures stops { IfErr result (IsStop (F.holds files.old) (Ok (check_job words.now)) (F.faults files.old) (F.faults files.new)) }
     ensures same { SameBytes (F.holds files.old) (F.holds files.new) }
     ensures counts { NoneFalls (F.faults files.old) (F.faults files.new) }
 {
     let layout = layout_from(alloc, files, words.layout.as_str())?;
     let bound = shown_in(alloc, files, &layout, words.certificate.as_str())?;
-    let text = line_of(alloc, bound)?;
-    Ok(text)
+    let line = line_of(alloc, bound)?;
+    Ok(line.into_bytes())
 }

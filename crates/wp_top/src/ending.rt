@@ -12,6 +12,7 @@ use crate::plan::plan_output;
 use crate::status::Status;
 use std::alloc::Global;
 use std::fmt::Write;
+use std::thread::Threads;
 use wp_model::Memory;
 use wp_outside::{Files, Sink, SinkFault, write_text};
 use wp_words::{AuditWords, CheckWords, Job, read_words};
@@ -20,7 +21,7 @@ use wp_words::{AuditWords, CheckWords, Job, read_words};
 #[derive(Debug, Drop)]
 pub enum Ending {
     /// With this output.
-    Done(String),
+    Done(Vec<u8>),
     /// With the line of a complaint.
     Complaint(Complaint),
 }
@@ -39,7 +40,7 @@ impl Ending {
     }
 }
 
-fn ending_with(output: Result<String, Stop>) -> Result<Ending, Memory>
+fn ending_with(output: Result<Vec<u8>, Stop>) -> Result<Ending, Memory>
     ensures { IfOk result (IsEndOf output) }
 {
     match output {
@@ -50,22 +51,28 @@ fn ending_with(output: Result<String, Stop>) -> Result<Ending, Memory>
 }
 
 // The output of the job that words ask for.
-fn job_output<F: Files>(alloc: Global, words: &Vec<String>, files: &mut F) -> Result<String, Stop>
-    ensures output { IfOk result (λ text. IsOutput (F.holds files.old) (asked_by words.now.items) (string_bytes text)) }
+fn job_output<R: Threads + Sync, F: Files>(
+    rt: &R,
+    alloc: Global,
+    words: &Vec<String>,
+    files: &mut F,
+) -> Result<Vec<u8>, Stop>
+    ensures output { IfOk result (λ text. IsOutput (F.holds files.old) (asked_by words.now.items) text.items) }
     ensures stops { IfErr result (IsStop (F.holds files.old) (asked_by words.now.items) (F.faults files.old) (F.faults files.new)) }
     ensures same { SameBytes (F.holds files.old) (F.holds files.new) }
     ensures counts { NoneFalls (F.faults files.old) (F.faults files.new) }
 {
     let job = read_words(alloc, words)?;
     match &job {
-        Job::Plan(words) => plan_output(alloc, files, words),
+        Job::Plan(words) => plan_output(rt, alloc, files, words),
         Job::Check(words) => check_output(alloc, files, words),
         Job::Audit(words) => audit_output(alloc, files, words),
     }
 }
 
 /// How a run of these words ends.
-pub fn ending_of<F: Files>(
+pub fn ending_of<R: Threads + Sync, F: Files>(
+    rt: &R,
     alloc: Global,
     words: &Vec<String>,
     files: &mut F,
@@ -74,7 +81,7 @@ pub fn ending_of<F: Files>(
     ensures same { SameBytes (F.holds files.old) (F.holds files.new) }
     ensures counts { NoneFalls (F.faults files.old) (F.faults files.new) }
 {
-    ending_with(job_output(alloc, words, files))
+    ending_with(job_output(rt, alloc, words, files))
 }
 
 /// How a check with these words ends.
@@ -128,7 +135,7 @@ fn write_ending<K: Sink>(alloc: Global, ending: &Ending, out: &mut K) -> Result<
     ensures failed { IsErrOf result sink_fault.Failed → K.faults out.old < K.faults out.new }
 {
     match ending {
-        Ending::Done(text) => write_text(out, text.as_bytes()),
+        Ending::Done(text) => write_text(out, text.as_slice()),
         Ending::Complaint(complaint) => write_line(alloc, *complaint, out),
     }
 }

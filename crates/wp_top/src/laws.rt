@@ -4,11 +4,13 @@ ghost use Rattle.wp_model.specs.History.{script_of};
 ghost use Rattle.wp_model.specs.Tables.{AreReadScripts, IsReadOpening};
 ghost use Rattle.wp_top.specs.Runs.{IsPlan};
 ghost use Rattle.wp_top.specs.Texts.{Said};
+ghost use Rattle.wp_words.specs.Words.{PlanNames};
 
 /// A law: the output of a plan is a right journal, with as many entries as there are commands. So an audit of it finds
 /// nothing wrong, where there is memory. What the readers of the tables give keeps what is asked of the opening and of
 /// the scripts.
 pub fn plans_print_right_journals()
-    ensures { (said : Said) (output : List ℕ) → IsReadOpening said.opening → AreReadScripts said.scripts → IsPlan said output
+    ensures { (names : PlanNames) (said : Said) (output : List ℕ) → IsReadOpening said.opening → AreReadScripts said.scripts
+        → IsPlan names said output
         → IsJournalOf said.opening output (length (script_of said.scripts 1)) }
 {}

@@ -9,12 +9,14 @@ mod answering;
 mod audit;
 mod check;
 mod complaint;
+mod day;
 mod ending;
 mod input;
 mod laws;
 mod plan;
 mod print;
 mod reading;
+mod sheets;
 mod status;
 
 ghost use Rattle.std.specs.Prelude.{Ok};
@@ -24,14 +26,15 @@ ghost use Rattle.wp_top.specs.Promise.{Keeps, course};
 use crate::ending::{audit_ending, check_ending, ending_of, finish};
 pub use laws::plans_print_right_journals;
 use std::alloc::Global;
+use std::thread::Threads;
 use wp_outside::{Files, Sink};
 pub use wp_words::{AuditWords, CheckWords};
 
 /// Runs the job that the words ask for, and gives its status: 0 the whole output was taken; 1 the words ask for no job;
 /// 2 a file is refused; 3 a file could not be read; 4 the output could not be written; 5 memory ran out; 6 the
 /// certificate or the journal isn't right. With 1, 2, 3 and 6 one line was written; with 4 and 5 a beginning of the text, or nothing.
-pub fn run<R: Sync, F: Files, K: Sink>(
-    _rt: &R,
+pub fn run<R: Threads + Sync, F: Files, K: Sink>(
+    rt: &R,
     alloc: Global,
     words: &Vec<String>,
     files: &mut F,
@@ -40,7 +43,7 @@ pub fn run<R: Sync, F: Files, K: Sink>(
     ensures { Keeps (asked_by words.now.items) (course (F.holds files.old) (F.holds files.new) (F.faults files.old) (F.faults files.new) (K.taken out.old)
         (K.taken out.new) (K.faults out.old) (K.faults out.new)) result }
 {
-    let ending = ending_of(alloc, words, files);
+    let ending = ending_of(rt, alloc, words, files);
     finish(alloc, ending, out).number()
 }
 

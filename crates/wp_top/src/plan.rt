@@ -1,45 +1,71 @@
 //! The mode `plan`.
-ghost use Rattle.std.specs.Prelude.{Ok, IfOk, IfErr, string_bytes};
+ghost use Rattle.std.specs.Prelude.{◌≡◌, Ok, IfOk, IfErr};
 ghost use Rattle.wp_model.specs.Tables.{IsReadOpening};
+ghost use Rattle.wp_planner.specs.Released.{LiesIn};
 ghost use Rattle.wp_outside.specs.Outside.{NoneFalls, SameBytes};
 ghost use Rattle.wp_top.specs.Ends.{IsOutput, plan_job};
+ghost use Rattle.wp_top.specs.Planned.{AreTerms};
+ghost use Rattle.wp_top.specs.Sheets.{terms_of};
 ghost use Rattle.wp_top.specs.Stops.{IsDay, IsStop, IsUnsaid};
 ghost use Rattle.wp_top.specs.Texts.{scripts_in};
 ghost use Rattle.wp_top.specs.declared.input.Input.TheVariants as input;
+ghost use Rattle.wp_words.specs.Reading.{plan_names};
+ghost use Rattle.wp_words.specs.Words.{HasRanges};
 
-use crate::answering::output_of_script;
 use crate::complaint::Stop;
+use crate::day::day_text;
 use crate::reading::{read_warehouse, scripts_from};
 use std::alloc::Global;
+use std::thread::Threads;
+use wp_graph::Layout;
 use wp_machine::Opening;
 use wp_outside::Files;
+use wp_planner::Terms;
 use wp_words::PlanWords;
 
-// The output of an opening and of the desk file of this name.
-fn output_of_desks<F: Files>(
+// What the words say of how waves are planned.
+fn terms_of(words: &PlanWords) -> Terms
+    ensures { result ≡ terms_of (plan_names words.now) }
+{
+    Terms {
+        capacity: words.capacity,
+        budget: words.budget,
+        workers: words.workers,
+    }
+}
+
+// The output of a layout, of an opening and of the desk file of this name.
+fn output_of_desks<R: Threads + Sync, F: Files>(
+    rt: &R,
     alloc: Global,
     files: &mut F,
+    layout: &Layout,
     opening: &Opening,
+    terms: &Terms,
     name: &str,
-) -> Result<String, Stop>
-    requires { IsReadOpening opening.now }
-    ensures output { IfOk result (λ text. IsDay (F.holds files.old) opening.now name.now (string_bytes text)) }
+) -> Result<Vec<u8>, Stop>
+    requires read { IsReadOpening opening.now }
+    requires lies { LiesIn layout.now opening.now.stock }
+    requires terms { AreTerms terms.now }
+    ensures output { IfOk result (λ text. IsDay (F.holds files.old) layout.now opening.now terms.now name.now text.items) }
     ensures stops { IfErr result (IsUnsaid scripts_in (F.holds files.old) name.now (F.faults files.old name.now) (F.faults files.new name.now) input.Desks) }
     ensures same { SameBytes (F.holds files.old) (F.holds files.new) }
     ensures counts { NoneFalls (F.faults files.old) (F.faults files.new) }
 {
     let scripts = scripts_from(alloc, files, name)?;
-    let text = output_of_script(alloc, opening, scripts.script(1))?;
+    let text = day_text(rt, alloc, layout, opening, terms, scripts.script(1))?;
     Ok(text)
 }
 
 /// The output of a plan.
-pub fn plan_output<F: Files>(
+pub fn plan_output<R: Threads + Sync, F: Files>(
+    rt: &R,
     alloc: Global,
     files: &mut F,
     words: &PlanWords,
-) -> Result<String, Stop>
-    ensures output { IfOk result (λ text. IsOutput (F.holds files.old) (Ok (plan_job words.now)) (string_bytes text)) }
+) -> Result<Vec<u8>, Stop>
+    requires { HasRanges (plan_names words.now) }
+    ensures output { IfOk result (λ text. IsOutput (F.holds files.old) (Ok (plan_job words.now)) text.items) }
     ensures stops { IfErr result (IsStop (F.holds files.old) (Ok (plan_job words.now)) (F.faults files.old) (F.faults files.new)) }
     ensures same { SameBytes (F.holds files.old) (F.holds files.new) }
     ensures counts { NoneFalls (F.faults files.old) (F.faults files.new) }
@@ -51,5 +77,13 @@ pub fn plan_output<F: Files>(
         words.stock.as_str(),
         words.orders.as_str(),
     )?;
-    output_of_desks(alloc, files, &warehouse.opening, words.desks.as_str())
+    output_of_desks(
+        rt,
+        alloc,
+        files,
+        &warehouse.layout,
+        &warehouse.opening,
+        &terms_of(words),
+        words.desks.as_str(),
+    )
 }

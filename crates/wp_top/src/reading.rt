@@ -1,5 +1,6 @@
 ghost use Rattle.std.specs.Prelude.{◌≡◌, Err, IfOk, IfErr, if◌then◌else◌};
 ghost use Rattle.wp_model.specs.Tables.{AreReadOrders, AreReadScripts, IsReadOpening, IsReadStock};
+ghost use Rattle.wp_planner.specs.Released.{LiesIn};
 ghost use Rattle.wp_outside.specs.Outside.{NoneFalls, SameBytes};
 ghost use Rattle.wp_tables.specs.Faults.{wants_memory};
 ghost use Rattle.wp_top.specs.Ends.{HaveSaid};
@@ -88,6 +89,7 @@ fn stock_from<F: Files>(
 ) -> Result<Stock, Stop>
     ensures said { IfOk result (IsSaid (stock_in layout.now) (F.holds files.old) name.now) }
     ensures read { IfOk result IsReadStock }
+    ensures lies { IfOk result (LiesIn layout.now) }
     ensures stops { IfErr result (IsUnsaid (stock_in layout.now) (F.holds files.old) name.now (F.faults files.old name.now)
         (F.faults files.new name.now) Input.Stock) }
     ensures same { SameBytes (F.holds files.old) (F.holds files.new) }
@@ -153,6 +155,7 @@ pub fn read_warehouse<F: Files>(
     ensures said { IfOk result (λ warehouse. HaveSaid (F.holds files.old) (opening_files layout_name.now stock_name.now orders_name.now)
         (opening_said warehouse.layout warehouse.opening)) }
     ensures read { IfOk result (λ warehouse. IsReadOpening warehouse.opening) }
+    ensures lies { IfOk result (λ warehouse. LiesIn warehouse.layout warehouse.opening.stock) }
     ensures stops { IfErr result (StopsAmong (F.holds files.old) (opening_files layout_name.now stock_name.now orders_name.now) (F.faults files.old)
         (F.faults files.new)) }
     ensures same { SameBytes (F.holds files.old) (F.holds files.new) }

@@ -1,1 +1,4 @@
+pub mod Commands
 pub mod Matching
+pub mod Passing
+pub mod Ranges

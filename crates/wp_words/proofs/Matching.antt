@@ -1,6 +1,6 @@
 -- What clap matches of words, and what becomes of it.
-use Rattle.std.proofs.Common.{◌≡◌, ◌&&◌, refl, ap, Bool, true, false, List, [], ◌∷◌, Result, Ok, Err, ⊎_elim}
-use Rattle.clap.specs.Words.{App, HasKind, Kinds, Row, is_simple, is_simple_and_free, kind_of}
+use Rattle.std.proofs.Common.{◌≡◌, ◌∙◌, ◌&&◌, refl, sym, ap, subst, Bool, true, false, List, [], ◌∷◌, Option, Some, None, Result, Ok, Err, ⊎_elim}
+use Rattle.clap.specs.Words.{App, HasKind, Kinds, ReadsOne, Row, Text, is_simple, is_simple_and_free, kind_of}
 use Rattle.clap.specs.declared.error.Error.{Error}
 use Rattle.clap.specs.declared.error.kind.ErrorKind.TheVariants as kind
 use Rattle.clap.proofs.OnLiterals.{clap_on_literals}
@@ -47,3 +47,11 @@ rows_matched (k ∷ kinds) rows got is = cc
 -- the fault of what was found is that of what is made of it
 pub fault_after : {A B : Type 0} (make : A → B) (said : Result A WordsFault) (why : WordsFault) → IsFaultOf said why → IsFaultOf (made_into make said) why
 fault_after make said why is told = ap (made_into make) (is told)
+
+-- a number that was got of an option was read of a text that the option has
+pub text_got : {T E : Type 0} (gives : Text → Result T E → Type 0) (text : Option Text) (number : T) (got : Option T) → got ≡ Some number
+    → (text ≡ None → got ≡ None) → ((t : Text) → text ≡ Some t → ReadsOne gives t got) → (t : Text) × (text ≡ Some t) × gives t (Ok number)
+text_got gives None number got is none some =
+    let bad : Some number ≡ None = sym is ∙ none refl in
+    cc
+text_got {T} gives (Some t) number got is none some = (t, refl, subst (λ (o : Option T). ReadsOne gives t o) is (some t refl))

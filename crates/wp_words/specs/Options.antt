@@ -1,26 +1,52 @@
 -- The options of each mode, as a command of clap.
-use Rattle.std.specs.Prelude.{List, [], ◌∷◌, map, codes, Some, true}
+use Rattle.std.specs.Prelude.{ℕ, List, [], ◌∷◌, ◌++◌, map, codes, pos, Some, true}
 use Rattle.clap.specs.Simple.{App, new_rule, new_shape}
 use Rattle.clap.specs.Walk.{Rule, Text}
 use Rattle.clap.specs.declared.builder.action.ArgAction.TheVariants.{Set}
+use Rattle.clap.specs.declared.builder.value_parser.ValueParser.{ValueParser}
+use Rattle.clap.specs.declared.builder.value_parser.ValueParser.TheVariants as vp
+use Rattle.wp_words.specs.Limits.{most_budget, most_capacity, most_workers, usual_budget, usual_workers}
+
+-- an option `--name VALUE` or `--name=VALUE` that may be given, and at most once
+abbrev pub named_rule : Text → Rule
+named_rule name = record (new_rule name) { long = Some name; action = Some Set }
 
 -- an option `--name VALUE` or `--name=VALUE` that has to be given, and once
-abbrev pub option_rule : Text → Rule
-option_rule name = record (new_rule name) { long = Some name; required = true; action = Some Set }
+abbrev pub required_rule : Text → Rule
+required_rule name = record (named_rule name) { required = true }
+
+-- a number from 1 to this one
+abbrev pub count_up_to : ℕ → ValueParser
+count_up_to most = vp.Signed (pos 1) (pos most)
+
+-- `--capacity` has to be given, a number from 1 to the greatest capacity
+abbrev pub capacity_rule : Rule
+capacity_rule = record (required_rule (codes "capacity")) { parser = Some (count_up_to most_capacity) }
+
+-- `--budget` may be given, a number from 0 to the greatest budget
+abbrev pub budget_rule : Rule
+budget_rule = record (named_rule (codes "budget")) { parser = Some (vp.Unsigned 0 most_budget); defaults = usual_budget ∷ [] }
+
+-- `--workers` may be given, a number from 1 to the most workers
+abbrev pub workers_rule : Rule
+workers_rule = record (named_rule (codes "workers")) { parser = Some (count_up_to most_workers); defaults = usual_workers ∷ [] }
 
 -- a command with these options and nothing besides: it shows no help, and its words are all that follow the mode
-abbrev pub command_with : Text → List Text → App
+abbrev pub command_with : Text → List Rule → App
 command_with mode options =
-    record { top = record (new_shape mode) { rules = map option_rule options; no_binary_name = true; disable_help_flag = true }; subs = [] }
+    record { top = record (new_shape mode) { rules = options; no_binary_name = true; disable_help_flag = true }; subs = [] }
 
--- `plan` takes the names of a layout, a stock file, an order file and a desk file
+-- `plan` takes the names of a layout, a stock file, an order file and a desk file, and three numbers
 unfoldable pub plan_command : App
-plan_command = command_with (codes "plan") (codes "layout" ∷ codes "stock" ∷ codes "orders" ∷ codes "desks" ∷ [])
+plan_command =
+    let files = map required_rule (codes "layout" ∷ codes "stock" ∷ codes "orders" ∷ codes "desks" ∷ []) in
+    command_with (codes "plan") (files ++ capacity_rule ∷ budget_rule ∷ workers_rule ∷ [])
 
 -- `check` takes the names of a layout and a certificate
 unfoldable pub check_command : App
-check_command = command_with (codes "check") (codes "layout" ∷ codes "certificate" ∷ [])
+check_command = command_with (codes "check") (map required_rule (codes "layout" ∷ codes "certificate" ∷ []))
 
 -- `audit` takes the names of a layout, a stock file, an order file and a journal
 unfoldable pub audit_command : App
-audit_command = command_with (codes "audit") (codes "layout" ∷ codes "stock" ∷ codes "orders" ∷ codes "journal" ∷ [])
+audit_command =
+    command_with (codes "audit") (map required_rule (codes "layout" ∷ codes "stock" ∷ codes "orders" ∷ codes "journal" ∷ []))

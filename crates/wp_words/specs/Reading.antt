@@ -15,13 +15,16 @@ use Rattle.wp_words.specs.declared.job.PlanWords.{PlanWords}
 abbrev pub texts_of : List (String Global) → List Text
 texts_of = map string_bytes
 
--- the names that the words of `plan` hold
+-- the names and the numbers that the words of `plan` hold
 abbrev pub plan_names : PlanWords → PlanNames
 plan_names words = record {
   layout = string_bytes words.layout;
   stock = string_bytes words.stock;
   orders = string_bytes words.orders;
   desks = string_bytes words.desks;
+  capacity = words.capacity;
+  budget = words.budget;
+  workers = words.workers;
 }
 
 -- the names that the words of `check` hold

@@ -1,17 +1,30 @@
 -- What the words of a command line say.
-use Rattle.std.specs.Prelude.{◌≡◌, List, [], ◌∷◌, codes, Some, unwrap_or, if◌then◌else◌, Result, Ok, Err}
+use Rattle.std.specs.Prelude.{◌≡◌, ◌≤◌, ℕ, ⊤, List, [], ◌∷◌, codes, Option, Some, unwrap_or, option_map, if◌then◌else◌, Result, Ok, Err}
 use Rattle.std.specs.Str.{bytes_eq}
-use Rattle.clap.specs.Words.{App, Kinds, Row, Text, fault_of, first_of, matches_of}
+use Rattle.std.specs.Str.Parse.{digits_value, without_leading_plus}
+use Rattle.clap.specs.Words.{App, Kinds, Row, Text, fault_of, first_of, matches_of, one_of}
+use Rattle.wp_words.specs.Limits.{most_budget, most_capacity, most_workers}
 use Rattle.wp_words.specs.Options.{audit_command, check_command, plan_command}
 use Rattle.wp_words.specs.declared.fault.WordsFault.{WordsFault}
 use Rattle.wp_words.specs.declared.fault.WordsFault.TheVariants as fault
 
--- the names that the options of `plan` give
+-- the names and the numbers that the options of `plan` give
 pub record PlanNames : Type 0 where
   pub layout : Text
   pub stock : Text
   pub orders : Text
   pub desks : Text
+  pub capacity : ℕ
+  pub budget : ℕ
+  pub workers : ℕ
+
+-- each number of `plan` lies in its range
+pub record HasRanges (names : PlanNames) : Type 0 where
+  pub some_capacity : 1 ≤ names.capacity
+  pub capacity : names.capacity ≤ most_capacity
+  pub budget : names.budget ≤ most_budget
+  pub some_workers : 1 ≤ names.workers
+  pub workers : names.workers ≤ most_workers
 
 -- the names that the options of `check` give
 pub record CheckNames : Type 0 where
@@ -31,6 +44,12 @@ pub data JobNames : Type 0 where
   check : CheckNames → JobNames
   audit : AuditNames → JobNames
 
+-- the numbers of a job lie in their ranges. A check and an audit have none
+abbrev pub AreInRange : JobNames → Type 0
+AreInRange (plan names) = HasRanges names
+AreInRange (check names) = ⊤
+AreInRange (audit names) = ⊤
+
 -- what was matched, where no kind of error comes of the words
 abbrev pub unless_faulty : Kinds → List Row → Result (List Row) WordsFault
 unless_faulty [] rows = Ok rows
@@ -44,13 +63,29 @@ matched command words = unless_faulty (fault_of command words) (matches_of comma
 abbrev pub value_of : List Row → Text → Text
 value_of rows name = unwrap_or (first_of name rows) []
 
--- the names that were matched for `plan`
+-- the number that a text in decimal digits says, where a plus may stand before them, as Rust reads a number
+abbrev pub number_said : Text → ℕ
+number_said text = digits_value 10 (without_leading_plus text)
+
+-- the number that is read of the value of an option, where it has one
+abbrev pub number_read : Text → List Row → Option ℕ
+number_read name rows = option_map number_said (one_of name rows)
+
+-- the number that an option got. Such an option has to be given or has a number where it isn't, so where words are
+-- accepted there is one
+abbrev pub number_of : List Row → Text → ℕ
+number_of rows name = unwrap_or (number_read name rows) 0
+
+-- the names and the numbers that were matched for `plan`
 abbrev pub plan_names_of : List Row → PlanNames
 plan_names_of rows = record {
   layout = value_of rows (codes "layout");
   stock = value_of rows (codes "stock");
   orders = value_of rows (codes "orders");
   desks = value_of rows (codes "desks");
+  capacity = number_of rows (codes "capacity");
+  budget = number_of rows (codes "budget");
+  workers = number_of rows (codes "workers");
 }
 
 -- the names that were matched for `check`
@@ -98,6 +133,9 @@ pub record ArePlanValues (rows : List Row) (names : PlanNames) : Type 0 where
   pub stock : first_of (codes "stock") rows ≡ Some names.stock
   pub orders : first_of (codes "orders") rows ≡ Some names.orders
   pub desks : first_of (codes "desks") rows ≡ Some names.desks
+  pub capacity : number_read (codes "capacity") rows ≡ Some names.capacity
+  pub budget : number_read (codes "budget") rows ≡ Some names.budget
+  pub workers : number_read (codes "workers") rows ≡ Some names.workers
 
 -- clap states these values for the options of `check`
 pub record AreCheckValues (rows : List Row) (names : CheckNames) : Type 0 where

@@ -14,8 +14,8 @@ pub enum WordsFault {
     NoMode,
     /// The first word is no mode.
     UnknownMode,
-    /// The words after the mode aren't its options: one is left out, given twice or unknown, has no value, or a word
-    /// belongs to none.
+    /// The words after the mode aren't its options: one is left out, given twice or unknown, has no value, a number is
+    /// none or isn't in its range, or a word belongs to no option.
     BadWords,
     /// There was no memory to read the words.
     Memory,

@@ -9,13 +9,19 @@ pub enum Job {
     Audit(AuditWords),
 }
 
-/// The names of the files of a day.
+/// The names of the files of a day, and the numbers that its plans go by.
 #[derive(Debug, Drop)]
 pub struct PlanWords {
     pub layout: String,
     pub stock: String,
     pub orders: String,
     pub desks: String,
+    /// The most orders that a batch may have, 1 to 8.
+    pub capacity: u32,
+    /// The work that the search for better batches may do, 0 to 1,000,000,000,000,000,000.
+    pub budget: u64,
+    /// The most threads that may search at once, 1 to 16.
+    pub workers: u32,
 }
 
 /// The names of a certificate, and of the layout that it is for.

@@ -1,24 +1,68 @@
-ghost use Rattle.std.specs.Prelude.{◌≡◌, [], IfOk, IfErr, Some, Ok, string_bytes, true, false};
-ghost use Rattle.clap.specs.Words.{app_of, rule_of, first_of, found_of, is_simple_and_free, rows_of};
-ghost use Rattle.wp_words.specs.Options.{audit_command, check_command, command_with, option_rule, plan_command};
+ghost use Rattle.std.specs.Prelude.{◌≡◌, List, ℕ, [], IfOk, IfErr, Some, Ok, string_bytes, true, false};
+ghost use Rattle.clap.specs.Words.{IsParsedFrom, app_of, rule_of, first_of, found_of, is_simple_and_free, one_of, rows_of};
+ghost use Rattle.wp_words.specs.Options.{audit_command, budget_rule, capacity_rule, check_command, command_with, named_rule, required_rule};
+ghost use Rattle.wp_words.specs.Options.{plan_command, workers_rule};
 ghost use Rattle.wp_words.specs.Reading.{IsFaultOf, texts_of};
 ghost use Rattle.wp_words.specs.Words.{matched};
 
 use crate::fault::WordsFault;
 use clap::error::ErrorKind;
-use clap::{Arg, ArgAction, ArgMatches, Command};
+use clap::{Arg, ArgAction, ArgMatches, Command, value_parser};
 use std::alloc::{AllocError, Global};
+use std::str::FromStr;
 use wp_model::Memory;
+
+/// The most orders that a batch may have.
+const MOST_CAPACITY: i64 = 8;
+
+/// The greatest budget.
+const MOST_BUDGET: i64 = 1_000_000_000_000_000_000;
+
+/// The most workers.
+const MOST_WORKERS: i64 = 16;
+
+/// An option that may be given, and at most once.
+fn named_option<'a>(alloc: Global, name: &'a str) -> Arg<'a>
+    ensures rule { rule_of result ≡ named_rule name.entry.now }
+    ensures local { result.global ≡ false }
+{
+    Arg::new(alloc, name).long(name).action(ArgAction::Set)
+}
 
 /// An option that has to be given, and once.
 fn required_option<'a>(alloc: Global, name: &'a str) -> Arg<'a>
-    ensures rule { rule_of result ≡ option_rule name.entry.now }
+    ensures rule { rule_of result ≡ required_rule name.entry.now }
     ensures local { result.global ≡ false }
 {
-    Arg::new(alloc, name)
-        .long(name)
-        .required(true)
-        .action(ArgAction::Set)
+    named_option(alloc, name).required(true)
+}
+
+/// The option of the capacity.
+fn capacity_option<'a>(alloc: Global) -> Arg<'a>
+    ensures rule { rule_of result ≡ capacity_rule }
+    ensures local { result.global ≡ false }
+{
+    required_option(alloc, "capacity").value_parser(value_parser!(u32).range(1..=MOST_CAPACITY))
+}
+
+/// The option of the budget.
+fn budget_option<'a>(alloc: Global) -> Arg<'a>
+    ensures rule { rule_of result ≡ budget_rule }
+    ensures local { result.global ≡ false }
+{
+    named_option(alloc, "budget")
+        .value_parser(value_parser!(u64).range(0..=MOST_BUDGET))
+        .default_value("2000000")
+}
+
+/// The option of the number of workers.
+fn workers_option<'a>(alloc: Global) -> Arg<'a>
+    ensures rule { rule_of result ≡ workers_rule }
+    ensures local { result.global ≡ false }
+{
+    named_option(alloc, "workers")
+        .value_parser(value_parser!(u32).range(1..=MOST_WORKERS))
+        .default_value("1")
 }
 
 /// A command with no options yet.
@@ -38,7 +82,10 @@ pub fn plan_command<'a>(alloc: Global) -> Result<Command<'a>, AllocError>
         .arg(required_option(alloc, "layout"))?
         .arg(required_option(alloc, "stock"))?
         .arg(required_option(alloc, "orders"))?
-        .arg(required_option(alloc, "desks"))?;
+        .arg(required_option(alloc, "desks"))?
+        .arg(capacity_option(alloc))?
+        .arg(budget_option(alloc))?
+        .arg(workers_option(alloc))?;
     Ok(command)
 }
 
@@ -68,6 +115,7 @@ pub fn audit_command<'a>(alloc: Global) -> Result<Command<'a>, AllocError>
 pub fn matched<'a>(command: Command<'a>, words: &'a [String]) -> Result<ArgMatches<'a>, WordsFault>
     requires simple { is_simple_and_free (app_of command) ≡ true }
     ensures rows { IfOk result (λ matches. matched (app_of command.entry) (texts_of words.entry.now) ≡ Ok (rows_of (found_of matches))) }
+    ensures parsed { IfOk result (λ matches. IsParsedFrom command.entry matches) }
     ensures fault { IfErr result (IsFaultOf (matched (app_of command.entry) (texts_of words.entry.now))) }
 {
     match command.try_get_matches_from(words) {
@@ -88,4 +136,16 @@ pub fn value_of(alloc: Global, matches: &ArgMatches<'_>, name: &str) -> Result<S
     };
     let value = String::from_str(alloc, value)?;
     Ok(value)
+}
+
+/// The number that an option got.
+pub fn number_of<T: FromStr>(matches: &ArgMatches<'_>, name: &str) -> Result<T, Memory>
+where
+    T::Err: Drop,
+    ensures { IfOk result (λ number. (text : List ℕ) × (one_of name.now (rows_of (found_of matches.now)) ≡ Some text) × T.from_str_gives text (Ok number)) }
+{
+    match matches.get_one::<T>(name) {
+        Some(number) => Ok(number),
+        None => Err(Memory),
+    }
 }

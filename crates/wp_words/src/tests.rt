@@ -16,8 +16,11 @@ fn plan_text(alloc: Global, words: &PlanWords) -> Result<String, AllocError> {
         stock,
         orders,
         desks,
+        capacity,
+        budget,
+        workers,
     } = words;
-    format!(in alloc; "plan {layout}, {stock}, {orders}, {desks}")
+    format!(in alloc; "plan {layout}, {stock}, {orders}, {desks}, {capacity}, {budget}, {workers}")
 }
 
 fn check_text(alloc: Global, words: &CheckWords) -> Result<String, AllocError> {
@@ -38,7 +41,7 @@ fn audit_text(alloc: Global, words: &AuditWords) -> Result<String, AllocError> {
     format!(in alloc; "audit {layout}, {stock}, {orders}, {journal}")
 }
 
-/// The mode of a job and the names that it gives, or what the fault is told as.
+/// The mode of a job and the names and numbers that it gives, or what the fault is told as.
 fn told(alloc: Global, read: &Result<Job, WordsFault>) -> Result<String, AllocError> {
     match read {
         Ok(Job::Plan(words)) => plan_text(alloc, words),
@@ -58,56 +61,56 @@ fn is_read(alloc: Global, line: &str, said: &str) -> Result<bool, AllocError> {
 /// Words that ask for a job, and what they are read as.
 const JOBS: &[(&str, &str)] = &[
     (
-        "plan --layout l --stock s --orders o --desks d",
-        "plan l, s, o, d",
+        "plan --layout l --stock s --orders o --desks d --capacity 3",
+        "plan l, s, o, d, 3, 2000000, 1",
     ),
     (
-        "plan --layout=l --stock=s --orders=o --desks=d",
-        "plan l, s, o, d",
+        "plan --capacity=3 --layout=l --stock=s --orders=o --desks=d",
+        "plan l, s, o, d, 3, 2000000, 1",
     ),
     (
-        "plan --layout=l --stock s --orders o --desks d",
-        "plan l, s, o, d",
+        "plan --layout=l --stock s --orders o --desks d --capacity=3",
+        "plan l, s, o, d, 3, 2000000, 1",
     ),
     (
-        "plan --layout l --stock=s --orders o --desks d",
-        "plan l, s, o, d",
+        "plan --capacity 3 --layout l --stock=s --orders o --desks d",
+        "plan l, s, o, d, 3, 2000000, 1",
     ),
     (
-        "plan --layout l --stock s --orders=o --desks d",
-        "plan l, s, o, d",
+        "plan --layout l --stock s --orders=o --desks d --capacity 3",
+        "plan l, s, o, d, 3, 2000000, 1",
     ),
     (
-        "plan --layout l --stock s --orders o --desks=d",
-        "plan l, s, o, d",
+        "plan --capacity 3 --layout l --stock s --orders o --desks=d",
+        "plan l, s, o, d, 3, 2000000, 1",
     ),
     (
-        "plan --desks d --orders o --stock s --layout l",
-        "plan l, s, o, d",
+        "plan --capacity 3 --desks d --orders o --stock s --layout l",
+        "plan l, s, o, d, 3, 2000000, 1",
     ),
     (
-        "plan --stock=s --desks d --layout=l --orders o",
-        "plan l, s, o, d",
+        "plan --capacity=3 --stock=s --desks d --layout=l --orders o",
+        "plan l, s, o, d, 3, 2000000, 1",
     ),
     (
-        "plan --layout a --stock a --orders a --desks a",
-        "plan a, a, a, a",
+        "plan --capacity 3 --layout a --stock a --orders a --desks a",
+        "plan a, a, a, a, 3, 2000000, 1",
     ),
     (
-        "plan --layout plan --stock audit --orders layout --desks stock",
-        "plan plan, audit, layout, stock",
+        "plan --capacity 3 --layout plan --stock audit --orders layout --desks stock",
+        "plan plan, audit, layout, stock, 3, 2000000, 1",
     ),
     (
-        "plan --layout=--stock --stock=-s --orders=o=d --desks=--",
-        "plan --stock, -s, o=d, --",
+        "plan --capacity=3 --layout=--stock --stock=-s --orders=o=d --desks=--",
+        "plan --stock, -s, o=d, --, 3, 2000000, 1",
     ),
     (
-        "plan --layout= --stock=s --orders= --desks=d",
-        "plan , s, , d",
+        "plan --capacity=3 --layout= --stock=s --orders= --desks=d",
+        "plan , s, , d, 3, 2000000, 1",
     ),
     (
-        "plan --layout a/b.json --stock ../s.csv --orders /o --desks größe.csv",
-        "plan a/b.json, ../s.csv, /o, größe.csv",
+        "plan --capacity 3 --layout a/b.json --stock ../s.csv --orders /o --desks größe.csv",
+        "plan a/b.json, ../s.csv, /o, größe.csv, 3, 2000000, 1",
     ),
     ("check --layout l --certificate c", "check l, c"),
     ("check --layout=l --certificate=c", "check l, c"),
@@ -213,7 +216,7 @@ fn no_words_are_no_mode(rt: HostRuntime) {
     assert_eq!(rt; text.as_deref(), Some("no-mode"));
 }
 
-/// What may not stand after the word `plan`.
+/// What may not stand after the word `plan`, behind a capacity or none.
 const BAD_PLANS: &[&str] = &[
     "",
     " ",
@@ -259,6 +262,108 @@ fn words_of_plan_are_refused(rt: HostRuntime) {
         misrefused_words(rt.alloc(), "plan", BAD_PLANS, "bad-words"),
         Ok(None)
     );
+    assert_eq!(rt;
+        misrefused_words(rt.alloc(), "plan --capacity 3", BAD_PLANS, "bad-words"),
+        Ok(None)
+    );
+}
+
+/// The words of a plan but for its numbers.
+const FILES: &str = "plan --layout l --stock s --orders o --desks d";
+
+/// Numbers of a plan, and the capacity, the budget and the workers that they are read as.
+const NUMBERS: &[(&str, &str)] = &[
+    (" --capacity 1", "1, 2000000, 1"),
+    (" --capacity 8", "8, 2000000, 1"),
+    (" --capacity=3", "3, 2000000, 1"),
+    (" --capacity +3", "3, 2000000, 1"),
+    (" --capacity 03", "3, 2000000, 1"),
+    (" --capacity=+0000000000000000000000003", "3, 2000000, 1"),
+    (" --capacity 2 --budget 0", "2, 0, 1"),
+    (" --capacity 2 --budget +007", "2, 7, 1"),
+    (" --budget=2000001 --capacity 2", "2, 2000001, 1"),
+    (
+        " --capacity 2 --budget 1000000000000000000",
+        "2, 1000000000000000000, 1",
+    ),
+    (" --capacity 2 --workers 1", "2, 2000000, 1"),
+    (" --workers 16 --capacity 2", "2, 2000000, 16"),
+    (" --capacity 2 --workers=+02", "2, 2000000, 2"),
+    (" --workers=4 --budget=5 --capacity=6", "6, 5, 4"),
+    (" --capacity 6 --budget 5 --workers 4 --", "6, 5, 4"),
+];
+
+fn are_read(alloc: Global, words: &str, numbers: &str) -> Result<bool, AllocError> {
+    let line = format!(in alloc; "{FILES}{words}")?;
+    let said = format!(in alloc; "plan l, s, o, d, {numbers}")?;
+    is_read(alloc, line.as_str(), said.as_str())
+}
+
+/// The first numbers that are read otherwise.
+fn misread_numbers(alloc: Global) -> Result<Option<&'static str>, AllocError> {
+    for (words, numbers) in NUMBERS {
+        if !are_read(alloc, words, numbers)? {
+            return Ok(Some(*words));
+        }
+    }
+    Ok(None)
+}
+
+#[test]
+fn numbers_of_plan_are_read(rt: HostRuntime) {
+    assert_eq!(rt; misread_numbers(rt.alloc()), Ok(None));
+}
+
+/// What may not stand after the files of a plan.
+const BAD_NUMBERS: &[&str] = &[
+    "",
+    " --budget 5 --workers 2",
+    " --capacity",
+    " --capacity=",
+    " --capacity ",
+    " --capacity 0",
+    " --capacity 9",
+    " --capacity 4294967299",
+    " --capacity 18446744073709551619",
+    " --capacity -3",
+    " --capacity=-3",
+    " --capacity x",
+    " --capacity 3x",
+    " --capacity=++3",
+    " --capacity +",
+    " --capacity 3.0",
+    " --capacity 0x3",
+    " --capacity 3 --capacity 3",
+    " --capacity=3 --budget 5 --capacity=4",
+    " --capacity 3 4",
+    " --capacities 3",
+    " --Capacity 3",
+    " -c 3",
+    " --capacity 3 --budget",
+    " --capacity 3 --budget=",
+    " --capacity 3 --budget 1000000000000000001",
+    " --capacity 3 --budget 18446744073709551616",
+    " --capacity 3 --budget -1",
+    " --capacity 3 --budget=-1",
+    " --capacity 3 --budget=-0",
+    " --capacity 3 --budget 1e6",
+    " --capacity 3 --budget 1,000",
+    " --budget 5 --capacity 3 --budget 5",
+    " --capacity 3 --workers",
+    " --capacity 3 --workers=",
+    " --capacity 3 --workers 0",
+    " --capacity 3 --workers 17",
+    " --capacity 3 --workers=-1",
+    " --capacity 3 --workers all",
+    " --workers 2 --workers 2 --capacity 3",
+];
+
+#[test]
+fn numbers_of_plan_are_refused(rt: HostRuntime) {
+    assert_eq!(rt;
+        misrefused_words(rt.alloc(), FILES, BAD_NUMBERS, "bad-words"),
+        Ok(None)
+    );
 }
 
 /// What may not stand after the word `check`.
@@ -279,6 +384,7 @@ const BAD_CHECKS: &[&str] = &[
     " l c",
     " --layout l --certificate c --colour=1",
     " --layout l --certificate c --stock s",
+    " --layout l --certificate c --capacity 3",
     " --layout l --certificate c --journal=j",
     " --layout l --stock s",
     " --layout l --stock s --orders o --journal j",
@@ -306,6 +412,7 @@ const BAD_AUDITS: &[&str] = &[
     " --layout l --stock s --orders o",
     " --layout l --stock s --orders o --desks d",
     " --layout l --stock s --orders o --journal j --desks d",
+    " --layout l --stock s --orders o --journal j --workers 2",
     " --layout l --stock s --orders o --journal j --certificate c",
     " --layout l --stock s --orders o --journal j --journal=j",
     " --layout l --stock s --orders o --journal j now",

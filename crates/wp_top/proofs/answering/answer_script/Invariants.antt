@@ -1,11 +1,11 @@
 use Rattle.std.proofs.Common.{◌≡◌, take}
 use Rattle.wp_model.specs.History.{answered_all, opened}
-use Rattle.wp_machine.specs.Outcome.{refills_of}
+use Rattle.wp_top.specs.Planned.{IsToldOf}
 use Rattle.wp_top.proofs.answering.answer_script.Given as goal
 
--- the commands so far were answered, and their refills kept
+-- the commands so far were answered, and what their steps told was kept
 abbrev pub invariant-loop-command : goal.invariant-loop-command
-invariant-loop-command l = record {
+invariant-loop-command g l = record {
   machine : l.answered.machine ≡ answered_all (opened l.opening) 1 (take l.command-index l.script);
-  refills : l.answered.refills.items ≡ refills_of l.answered.machine;
+  told : IsToldOf l.layout l.terms l.answered.machine l.answered.told;
 }

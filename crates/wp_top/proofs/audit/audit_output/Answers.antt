@@ -1,5 +1,4 @@
-use Rattle.std.proofs.Common.{refl}
-use Rattle.std.specs.Prelude.{string_bytes}
+use Rattle.std.proofs.Common.{◌∙◌, ap, refl}
 use Rattle.std.proofs.lemmas.Result.{err_from_is_err_and}
 use Rattle.wp_top.proofs.Jobs.{audit_is, stop_at_finding, stop_at_opening}
 use Rattle.wp_top.proofs.audit.audit_output.Goals as goal
@@ -38,5 +37,6 @@ returns-clause-output g c =
     let said = rw (c.as_str.ensures.value, c.as_str-2.ensures.value, c.as_str-3.ensures.value) at c.in_ok-warehouse.ensures.said in
     audit_is (holds c.args.files.now) (holds c.read_warehouse.new.files)
     (audit_names c.args.words.now) c.in_ok-warehouse.warehouse.layout c.in_ok-warehouse.warehouse.opening c.in_ok-found.found.entries
-    (string_bytes c.in_ok-text.text)
-    c.read_warehouse.ensures.same said (rw c.as_str-4.ensures.value at c.in_ok-found.ensures.found) c.in_ok-text.ensures
+    c.into_bytes.result.items
+    c.read_warehouse.ensures.same said (rw c.as_str-4.ensures.value at c.in_ok-found.ensures.found)
+    (ap (λ v. v.items) c.into_bytes.ensures.value ∙ c.in_ok-line.ensures)

@@ -1,4 +1,4 @@
-use Rattle.std.specs.Prelude.{string_bytes}
+use Rattle.std.proofs.Common.{◌∙◌, ap}
 use Rattle.std.proofs.lemmas.Result.{err_from_is_err_and}
 use Rattle.wp_top.proofs.Checks.{check_is, stop_at_layout, stop_at_showing}
 use Rattle.wp_top.proofs.check.check_output.Goals as goal
@@ -29,4 +29,5 @@ returns-clause-output g c =
     let holds = g.F.Files.holds in
     let said = rw c.as_str.ensures.value at c.in_ok-layout.ensures.said in
     check_is (holds c.args.files.now) (holds c.layout_from.new.files) (check_names c.args.words.now) c.in_ok-layout.layout c.in_ok-bound.bound
-    (string_bytes c.in_ok-text.text) c.layout_from.ensures.same said (rw c.as_str-2.ensures.value at c.in_ok-bound.ensures.shown) c.in_ok-text.ensures
+    c.into_bytes.result.items c.layout_from.ensures.same said (rw c.as_str-2.ensures.value at c.in_ok-bound.ensures.shown)
+    (ap (λ v. v.items) c.into_bytes.ensures.value ∙ c.in_ok-line.ensures)

@@ -10,8 +10,8 @@ returns-in_err-scripts-clause-stops g c =
     let p = err_from_is_err_and c.from_residual.result c.from_residual.ensures.1 in
     rw (p.1, p.2) c.in_err-scripts.ensures.stops
 
-pub output_of_script-requires-clause-few : goal.output_of_script-requires-clause-few
-output_of_script-requires-clause-few g c = (one_script c.in_ok-scripts.scripts c.script.result.now c.in_ok-scripts.ensures.read c.script.ensures.script).1
+pub day_text-requires-clause-few : goal.day_text-requires-clause-few
+day_text-requires-clause-few g c = λ κs met. (one_script c.in_ok-scripts.scripts c.script.result.now c.in_ok-scripts.ensures.read c.script.ensures.script).1
 
 pub returns-clause-output : goal.returns-clause-output
 returns-clause-output g c =
@@ -19,5 +19,5 @@ returns-clause-output g c =
     record {
       script = c.script.result.now;
       desk_file = subst (IsSaid scripts_in (g.F.Files.holds c.args.files.now) c.args.name.now) one c.in_ok-scripts.ensures.said;
-      is = c.in_ok-text.ensures;
+      day = c.in_ok-text.ensures;
     }

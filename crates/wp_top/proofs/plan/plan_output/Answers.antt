@@ -1,5 +1,4 @@
 use Rattle.std.proofs.Common.{refl}
-use Rattle.std.specs.Prelude.{string_bytes}
 use Rattle.std.proofs.lemmas.Result.{IfErr-weaker, IfOk-weaker, err_from_is_err_and}
 use Rattle.wp_top.proofs.Jobs.{plan_is, stop_at_desks, stop_at_opening}
 use Rattle.wp_top.proofs.plan.plan_output.Goals as goal
@@ -38,6 +37,6 @@ returns-clause-output g c =
     let said = rw (c.as_str.ensures.value, c.as_str-2.ensures.value, c.as_str-3.ensures.value) at c.in_ok-warehouse.ensures.said in
     IfOk-weaker c.output_of_desks.result _ _
     (λ text day. plan_is (holds c.args.files.now) (holds c.read_warehouse.new.files)
-    (plan_names c.args.words.now) c.in_ok-warehouse.warehouse.layout c.in_ok-warehouse.warehouse.opening (string_bytes text)
-    c.read_warehouse.ensures.same said c.in_ok-warehouse.ensures.read (rw c.as_str-4.ensures.value at day))
+    (plan_names c.args.words.now) c.in_ok-warehouse.warehouse.layout c.in_ok-warehouse.warehouse.opening text.items
+    c.read_warehouse.ensures.same said c.in_ok-warehouse.ensures.read (rw (c.as_str-4.ensures.value, c.terms_of.ensures) at day))
     c.output_of_desks.ensures.output

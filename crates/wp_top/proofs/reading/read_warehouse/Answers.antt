@@ -62,3 +62,6 @@ returns-clause-said g c =
     c.in_ok-stock.stock c.layout_from.ensures.same
     (after_layout (holds c.args.files.now) c.args.layout_name.now c.in_ok-layout.layout c.in_ok-layout.ensures.said) c.in_ok-stock.ensures.said)
     c.in_ok-orders.ensures.said)
+
+pub returns-clause-lies : goal.returns-clause-lies
+returns-clause-lies g c = rw c.of-opening.ensures c.in_ok-stock.ensures.lies

@@ -12,5 +12,6 @@ returns-in-Ok-clause-rows c =
 pub returns : goal.returns
 returns c = record {
   rows = tt;
+  parsed = tt;
   fault = λ _. faulty _ _ c.in-Err.error (c.in-Err.ensures.kinds c.requires.simple) (λ is. c.in_default.not-OutOfMemory (c.kind.ensures ∙ is));
 }

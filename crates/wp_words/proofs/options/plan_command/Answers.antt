@@ -1,12 +1,14 @@
-use Rattle.std.proofs.Common.{◌∙◌, ap₂}
-use Rattle.clap.specs.Words.{with_rule}
 use Rattle.wp_words.specs.Options.{plan_command}
+use Rattle.wp_words.proofs.Commands.{one_more}
 use Rattle.wp_words.proofs.options.plan_command.Goals as goal
 
 pub returns : goal.returns
 unfolding plan_command
 returns c =
-    let one = c.in_ok-arg.ensures.shape c.required_option.ensures.local ∙ ap₂ with_rule c.bare_command.ensures c.required_option.ensures.rule in
-    let two = c.in_ok-arg-2.ensures.shape c.required_option-2.ensures.local ∙ ap₂ with_rule one c.required_option-2.ensures.rule in
-    let three = c.in_ok-arg-3.ensures.shape c.required_option-3.ensures.local ∙ ap₂ with_rule two c.required_option-3.ensures.rule in
-    c.in_ok-command.ensures.shape c.required_option-4.ensures.local ∙ ap₂ with_rule three c.required_option-4.ensures.rule
+    let one = one_more _ _ _ _ _ c.in_ok-arg.ensures c.bare_command.ensures c.required_option.ensures.rule c.required_option.ensures.local in
+    let two = one_more _ _ _ _ _ c.in_ok-arg-2.ensures one c.required_option-2.ensures.rule c.required_option-2.ensures.local in
+    let three = one_more _ _ _ _ _ c.in_ok-arg-3.ensures two c.required_option-3.ensures.rule c.required_option-3.ensures.local in
+    let four = one_more _ _ _ _ _ c.in_ok-arg-4.ensures three c.required_option-4.ensures.rule c.required_option-4.ensures.local in
+    let five = one_more _ _ _ _ _ c.in_ok-arg-5.ensures four c.capacity_option.ensures.rule c.capacity_option.ensures.local in
+    let six = one_more _ _ _ _ _ c.in_ok-arg-6.ensures five c.budget_option.ensures.rule c.budget_option.ensures.local in
+    one_more _ _ _ _ _ c.in_ok-command.ensures six c.workers_option.ensures.rule c.workers_option.ensures.local

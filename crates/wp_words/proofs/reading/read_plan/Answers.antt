@@ -4,6 +4,7 @@ use Rattle.clap.specs.Words.{App, Row, is_simple_and_free}
 use Rattle.wp_words.specs.Reading.{IsFaultOf, plan_names, texts_of}
 use Rattle.wp_words.specs.Words.{ArePlanValues, matched, plan_names_of}
 use Rattle.wp_words.proofs.Matching.{fault_after, plan_is_simple, rows_matched}
+use Rattle.wp_words.proofs.Ranges.{in_ranges}
 use Rattle.wp_words.proofs.reading.read_plan.Goals as goal
 
 pub matched-requires : goal.matched-requires
@@ -21,3 +22,6 @@ returns-clause-stated c =
     let command = ap (λ (a : App). matched a (texts_of c.args.words.now)) c.in_ok-command.ensures in
     let rows = rows_matched _ _ _ (sym command ∙ c.in_ok-matches.ensures.rows) in
     subst (λ (rows : List Row). ArePlanValues rows (plan_names c.in_ok-plan.plan)) (sym rows) c.in_ok-plan.ensures
+
+pub returns-clause-ranges : goal.returns-clause-ranges
+returns-clause-ranges c = in_ranges _ _ _ c.in_ok-matches.ensures.parsed c.in_ok-command.ensures c.in_ok-plan.ensures

@@ -1,0 +1,61 @@
+-- The sheets of the waves that went out.
+use Rattle.std.specs.Prelude.{◌≡◌, ℕ, Bool, true, false, List, [], ◌∷◌, ◌++◌}
+use Rattle.std.specs.List.{flat_map}
+use Rattle.std.specs.Option.{option_map_or}
+use Rattle.wp_machine.specs.Outcome.{outcomes_from}
+use Rattle.wp_machine.specs.declared.outcome.Outcome.{Outcome}
+use Rattle.wp_machine.specs.declared.outcome.Outcome.TheVariants as outcome
+use Rattle.wp_machine.specs.declared.outcome.WaveHolds.{WaveHolds}
+use Rattle.wp_model.specs.History.{History, state_after}
+use Rattle.wp_model.specs.Opening.{Stock}
+use Rattle.wp_model.specs.State.{opening_state}
+use Rattle.wp_model.specs.Step.{wave_from}
+use Rattle.wp_model.specs.declared.reply.WaveState.{WaveState}
+use Rattle.wp_model.specs.declared.reply.WaveState.TheVariants as wave
+use Rattle.wp_model.specs.Warehouse.{Layout}
+use Rattle.wp_planner.specs.Plans.{IsPlanOf}
+use Rattle.wp_planner.specs.Sheets.{IsSheet}
+use Rattle.wp_planner.specs.declared.planner.Terms.{Terms}
+use Rattle.wp_planner.specs.declared.planner.WavePlan.{WavePlan}
+use Rattle.wp_words.specs.Words.{PlanNames}
+
+-- the wave that a step sends out, if it sends one out
+abbrev pub released_in : Outcome → List WaveHolds
+released_in outcome.Plain = []
+released_in (outcome.Released released) = released ∷ []
+released_in (outcome.Refilled refill) = []
+
+-- the waves that went out in a history, in the order of its entries
+abbrev pub released_of : History → List WaveHolds
+released_of history = flat_map released_in (outcomes_from history.opening 0 (opening_state history.opening) history.entries)
+
+-- a wave in this state is cancelled
+abbrev pub is_cancelled : WaveState → Bool
+is_cancelled wave.Submitted = false
+is_cancelled wave.Allotted = false
+is_cancelled wave.Released = false
+is_cancelled wave.Cancelled = true
+is_cancelled wave.Done = false
+
+-- A wave that went out was cancelled later: it is cancelled in the state after the history. No step brings a cancelled wave back, and a wave that goes out
+-- isn't cancelled then.
+abbrev pub is_cancelled_later : History → WaveHolds → Bool
+is_cancelled_later history released =
+    option_map_or (λ found. is_cancelled found.1.state) (wave_from 0 (state_after history).waves released.wave) false
+
+-- what the words of a plan say of how waves are planned
+abbrev pub terms_of : PlanNames → Terms
+terms_of names = record { capacity = names.capacity; budget = names.budget; workers = names.workers }
+
+-- the sheet of a wave that went out, with a good plan of it
+pub record IsSheetOf (layout : Layout) (stock : Stock) (terms : Terms) (history : History) (released : WaveHolds) (sheet : List ℕ) : Type 0 where
+  pub plan : WavePlan
+  pub good : IsPlanOf layout stock released terms plan
+  pub is : IsSheet stock released terms plan (is_cancelled_later history released) sheet
+
+-- the sheets of waves that went out, one after the other
+abbrev pub AreSheets : Layout → Stock → Terms → History → List WaveHolds → List ℕ → Type 0
+AreSheets layout stock terms history [] sheets = sheets ≡ []
+AreSheets layout stock terms history (released ∷ more) sheets =
+    (sheet : List ℕ) × (others : List ℕ) × IsSheetOf layout stock terms history released sheet × AreSheets layout stock terms history more others
+    × (sheets ≡ sheet ++ others)

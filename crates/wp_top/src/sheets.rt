@@ -1,0 +1,52 @@
+//! The sheets of the waves that went out.
+ghost use Rattle.std.specs.Prelude.{◌≡◌, IfOk};
+ghost use Rattle.wp_model.specs.Warehouse.{Layout as Block};
+ghost use Rattle.wp_planner.specs.Sheets.{GrowsBy};
+ghost use Rattle.wp_top.specs.Planned.{ArePlanned, AreTerms, waves_of};
+ghost use Rattle.wp_top.specs.Sheets.{AreSheets, is_cancelled_later};
+
+use crate::answering::Planned;
+use std::alloc::Global;
+use wp_machine::{Machine, WaveHolds};
+use wp_model::{Memory, WaveState};
+use wp_planner::{Terms, print_sheet};
+use wp_tables::Stock;
+
+// Whether a wave is cancelled in a machine's last state.
+fn is_cancelled(machine: &Machine<'_>, released: &WaveHolds) -> bool
+    ensures { result ≡ is_cancelled_later machine.now released.now }
+{
+    match machine.state(&released.wave) {
+        Some(WaveState::Cancelled) => true,
+        _ => false,
+    }
+}
+
+/// Writes the sheets of waves that went out, one after the other, as the machine has them at the end of the day.
+pub fn print_sheets(
+    alloc: Global,
+    text: &mut Vec<u8>,
+    stock: &Stock,
+    terms: &Terms,
+    machine: &Machine<'_>,
+    planned: &[Planned],
+) -> Result<(), Memory>
+    requires terms { AreTerms terms.now }
+    requires planned { (layout : Block) × ArePlanned layout stock.now terms.now planned.now }
+    ensures { (layout : Block) → ArePlanned layout stock.now terms.now planned.now → IfOk result (λ _.
+        GrowsBy (AreSheets layout stock.now terms.now machine.now (waves_of planned.now)) text.old.items text.new.items) }
+{
+    for one in planned {
+        let cancelled = is_cancelled(machine, &one.released);
+        print_sheet(
+            alloc,
+            text,
+            stock,
+            &one.released,
+            terms,
+            &one.plan,
+            cancelled,
+        )?;
+    }
+    Ok(())
+}

@@ -1,0 +1,23 @@
+-- The ranges of the numbers that the options of `plan` give, and what stands for those that aren't given.
+use Rattle.std.specs.Prelude.{ℕ, codes}
+use Rattle.clap.specs.Walk.{Text}
+
+-- the most orders that a batch may have
+abbrev pub most_capacity : ℕ
+most_capacity = 8
+
+-- the greatest budget, the work that the search for better batches may do
+abbrev pub most_budget : ℕ
+most_budget = 1000000000000000000
+
+-- the most threads that may search at once
+abbrev pub most_workers : ℕ
+most_workers = 16
+
+-- the budget where none is given
+abbrev pub usual_budget : Text
+usual_budget = codes "2000000"
+
+-- the number of threads where none is given
+abbrev pub usual_workers : Text
+usual_workers = codes "1"
