@@ -1,0 +1,3 @@
+pub mod Pools
+pub mod Pivots
+pub mod Choices
