@@ -9,7 +9,7 @@ use Rattle.wp_model.specs.Warehouse.{Layout}
 use Rattle.wp_graph.proofs.Members.{Contains-from_among, among-flat_map, among_from_Contains, flat_map_source}
 use Rattle.wp_batch.specs.declared.merge.Join.{Join}
 use Rattle.wp_batch.specs.Batchings.{IsBatching, NoGain, batch_at}
-use Rattle.wp_batch.specs.Joins.{AreKnown, CanJoin, IsBestBelow, IsBestWith}
+use Rattle.wp_batch.specs.Joins.{AreKnown, CanJoin, IsBestBelow, IsBestWith, JoinSaves}
 use Rattle.wp_batch.specs.Lengths.{IsLengthOf, batch_picks}
 use Rattle.wp_batch.specs.Waves.{WavePicks, picks_of}
 use Rattle.wp_batch.proofs.Unions.{same_shortest}
@@ -27,20 +27,34 @@ picks_same wave xs ys same p has =
     Contains-from_among _ p (among-flat_map (picks_of wave) ys source.0 p
     (among_from_Contains ys source.0 (same source.0 (Contains-from_among xs source.0 source.1))) source.2)
 
+-- batches of the same orders are of one length
+same_length : (wave : WavePicks) (xs ys : List ℕ) (total : ℕ) → ((order : ℕ) → Contains xs order ↔ Contains ys order) → IsLengthOf wave xs total
+    → IsLengthOf wave ys total
+same_length wave xs ys total same = same_shortest wave.layout (batch_picks wave xs) (batch_picks wave ys) total
+    (λ p. (picks_same wave xs ys (λ o. (same o).0) p, picks_same wave ys xs (λ o. (same o).1) p))
+
+module _ (wave : WavePicks) (left right union : List ℕ) (both : ℕ) (is : (p : ℕ) → Contains union p ↔ (Contains left p ⊎ Contains right p)) where
+  into : (o : ℕ) → Contains union o → Contains (left ++ right) o
+  into o has = ⊎_elim (λ x. Contains-append_left left right o x) (λ y. Contains-append_right left right o y) ((is o).0 has)
+
+  back : (o : ℕ) → Contains (left ++ right) o → Contains union o
+  back o has = (is o).1 (Contains-append_cases left right o has)
+
+  -- a batch of the orders of two others is as long as both together
+  pub both_length : IsLengthOf wave union both → IsLengthOf wave (left ++ right) both
+  both_length = same_length wave union (left ++ right) both (λ o. (into o, back o))
+
+  pub union_length : IsLengthOf wave (left ++ right) both → IsLengthOf wave union both
+  union_length = same_length wave (left ++ right) union both (λ o. (back o, into o))
+
 -- where the lengths of two batches and of their union show no saving, they don't gain by joining
 pub no_gain_from : (wave : WavePicks) (capacity : ℕ) (left right union : List ℕ) (one other both : ℕ)
     → ((p : ℕ) → Contains union p ↔ (Contains left p ⊎ Contains right p)) → IsLengthOf wave left one → IsLengthOf wave right other
     → IsLengthOf wave union both → one + other ≤ both → NoGain wave capacity left right
 no_gain_from wave capacity left right union one other both is l r u low = λ fits a b t la rb lt.
-    let joined = same_shortest wave.layout (batch_picks wave union) (batch_picks wave (left ++ right)) both
-    (λ p. (
-      picks_same wave union (left ++ right) (λ o has. ⊎_elim (λ x. Contains-append_left left right o x) (λ y. Contains-append_right left right o y)
-          ((is o).0 has)) p,
-      picks_same wave (left ++ right) union (λ o has. (is o).1 (Contains-append_cases left right o has)) p,
-    )) u in
     let first = one_length wave.layout _ one a l la in
     let second = one_length wave.layout _ other b r rb in
-    let third = one_length wave.layout _ both t joined lt in
+    let third = one_length wave.layout _ both t (both_length wave left right union both is u) lt in
     omega (arith, first, second, third, low)
 
 -- one more batch before the same one
@@ -48,17 +62,20 @@ pub one_more_before : (wave : WavePicks) (capacity : ℕ) (batches : List (List 
     → IsBestWith wave capacity batches place right best → found.left ≡ place → found.right ≡ right → place < right → right < length batches
     → (0 < found.saving → length (batch_at batches place) + length (batch_at batches right) ≤ capacity)
     → (found.saving ≡ 0 → NoGain wave capacity (batch_at batches place) (batch_at batches right))
-    → (result ≡ best) ⊎ (result ≡ found) → (result.saving ≡ 0 → (best.saving ≡ 0) × (found.saving ≡ 0))
+    → (0 < found.saving → JoinSaves wave (batch_at batches place) (batch_at batches right)) → (result ≡ best) ⊎ (result ≡ found) → (result.saving ≡ 0 → (best.saving ≡ 0) × (found.saving ≡ 0))
     → IsBestWith wave capacity batches (place + 1) right result
-one_more_before wave capacity batches place right best found result before l r lt within fits none either zero_of = record {
+one_more_before wave capacity batches place right best found result before l r lt within fits none saves either zero_of = record {
   can = λ some. ⊎_elim
-      (λ (e : result ≡ best). subst (CanJoin capacity batches) (sym e) (before.can (subst (λ (j : Join). 0 < j.saving) e some)))
-      (λ (e : result ≡ found). subst (CanJoin capacity batches) (sym e) (record {
+      (λ (e : result ≡ best). subst (CanJoin wave capacity batches) (sym e) (before.can (subst (λ (j : Join). 0 < j.saving) e some)))
+      (λ (e : result ≡ found). subst (CanJoin wave capacity batches) (sym e) (record {
         order = omega (arith, l, r);
         within = omega (arith, r);
         fits = let sum = fits (subst (λ (j : Join). 0 < j.saving) e some) in
             subst (λ (x : ℕ). length (batch_at batches x) + length (batch_at batches found.right) ≤ capacity) (sym l)
             (subst (λ (y : ℕ). length (batch_at batches place) + length (batch_at batches y) ≤ capacity) (sym r) sum);
+        saves = subst (λ (x : ℕ). JoinSaves wave (batch_at batches x) (batch_at batches found.right)) (sym l)
+            (subst (λ (y : ℕ). JoinSaves wave (batch_at batches place) (batch_at batches y)) (sym r)
+            (saves (subst (λ (j : Join). 0 < j.saving) e some)));
       }))
       either;
   none = λ nothing left low. ⊎_elim
@@ -74,8 +91,8 @@ pub one_more_after : (wave : WavePicks) (capacity : ℕ) (batches : List (List �
     → IsBestBelow wave capacity batches (place + 1) result
 one_more_after wave capacity batches place best found result before with_one either zero_of = record {
   can = λ some. ⊎_elim
-      (λ (e : result ≡ best). subst (CanJoin capacity batches) (sym e) (before.can (subst (λ (j : Join). 0 < j.saving) e some)))
-      (λ (e : result ≡ found). subst (CanJoin capacity batches) (sym e) (with_one.can (subst (λ (j : Join). 0 < j.saving) e some)))
+      (λ (e : result ≡ best). subst (CanJoin wave capacity batches) (sym e) (before.can (subst (λ (j : Join). 0 < j.saving) e some)))
+      (λ (e : result ≡ found). subst (CanJoin wave capacity batches) (sym e) (with_one.can (subst (λ (j : Join). 0 < j.saving) e some)))
       either;
   none = λ nothing left right lt low. ⊎_elim
       (λ (e : right ≡ place). subst (λ (x : ℕ). NoGain wave capacity (batch_at batches left) (batch_at batches x)) (sym e)

@@ -1,5 +1,5 @@
 -- Lengths that a wave keeps: none, one more, one in place of another, and one that is read.
-use Rattle.std.proofs.Common.{◌≡◌, ℕ, ◌<◌, List, [], length, get_or, sym, subst, ◌^◌}
+use Rattle.std.proofs.Common.{◌≡◌, ℕ, ◌<◌, List, [], length, get_or, sym, subst}
 use Rattle.std.proofs.lemmas.List.Elements.{All-get_or, All-nil}
 use Rattle.wp_batch.specs.declared.lengths.Length.{Length}
 use Rattle.wp_batch.specs.KeptLengths.{HaveLengths, IsKept}

@@ -7,3 +7,4 @@ pub mod KeptLengths
 pub mod Splits
 pub mod Replacing
 pub mod Listings
+pub mod Costs

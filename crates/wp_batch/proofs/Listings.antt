@@ -107,3 +107,10 @@ module _ (orders capacity : ℕ) (batches : List (List ℕ)) (is : IsBatching or
         (cases_lt right left))
         (cases_lt left right);
   }
+
+  -- each that is listed is one of the batches
+  pub among : (listed : List (List ℕ)) (limit : ℕ) → AreListedBelow batches listed limit → (k : ℕ) → k < length listed
+      → Contains batches (batch_at listed k)
+  among listed limit before k low =
+      let old = before.from k low in
+      (old.0, old.1, get_or_default batches old.0 (batch_at listed k) [] old.1 ∙ sym old.2)

@@ -1,14 +1,30 @@
 -- Two batches of a list that may be joined.
-use Rattle.std.specs.Prelude.{◌≡◌, ℕ, ◌+◌, ◌<◌, ◌≤◌, List, All, length}
+use Rattle.std.specs.Prelude.{◌≡◌, ℕ, ◌+◌, ◌<◌, ◌≤◌, List, ◌++◌, All, length}
 use Rattle.wp_batch.specs.declared.merge.Join.{Join}
-use Rattle.wp_batch.specs.Batchings.{NoGain, batch_at}
+use Rattle.wp_batch.specs.Batchings.{IsCost, NoGain, batch_at}
+use Rattle.wp_batch.specs.Lengths.{IsLengthOf}
 use Rattle.wp_batch.specs.Waves.{WavePicks}
 
--- two batches of the list that fit into one
-pub record CanJoin (capacity : ℕ) (batches : List (List ℕ)) (join : Join) : Type 0 where
+-- two batches cost more than one of the orders of both
+pub record JoinSaves (wave : WavePicks) (left right : List ℕ) : Type 0 where
+  pub one : ℕ
+  pub other : ℕ
+  pub both : ℕ
+  pub of_left : IsLengthOf wave left one
+  pub of_right : IsLengthOf wave right other
+  pub of_both : IsLengthOf wave (left ++ right) both
+  pub less : both < one + other
+
+-- whatever batches cost after a change, they cost no less before it
+abbrev pub CostNoMore : WavePicks → List (List ℕ) → List (List ℕ) → Type 0
+CostNoMore wave before after = (less : ℕ) → IsCost wave after less → (cost : ℕ) × IsCost wave before cost × (less ≤ cost)
+
+-- two batches of the list that fit into one and cost less as one
+pub record CanJoin (wave : WavePicks) (capacity : ℕ) (batches : List (List ℕ)) (join : Join) : Type 0 where
   pub order : join.left < join.right
   pub within : join.right < length batches
   pub fits : length (batch_at batches join.left) + length (batch_at batches join.right) ≤ capacity
+  pub saves : JoinSaves wave (batch_at batches join.left) (batch_at batches join.right)
 
 -- all orders of all batches are orders of the wave
 abbrev pub AreKnown : WavePicks → List (List ℕ) → Type 0
@@ -16,10 +32,10 @@ AreKnown wave batches = (place : ℕ) → place < length batches → All (λ ord
 
 -- a join with a saving is possible; where there is none, no batch before this place gains by joining that one
 pub record IsBestWith (wave : WavePicks) (capacity : ℕ) (batches : List (List ℕ)) (place right : ℕ) (best : Join) : Type 0 where
-  pub can : 0 < best.saving → CanJoin capacity batches best
+  pub can : 0 < best.saving → CanJoin wave capacity batches best
   pub none : best.saving ≡ 0 → (left : ℕ) → left < place → NoGain wave capacity (batch_at batches left) (batch_at batches right)
 
 -- a join with a saving is possible; where there is none, no two batches before this place gain by joining
 pub record IsBestBelow (wave : WavePicks) (capacity : ℕ) (batches : List (List ℕ)) (place : ℕ) (best : Join) : Type 0 where
-  pub can : 0 < best.saving → CanJoin capacity batches best
+  pub can : 0 < best.saving → CanJoin wave capacity batches best
   pub none : best.saving ≡ 0 → (left right : ℕ) → left < right → right < place → NoGain wave capacity (batch_at batches left) (batch_at batches right)

@@ -13,7 +13,7 @@ mod wave;
 
 pub use batching::Batching;
 pub use marks::Marks;
-pub use merge::merged_start;
+pub use merge::{joined, merged_start};
 pub use wave::Wave;
 
 #[cfg(test)]

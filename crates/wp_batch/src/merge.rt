@@ -1,6 +1,6 @@
-ghost use Rattle.std.specs.Prelude.{◌≡◌, ◌+◌, ◌≤◌, ◌<◌, ◌↔◌, ◌⊎◌, All, IfNone, IfOk, IfSome, IsTrue, length, vec_len};
-ghost use Rattle.wp_batch.specs.Batchings.{IsBatching, IsListedByLeast, NoGain, NoJoinGains};
-ghost use Rattle.wp_batch.specs.Joins.{AreKnown, CanJoin, IsBestBelow, IsBestWith};
+ghost use Rattle.std.specs.Prelude.{◌≡◌, ◌+◌, ◌≤◌, ◌<◌, ◌↔◌, ◌⊎◌, All, IfNone, IfOk, IfSome, IsTrue, length, vec_len, ℕ};
+ghost use Rattle.wp_batch.specs.Batchings.{IsBatching, IsCost, IsListedByLeast, NoGain, NoJoinGains};
+ghost use Rattle.wp_batch.specs.Joins.{AreKnown, CanJoin, CostNoMore, IsBestBelow, IsBestWith, JoinSaves};
 
 use crate::batching::Batching;
 use crate::improve::improve;
@@ -32,6 +32,7 @@ fn saving_of(wave: &Wave, capacity: u32, left: Batch, right: Batch) -> u64
     requires right { All (λ order. order < length wave.now.orders) right }
     ensures fits { 0 < result → length left + length right ≤ capacity }
     ensures none { result ≡ 0 → NoGain wave.now capacity left right }
+    ensures saves { 0 < result → JoinSaves wave.now left right }
 {
     if !fits(capacity, left, right) {
         return 0;
@@ -43,7 +44,8 @@ fn saving_of(wave: &Wave, capacity: u32, left: Batch, right: Batch) -> u64
 
 // How much less one length is than two others together.
 fn saved(one: u64, other: u64, both: u64) -> u64
-    ensures { result ≡ 0 → one + other ≤ both }
+    ensures none { result ≡ 0 → one + other ≤ both }
+    ensures some { 0 < result → both < one + other }
 {
     if both < one {
         return (one - both).saturating_add(other);
@@ -91,7 +93,7 @@ fn best_with(wave: &Wave, capacity: u32, batches: &[Batch], right: usize) -> Joi
 fn best_join(wave: &Wave, capacity: u32, batches: &[Batch]) -> Option<Join>
     requires { AreKnown wave.now batches.now }
     ensures none { IfNone result (NoJoinGains wave.now capacity batches.now) }
-    ensures some { IfSome result (CanJoin capacity batches.now) }
+    ensures some { IfSome result (CanJoin wave.now capacity batches.now) }
 {
     let mut best = Join {
         left: 0,
@@ -108,13 +110,14 @@ fn best_join(wave: &Wave, capacity: u32, batches: &[Batch]) -> Option<Join>
 }
 
 // Joins two batches: the later one goes into the earlier.
-fn join_batches(orders: u32, capacity: u32, batches: &mut Vec<Batch>, join: Join)
+fn join_batches(wave: &Wave, orders: u32, capacity: u32, batches: &mut Vec<Batch>, join: Join)
     requires batching { IsBatching orders capacity batches.old.items }
     requires listed { IsListedByLeast batches.old.items }
-    requires join { CanJoin capacity batches.old.items join }
+    requires join { CanJoin wave.now capacity batches.old.items join }
     ensures batching { IsBatching orders capacity batches.new.items }
     ensures listed { IsListedByLeast batches.new.items }
     ensures count { vec_len batches.new + 1 ≡ vec_len batches.old }
+    ensures no_dearer { CostNoMore wave.now batches.old.items batches.new.items }
 {
     let union = batches[join.left].union(batches[join.right]);
     batches[join.left] = union;
@@ -130,9 +133,10 @@ fn merge(wave: &Wave, orders: u32, capacity: u32, batches: &mut Vec<Batch>)
     ensures listed { IsListedByLeast batches.new.items }
     ensures joined { NoJoinGains wave.now capacity batches.new.items }
     ensures fewer { vec_len batches.new ≤ vec_len batches.old }
+    ensures no_dearer { CostNoMore wave.now batches.old.items batches.new.items }
 {
     while let Some(join) = best_join(wave, capacity, batches.as_slice()) {
-        join_batches(orders, capacity, batches, join);
+        join_batches(wave, orders, capacity, batches, join);
     }
 }
 
@@ -149,6 +153,28 @@ fn singles(alloc: Global, orders: u32, capacity: u32) -> Result<Vec<Batch>, Memo
         batches.push(Batch::empty().with(order))?;
     }
     Ok(batches)
+}
+
+/// A batching of a wave that costs no more than another one, in which no two batches that fit into one cost less as one: as
+/// long as some join saves, the join of the greatest saving is made. Batches are listed by their least orders.
+pub fn joined(
+    alloc: Global,
+    wave: &Wave,
+    capacity: u32,
+    batches: &[Batch],
+) -> Result<Batching, Memory>
+    requires some { 1 ≤ capacity }
+    requires most { capacity ≤ 8 }
+    requires batching { IsBatching (length wave.now.orders) capacity batches.now }
+    ensures batching { IfOk result (IsBatching (length wave.now.orders) capacity) }
+    ensures listed { IfOk result IsListedByLeast }
+    ensures joined { IfOk result (NoJoinGains wave.now capacity) }
+    ensures no_dearer { IfOk result (λ joined. (cost less : ℕ) → IsCost wave.now batches.now cost → IsCost wave.now joined less → less ≤ cost) }
+{
+    let orders = wave.orders();
+    let mut start = listed(alloc, orders, capacity, batches)?;
+    merge(wave, orders, capacity, &mut start);
+    Ok(Batching::of(start))
 }
 
 /// A batching of a wave's orders with at most so many in each batch, 1 to 8, in which no two batches that fit into one cost
@@ -168,7 +194,5 @@ pub fn merged_start(alloc: Global, wave: &Wave, capacity: u32) -> Result<Batchin
     merge(wave, orders, capacity, &mut batches);
     improve(wave, orders, capacity, &mut batches);
     let best = best_of_starts(alloc, wave, orders, capacity, batches.as_slice())?;
-    let mut start = listed(alloc, orders, capacity, best.as_slice())?;
-    merge(wave, orders, capacity, &mut start);
-    Ok(Batching::of(start))
+    joined(alloc, wave, capacity, best.as_slice())
 }

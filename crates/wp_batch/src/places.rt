@@ -3,75 +3,53 @@ ghost use Rattle.std.specs.Prelude.{◌≡◌, ◌-◌, ◌<◌, ◌≤◌, ◌^
 use wp_pairs::Batch;
 
 /// How many orders a batch has at most.
-const MOST_IN_BATCH: usize = 8;
+const MOST_IN_BATCH: u32 = 8;
 
-/// Counts of batches by binomials: how many batches of so many orders there are below an order, and how many batches with
-/// fewer orders. So each batch of at most the capacity has a place of its own in one list of them all.
+/// Counts for the places of batches in one list of them all. A batch comes before those that begin with it, and these come
+/// by their next orders: {}, {0}, {0, 1}, {0, 1, 2}, {0, 2}, {1}, {1, 2}, {2}. So whoever visits batches in this way reads
+/// the list from its beginning to its end.
 #[derive(Drop)]
 pub struct Places {
     capacity: u32,
-    below: [[u64; 64]; 9],
-    fewer: [u64; 9],
+    // for a number of orders and an order: in how many ways a batch of so many goes on by further ones from that order on
+    wider: [[u64; 65]; 9],
 }
 
-// For each order one: the only batch of no order.
-fn ones() -> [u64; 64] {
-    [1; 64]
+// No way to go on from any order on.
+fn no_ways() -> [u64; 65] {
+    [0; 65]
 }
 
-fn zeros() -> [[u64; 64]; 9] {
-    [[0; 64]; 9]
+// No way to go on for any number of orders.
+fn no_rows() -> [[u64; 65]; 9] {
+    [[0; 65]; 9]
 }
 
-fn no_counts() -> [u64; 9] {
-    [0; 9]
-}
-
-// For each order the number of batches of orders below it, from the numbers of those with one order less: the greatest
-// order of such a batch is one of those below.
-fn next_row(row: &[u64; 64]) -> [u64; 64] {
-    let mut next = ones();
+// In how many ways a batch goes on from each order on, from the same numbers for batches of one order more: the next order
+// is that one or a later one, and the batch ends with it or goes on.
+fn next_row(orders: u32, row: &[u64; 65]) -> [u64; 65] {
+    let mut next = no_ways();
     let mut sum: u64 = 0;
-    for order in 0..64 {
-        next[order] = sum;
-        sum = sum.saturating_add(row[order]);
+    for order in (0..orders.min(64)).rev() {
+        sum = sum
+            .saturating_add(row[order as usize + 1])
+            .saturating_add(1);
+        next[order as usize] = sum;
     }
     next
 }
 
-// The binomials of each order below 64 over each number of orders up to eight.
-fn binomials() -> [[u64; 64]; 9] {
-    let mut rows = zeros();
-    let mut row = ones();
-    for size in 0..MOST_IN_BATCH + 1 {
-        rows[size] = row;
-        row = next_row(&row);
+// In how many ways a batch of each number of orders up to the capacity goes on, from each order on.
+fn rows_of(orders: u32, capacity: u32) -> [[u64; 65]; 9]
+    requires { capacity ≤ 8 }
+{
+    let mut rows = no_rows();
+    let mut row = no_ways();
+    for size in (0..capacity).rev() {
+        row = next_row(orders, &row);
+        rows[size as usize] = row;
     }
     rows
-}
-
-// How many batches there are with fewer orders, for each number of orders up to eight.
-fn counts_below(orders: u32, below: &[[u64; 64]; 9]) -> [u64; 9] {
-    let mut fewer = no_counts();
-    let mut sum: u64 = 0;
-    for size in 0..MOST_IN_BATCH + 1 {
-        fewer[size] = sum;
-        sum = sum.saturating_add(count_of_size(orders, below, size));
-    }
-    fewer
-}
-
-// How many batches of a size there are: those with the last order, and those without it.
-fn count_of_size(orders: u32, below: &[[u64; 64]; 9], size: usize) -> u64 {
-    if orders < 1 || 64 < orders || MOST_IN_BATCH < size {
-        return 0;
-    }
-    let last = orders as usize - 1;
-    let without = below[size][last];
-    if size == 0 {
-        return without;
-    }
-    without.saturating_add(below[size - 1][last])
 }
 
 impl Places {
@@ -81,8 +59,7 @@ impl Places {
     {
         Places {
             capacity: 0,
-            below: zeros(),
-            fewer: no_counts(),
+            wider: no_rows(),
         }
     }
 
@@ -90,24 +67,20 @@ impl Places {
     pub fn of(orders: u32, capacity: u32) -> Places
         ensures { result.capacity ≡ capacity }
     {
-        let below = binomials();
-        let fewer = counts_below(orders, &below);
         Places {
             capacity,
-            below,
-            fewer,
+            wider: rows_of(orders, capacity.min(MOST_IN_BATCH)),
         }
     }
 
     /// How many places there are. Above a capacity of eight it is the greatest number, which no list has room for.
-    pub fn count(&self, orders: u32) -> u64
+    pub fn count(&self) -> u64
         ensures { 8 < self.now.capacity → result ≡ 2 ^ 64 - 1 }
     {
-        if self.capacity > 8 {
+        if self.capacity > MOST_IN_BATCH {
             return u64::MAX;
         }
-        let size = self.capacity as usize;
-        self.fewer[size].saturating_add(count_of_size(orders, &self.below, size))
+        self.wider[0][0].saturating_add(1)
     }
 
     /// The place of a batch. None comes exactly for one with more orders than the capacity, or than eight.
@@ -115,20 +88,21 @@ impl Places {
         ensures { IsSome result ↔ ((length batch ≤ self.now.capacity) × (length batch ≤ 8)) }
     {
         let size = batch.len();
-        if self.capacity < size || 8 < size {
+        if self.capacity < size || MOST_IN_BATCH < size {
             return None;
         }
-        let mut place = self.fewer[size as usize];
+        // the last place of those that begin with the orders so far, and the first order that can come next
+        let mut last = self.wider[0][0];
+        let mut first: usize = 0;
         let mut rest = batch;
-        for rank in 1..MOST_IN_BATCH + 1 {
+        for count in 0..size as usize {
             let Some(order) = rest.least() else {
-                return Some(place);
+                break;
             };
-            if order < 64 {
-                place = place.saturating_add(self.below[rank][order as usize]);
-                rest = rest.without(order);
-            }
+            first = order as usize + 1;
+            last = last.saturating_sub(self.wider[count][first]);
+            rest = rest.without(order);
         }
-        Some(place)
+        Some(last.saturating_sub(self.wider[size as usize][first]))
     }
 }

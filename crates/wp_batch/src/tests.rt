@@ -1,9 +1,11 @@
 ghost use Rattle.std.specs.Prelude.{◌≡◌, ◌≤◌, ◌<◌, All, IfSome, length};
+ghost use Rattle.wp_batch.specs.Batchings.{IsBatching};
 ghost use Rattle.wp_model.specs.Warehouse.{IsSlot};
 
 mod made;
 
 use super::*;
+use crate::improve::shake_pair;
 use crate::places::Places;
 use std::alloc::Global;
 use wp_graph::{Layout, Picks, Point};
@@ -216,6 +218,98 @@ fn starts_are_merged_by_the_greatest_saving(rt: HostRuntime) {
     assert_eq!(rt; wrong_start(rt.alloc()), None);
 }
 
+/// Six orders: at each of three slots two.
+const TWICE: &[Slots] = &[
+    &[(1, 4)],
+    &[(2, 4)],
+    &[(3, 1)],
+    &[(1, 4)],
+    &[(2, 4)],
+    &[(3, 1)],
+];
+
+/// Two orders of which each is as far by itself as with the other.
+const NO_GAIN: &[Slots] = &[&[(1, 4)], &[(3, 1)]];
+
+/// Waves, how many orders a batch of the start has at most, a choice by which the orders of its first two batches are divided
+/// anew, a capacity, and the batches that the start is joined to then.
+const JOINED: &[(&[Slots], u32, u32, u32, &[&[u32]])] = &[
+    (APART, 1, 1, 1, &[&[0], &[1], &[2]]),
+    (APART, 1, 2, 1, &[&[0], &[1], &[2]]),
+    (APART, 1, 2, 2, &[&[0, 1], &[2]]),
+    (APART, 2, 1, 2, &[&[0], &[1, 2]]),
+    (APART, 2, 2, 2, &[&[0, 2], &[1]]),
+    (APART, 2, 4, 2, &[&[0, 1], &[2]]),
+    (APART, 2, 4, 3, &[&[0, 1, 2]]),
+    (SAME, 1, 2, 2, &[&[0, 1], &[2]]),
+    (NO_GAIN, 1, 2, 8, &[&[0], &[1]]),
+    (TWICE, 2, 3, 2, &[&[0, 1], &[2, 5], &[3, 4]]),
+    (TWICE, 2, 3, 4, &[&[0, 1, 3, 4], &[2, 5]]),
+    (TWICE, 2, 3, 8, &[&[0, 1, 2, 3, 4, 5]]),
+];
+
+/// The batches, of which the orders of the first two are divided anew by a choice.
+fn shaken(
+    alloc: Global,
+    orders: u32,
+    capacity: u32,
+    batches: &[Batch],
+    choice: u32,
+) -> Option<Vec<Batch>>
+    requires { IsBatching orders capacity batches.now }
+    ensures { IfSome result (λ shaken. IsBatching orders capacity shaken.items) }
+{
+    let mut shaken = Vec::from_slice(alloc, batches).ok()?;
+    if shaken.len() > 1 {
+        shake_pair(orders, capacity, &mut shaken, 0, 1, choice);
+    }
+    Some(shaken)
+}
+
+/// The start of a wave, of which the orders of the first two batches are divided anew by a choice.
+fn shaken_start(alloc: Global, wave: &Wave, capacity: u32, choice: u32) -> Option<Vec<Batch>>
+    requires some { 1 ≤ capacity }
+    requires most { capacity ≤ 8 }
+    ensures { IfSome result (λ batches. IsBatching (length wave.now.orders) capacity batches.items) }
+{
+    let start = merged_start(alloc, wave, capacity).ok()?;
+    shaken(alloc, wave.orders(), capacity, start.as_slice(), choice)
+}
+
+/// Whether a start of so few orders in a batch, divided anew by a choice, is joined to these batches.
+fn is_joined_to(
+    alloc: Global,
+    wave: &Wave,
+    few: u32,
+    choice: u32,
+    capacity: u32,
+    batches: &[&[u32]],
+) -> Option<bool> {
+    if few < 1 || capacity < few || 8 < capacity {
+        return None;
+    }
+    let start = shaken_start(alloc, wave, few, choice)?;
+    let found = joined(alloc, wave, capacity, start.as_slice()).ok()?;
+    Some(are_exactly(&found, batches))
+}
+
+fn wrong_joins(alloc: Global) -> Option<usize> {
+    for (place, (orders, few, choice, capacity, batches)) in JOINED.iter().enumerate() {
+        let right = wave_of(alloc, orders, 1).and_then(|wave| is_joined_to(
+            alloc, &wave, *few, *choice, *capacity, batches,
+        ));
+        if right != Some(true) {
+            return Some(place);
+        }
+    }
+    None
+}
+
+#[test]
+fn joins_that_save_are_made_to_any_batching(rt: HostRuntime) {
+    assert_eq!(rt; wrong_joins(rt.alloc()), None);
+}
+
 /// What a batching of the wave costs.
 fn sum_of_lengths(wave: &Wave, batching: &Batching) -> u64 {
     let mut sum: u64 = 0;
@@ -257,45 +351,64 @@ fn sixty_four_equal_orders_fill_eight_batches(rt: HostRuntime) {
     assert_eq!(rt; count_batches(rt.alloc(), 64, 1), Some(64));
 }
 
-/// The batch of the orders whose bits a number has.
-fn batch_of_bits(bits: u32) -> Batch {
-    let mut batch = Batch::empty();
-    for order in 0..32 {
-        if (bits >> order) & 1 == 1 {
-            batch = batch.with(order);
-        }
+/// How many places one after the other are those of a batch and of all that begin with it, as a visit comes past them: each
+/// is widened by up to so many orders from a first one on. None comes where a place is another one.
+fn visited_places(
+    places: &Places,
+    batch: Batch,
+    place: u64,
+    first: u32,
+    orders: u32,
+    more: u32,
+) -> Option<u64> {
+    if places.place_of(batch) != Some(place) {
+        return None;
     }
-    batch
-}
-
-/// How many places are taken by a batch of at most so many orders, each by one batch alone.
-fn count_places(alloc: Global, orders: u32, capacity: u32) -> Option<u64> {
-    let places = Places::of(orders, capacity);
-    let mut taken: Vec<bool> = Vec::new(alloc);
-    for _ in 0..places.count(orders) {
-        taken.push(false).ok()?;
-    }
-    let mut count: u64 = 0;
-    for bits in 0..1024 {
-        if let Some(place) = places.place_of(batch_of_bits(bits)) {
-            if place >= taken.len() as u64 || taken[place as usize] {
-                return None;
-            }
-            taken[place as usize] = true;
-            count = count.saturating_add(1);
+    let mut count: u64 = 1;
+    if more > 0 {
+        for order in first..orders.min(64) {
+            let next = place.saturating_add(count);
+            let wider = batch.with(order);
+            let visited = visited_places(places, wider, next, order + 1, orders, more - 1)?;
+            count = count.saturating_add(visited);
         }
     }
     Some(count)
 }
 
+/// Numbers of orders, a capacity, and how many batches of at most so many orders there are.
+const PLACES: &[(u32, u32, u64)] = &[
+    (1, 1, 2),
+    (1, 8, 2),
+    (3, 2, 7),
+    (3, 3, 8),
+    (10, 0, 1),
+    (10, 1, 11),
+    (10, 3, 176),
+    (10, 8, 1013),
+    (12, 6, 2510),
+    (30, 2, 466),
+    (64, 1, 65),
+    (64, 2, 2081),
+];
+
+/// The first row of which a visit doesn't come past all places one after the other.
+fn wrong_places() -> Option<usize> {
+    for (row, (orders, capacity, count)) in PLACES.iter().enumerate() {
+        let places = Places::of(*orders, *capacity);
+        let visited = visited_places(&places, Batch::empty(), 0, 0, *orders, *capacity);
+        if places.count() != *count || visited != Some(*count) {
+            return Some(row);
+        }
+    }
+    None
+}
+
 #[test]
-fn each_batch_has_a_place_of_its_own(rt: HostRuntime) {
-    assert_eq!(rt; count_places(rt.alloc(), 10, 0), Some(1));
-    assert_eq!(rt; count_places(rt.alloc(), 10, 1), Some(11));
-    assert_eq!(rt; count_places(rt.alloc(), 10, 3), Some(176));
-    assert_eq!(rt; count_places(rt.alloc(), 10, 8), Some(1013));
-    assert_eq!(rt; Places::of(64, 3).count(64), 43745);
-    assert_eq!(rt; Places::of(64, 8).count(64), 5130659561);
+fn a_visit_comes_past_one_place_after_the_other(rt: HostRuntime) {
+    assert_eq!(rt; wrong_places(), None);
+    assert_eq!(rt; Places::of(64, 3).count(), 43745);
+    assert_eq!(rt; Places::of(64, 8).count(), 5130659561);
 }
 
 /// Marks: every third one is true.

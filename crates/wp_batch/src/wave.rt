@@ -153,7 +153,7 @@ impl Wave {
     ) -> Result<Vec<Length>, Memory>
         ensures { IfOk result (λ lengths. HaveLengths self.now lengths.items) }
     {
-        let count = places.count(self.orders());
+        let count = places.count();
         if count > MOST_LENGTHS {
             return Ok(Vec::new(alloc));
         }

@@ -1,5 +1,6 @@
 use Rattle.std.proofs.Common.{◌≡◌, ℕ, arith, subst}
-use Rattle.wp_batch.proofs.Listings.{AreListedBelow, listed_is_batching, none_listed, nothing_listed, one_more_listed}
+use Rattle.wp_batch.proofs.Costs.{some_cost_no_more}
+use Rattle.wp_batch.proofs.Listings.{AreListedBelow, among, listed_is_batching, none_listed, nothing_listed, one_more_listed}
 use Rattle.wp_batch.proofs.listing.listed.Goals as goal
 use Rattle.wp_batch.proofs.listing.listed.Goals.{in-Some+in_ok-push, in_default}
 
@@ -18,3 +19,7 @@ returns-clause-batching c =
     let all : c.loop-order.order ≡ c.args.orders = omega arith in
     listed_is_batching _ _ _ c.requires.batching _
     (subst (λ (n : ℕ). AreListedBelow c.args.batches.now c.loop-order.listed.items n) all c.loop-order.invariant)
+
+pub returns-clause-no_dearer : goal.returns-clause-no_dearer
+returns-clause-no_dearer c = λ wave cost is. some_cost_no_more wave _ _ cost (among _ _ _ c.requires.batching _ _ c.loop-order.invariant)
+    c.loop-order.invariant.ascend is

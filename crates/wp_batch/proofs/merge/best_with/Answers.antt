@@ -1,6 +1,7 @@
 use Rattle.std.proofs.Common.{◌+◌, ◌≤◌, List, ℕ, arith, refl, length, subst}
 use Rattle.wp_batch.specs.declared.merge.Join.{Join}
 use Rattle.wp_batch.specs.Batchings.{NoGain, batch_at}
+use Rattle.wp_batch.specs.Joins.{JoinSaves}
 use Rattle.wp_batch.proofs.Gains.{batch_read, known_read, one_more_before}
 use Rattle.wp_batch.proofs.merge.best_with.Goals as goal
 
@@ -22,6 +23,8 @@ loop-left-preserved c =
     (subst (λ (ys : List ℕ). length c.index-batches-left.result + length ys ≤ c.args.capacity) r (c.saving_of-saving.ensures.fits some)))
     (λ nothing. subst (λ (xs : List ℕ). NoGain c.args.wave.now c.args.capacity xs (batch_at batches c.args.right)) l
     (subst (λ (ys : List ℕ). NoGain c.args.wave.now c.args.capacity c.index-batches-left.result ys) r (c.saving_of-saving.ensures.none nothing)))
+    (λ some. subst (λ (xs : List ℕ). JoinSaves c.args.wave.now xs (batch_at batches c.args.right)) l
+    (subst (λ (ys : List ℕ). JoinSaves c.args.wave.now c.index-batches-left.result ys) r (c.saving_of-saving.ensures.saves some)))
     c.better_of-best.ensures.either c.better_of-best.ensures.none
 
 pub returns : goal.returns

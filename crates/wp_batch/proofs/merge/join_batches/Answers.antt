@@ -1,3 +1,5 @@
+use Rattle.wp_batch.proofs.Costs.{join_costs_no_more}
+use Rattle.wp_batch.proofs.Gains.{union_length}
 use Rattle.wp_batch.proofs.Joining.{IsJoin, join_is_batching, join_is_listed, joins_read}
 use Rattle.wp_batch.proofs.merge.join_batches.Goals as goal
 use Rattle.wp_batch.proofs.merge.join_batches.Goals.{After-remove}
@@ -11,3 +13,7 @@ returns-clause-batching c = rw c.remove.ensures.items (join_is_batching _ _ _ _ 
 
 pub returns-clause-listed : goal.returns-clause-listed
 returns-clause-listed c = rw c.remove.ensures.items (join_is_listed _ _ _ _ _ _ (joins c))
+
+pub returns-clause-no_dearer : goal.returns-clause-no_dearer
+returns-clause-no_dearer c = rw c.remove.ensures.items (join_costs_no_more _ _ _ _ _ c.requires.join.order c.requires.join.within c.requires.join.saves
+    (union_length _ _ _ _ _ (joins c).of_both c.requires.join.saves.of_both))

@@ -1,6 +1,6 @@
 use Rattle.std.proofs.Common.{◌<◌, ℕ, length, ⊎_elim}
 use Rattle.std.proofs.lemmas.List.Elements.{All-contains}
-use Rattle.wp_batch.proofs.Gains.{no_gain_from}
+use Rattle.wp_batch.proofs.Gains.{both_length, no_gain_from}
 use Rattle.wp_batch.proofs.Unions.{all_from_contained}
 use Rattle.wp_batch.proofs.merge.saving_of.Goals as goal
 
@@ -11,4 +11,15 @@ batch_length-requires c = all_from_contained (λ (order : ℕ). order < length c
 
 pub returns-clause-none : goal.returns-clause-none
 returns-clause-none c = λ zero. no_gain_from _ _ _ _ c.union.result _ _ _ c.union.ensures.orders c.batch_length-one.ensures.is c.batch_length-other.ensures.is
-    c.batch_length.ensures.is (c.saved.ensures zero)
+    c.batch_length.ensures.is (c.saved.ensures.none zero)
+
+pub returns-clause-saves : goal.returns-clause-saves
+returns-clause-saves c = λ some. record {
+  one = c.batch_length-one.result;
+  other = c.batch_length-other.result;
+  both = c.batch_length.result;
+  of_left = c.batch_length-one.ensures.is;
+  of_right = c.batch_length-other.ensures.is;
+  of_both = both_length _ _ _ c.union.result _ c.union.ensures.orders c.batch_length.ensures.is;
+  less = c.saved.ensures.some some;
+}

@@ -1,0 +1,107 @@
+-- What batches cost when they are put into another order, and when two of them are joined.
+use Rattle.std.proofs.Common.{◌≡◌, ◌≢◌, ℕ, zero, suc, ◌+◌, ◌-◌, ◌<◌, ◌≤◌, List, [], ◌∷◌, length, get_or, set, arith, refl, ap, sym, ◌∙◌, subst, ⊎_elim, Contains}
+use Rattle.std.specs.Prelude.{remove}
+use Rattle.std.proofs.lemmas.Bool.{cases_lt}
+use Rattle.std.proofs.lemmas.List.Edits.{get_or-remove_above, get_or-remove_below, length-remove}
+use Rattle.std.proofs.lemmas.List.{get_or-set_other, get_or_default, length-set}
+use Rattle.wp_batch.specs.Batchings.{IsCost, IsListedByLeast, batch_at}
+use Rattle.wp_batch.specs.Joins.{CostNoMore, JoinSaves}
+use Rattle.wp_batch.specs.Lengths.{IsLengthOf}
+use Rattle.wp_batch.specs.Waves.{WavePicks}
+use Rattle.wp_batch.proofs.Gains.{one_length}
+
+-- batches cost one sum alone
+pub one_cost : (wave : WavePicks) (batches : List (List ℕ)) (cost other : ℕ) → IsCost wave batches cost → IsCost wave batches other → cost ≡ other
+one_cost wave [] cost other first second = omega (arith, first, second)
+one_cost wave (batch ∷ batches) cost other first second =
+    omega (arith, first.4, second.4, one_length wave.layout _ first.0 second.0 first.2 second.2, one_cost wave batches first.1 second.1 first.3 second.3)
+
+-- the cost of all batches is the length of one and the cost of the others
+pub record TakenOut (wave : WavePicks) (batches : List (List ℕ)) (place cost : ℕ) : Type 0 where
+  pub length_there : ℕ
+  pub rest : ℕ
+  pub long : IsLengthOf wave (batch_at batches place) length_there
+  pub others : IsCost wave (remove batches place) rest
+  pub sum : cost ≡ length_there + rest
+
+take_out : (wave : WavePicks) (batches : List (List ℕ)) (place cost : ℕ) → place < length batches → IsCost wave batches cost
+    → TakenOut wave batches place cost
+take_out wave [] place cost within is = absurd (omega arith)
+take_out wave (batch ∷ batches) zero cost within is = record { length_there = is.0; rest = is.1; long = is.2; others = is.3; sum = is.4 }
+take_out wave (batch ∷ batches) (suc place) cost within is =
+    let out = take_out wave batches place is.1 (omega arith) is.3 in
+    record {
+      length_there = out.length_there;
+      rest = is.0 + out.rest;
+      long = out.long;
+      others = (is.0, out.rest, is.2, out.others, refl);
+      sum = omega (arith, is.4, out.sum);
+    }
+
+put_back : (wave : WavePicks) (batches : List (List ℕ)) (place more rest : ℕ) → place < length batches → IsLengthOf wave (batch_at batches place) more
+    → IsCost wave (remove batches place) rest → IsCost wave batches (more + rest)
+put_back wave [] place more rest within long is = absurd (omega arith)
+put_back wave (batch ∷ batches) zero more rest within long is = (more, rest, long, is, refl)
+put_back wave (batch ∷ batches) (suc place) more rest within long is =
+    (is.0, more + is.1, is.2, put_back wave batches place more is.1 (omega arith) long is.3, omega (arith, is.4))
+
+-- the cost with another batch at a place tells the cost with the one that was there
+change_back : (wave : WavePicks) (batches : List (List ℕ)) (place : ℕ) (other : List ℕ) (cost now before : ℕ) → place < length batches
+    → IsLengthOf wave other now → IsLengthOf wave (batch_at batches place) before → IsCost wave (set batches place other) cost
+    → (sum : ℕ) × IsCost wave batches sum × (sum + now ≡ cost + before)
+change_back wave [] place other cost now before within of_other long is = absurd (omega arith)
+change_back wave (batch ∷ batches) zero other cost now before within of_other long is = (
+  before + is.1,
+  (before, is.1, long, is.3, refl),
+  omega (arith, is.4, one_length wave.layout _ is.0 now is.2 of_other),
+)
+change_back wave (batch ∷ batches) (suc place) other cost now before within of_other long is =
+    let out = change_back wave batches place other is.1 now before (omega arith) of_other long is.3 in
+    (is.0 + out.0, (is.0, out.0, is.2, out.1, refl), omega (arith, is.4, out.2))
+
+-- after a join that saves, batches cost no more
+pub join_costs_no_more : (wave : WavePicks) (batches : List (List ℕ)) (left right : ℕ) (union : List ℕ) → left < right → right < length batches
+    → (s : JoinSaves wave (batch_at batches left) (batch_at batches right)) → IsLengthOf wave union s.both
+    → CostNoMore wave batches (remove (set batches left union) right)
+join_costs_no_more wave batches left right union order within s of_union = λ less is.
+    let ne : right ≢ left = omega (arith, order) in
+    let inside : right < length (set batches left union) = omega (arith, within, length-set batches left union) in
+    let there : batch_at (set batches left union) right ≡ batch_at batches right = get_or-set_other batches left right union [] ne in
+    let back = put_back wave (set batches left union) right s.other less inside (subst (λ (b : List ℕ). IsLengthOf wave b s.other) (sym there) s.of_right) is in
+    let out = change_back wave batches left union (s.other + less) s.both s.one (omega (arith, order, within)) of_union s.of_left back in
+    (out.0, out.1, omega (arith, out.2, s.less))
+
+-- another batch than the one taken out stays
+stays : (batches : List (List ℕ)) (place : ℕ) (gone batch : List ℕ) → place < length batches → batch_at batches place ≡ gone
+    → get_or gone 0 0 < get_or batch 0 0 → Contains batches batch → Contains (remove batches place) batch
+stays batches place gone batch within is lower has =
+    let fewer = length-remove batches place within in
+    let ne : has.0 ≢ place = λ (e : has.0 ≡ place).
+    let same : gone ≡ batch = sym is ∙ (ap (batch_at batches) (sym e) ∙ (get_or_default batches has.0 [] batch has.1 ∙ has.2)) in
+    omega (arith, lower, ap (λ (b : List ℕ). get_or b 0 0) same) in
+    ⊎_elim
+    (λ (lt : has.0 < place). (has.0, omega (arith, fewer, within), get_or-remove_below batches place batch has.0 lt within ∙ has.2))
+    (λ (ge : place ≤ has.0).
+    let back : has.0 - 1 + 1 ≡ has.0 = omega (arith, ne) in (
+      has.0 - 1,
+      omega (arith, fewer, ne, has.1),
+      get_or-remove_above batches place batch (has.0 - 1) (omega (arith, ne)) within ∙ (ap (λ (k : ℕ). get_or batches k batch) back ∙ has.2),
+    ))
+    (cases_lt has.0 place)
+
+-- different ones of some batches cost no more than all
+pub some_cost_no_more : (wave : WavePicks) (listed batches : List (List ℕ)) (cost : ℕ)
+    → ((k : ℕ) → k < length listed → Contains batches (batch_at listed k)) → IsListedByLeast listed → IsCost wave batches cost
+    → (less : ℕ) × IsCost wave listed less × (less ≤ cost)
+some_cost_no_more wave [] batches cost among rise is = (0, refl, omega arith)
+some_cost_no_more wave (first ∷ listed) batches cost among rise is =
+    let at = among 0 (omega arith) in
+    let out = take_out wave batches at.0 cost at.1 is in
+    let there : batch_at batches at.0 ≡ first = get_or_default batches at.0 [] first at.1 ∙ at.2 in
+    let rest = some_cost_no_more wave listed (remove batches at.0) out.rest
+    (λ k low. stays batches at.0 first (batch_at listed k) at.1 there (rise 0 (suc k) (omega arith) (omega arith)) (among (suc k) (omega arith)))
+    (λ l r lt low. rise (suc l) (suc r) (omega arith) (omega arith)) out.others in (
+      out.length_there + rest.0,
+      (out.length_there, rest.0, subst (λ (b : List ℕ). IsLengthOf wave b out.length_there) there out.long, rest.1, refl {a = out.length_there + rest.0}),
+      omega (arith, out.sum, rest.2),
+    )
