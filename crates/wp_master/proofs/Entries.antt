@@ -1,13 +1,12 @@
 -- Entries of tables, and how they lie in a list.
-use Rattle.std.proofs.Common.{◌≡◌, ◌<ℤ◌, ℕ, ◌+◌, ◌*◌, ◌/◌, ◌%◌, ◌<◌, ◌≤◌, ℤ, pos, ◌*ℤ◌, ◌-ℤ◌, ◌⊎◌, ⊎_elim, inl, inr, FitsSigned, IfErr}
-use Rattle.std.proofs.Common.{Result, Ok, Err, List, [], ◌∷◌, ◌++◌, length, arith, refl, ap, sym, length-append, subst, ◌∙◌}
+use Rattle.std.proofs.Common.{◌≡◌, ℕ, ◌+◌, ◌*◌, ◌/◌, ◌%◌, ◌<◌, ◌≤◌, ℤ, pos, ◌*ℤ◌, ◌-ℤ◌, ◌⊎◌, ⊎_elim, inl, inr, FitsSigned}
+use Rattle.std.proofs.Common.{List, [], ◌∷◌, ◌++◌, length, arith, refl, ap, sym, length-append, subst, ◌∙◌}
 use Rattle.std.specs.Int.{w128}
 use Rattle.std.specs.Prelude.{slice_index_or}
 use Rattle.std.proofs.lemmas.Int.{ints}
 use Rattle.std.proofs.lemmas.List.{get_or_append_left, get_or_push}
-use Rattle.wp_master.specs.declared.wide.TooWide.{TooWide}
-use Rattle.wp_master.specs.Pivots.{AreExchanged, AreStartEntries, AreWhole, AreWide, AreWideEntries, IsEntry, IsExchanged, IsPivot, IsStart}
-use Rattle.wp_master.specs.Pivots.{IsStartEntry, IsTwofoldOf, IsWideFor, Table, entry_of, exchange_of, last_row, places}
+use Rattle.wp_master.specs.Pivots.{AreStartEntries, AreWhole, AreWide, AreWideEntries, IsEntry, IsStart}
+use Rattle.wp_master.specs.Pivots.{IsStartEntry, IsTwofoldOf, IsWideFor, Table, exchange_of, last_row, places}
 use Rattle.wp_master.specs.Pools.{ColumnPool}
 use Rattle.std.proofs.lemmas.Nat.{div-mul-add, mod-mul-add}
 
@@ -40,27 +39,26 @@ wide_pair table a b left right one two wide = ⊎_elim
     }) twice.factors) wide
 
 -- factors that are wide for four entries
-pub wide_entries : (table : Table) (a b c d : ℤ) (result : Result ℤ TooWide) → IsEntry table a → IsEntry table b → IsEntry table c → IsEntry table d
-    → IfErr result (λ wide. IsWideFor a b c d wide.left wide.right) → IfErr result (λ wide. AreWideEntries table wide.left wide.right)
-wide_entries table a b c d (Ok value) p q r s w = w
-wide_entries table a b c d (Err wide) p q r s w = ⊎_elim (wide_pair table a b wide.left wide.right p q) (wide_pair table c d wide.left wide.right r s) w
+pub wide_entries : (table : Table) (a b c d left right : ℤ) → IsEntry table a → IsEntry table b → IsEntry table c → IsEntry table d
+    → IsWideFor a b c d left right → AreWideEntries table left right
+wide_entries table a b c d left right p q r s w = ⊎_elim (wide_pair table a b left right p q) (wide_pair table c d left right r s) w
 
 lower_or_last : (n k : ℕ) → k < n + 1 → (k < n) ⊎ (k ≡ n)
 lower_or_last n k h = grind arith
 
 -- what holds of each entry of a list and of one more, by its number, holds of each entry of the list with that one behind
-pub each_more : (P : ℕ → ℤ → Type 0) (xs : List ℤ) (x : ℤ) → ((k : ℕ) → k < length xs → P k (slice_index_or xs k (pos 0))) → P (length xs) x
-    → (k : ℕ) → k < length (xs ++ x ∷ []) → P k (slice_index_or (xs ++ x ∷ []) k (pos 0))
-each_more P xs x each this k low = ⊎_elim
-    (λ (l : k < length xs). subst (P k) (sym (get_or_append_left xs (x ∷ []) (pos 0) k l)) (each k l))
-    (λ (e : k ≡ length xs). subst (λ (n : ℕ). P n (slice_index_or (xs ++ x ∷ []) n (pos 0))) (sym e)
-    (subst (P (length xs)) (sym (get_or_push xs x (pos 0) (length xs) refl)) this))
+pub each_more : {X : Type 0} (P : ℕ → X → Type 0) (xs : List X) (x d : X) → ((k : ℕ) → k < length xs → P k (slice_index_or xs k d)) → P (length xs) x
+    → (k : ℕ) → k < length (xs ++ x ∷ []) → P k (slice_index_or (xs ++ x ∷ []) k d)
+each_more P xs x d each this k low = ⊎_elim
+    (λ (l : k < length xs). subst (P k) (sym (get_or_append_left xs (x ∷ []) d k l)) (each k l))
+    (λ (e : k ≡ length xs). subst (λ (n : ℕ). P n (slice_index_or (xs ++ x ∷ []) n d)) (sym e)
+    (subst (P (length xs)) (sym (get_or_push xs x d (length xs) refl)) this))
     (lower_or_last (length xs) k (omega (arith, length-append xs (x ∷ []), low)))
 
 scaled_rows : (rows width i : ℕ) → i < rows → i * width + width ≤ rows * width
 scaled_rows rows width i low = grind arith
 
-within_rows : (rows width i j : ℕ) → i < rows → j < width → i * width + j < rows * width
+pub within_rows : (rows width i j : ℕ) → i < rows → j < width → i * width + j < rows * width
 within_rows rows width i j low in_row = omega (arith, scaled_rows rows width i low)
 
 -- what holds of each entry of a list by the quotient and the remainder of its number holds of it by its row and place
@@ -73,22 +71,6 @@ by_row P rows width xs count each i j low in_row =
     subst (λ (n : ℕ). P i n x) (mod-mul-add i width j in_row)
     (subst (λ (n : ℕ). P n ((i * width + j) % width) x) (div-mul-add i width j in_row) at)
 
--- a table with the entries of the next, over the pivot, is the next
-pub pivoted : (before after : Table) (row place : ℕ) → row + 1 < before.rows → 1 ≤ place → place < before.width → pos 0 <ℤ entry_of before row place
-    → after.rows ≡ before.rows → after.width ≡ before.width → after.denominator ≡ entry_of before row place
-    → length after.entries ≡ before.rows * before.width → AreExchanged before row place after.entries → IsPivot row place before after
-pivoted before after row place not_last not_first within above rows width denominator count each = record {
-  not_last = not_last;
-  not_first = not_first;
-  within = within;
-  above = above;
-  rows = rows;
-  width = width;
-  entries = λ i j low in_row. subst (λ (w : ℕ). IsExchanged before row place i j (slice_index_or after.entries (i * w + j) (pos 0))) (sym width)
-      (by_row (IsExchanged before row place) before.rows before.width after.entries count each i j low in_row);
-  denominator = denominator;
-}
-
 -- a table with the entries of the start table, over 1, is the start table
 pub started : (pool : ColumnPool) (table : Table) → table.rows ≡ last_row pool + 1 → table.width ≡ places pool → table.denominator ≡ pos 1
     → length table.entries ≡ table.rows * table.width → AreStartEntries pool table.width table.entries → IsStart pool table
@@ -100,7 +82,7 @@ started pool table rows width denominator count each = record {
   denominator = denominator;
 }
 
-one_times : (x : ℤ) → pos 1 *ℤ x ≡ x
+pub one_times : (x : ℤ) → pos 1 *ℤ x ≡ x
 one_times x = omega (arith, ints)
 
 -- over 1, each exchange is a multiple of the denominator

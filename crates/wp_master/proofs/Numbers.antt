@@ -3,7 +3,8 @@ use Rattle.std.proofs.Common.{◌≡◌, ℕ, ℤ, ◌+◌, ◌*◌, ◌+ℤ◌,
 use Rattle.std.proofs.lemmas.Int.{ints}
 use borrow.Author.Differences.{up, down, product_is, same_in}
 
-scaled : (k m n : ℕ) → m ≡ n → m * k ≡ n * k
+-- the same number times equal ones
+pub scaled : (k m n : ℕ) → m ≡ n → m * k ≡ n * k
 scaled k m n e = ap (λ (x : ℕ). x * k) e
 
 -- products are grouped either way

@@ -1,3 +1,9 @@
 pub mod Pools
 pub mod Pivots
+pub mod Exchanges
 pub mod Choices
+pub mod Bases
+pub mod Minors
+pub mod Runs
+pub mod Pairs
+pub mod Faults

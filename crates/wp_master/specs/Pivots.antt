@@ -2,8 +2,6 @@
 use Rattle.std.specs.Int.{w128}
 use Rattle.std.specs.Prelude.{◌*◌, ◌/◌, ◌%◌, ◌⊎◌, FitsSigned, List, slice_index_or, ◌≡◌, ◌≢◌, ℕ, suc, ◌+◌, ◌<◌, ◌≤◌, ℤ, pos, negsuc}
 use Rattle.std.specs.Prelude.{◌-ℤ◌, ◌*ℤ◌, ◌<ℤ◌, Contains, length}
-use Rattle.wp_master.specs.declared.fault.PivotFault.{PivotFault}
-use Rattle.wp_master.specs.declared.fault.PivotFault.TheVariants.{Wide, Memory}
 use Rattle.wp_master.specs.Pools.{ColumnPool, column_of}
 
 -- how many rows there are, how many places in each, the entries row by row, and the denominator of all of them
@@ -95,6 +93,10 @@ pub data PivotRun (pool : ColumnPool) : ℕ → Table → Type 0 where
   onward : {made row place : ℕ} {before after : Table} → PivotRun pool made before → IsPivot row place before after
       → LastRowRises before after → PivotRun pool (suc made) after
 
+-- a table that at most so many such pivots lead to
+abbrev pub IsWithinTurns : ColumnPool → ℕ → Table → Type 0
+IsWithinTurns pool turns table = (made : ℕ) × (made ≤ turns) × PivotRun pool made table
+
 -- for a pivot each exchange is a multiple of the denominator
 abbrev pub AreWhole : Table → ℕ → ℕ → Type 0
 AreWhole table row place = (i j : ℕ) → i < table.rows → i ≢ row → j < table.width
@@ -109,11 +111,6 @@ pub record AreWideEntries (table : Table) (left right : ℤ) : Type 0 where
   pub left_entry : IsEntry table left ⊎ ((x : ℤ) × IsEntry table x × (left ≡ pos 2 *ℤ x))
   pub right_entry : IsEntry table right
   pub leaves : FitsSigned w128 (left *ℤ right) → ⊥
-
--- the cause of a pivot's fault: none is needed where memory is wanting
-abbrev pub HasCause : Table → PivotFault → Type 0
-HasCause table (Wide wide) = AreWideEntries table wide.left wide.right
-HasCause table Memory = Unit {0}
 
 -- twice one of two numbers, and the other: factors whose product leaves 128 bits
 pub record IsTwofoldOf (left right twice other : ℤ) : Type 0 where
@@ -131,8 +128,3 @@ IsWideFor left right other further one two = AreWide left right one two ⊎ AreW
 -- these entries, in rows of this width, are those that a start table begins with
 abbrev pub AreStartEntries : ColumnPool → ℕ → List ℤ → Type 0
 AreStartEntries pool width entries = (at : ℕ) → at < length entries → IsStartEntry pool (at / width) (at % width) (slice_index_or entries at (pos 0))
-
--- these entries, row by row, are those that the next table begins with, for the pivot in a row at a place
-abbrev pub AreExchanged : Table → ℕ → ℕ → List ℤ → Type 0
-AreExchanged table row place entries = (at : ℕ) → at < length entries
-    → IsExchanged table row place (at / table.width) (at % table.width) (slice_index_or entries at (pos 0))

@@ -1,38 +1,37 @@
 ghost use Rattle.std.specs.Prelude.{◌≡◌};
-ghost use Rattle.wp_master.specs.declared.fault.PivotFault.TheVariants as reason;
+ghost use Rattle.wp_master.specs.declared.fault.MasterFault.TheVariants as cause;
 
 use crate::wide::TooWide;
-use std::alloc::{AllocError, AllocFailed};
+use wp_model::Memory;
 
-/// Why a pivot isn't made.
-#[derive(Clone, Copy, Debug)]
-pub enum PivotFault {
-    /// A product of two entries, or twice such a product, leaves an `i128`.
-    Wide(TooWide),
+/// Why a pool isn't solved.
+#[derive(Clone, Copy, Debug, PartialEq, Eq)]
+pub enum MasterFault {
+    /// The least order that no column holds.
+    NoCover(u32),
+    /// So many pivots were made, as many as were allowed, and a further one is left to make.
+    Turns { made: u64 },
+    /// Two entries of a table, or twice an entry and an entry, whose product leaves an `i128`.
+    Wide { left: i128, right: i128 },
     /// Memory is wanting.
     Memory,
 }
 
-impl From<AllocError> for PivotFault {
-    ghost from_gives = { λ _ fault. fault ≡ reason.Memory };
+impl From<Memory> for MasterFault {
+    ghost from_gives = { λ _ fault. fault ≡ cause.Memory };
 
-    fn from(_error: AllocError) -> PivotFault {
-        PivotFault::Memory
+    fn from(_error: Memory) -> MasterFault {
+        MasterFault::Memory
     }
 }
 
-impl From<TooWide> for PivotFault {
-    ghost from_gives = { λ wide fault. fault ≡ reason.Wide wide };
+impl From<TooWide> for MasterFault {
+    ghost from_gives = { λ wide fault. fault ≡ cause.Wide wide.left wide.right };
 
-    fn from(wide: TooWide) -> PivotFault {
-        PivotFault::Wide(wide)
-    }
-}
-
-impl<T: Drop> From<AllocFailed<T>> for PivotFault {
-    ghost from_gives = { λ _ fault. fault ≡ reason.Memory };
-
-    fn from(_error: AllocFailed<T>) -> PivotFault {
-        PivotFault::Memory
+    fn from(wide: TooWide) -> MasterFault {
+        MasterFault::Wide {
+            left: wide.left,
+            right: wide.right,
+        }
     }
 }

@@ -5,12 +5,17 @@
 mod choice;
 mod column;
 mod fault;
+mod master;
+mod pair;
 mod pool;
+mod run;
 mod table;
 mod wide;
 
 pub use column::Column;
-pub use fault::PivotFault;
+pub use fault::MasterFault;
+pub use master::solve;
+pub use pair::Pair;
 pub use pool::Pool;
 pub use table::Table;
 pub use wide::TooWide;

@@ -1,8 +1,7 @@
-ghost use Rattle.std.specs.Prelude.{◌≡◌, ◌≢◌, ◌≤◌, ◌<◌, ◌+◌, ◌*◌, ◌/◌, ◌%◌, ℕ, ℤ, ◌*ℤ◌, ◌-ℤ◌, ◌<ℤ◌, pos, IfOk, IfErr, length, slice_index_or};
-ghost use Rattle.wp_master.specs.Pivots.{AreExchanged, AreStartEntries, AreWhole, AreWideEntries, HasCause, IsExchanged, IsPivot, IsStart};
-ghost use Rattle.wp_master.specs.Pivots.{IsStartEntry, entry_of, exchange_of, last_row, places};
+ghost use Rattle.std.specs.Prelude.{◌≡◌, ◌≢◌, ◌≤◌, ◌<◌, ◌+◌, ◌*◌, ◌/◌, ◌%◌, ℤ, ◌*ℤ◌, ◌-ℤ◌, ◌<ℤ◌, pos, IfOk, IfErr, IsTrue, length};
+ghost use Rattle.wp_master.specs.Exchanges.{AreExchanged, IsPut, IsRowExchanged, IsRowWhole, IsRowWide};
+ghost use Rattle.wp_master.specs.Pivots.{AreStartEntries, AreWhole, AreWideEntries, IsPivot, IsStart, IsStartEntry, IsWideFor, entry_of, last_row, places};
 
-use crate::fault::PivotFault;
 use crate::pool::Pool;
 use crate::wide::{TooWide, cross};
 use std::alloc::Global;
@@ -67,6 +66,36 @@ fn divided(value: i128, denominator: i128) -> i128
     value / denominator
 }
 
+// Whether a pivot plainly leaves an entry as it is.
+fn stays(pivot: i128, own: i128, beside: i128, above: i128, denominator: i128) -> bool
+    ensures { IsTrue result → denominator *ℤ own ≡ (pivot *ℤ own) -ℤ (beside *ℤ above) }
+{
+    if beside != 0 && above != 0 {
+        return false;
+    }
+    own == 0 || pivot == denominator
+}
+
+// What an entry becomes by a pivot: pivot * own - beside * above over the denominator.
+fn exchanged(
+    pivot: i128,
+    own: i128,
+    beside: i128,
+    above: i128,
+    denominator: i128,
+) -> Result<i128, TooWide>
+    requires above_0 { pos 0 <ℤ denominator }
+    requires whole { (x : ℤ) × (denominator *ℤ x ≡ (pivot *ℤ own) -ℤ (beside *ℤ above)) }
+    ensures is { IfOk result (λ entry. denominator *ℤ entry ≡ (pivot *ℤ own) -ℤ (beside *ℤ above)) }
+    ensures wide { IfErr result (λ wide. IsWideFor pivot own beside above wide.left wide.right) }
+{
+    if stays(pivot, own, beside, above, denominator) {
+        return Ok(own);
+    }
+    let value = cross(pivot, own, beside, above)?;
+    Ok(divided(value, denominator))
+}
+
 impl Table {
     /// The number of rows.
     pub fn rows(&self) -> usize
@@ -99,72 +128,72 @@ impl Table {
         self.entries[row * self.width + place]
     }
 
-    // For a pivot in a row at a place, and the entry T of another row: pivot * T - (the entry of T's row at the pivot's place) * (the
-    // entry of the pivot's row at T's place).
-    fn crossed(&self, i: usize, j: usize, row: usize, place: usize) -> Result<i128, TooWide>
-        requires i { i < self.now.rows }
-        requires j { j < self.now.width }
-        requires row { row < self.now.rows }
-        requires place { place < self.now.width }
-        ensures is { IfOk result (λ value. value ≡ exchange_of self.now row place i j) }
-        ensures wide { IfErr result (λ wide. AreWideEntries self.now wide.left wide.right) }
+    // Puts an entry into a row at a place.
+    fn put(&mut self, row: usize, place: usize, entry: i128)
+        requires row { row < self.old.rows }
+        requires place { place < self.old.width }
+        ensures { IsPut self.old row place entry self.new }
+    {
+        self.entries[row * self.width + place] = entry;
+    }
+
+    // Exchanges the entries of a row other than the pivot's.
+    fn exchange_row(&mut self, i: usize, row: usize, place: usize) -> Result<(), TooWide>
+        requires i { i < self.old.rows }
+        requires row { row < self.old.rows }
+        requires place { place < self.old.width }
+        requires other { i ≢ row }
+        requires whole { IsRowWhole self.old row place i }
+        ensures exchanged { IfOk result (λ _. IsRowExchanged self.old self.new row place i self.old.width) }
+        ensures wide { IfErr result (λ wide. IsRowWide self.old row place i wide.left wide.right) }
     {
         let pivot = self.entry(row, place);
-        let own = self.entry(i, j);
         let beside = self.entry(i, place);
-        let above = self.entry(row, j);
-        cross(pivot, own, beside, above)
-    }
-
-    // The entry of the next table, for the pivot in a row at a place.
-    fn exchanged(&self, i: usize, j: usize, row: usize, place: usize) -> Result<i128, PivotFault>
-        requires i { i < self.now.rows }
-        requires j { j < self.now.width }
-        requires row { row < self.now.rows }
-        requires place { place < self.now.width }
-        requires whole { AreWhole self.now row place }
-        ensures is { IfOk result (λ entry. IsExchanged self.now row place i j entry) }
-        ensures cause { IfErr result (λ fault. HasCause self.now fault) }
-    {
-        if i == row {
-            return Ok(self.entry(row, j));
+        if beside == 0 && pivot == self.denominator {
+            return Ok(());
         }
-        let value = self.crossed(i, j, row, place)?;
-        Ok(divided(value, self.denominator))
-    }
-
-    // The entries of the next table, for the pivot in a row at a place.
-    fn exchange(&self, alloc: Global, row: usize, place: usize) -> Result<Vec<i128>, PivotFault>
-        requires row { row < self.now.rows }
-        requires place { place < self.now.width }
-        requires whole { AreWhole self.now row place }
-        ensures count { IfOk result (λ next. length next.items ≡ self.now.rows * self.now.width) }
-        ensures each { IfOk result (λ next. AreExchanged self.now row place next.items) }
-        ensures cause { IfErr result (λ fault. HasCause self.now fault) }
-    {
-        let mut next = Vec::new(alloc);
-        for at in 0..self.entries.len() {
-            next.push(self.exchanged(at / self.width, at % self.width, row, place)?)?;
+        for j in 0..self.width {
+            let own = self.entry(i, j);
+            let above = self.entry(row, j);
+            self.put(
+                i,
+                j,
+                exchanged(pivot, own, beside, above, self.denominator)?,
+            );
         }
-        Ok(next)
-    }
-
-    /// Makes a pivot on the entry in a row at a place. After an `Err` the table is as before: `Wide` names two entries, or twice an entry
-    /// and an entry, whose product leaves an `i128`, and `Memory` comes only where memory is wanting.
-    pub fn pivot(&mut self, alloc: Global, row: usize, place: usize) -> Result<(), PivotFault>
-        requires not_last { row + 1 < self.old.rows }
-        requires not_first { 1 ≤ place }
-        requires within { place < self.old.width }
-        requires above { pos 0 <ℤ entry_of self.old row place }
-        requires whole { AreWhole self.old row place }
-        ensures made { IfOk result (λ _. IsPivot row place self.old self.new) }
-        ensures cause { IfErr result (λ fault. HasCause self.old fault) }
-        ensures same { IfErr result (λ _. self.new ≡ self.old) }
-    {
-        let next = self.exchange(alloc, row, place)?;
-        self.denominator = self.entry(row, place);
-        self.entries = next;
         Ok(())
+    }
+
+    // Exchanges the entries of all rows but the pivot's.
+    fn exchange(&mut self, row: usize, place: usize) -> Result<(), TooWide>
+        requires row { row < self.old.rows }
+        requires place { place < self.old.width }
+        requires whole { AreWhole self.old row place }
+        ensures exchanged { IfOk result (λ _. AreExchanged self.old self.new row place self.old.rows) }
+        ensures wide { IfErr result (λ wide. AreWideEntries self.old wide.left wide.right) }
+    {
+        for i in 0..self.rows {
+            if i != row {
+                self.exchange_row(i, row, place)?;
+            }
+        }
+        Ok(())
+    }
+
+    /// The table after a pivot on the entry in a row at a place. An `Err` names two entries, or twice an entry and an entry, whose product
+    /// leaves an `i128`.
+    pub fn pivot(mut self, row: usize, place: usize) -> Result<Table, TooWide>
+        requires not_last { row + 1 < self.rows }
+        requires not_first { 1 ≤ place }
+        requires within { place < self.width }
+        requires above { pos 0 <ℤ entry_of self row place }
+        requires whole { AreWhole self row place }
+        ensures made { IfOk result (λ next. IsPivot row place self next) }
+        ensures wide { IfErr result (λ wide. AreWideEntries self wide.left wide.right) }
+    {
+        self.exchange(row, place)?;
+        self.denominator = self.entry(row, place);
+        Ok(self)
     }
 }
 

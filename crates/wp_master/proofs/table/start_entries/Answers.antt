@@ -1,4 +1,4 @@
-use Rattle.std.proofs.Common.{rules, ◌≡◌, ◌/◌, ◌%◌, ℕ, ℤ, [], ◌∷◌, ◌++◌, sym, subst}
+use Rattle.std.proofs.Common.{rules, ◌≡◌, ◌/◌, ◌%◌, ℕ, ℤ, pos, [], ◌∷◌, ◌++◌, sym, subst}
 use Rattle.std.proofs.lemmas.Int.{to_z-of_z}
 use Rattle.wp_master.specs.Pivots.{AreStartEntries, IsStartEntry}
 use Rattle.wp_master.proofs.Entries.{each_more}
@@ -12,5 +12,5 @@ loop-at-preserved c =
     record {
       count = search rules;
       each = subst (AreStartEntries c.args.pool.now c.args.width) (sym behind)
-          (each_more P c.loop-at.entries.items c.start_entry.result c.loop-at.invariant.each here);
+          (each_more P c.loop-at.entries.items c.start_entry.result (pos 0) c.loop-at.invariant.each here);
     }

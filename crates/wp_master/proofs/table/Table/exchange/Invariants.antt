@@ -1,6 +1,5 @@
-use Rattle.std.proofs.Common.{◌≡◌, length}
-use Rattle.wp_master.specs.Pivots.{AreExchanged}
+use Rattle.wp_master.specs.Exchanges.{AreExchanged}
 use Rattle.wp_master.proofs.table.Table.exchange.Given as goal
 
-abbrev pub invariant-loop-at : goal.invariant-loop-at
-invariant-loop-at l = record { count : length l.next.items ≡ l.at; each : AreExchanged l.self l.row l.place l.next.items }
+abbrev pub invariant-loop-i : goal.invariant-loop-i
+invariant-loop-i l = AreExchanged l.fn.self l.self l.row l.place l.i
