@@ -1,43 +1,81 @@
--- A root, a batching and its cost make a good plan.
-use Rattle.std.proofs.Common.{◌≡◌, ℕ, ◌≤◌, ◌↔◌, List, [], ◌∷◌, length, ap, sym, ◌∙◌, subst, inl, inr, ⊎_elim}
-use Rattle.std.specs.Prelude.{Option, Some, None, IsSome}
-use Rattle.wp_batch.specs.Batchings.{IsBatching, IsCost, IsListedByLeast, NoJoinGains}
+-- What a search that has ended found is a good plan.
+use Rattle.std.proofs.Common.{◌≡◌, ℕ, ◌+◌, ◌-◌, ◌*◌, ◌<◌, ◌≤◌, ◌⊎◌, ◌↔◌, List, length, arith, ap, sym, ◌∙◌, inl, inr, ⊎_elim, mul-le-mul_right}
+use Rattle.std.specs.Prelude.{IfOk, Some, Result, Ok, Err, sum}
+use Rattle.wp_model.specs.declared.memory.Memory.{Memory}
 use Rattle.wp_batch.specs.Waves.{WavePicks}
-use Rattle.wp_cert.specs.TextData.{HaveDualsWithin}
 use Rattle.wp_cert.specs.Trees.{IsBoundOf}
-use Rattle.wp_cert.specs.declared.tree.Node.{Node}
-use Rattle.wp_cert.specs.declared.tree.Node.TheVariants as node
-use Rattle.wp_cert.specs.declared.tree.Own.{Own}
 use Rattle.wp_cert.proofs.BoundsHold.{bounds_hold}
-use Rattle.wp_search.specs.Plans.{HasOwnRoot, IsGoodPlan}
-use Rattle.wp_search.specs.Roots.{IsRoot}
+use Rattle.wp_batch.specs.Batchings.{no_pairs}
+use Rattle.wp_duals.specs.Duals.{AreShares, units_of}
+use Rattle.wp_search.specs.Branches.{bound_of, nodes_of}
+use Rattle.wp_search.specs.Counts.{own_nodes}
+use Rattle.wp_search.specs.Plans.{IsGoodPlan}
+use Rattle.wp_search.specs.Prices.{full, price}
+use Rattle.wp_search.specs.Searches.{HasEnded, IsSearch}
 use Rattle.wp_search.specs.declared.plan.Planned.{Planned}
 use Rattle.wp_search.specs.declared.plan.State.TheVariants as states
-use Rattle.wp_search.specs.declared.root.Root.{Root}
+use Rattle.wp_search.specs.declared.search.Search.{Search}
+use Rattle.wp_search.proofs.OwnCounts.{full_not_spent}
+use Rattle.wp_search.proofs.Searches.{duals_listed, own_listed, search_bound, splits_listed}
 
-has_own : (found : Option Own) (nodes : List Node) → IsSome found → nodes ≡ node.Leaf found ∷ [] → HasOwnRoot nodes
-has_own None nodes some is = absurd (cc)
-has_own (Some own) nodes some is = (own, is)
+module _ (wave : WavePicks) (capacity : ℕ) (shares : List ℕ) (search : Search) (bound : ℕ) (some : 1 ≤ capacity) (are : AreShares wave capacity shares)
+    (is : IsSearch wave capacity (sum shares) search) (at : bound_of (units_of (sum shares)) search.tree ≡ Some bound) where
+  tree_right : IsBoundOf wave capacity (nodes_of search.tree) bound
+  tree_right = search_bound wave capacity bound shares search.tree are is.right at
 
--- a plan with such a batching, cost and root is good
-pub good_plan : (wave : WavePicks) (capacity budget : ℕ) (planned : Planned) (root : Root) → 1 ≤ capacity
-    → IsBatching (length wave.orders) capacity planned.batching → IsListedByLeast planned.batching → NoJoinGains wave capacity planned.batching
-    → IsCost wave planned.batching planned.cost → IsRoot wave capacity planned.cost budget root → planned.tree.nodes ≡ node.Leaf root.own ∷ []
-    → planned.bound ≡ root.bound → ((planned.state ≡ states.Proven) ↔ (planned.bound ≡ planned.cost)) → IsGoodPlan wave capacity budget planned
-good_plan wave capacity budget planned root some batching listed joined cost is nodes same state =
-    let bound = subst (λ (b : ℕ). IsBoundOf wave capacity planned.tree.nodes b) (sym same)
-    (subst (λ (ns : List Node). IsBoundOf wave capacity ns root.bound) (sym nodes) is.bound) in
-    let least = bounds_hold wave capacity planned.tree.nodes planned.bound some bound in record {
-      batching = batching;
-      listed = listed;
-      cost = cost;
-      bound = bound;
-      least = least;
-      below = least planned.batching planned.cost batching cost;
-      duals = subst (λ (ns : List Node). HaveDualsWithin ns) (sym nodes) is.duals;
-      state = state;
-      joined = joined;
-      paid = λ enough. ⊎_elim (λ (e : root.bound ≡ planned.cost). inl (state.1 (same ∙ e)))
-          (λ own. inr (has_own root.own planned.tree.nodes own nodes)) (is.paid enough);
-      unpaid = λ little. nodes ∙ ap (λ (own : Option Own). node.Leaf own ∷ []) (is.unpaid little);
-    }
+  -- what was spent is the price of the nodes with duals of their own
+  all_paid : own_nodes (nodes_of search.tree) * price (length wave.orders) capacity ≡ search.spent
+  all_paid = ap (λ (k : ℕ). k * price (length wave.orders) capacity) (own_listed search.tree) ∙ sym is.paid
+
+  -- where the budget doesn't pay for a further node, it pays for no more than there are
+  all_worked : (nodes : ℕ) → search.budget < search.spent + price (length wave.orders) capacity → nodes * price (length wave.orders) capacity ≤ search.budget → nodes ≤ own_nodes (nodes_of search.tree)
+  all_worked nodes short enough = ⊎_elim (λ (few : nodes ≤ own_nodes (nodes_of search.tree)). few)
+      (λ (more : own_nodes (nodes_of search.tree) + 1 ≤ nodes). absurd (omega (arith, mul-le-mul_right (price (length wave.orders) capacity) more, all_paid, short, enough)))
+      (few_or_more nodes (own_nodes (nodes_of search.tree)))
+    where
+      few_or_more : (a b : ℕ) → (a ≤ b) ⊎ (b + 1 ≤ a)
+      few_or_more a b = grind arith
+
+  -- nor is it a full one
+  not_full : search.budget < search.spent + price (length wave.orders) capacity → full (length wave.orders) capacity ≤ search.budget → ⊥
+  not_full short enough =
+      full_not_spent wave capacity (nodes_of search.tree) bound search.budget (search.budget - search.spent) tree_right
+      (omega (arith, all_paid, is.within)) (omega (arith, short, is.within)) enough
+
+  -- a search that ended at the cost of its best batching has that bound
+  at_cost : bound_of (units_of (sum shares)) search.tree ≡ Some search.best.cost → bound ≡ search.best.cost
+  at_cost ended = some_same (sym at ∙ ended)
+    where
+      some_same : {a b : ℕ} → Some a ≡ Some b → a ≡ b
+      some_same same = cc
+
+  -- the plan of a search that has ended is good
+  pub good_plan : (budget : ℕ) (planned : Planned) → HasEnded wave capacity (sum shares) search → search.budget ≡ budget
+      → planned.batching ≡ search.best.batching → planned.cost ≡ search.best.cost → planned.tree.nodes ≡ nodes_of search.tree → planned.bound ≡ bound
+      → ((planned.state ≡ states.Proven) ↔ (bound ≡ search.best.cost)) → IsGoodPlan wave capacity budget planned
+  good_plan budget planned ended spends batching costs nodes bounds state =
+      let right : IsBoundOf wave capacity planned.tree.nodes planned.bound = rw (nodes, bounds) tree_right in
+      let least = bounds_hold wave capacity planned.tree.nodes planned.bound some right in record {
+        batching = rw batching is.best.proper.batching;
+        listed = rw batching is.best.proper.listed;
+        cost = rw (batching, costs) is.best.cost;
+        bound = right;
+        least = least;
+        below = rw (costs) (least search.best.batching search.best.cost is.best.proper.batching is.best.cost);
+        duals = rw nodes (duals_listed wave (no_pairs (length wave.orders) capacity) (sum shares) search.tree is.right);
+        state = rw (bounds, costs) state;
+        joined = rw batching is.best.proper.joined;
+        within = rw nodes (omega (arith, all_paid, is.within, spends));
+        worked = λ count enough. ⊎_elim (λ short. inr (rw nodes (all_worked count short (omega (arith, enough, spends)))))
+            (λ done. inl (state.1 (at_cost done))) ended;
+        full_tree = λ enough. ⊎_elim (λ short. absurd (not_full short (omega (arith, enough, spends)))) (λ done. state.1 (at_cost done)) ended;
+        splits = rw (nodes, bounds) (splits_listed bound search.tree (is.cuts bound at));
+      }
+
+  -- so is what it is answered with
+  pub good_result : (budget : ℕ) (result : Result Planned Memory) → HasEnded wave capacity (sum shares) search → search.budget ≡ budget
+      → IfOk result (λ planned. planned.batching ≡ search.best.batching) → IfOk result (λ planned. planned.cost ≡ search.best.cost)
+      → IfOk result (λ planned. planned.tree.nodes ≡ nodes_of search.tree) → IfOk result (λ planned. planned.bound ≡ bound)
+      → IfOk result (λ planned. (planned.state ≡ states.Proven) ↔ (bound ≡ search.best.cost)) → IfOk result (IsGoodPlan wave capacity budget)
+  good_result budget (Ok planned) ended spends batching costs nodes bounds state = good_plan budget planned ended spends batching costs nodes bounds state
+  good_result budget (Err fault) ended spends batching costs nodes bounds state = batching

@@ -3,5 +3,14 @@ pub mod Raises
 pub mod Rows
 pub mod ShareLists
 pub mod CostSums
-pub mod TreeRoots
+pub mod Owns
+pub mod Turns
+pub mod PathLengths
+pub mod OwnCounts
+pub mod WholeBatchings
+pub mod OrderTotals
+pub mod ClassBatchings
+pub mod AscendingUnions
+pub mod OptimalJoins
+pub mod Searches
 pub mod GoodPlans

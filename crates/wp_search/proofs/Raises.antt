@@ -7,41 +7,23 @@ use Rattle.std.proofs.lemmas.Bool.{cases_eq, cases_lt}
 use Rattle.std.proofs.lemmas.Int.{ints}
 use Rattle.std.proofs.lemmas.List.{get_or_append_left, get_or_push}
 use Rattle.std.proofs.lemmas.List.Elements.{All-contains, All-set}
-use Rattle.wp_pairs.specs.Permitted.{IsPermitted, Pairing}
-use Rattle.wp_pairs.proofs.Members.{contains_first}
+use Rattle.wp_pairs.specs.Permitted.{AreHeldBelow, IsPermitted, Pairing}
 use Rattle.wp_batch.specs.Lengths.{IsLengthOf}
 use Rattle.wp_batch.specs.Waves.{WavePicks}
-use Rattle.wp_batch.proofs.Unions.{all_from_contained, nothing_in}
+use Rattle.wp_batch.proofs.Unions.{all_from_contained}
 use Rattle.wp_duals.specs.Duals.{AreFeasible, IsTightFor, duals_of, greatest_dual}
-use Rattle.wp_duals.proofs.Ascending.{only_one, single_ascends}
 use Rattle.wp_duals.proofs.Lengths.{same_length}
 use Rattle.wp_price.specs.Slacks.{HasNoCandidate, IsLeastSlack, IsSlack}
-use Rattle.wp_search.specs.Raises.{AreDuals, AreListedTight, AreNoLower, IsRoom, root_of}
+use Rattle.wp_search.specs.Raises.{AreDuals, AreListedTight, AreNoLower, IsRoom}
 use Rattle.wp_search.proofs.DualSums.{dual_in_batch, in_or_out, more_with, no_lower_batch, same_without}
 
--- an order alone is a permitted batch of the root
-pub alone_permitted : (wave : WavePicks) (capacity order : ℕ) → 1 ≤ capacity → order < length wave.orders → IsPermitted (root_of wave capacity) (order ∷ [])
-alone_permitted wave capacity order some known = record {
-  ascending = single_ascends order;
-  filled = omega arith;
-  fits = omega arith;
-  known = all_from_contained (λ (o : ℕ). o < length wave.orders) (order ∷ []) (λ o has. let e = only_one order o has in omega (arith, e, known));
-  together = λ pair added kind. absurd (nothing_in [] pair refl added);
-  apart = λ pair added kind. absurd (nothing_in [] pair refl added);
-}
-
--- so there is a batch through each order
-pub some_candidate : (wave : WavePicks) (pairing : Pairing) (capacity order : ℕ) → pairing ≡ root_of wave capacity → 1 ≤ capacity → order < length wave.orders
-    → HasNoCandidate pairing (Some order) → ⊥
-some_candidate wave pairing capacity order root some known none =
-    none (order ∷ [])
-    (subst (λ (p : Pairing). IsPermitted p (order ∷ [])) (sym root) (alone_permitted wave capacity order some known), contains_first order [])
+-- where each order is in some permitted batch, there is a batch through each
+pub some_candidate : (pairing : Pairing) (order : ℕ) → AreHeldBelow pairing pairing.orders → order < pairing.orders → HasNoCandidate pairing (Some order) → ⊥
+some_candidate pairing order held known none = let batch = held order known in none batch.0 (batch.1, batch.2)
 
 -- so there is a batch
-pub some_batch : (wave : WavePicks) (pairing : Pairing) (capacity : ℕ) → pairing ≡ root_of wave capacity → 1 ≤ capacity → 1 ≤ length wave.orders
-    → HasNoCandidate pairing None → ⊥
-some_batch wave pairing capacity root some filled none =
-    none (0 ∷ []) (subst (λ (p : Pairing). IsPermitted p (0 ∷ [])) (sym root) (alone_permitted wave capacity 0 some filled))
+pub some_batch : (pairing : Pairing) → AreHeldBelow pairing pairing.orders → 1 ≤ pairing.orders → HasNoCandidate pairing None → ⊥
+some_batch pairing held some none = let batch = held 0 some in none batch.0 batch.1
 
 -- a dual that is raised by the room of a batch with its order is no more than sixty times its length, so it is within the range
 pub raised_duals : (wave : WavePicks) (orders : ℕ) (duals batch : List ℕ) (order room : ℕ) → AreDuals orders duals → Contains batch order
@@ -134,9 +116,10 @@ pub found_some : {X : Type 0} (Nothing : Type 0) (found : Option X) → IfNone f
 found_some Nothing None none never = absurd (never none)
 found_some Nothing (Some x) none never = refl
 
--- a batch and one more order of the wave are orders of the wave
-pub wider_known : (orders : ℕ) (batch wider : List ℕ) (order : ℕ) → ((p : ℕ) → Contains wider p ↔ (Contains batch p ⊎ (p ≡ order)))
-    → All (λ o. o < orders) batch → order < orders → All (λ o. o < orders) wider
-wider_known orders batch wider order is known low =
-    all_from_contained (λ (o : ℕ). o < orders) wider
-    (λ o has. ⊎_elim (λ old. All-contains (λ (k : ℕ). k < orders) batch o known old) (λ (e : o ≡ order). omega (arith, e, low)) ((is o).0 has))
+-- what two batches of orders of the wave have together are orders of the wave
+pub union_known : (orders : ℕ) (left right both : List ℕ) → ((p : ℕ) → Contains both p ↔ (Contains left p ⊎ Contains right p))
+    → All (λ o. o < orders) left → All (λ o. o < orders) right → All (λ o. o < orders) both
+union_known orders left right both is first second =
+    all_from_contained (λ (o : ℕ). o < orders) both
+    (λ o has. ⊎_elim (λ one. All-contains (λ (k : ℕ). k < orders) left o first one)
+    (λ other. All-contains (λ (k : ℕ). k < orders) right o second other) ((is o).0 has))

@@ -1,4 +1,8 @@
 pub mod Prices
+pub mod Counts
 pub mod Raises
-pub mod Roots
+pub mod Items
 pub mod Plans
+pub mod Branches
+pub mod Turns
+pub mod Searches

@@ -1,12 +1,17 @@
 ghost use Rattle.std.specs.Prelude.{◌≡◌, ◌≤◌, ◌<◌, All, length};
+ghost use Rattle.wp_search.specs.Items.{AreItems};
 ghost use Rattle.wp_search.specs.Raises.{AreDuals};
 
+use crate::items::{Item, Place, items_of, no_place, total_in, widened};
+use std::alloc::Global;
 use wp_batch::Wave;
 use wp_duals::total_of;
-use wp_pairs::Batch;
+use wp_master::Column;
+use wp_model::Memory;
+use wp_pairs::{Batch, Pairs};
 
 /// The greatest dual, in sixtieths of a unit of length.
-const GREATEST_DUAL: u64 = 1_000_000_000_000;
+pub const GREATEST_DUAL: u64 = 1_000_000_000_000;
 
 /// How many turns an ascent has at least; where there are more orders than 20 it has about three for each order.
 const LEAST_TURNS: u64 = 64;
@@ -37,33 +42,12 @@ fn take_off(orders: u32, duals: &mut [u64], batch: Batch, each: u64, excess: u64
     left
 }
 
-// What the orders of a batch have in duals, all together.
-fn total_in(duals: &[u64], batch: Batch) -> u64 {
-    let mut total: u64 = 0;
-    let mut rest = batch;
-    for _ in 0..batch.len() {
-        let Some(order) = rest.least() else {
-            return total;
-        };
-        if let Some(dual) = duals.get(order as usize) {
-            total = total.saturating_add(*dual);
-        }
-        if order < 64 {
-            rest = rest.without(order);
-        }
-    }
-    total
-}
-
 // Lowers the duals of a batch's orders, where they are above sixty times its length: each by the same part, as far as it goes.
-fn lower_batch(wave: &Wave, orders: u32, duals: &mut [u64], batch: Batch)
-    requires orders { orders ≡ length wave.now.orders }
-    requires known { All (λ order. order < length wave.now.orders) batch }
-    requires duals { AreDuals orders duals.old }
+fn lower(orders: u32, duals: &mut [u64], batch: Batch, length: u64)
+    requires { AreDuals orders duals.old }
     ensures { AreDuals orders duals.new }
 {
-    let most = 60 * wave.batch_length(batch);
-    let excess = total_in(duals, batch).saturating_sub(most);
+    let excess = total_in(duals, batch).saturating_sub(length.saturating_mul(60));
     if excess == 0 {
         return;
     }
@@ -72,48 +56,99 @@ fn lower_batch(wave: &Wave, orders: u32, duals: &mut [u64], batch: Batch)
     take_off(orders, duals, batch, left, left);
 }
 
-// Lowers the duals of the batches that have all orders of a batch and up to so many further ones, from this one on.
-fn lower_from(wave: &Wave, orders: u32, duals: &mut [u64], batch: Batch, first: u32, more: u32)
-    requires orders { orders ≡ length wave.now.orders }
-    requires few { orders ≤ 64 }
-    requires known { All (λ order. order < length wave.now.orders) batch }
+// Lowers the duals of the batches that widen a place by items from one on.
+fn lower_from(
+    wave: &Wave,
+    orders: u32,
+    duals: &mut [u64],
+    items: &[Item],
+    place: &Place,
+    first: usize,
+    room: u32,
+)
+    requires items { AreItems (length wave.now.orders) items.now }
+    requires place { All (λ order. order < length wave.now.orders) place.now.batch }
     requires duals { AreDuals orders duals.old }
     ensures { AreDuals orders duals.new }
 {
-    if more == 0 {
+    if room == 0 {
         return;
     }
-    for order in first..orders {
-        let wider = batch.with(order);
-        lower_batch(wave, orders, duals, wider);
-        lower_from(wave, orders, duals, wider, order + 1, more - 1);
+    for index in first..items.len() {
+        let item = items[index];
+        if let Some(wider) = widened(place, &item, room) {
+            let length = wave.batch_length(wider.batch);
+            lower(orders, duals, wider.batch, length);
+            lower_from(
+                wave,
+                orders,
+                duals,
+                items,
+                &wider,
+                index + 1,
+                room - item.size,
+            );
+        }
     }
 }
 
 // The step of a turn, of which so many are left: from an eighth of the mean dual down, as the square of the turns that are left.
-fn step_of(orders: u64, total: u64, turns: u64, left: u64) -> u64
-    requires orders { 1 ≤ orders }
-    requires few { orders ≤ 64 }
-    requires total { total ≤ 64000000000000 }
-    requires turns { 1 ≤ turns }
-    requires most { turns ≤ 200 }
-    requires left { left ≤ turns }
-{
-    total * left / turns * left / turns / (8 * orders)
+fn step_of(orders: u32, total: u64, turns: u64, left: u64) -> u64 {
+    let turns = turns.max(1);
+    let falling = total.saturating_mul(left) / turns;
+    let step = falling.saturating_mul(left) / turns;
+    step / (8 * u64::from(orders)).max(1)
 }
 
-/// Changes duals of up to 64 orders so that their sum rises: in turn all are raised by a step, and those of each batch within
-/// the capacity are lowered where it has too much. The steps fall, so that what is too much in the end is mostly nothing.
-pub fn ascend(wave: &Wave, capacity: u32, duals: &mut [u64])
-    requires { AreDuals (length wave.now.orders) duals.old }
+/// All duals together.
+pub fn sum_all(duals: &[u64]) -> u64 {
+    u64::try_from(total_of(duals)).unwrap_or(u64::MAX)
+}
+
+/// Changes duals of up to 64 orders so that their sum rises: in turn all are raised by a step, and those of each permitted
+/// batch are lowered where it has too much. The steps fall, so that what is too much in the end is mostly nothing.
+pub fn ascend(alloc: Global, wave: &Wave, pairs: &Pairs, duals: &mut [u64]) -> Result<(), Memory>
+    requires pairs { pairs.now.orders ≡ length wave.now.orders }
+    requires duals { AreDuals (length wave.now.orders) duals.old }
     ensures { AreDuals (length wave.now.orders) duals.new }
 {
     let orders = wave.orders();
-    let total = total_of(duals) as u64;
+    let items = items_of(alloc, pairs, duals)?;
+    let total = sum_all(duals);
     let turns = (3 * u64::from(orders) + 2).max(LEAST_TURNS);
     for done in 0..turns {
-        let step = step_of(u64::from(orders), total, turns, turns - done);
-        raise_each(orders, duals, step);
-        lower_from(wave, orders, duals, Batch::empty(), 0, capacity);
+        raise_each(orders, duals, step_of(orders, total, turns, turns - done));
+        lower_from(
+            wave,
+            orders,
+            duals,
+            items.as_slice(),
+            &no_place(),
+            0,
+            pairs.capacity(),
+        );
+    }
+    Ok(())
+}
+
+// Lowers the duals of each column where it has too much.
+fn lower_columns(orders: u32, duals: &mut [u64], columns: &[Column])
+    requires { AreDuals orders duals.old }
+    ensures { AreDuals orders duals.new }
+{
+    for column in columns {
+        lower(orders, duals, column.batch, column.length);
+    }
+}
+
+/// Does the same for some columns alone, in so many turns.
+pub fn ascend_within(orders: u32, duals: &mut [u64], columns: &[Column], turns: u64)
+    requires { AreDuals orders duals.old }
+    ensures { AreDuals orders duals.new }
+{
+    let total = sum_all(duals);
+    for done in 0..turns {
+        raise_each(orders, duals, step_of(orders, total, turns, turns - done));
+        lower_columns(orders, duals, columns);
     }
 }

@@ -2,13 +2,26 @@
 #![tactic(auto)]
 
 mod ascent;
+mod best;
+mod bound;
+mod branch;
+mod choice;
+mod classes;
+mod columns;
 mod cost;
+mod items;
+mod listing;
+mod own;
 mod plan;
 mod planning;
 mod price;
 mod raise;
-mod root;
+mod search;
 mod shares;
+mod turn;
+mod visit;
+mod whole;
+mod work;
 
 pub use plan::{Planned, State};
 pub use planning::plan_wave;

@@ -1,27 +1,19 @@
-ghost use Rattle.std.specs.Prelude.{◌≡◌, ◌≤◌, ◌↔◌, ◌∷◌, ◌^◌, [], IfOk};
-ghost use Rattle.wp_cert.specs.declared.tree.Node.TheVariants as node;
+ghost use Rattle.std.specs.Prelude.{◌≡◌, ◌≤◌, ◌↔◌, ◌^◌, IfOk};
+ghost use Rattle.wp_search.specs.Branches.{nodes_of};
 ghost use Rattle.wp_search.specs.Plans.{IsGoodPlan};
 ghost use Rattle.wp_search.specs.declared.plan.State.TheVariants as state;
 
-use crate::cost::cost_of;
+use crate::best::best_of;
+use crate::branch::Branch;
+use crate::listing::list_nodes;
 use crate::plan::{Planned, State};
-use crate::root::find_root;
+use crate::search::{Search, search_on};
+use crate::shares::{bound_of, share_duals};
 use std::alloc::Global;
 use std::thread::Threads;
 use wp_batch::{Wave, merged_start};
-use wp_cert::{Node, Nodes, Own, Tree};
+use wp_cert::{Nodes, Tree};
 use wp_model::Memory;
-
-// The tree of one leaf.
-fn tree_of(alloc: Global, own: Option<Own>) -> Result<Tree, Memory>
-    ensures { IfOk result (λ tree. tree.nodes ≡ node.Leaf own ∷ []) }
-{
-    let mut nodes = Vec::new(alloc);
-    nodes.push(Node::Leaf(own))?;
-    Ok(Tree {
-        nodes: Nodes::of(nodes),
-    })
-}
 
 // The state of a plan with this bound and this cost.
 fn state_of(bound: u64, cost: u64) -> State
@@ -34,9 +26,44 @@ fn state_of(bound: u64, cost: u64) -> State
     }
 }
 
+// The tree of a subtree's nodes. A tree has fewer than 2 ^ 32 nodes: for more, memory is wanting.
+fn tree_of(alloc: Global, branch: Branch) -> Result<Tree, Memory>
+    ensures { IfOk result (λ tree. tree.nodes ≡ nodes_of branch) }
+{
+    let mut nodes = Vec::new(alloc);
+    list_nodes(branch, &mut nodes)?;
+    if nodes.len() > u32::MAX as usize {
+        return Err(Memory);
+    }
+    Ok(Tree {
+        nodes: Nodes::of(nodes),
+    })
+}
+
+// The plan that a search found, whose tree has this bound.
+fn plan_of(alloc: Global, search: Search, bound: u64) -> Result<Planned, Memory>
+    ensures batching { IfOk result (λ planned. planned.batching ≡ search.best.batching) }
+    ensures cost { IfOk result (λ planned. planned.cost ≡ search.best.cost) }
+    ensures nodes { IfOk result (λ planned. planned.tree.nodes ≡ nodes_of search.tree) }
+    ensures bound { IfOk result (λ planned. planned.bound ≡ bound) }
+    ensures state { IfOk result (λ planned. (planned.state ≡ state.Proven) ↔ (bound ≡ search.best.cost)) }
+{
+    let best = search.best;
+    let state = state_of(bound, best.cost);
+    let tree = tree_of(alloc, search.tree)?;
+    Ok(Planned {
+        batching: best.batching,
+        cost: best.cost,
+        tree,
+        bound,
+        state,
+    })
+}
+
 /// A good plan of a wave for a capacity, 1 to 8, and a budget, 0 to 10 ^ 18. The search is that of branch and price (Ryan and
-/// Foster, 1981), with a tree of one node: its root keeps the share duals, or has duals of its own where the budget pays for
-/// them and the share duals don't show the batching to be cheapest. The workers, 1 to 16, are handed to the pricing.
+/// Foster, 1981): of the leaves of its tree whose bound is the least the first takes a turn, until that bound is the cost of
+/// the best batching, or the budget doesn't pay for the leaf's own duals. The workers, 1 to 16, are handed to the pricing.
+/// `Memory` comes only where memory is wanting.
 pub fn plan_wave<R: Threads + Sync>(
     rt: &R,
     alloc: Global,
@@ -52,17 +79,17 @@ pub fn plan_wave<R: Threads + Sync>(
     requires most_workers { workers ≤ 16 }
     ensures { IfOk result (IsGoodPlan wave.now capacity budget) }
 {
+    let shares = share_duals(alloc, wave, capacity)?;
     let batching = merged_start(alloc, wave, capacity)?;
-    let cost = cost_of(wave, capacity, &batching);
-    let root = find_root(rt, alloc, wave, capacity, cost, budget, workers)?;
-    let state = state_of(root.bound, cost);
-    let bound = root.bound;
-    let tree = tree_of(alloc, root.own)?;
-    Ok(Planned {
-        batching,
-        cost,
-        tree,
-        bound,
-        state,
-    })
+    let start = Search {
+        tree: Branch::Leaf(None),
+        best: best_of(wave, capacity, batching),
+        budget,
+        spent: 0,
+    };
+    let search = search_on(rt, alloc, wave, capacity, shares.as_slice(), start, workers)?;
+    let orders = wave.orders();
+    let above = bound_of(orders, shares.as_slice());
+    let bound = search.tree.bound(orders, above).unwrap();
+    plan_of(alloc, search, bound)
 }

@@ -48,8 +48,8 @@ fn sets_of(orders: u32, capacity: u32) -> u128
     sets
 }
 
-// The price of a node's own duals, in visits of sets of orders.
-fn price_of(orders: u32, capacity: u32) -> u128
+/// The price of a node's own duals, in visits of sets of orders.
+pub fn price_of(orders: u32, capacity: u32) -> u128
     requires orders { orders ≤ 64 }
     requires capacity { capacity ≤ 8 }
     ensures { result ≡ price orders capacity }

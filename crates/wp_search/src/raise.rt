@@ -1,7 +1,8 @@
 ghost use Rattle.std.specs.Prelude.{◌≡◌, ◌≤◌, ◌<◌, ◌*◌, All, IfOk, OnErr, length, ℕ};
 ghost use Rattle.wp_batch.specs.Lengths.{IsLengthOf};
 ghost use Rattle.wp_duals.specs.Duals.{AreFeasible, IsTightFor, duals_of};
-ghost use Rattle.wp_search.specs.Raises.{AreDuals, AreListedTight, AreNoLower, IsRoom, root_of};
+ghost use Rattle.wp_pairs.specs.Permitted.{AreHeldBelow};
+ghost use Rattle.wp_search.specs.Raises.{AreDuals, AreListedTight, AreNoLower, IsRoom};
 
 use std::alloc::Global;
 use std::thread::Threads;
@@ -33,8 +34,8 @@ fn raise_order<R: Threads + Sync>(
     order: u32,
     workers: u32,
 ) -> Result<Batch, Memory>
-    requires some { 1 ≤ pairs.now.capacity }
-    requires pairs { pairs.now ≡ root_of wave.now pairs.now.capacity }
+    requires pairs { pairs.now.orders ≡ length wave.now.orders }
+    requires held { AreHeldBelow pairs.now pairs.now.orders }
     requires duals { AreDuals (length wave.now.orders) duals.old.items }
     requires feasible { AreFeasible wave.now pairs.now duals.old.items }
     requires known { order < length wave.now.orders }
@@ -61,8 +62,8 @@ pub fn raise_all<R: Threads + Sync>(
     duals: &mut Vec<u64>,
     workers: u32,
 ) -> Result<Vec<Batch>, Memory>
-    requires some { 1 ≤ pairs.now.capacity }
-    requires pairs { pairs.now ≡ root_of wave.now pairs.now.capacity }
+    requires pairs { pairs.now.orders ≡ length wave.now.orders }
+    requires held { AreHeldBelow pairs.now pairs.now.orders }
     requires duals { AreDuals (length wave.now.orders) duals.old.items }
     requires feasible { AreFeasible wave.now pairs.now duals.old.items }
     requires some_workers { 1 ≤ workers }

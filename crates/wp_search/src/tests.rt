@@ -1,6 +1,7 @@
 ghost use Rattle.std.specs.Prelude.{◌≡◌, ◌<◌, All, IfSome, length};
 ghost use Rattle.wp_model.specs.Warehouse.{IsSlot};
 
+mod batchings;
 mod made;
 
 use super::*;
@@ -32,7 +33,8 @@ const SHARED: &[Slots] = &[
     &[(2, 1)],
 ];
 
-/// A wave, a capacity, a budget; the batches, the cost and the bound of its plan, and whether its root has duals of its own.
+/// A wave, a capacity, a budget; the batches, the cost and the bound of its plan, and how many nodes of its tree have duals of
+/// their own.
 struct Case {
     orders: &'static [Slots],
     capacity: u32,
@@ -40,7 +42,7 @@ struct Case {
     batches: &'static [&'static [u32]],
     cost: u64,
     bound: u64,
-    own: bool,
+    own: usize,
 }
 
 const CASES: &[Case] = &[
@@ -51,7 +53,7 @@ const CASES: &[Case] = &[
         batches: &[&[0], &[1], &[2]],
         cost: 60,
         bound: 60,
-        own: false,
+        own: 0,
     },
     Case {
         orders: APART,
@@ -60,7 +62,7 @@ const CASES: &[Case] = &[
         batches: &[&[0, 1], &[2]],
         cost: 48,
         bound: 48,
-        own: true,
+        own: 1,
     },
     Case {
         orders: APART,
@@ -69,7 +71,7 @@ const CASES: &[Case] = &[
         batches: &[&[0, 1], &[2]],
         cost: 48,
         bound: 30,
-        own: false,
+        own: 0,
     },
     Case {
         orders: SAME,
@@ -78,7 +80,7 @@ const CASES: &[Case] = &[
         batches: &[&[0, 1], &[2]],
         cost: 68,
         bound: 51,
-        own: false,
+        own: 0,
     },
     Case {
         orders: SAME,
@@ -87,7 +89,7 @@ const CASES: &[Case] = &[
         batches: &[&[0, 1], &[2]],
         cost: 68,
         bound: 51,
-        own: false,
+        own: 0,
     },
     Case {
         orders: SAME,
@@ -96,7 +98,61 @@ const CASES: &[Case] = &[
         batches: &[&[0, 1], &[2]],
         cost: 68,
         bound: 51,
-        own: true,
+        own: 1,
+    },
+    Case {
+        orders: SAME,
+        capacity: 2,
+        budget: 223,
+        batches: &[&[0, 1], &[2]],
+        cost: 68,
+        bound: 51,
+        own: 1,
+    },
+    Case {
+        orders: SAME,
+        capacity: 2,
+        budget: 224,
+        batches: &[&[0, 1], &[2]],
+        cost: 68,
+        bound: 51,
+        own: 2,
+    },
+    Case {
+        orders: SAME,
+        capacity: 2,
+        budget: 335,
+        batches: &[&[0, 1], &[2]],
+        cost: 68,
+        bound: 51,
+        own: 2,
+    },
+    Case {
+        orders: SAME,
+        capacity: 2,
+        budget: 336,
+        batches: &[&[0, 1], &[2]],
+        cost: 68,
+        bound: 68,
+        own: 3,
+    },
+    Case {
+        orders: SAME,
+        capacity: 2,
+        budget: 1_792,
+        batches: &[&[0, 1], &[2]],
+        cost: 68,
+        bound: 68,
+        own: 3,
+    },
+    Case {
+        orders: SAME,
+        capacity: 2,
+        budget: 2_000_000,
+        batches: &[&[0, 1], &[2]],
+        cost: 68,
+        bound: 68,
+        own: 3,
     },
     Case {
         orders: ONE,
@@ -105,7 +161,7 @@ const CASES: &[Case] = &[
         batches: &[&[0]],
         cost: 16,
         bound: 16,
-        own: false,
+        own: 0,
     },
     Case {
         orders: ONE,
@@ -114,7 +170,7 @@ const CASES: &[Case] = &[
         batches: &[&[0]],
         cost: 16,
         bound: 2,
-        own: false,
+        own: 0,
     },
     Case {
         orders: ONE,
@@ -123,7 +179,7 @@ const CASES: &[Case] = &[
         batches: &[&[0]],
         cost: 16,
         bound: 16,
-        own: true,
+        own: 1,
     },
 ];
 
@@ -212,15 +268,22 @@ fn are_exactly(batching: &Batching, batches: &[&[u32]]) -> bool {
     true
 }
 
-/// Whether a tree is one leaf, with duals of its own or without, as is asked.
-fn has_root(tree: &Tree, own: bool) -> bool {
-    if tree.nodes.len() != 1 {
-        return false;
+/// Whether a node has duals of its own.
+fn has_own(node: &Node) -> bool {
+    match node {
+        Node::Leaf(own) => own.is_some(),
+        Node::Split { own, .. } => own.is_some(),
+        Node::Dead(_) => false,
     }
-    match tree.nodes.at(0) {
-        Node::Leaf(shown) => shown.is_some() == own,
-        _ => false,
-    }
+}
+
+/// How many nodes of a tree have duals of their own.
+fn own_nodes(tree: &Tree) -> usize {
+    tree.nodes
+        .as_slice()
+        .iter()
+        .filter(|node| has_own(node))
+        .count()
 }
 
 /// The plan of a wave within the ranges of budget and workers, if the check accepts its tree with its bound.
@@ -247,7 +310,7 @@ fn is_as(planned: &Planned, case: &Case) -> bool {
     planned.cost == case.cost
         && planned.bound == case.bound
         && proven == (case.bound == case.cost)
-        && has_root(&planned.tree, case.own)
+        && own_nodes(&planned.tree) == case.own
         && are_exactly(&planned.batching, case.batches)
 }
 
@@ -271,11 +334,11 @@ fn plans_have_the_batches_and_bounds_of_their_waves(rt: HostRuntime) {
     assert_eq!(rt; wrong_plan(&rt, rt.alloc()), None);
 }
 
-/// Bounds of plans of the orders that share slots, whatever the budget, for the capacities from 1 on.
-const BOUNDS: &[u64] = &[132, 80, 62, 48, 38, 38, 38, 38];
+/// What plans of the orders that share slots cost, for the capacities from 1 on.
+const COSTS: &[u64] = &[132, 86, 62, 50, 38, 38, 38, 38];
 
-/// The bound of a plan that the budget pays for, whose root has duals of its own or shows it to be cheapest.
-fn bound_with<R: Threads + Sync>(
+/// What a plan costs that is proven with the greatest budget.
+fn proven_cost<R: Threads + Sync>(
     rt: &R,
     alloc: Global,
     capacity: u32,
@@ -283,16 +346,16 @@ fn bound_with<R: Threads + Sync>(
 ) -> Option<u64> {
     let wave = wave_of(alloc, SHARED)?;
     let planned = checked_plan(rt, alloc, &wave, capacity, u64::MAX, workers)?;
-    let shown = planned.state == State::Proven || has_root(&planned.tree, true);
-    shown.then_some(planned.bound)
+    (planned.state == State::Proven).then_some(planned.cost)
 }
 
-fn wrong_bound<R: Threads + Sync>(rt: &R, alloc: Global) -> Option<usize> {
-    for (place, bound) in BOUNDS.iter().enumerate() {
+fn wrong_cost<R: Threads + Sync>(rt: &R, alloc: Global) -> Option<(usize, Option<u64>)> {
+    for (place, cost) in COSTS.iter().enumerate() {
         let capacity = place as u32 + 1;
         for workers in [1, 16] {
-            if bound_with(rt, alloc, capacity, workers) != Some(*bound) {
-                return Some(place);
+            let found = proven_cost(rt, alloc, capacity, workers);
+            if found != Some(*cost) {
+                return Some((place, found));
             }
         }
     }
@@ -300,6 +363,6 @@ fn wrong_bound<R: Threads + Sync>(rt: &R, alloc: Global) -> Option<usize> {
 }
 
 #[test]
-fn paid_plans_of_orders_that_share_slots_are_accepted(rt: HostRuntime) {
-    assert_eq!(rt; wrong_bound(&rt, rt.alloc()), None);
+fn plans_of_orders_that_share_slots_are_proven(rt: HostRuntime) {
+    assert_eq!(rt; wrong_cost(&rt, rt.alloc()), None);
 }

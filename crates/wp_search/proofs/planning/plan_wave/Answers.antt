@@ -1,9 +1,21 @@
-use Rattle.std.proofs.Common.{refl}
-use Rattle.wp_search.proofs.GoodPlans.{good_plan}
+use Rattle.std.proofs.Common.{sum}
+use Rattle.wp_search.proofs.GoodPlans.{good_result}
+use Rattle.wp_search.proofs.Searches.{search_has_bound, start_search}
 use Rattle.wp_search.proofs.planning.plan_wave.Goals as goal
+
+pub search_on-requires-clause-start : goal.search_on-requires-clause-start
+search_on-requires-clause-start g c κs within =
+    start_search c.args.wave.now c.args.capacity c.args.budget (sum c.as_slice.result.now) c.best_of.result c.best_of.ensures.best
+
+pub unwrap-bound-requires : goal.unwrap-bound-requires
+unwrap-bound-requires g c =
+    rw (c.bound.ensures, c.bound_of-above.ensures, c.as_slice-2.ensures.value) (search_has_bound c.args.wave.now c.args.capacity
+    (sum c.in_ok-shares.shares.items) c.in_ok-search.search.tree c.requires.some (rw c.as_slice.ensures.value at c.in_ok-search.ensures.search.right))
 
 pub returns : goal.returns
 returns g c =
-    good_plan c.args.wave.now c.args.capacity c.args.budget _ c.in_ok-root.root c.requires.some c.in_ok-batching.ensures.batching
-    c.in_ok-batching.ensures.listed c.in_ok-batching.ensures.joined c.cost_of-cost.ensures c.in_ok-root.ensures c.in_ok-tree.ensures refl
-    c.state_of-state.ensures
+    good_result c.args.wave.now c.args.capacity c.in_ok-shares.shares.items c.in_ok-search.search c.unwrap-bound.result c.requires.some
+    c.in_ok-shares.ensures.shares (rw c.as_slice.ensures.value at c.in_ok-search.ensures.search)
+    (rw (c.bound.ensures, c.bound_of-above.ensures, c.as_slice-2.ensures.value) at c.unwrap-bound.ensures) c.args.budget c.plan_of.result
+    (rw c.as_slice.ensures.value at c.in_ok-search.ensures.ended) c.in_ok-search.ensures.budget c.plan_of.ensures.batching c.plan_of.ensures.cost
+    c.plan_of.ensures.nodes c.plan_of.ensures.bound c.plan_of.ensures.state

@@ -8,7 +8,7 @@ use Rattle.wp_search.proofs.raise.raise_order.Goals as goal
 pub unwrap-priced-requires : goal.unwrap-priced-requires
 unwrap-priced-requires g c =
     found_some _ c.in_ok-least_slack.field-0 c.in_ok-least_slack.ensures.none
-    (some_candidate c.args.wave.now c.args.pairs.now c.args.pairs.now.capacity c.args.order c.requires.pairs c.requires.some c.requires.known)
+    (some_candidate c.args.pairs.now c.args.order c.requires.held (omega (arith, c.requires.known, c.requires.pairs)))
 
 pub room_of-requires-clause-within : goal.room_of-requires-clause-within
 room_of-requires-clause-within g c =

@@ -1,0 +1,91 @@
+-- How many nodes of a right tree have duals of their own: fewer than a power of two, and so a budget that is large enough pays for all of them.
+use Rattle.std.proofs.Common.{◌≡◌, ℕ, zero, suc, ◌+◌, ◌-◌, ◌*◌, ◌/◌, ◌^◌, ◌<◌, ◌≤◌, Bool, true, false, cond, List, [], ◌∷◌, ◌++◌, length, arith, ap}
+use Rattle.std.proofs.Common.{length-append, mul-le-mul_right}
+use Rattle.std.specs.Prelude.{Option, Some, None}
+use Rattle.std.proofs.Math.Nat.{two-pow-succ}
+use Rattle.std.proofs.lemmas.List.Sums.{sum_by-append, sum_by-cons}
+use Rattle.std.proofs.lemmas.Nat.{pow_pos}
+use Rattle.wp_pairs.specs.declared.pair.Pair.{Pair}
+use Rattle.wp_pairs.specs.Permitted.{AreUndecided, Pairing}
+use Rattle.wp_batch.specs.Batchings.{no_pairs}
+use Rattle.wp_batch.specs.Waves.{WavePicks}
+use Rattle.wp_cert.specs.Paths.{IsPath}
+use Rattle.wp_cert.specs.Trees.{IsBoundOf, IsRight, dead, kept, leaf, split, with_pair}
+use Rattle.wp_cert.specs.declared.tree.Node.{Node}
+use Rattle.wp_cert.specs.declared.tree.Node.TheVariants as node
+use Rattle.wp_search.specs.Counts.{has_own, own_nodes}
+use Rattle.wp_search.specs.Prices.{full, price}
+use Rattle.wp_search.proofs.PathLengths.{empty_path, longer_path, paths_are_short}
+
+-- one node and those that follow
+pub own_first : (here : Node) (rest : List Node) → own_nodes (here ∷ rest) ≡ cond (has_own here) 1 0 + own_nodes rest
+own_first here rest = sum_by-cons (λ (n : Node). cond (has_own n) 1 0) here rest
+
+-- some nodes and others behind them
+pub own_both : (before behind : List Node) → own_nodes (before ++ behind) ≡ own_nodes before + own_nodes behind
+own_both before behind = sum_by-append (λ (n : Node). cond (has_own n) 1 0) before behind
+
+-- so many pairs can still be added to a path
+pub record HasLeft (pairing : Pairing) (left : ℕ) : Type 0 where
+  pub path : IsPath pairing.orders pairing.capacity pairing.pairs
+  pub all : length pairing.pairs + left ≡ pairing.orders * (pairing.orders - 1) / 2
+
+-- at the root no pair was added
+pub root_left : (orders capacity : ℕ) → HasLeft (no_pairs orders capacity) (orders * (orders - 1) / 2)
+root_left orders capacity = record { path = empty_path orders capacity; all = omega arith }
+
+-- a path to which an undecided pair is added has one left before
+none_left : (pairing : Pairing) (first second : ℕ) → HasLeft pairing 0 → AreUndecided pairing first second → ⊥
+none_left pairing first second has undecided =
+    let new : Pair = record { first = first; second = second; together = true } in
+    let longer = paths_are_short pairing.orders pairing.capacity (pairing.pairs ++ new ∷ []) (longer_path pairing first second true has.path undecided) in
+    omega (arith, longer, has.all, length-append pairing.pairs (new ∷ []))
+
+one_less : (pairing : Pairing) (first second left : ℕ) (together : Bool) → HasLeft pairing (suc left) → AreUndecided pairing first second
+    → HasLeft (with_pair pairing first second together) left
+one_less pairing first second left together has undecided =
+    let new : Pair = record { first = first; second = second; together = together } in record {
+      path = longer_path pairing first second together has.path undecided;
+      all = omega (arith, has.all, length-append pairing.pairs (new ∷ []));
+    }
+
+-- a right tree has fewer nodes with duals of their own than this power of two
+pub few_own : (wave : WavePicks) (pairing : Pairing) (above left : ℕ) (nodes rest : List Node) (bound : Option ℕ) → HasLeft pairing left
+    → IsRight wave pairing above nodes rest bound → own_nodes nodes + 1 ≤ own_nodes rest + 2 ^ (left + 1)
+few_own wave pairing above left _ rest _ has kept = omega (arith, own_first (node.Leaf None) rest, pow_pos (left + 1))
+few_own wave pairing above left _ rest _ has (leaf {own} right) =
+    let e : left + 1 ≡ suc left = omega arith in
+    omega (arith, own_first (node.Leaf (Some own)) rest, ap (λ (k : ℕ). 2 ^ k) e, two-pow-succ left, pow_pos left)
+few_own wave pairing above left _ rest _ has (dead {order} is_dead) = omega (arith, own_first (node.Dead order) rest, pow_pos (left + 1))
+few_own wave pairing above zero _ rest _ has (split {first} {second} {own} {nodes} {between} {left} {right} own_right parted l r) =
+    absurd (none_left pairing first second has parted)
+few_own wave pairing above (suc less) _ rest _ has (split {first} {second} {own} {nodes} {between} {left} {right} own_right parted l r) =
+    let one = few_own wave (with_pair pairing first second true) _ less nodes between left (one_less pairing first second less true has parted) l in
+    let other = few_own wave (with_pair pairing first second false) _ less between rest right (one_less pairing first second less false has parted) r in
+    let e : suc less + 1 ≡ suc (less + 1) = omega arith in
+    omega (
+      arith,
+      own_first (node.Split first second (Some own)) nodes,
+      one,
+      other,
+      ap (λ (k : ℕ). 2 ^ k) e,
+      two-pow-succ (less + 1),
+    )
+
+-- so has a whole tree
+pub few_own_in_all : (wave : WavePicks) (capacity : ℕ) (nodes : List Node) (bound : ℕ) → IsBoundOf wave capacity nodes bound
+    → own_nodes nodes + 1 ≤ 2 ^ (length wave.orders * (length wave.orders - 1) / 2 + 1)
+few_own_in_all wave capacity nodes bound right =
+    let orders = length wave.orders in
+    let few = few_own wave (no_pairs orders capacity) right.0 (orders * (orders - 1) / 2) nodes [] (Some bound) (root_left orders capacity) right.2 in
+    omega (arith, few)
+
+-- a full budget isn't spent: where less than the price of a node is left after a right tree, the budget isn't full
+pub full_not_spent : (wave : WavePicks) (capacity : ℕ) (nodes : List Node) (bound budget left : ℕ) → IsBoundOf wave capacity nodes bound
+    → own_nodes nodes * price (length wave.orders) capacity + left ≡ budget → left < price (length wave.orders) capacity
+    → full (length wave.orders) capacity ≤ budget → ⊥
+full_not_spent wave capacity nodes bound budget left right paid short enough =
+    let orders = length wave.orders in
+    let cost = price orders capacity in
+    let few = mul-le-mul_right cost (few_own_in_all wave capacity nodes bound right) in
+    omega (arith, few, paid, short, enough)

@@ -1,0 +1,11 @@
+use Rattle.std.proofs.Common.{List, length, sym, subst}
+use Rattle.wp_pairs.specs.declared.pair.Pair.{Pair}
+use Rattle.wp_cert.specs.Paths.{pairing_of}
+use Rattle.wp_cert.proofs.BoundsHold.{shares_feasible}
+use Rattle.wp_duals.specs.Duals.{AreFeasible}
+use Rattle.wp_search.proofs.search.turn_at_root.Goals as goal
+
+pub take_turn-requires-clause-feasible : goal.take_turn-requires-clause-feasible
+take_turn-requires-clause-feasible g c κs within =
+    subst (λ (pairs : List Pair). AreFeasible c.args.wave.now (pairing_of (length c.args.wave.now.orders) c.args.capacity pairs) c.args.shares.now)
+    (sym c.new-path.ensures.items) (shares_feasible c.args.wave.now c.args.capacity c.args.shares.now c.requires.some c.requires.shares)

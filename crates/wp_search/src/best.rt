@@ -1,0 +1,38 @@
+ghost use Rattle.std.specs.Prelude.{◌≡◌, ◌≤◌, length};
+ghost use Rattle.wp_batch.specs.Batchings.{IsCost};
+ghost use Rattle.wp_search.specs.Searches.{IsBest};
+ghost use Rattle.wp_search.specs.Turns.{IsFound, IsProper};
+
+use crate::cost::cost_of;
+use wp_batch::{Batching, Wave};
+
+/// A batching of a wave, and what it costs in units of length.
+#[derive(Drop)]
+pub struct Best {
+    pub batching: Batching,
+    pub cost: u64,
+}
+
+/// A batching with its cost.
+pub fn best_of(wave: &Wave, capacity: u32, batching: Batching) -> Best
+    requires { IsProper wave.now capacity batching }
+    ensures best { IsBest wave.now capacity result }
+    ensures same { result.batching ≡ batching }
+{
+    let cost = cost_of(wave, capacity, &batching);
+    Best { batching, cost }
+}
+
+/// The cheaper of the best batching and one that was found, if one was.
+pub fn cheaper_of(wave: &Wave, capacity: u32, best: Best, found: Option<Batching>) -> Best
+    requires best { IsBest wave.now capacity best }
+    requires found { IsFound wave.now capacity found }
+    ensures best { IsBest wave.now capacity result }
+    ensures no_dearer { result.cost ≤ best.cost }
+{
+    let Some(batching) = found else {
+        return best;
+    };
+    let next = best_of(wave, capacity, batching);
+    if next.cost < best.cost { next } else { best }
+}

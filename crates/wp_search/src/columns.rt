@@ -1,0 +1,141 @@
+ghost use Rattle.std.specs.Prelude.{◌≡◌, ◌≢◌, ◌<◌, ◌≤◌, ◌^◌, [], All, IfOk, IsTrue, length};
+
+use crate::items::total_in;
+use crate::visit::{FEW, Find, slack_of};
+use std::alloc::Global;
+use wp_batch::Wave;
+use wp_master::{Column, Pool};
+use wp_model::Memory;
+use wp_pairs::{Batch, Pairs};
+
+// Whether a column can stand in a pool of so many orders.
+fn is_column(orders: u32, column: &Column) -> bool
+    ensures filled { IsTrue result → column.now.batch ≢ [] }
+    ensures known { IsTrue result → All (λ order. order < orders) column.now.batch }
+    ensures short { IsTrue result → column.now.length < 2 ^ 40 }
+{
+    for order in orders..64 {
+        if column.batch.has(order) {
+            return false;
+        }
+    }
+    column.batch.len() > 0 && column.length < 1 << 40
+}
+
+/// The pool of these columns.
+pub fn pool_of(alloc: Global, wave: &Wave, columns: &[Column]) -> Result<Pool, Memory> {
+    let orders = wave.orders();
+    let mut pool = Pool::new(alloc, orders)?;
+    for column in columns {
+        if is_column(orders, column) {
+            pool.add(column.batch, column.length)?;
+        }
+    }
+    Ok(pool)
+}
+
+/// Adds a column, where none of the columns has its batch, and tells whether it was added.
+pub fn add_new(columns: &mut Vec<Column>, column: Column) -> Result<bool, Memory> {
+    if columns.iter().any(|known| known.batch.is(column.batch)) {
+        return Ok(false);
+    }
+    columns.push(column)?;
+    Ok(true)
+}
+
+// Adds the column of a batch, where the pairs permit it and it is new.
+fn add_batch(
+    wave: &Wave,
+    pairs: &Pairs,
+    columns: &mut Vec<Column>,
+    batch: Batch,
+) -> Result<(), Memory>
+    requires { pairs.now.orders ≡ length wave.now.orders }
+{
+    if pairs.permits(batch) {
+        let length = wave.batch_length(batch);
+        add_new(columns, Column { batch, length })?;
+    }
+    Ok(())
+}
+
+/// The columns of those of some batches that the pairs permit.
+pub fn permitted_columns(
+    alloc: Global,
+    wave: &Wave,
+    pairs: &Pairs,
+    batches: &[Batch],
+) -> Result<Vec<Column>, Memory>
+    requires { pairs.now.orders ≡ length wave.now.orders }
+{
+    let mut columns = Vec::new(alloc);
+    for batch in batches {
+        add_batch(wave, pairs, &mut columns, *batch)?;
+    }
+    Ok(columns)
+}
+
+/// Adds the column of each order with those alone that are to go with it.
+pub fn add_alone(wave: &Wave, pairs: &Pairs, columns: &mut Vec<Column>) -> Result<(), Memory>
+    requires { pairs.now.orders ≡ length wave.now.orders }
+{
+    for order in 0..pairs.orders() {
+        add_batch(wave, pairs, columns, pairs.joined_to(order))?;
+    }
+    Ok(())
+}
+
+/// Adds the best of the few batches that were found through each order, up to so many of them, and tells whether any is new.
+pub fn add_finds(columns: &mut Vec<Column>, finds: &[Find], most: usize) -> Result<bool, Memory> {
+    let mut added = false;
+    for (place, find) in finds.iter().enumerate() {
+        if place % FEW < most && add_found(columns, find)? {
+            added = true;
+        }
+    }
+    Ok(added)
+}
+
+// Adds a column that was found, if any was, and tells whether it is new.
+fn add_found(columns: &mut Vec<Column>, find: &Find) -> Result<bool, Memory> {
+    if find.batch.len() == 0 {
+        return Ok(false);
+    }
+    let column = Column {
+        batch: find.batch,
+        length: find.length,
+    };
+    add_new(columns, column)
+}
+
+/// The slacks of columns, raised, and their places, in ascending order.
+pub fn ranked(
+    alloc: Global,
+    columns: &[Column],
+    duals: &[u64],
+) -> Result<Vec<(u64, usize)>, Memory> {
+    let mut ranks = Vec::new(alloc);
+    for (place, column) in columns.iter().enumerate() {
+        let slack = slack_of(column.length, total_in(duals, column.batch));
+        ranks.push((slack, place))?;
+    }
+    ranks.sort()?;
+    Ok(ranks)
+}
+
+/// The columns of least slack, up to so many.
+pub fn nearest(
+    alloc: Global,
+    columns: &[Column],
+    duals: &[u64],
+    most: usize,
+) -> Result<Vec<Column>, Memory> {
+    let ranks = ranked(alloc, columns, duals)?;
+    let mut kept = Vec::new(alloc);
+    for (_, place) in ranks.iter().take(most) {
+        if let Some(column) = columns.get(*place) {
+            kept.push(*column)?;
+        }
+    }
+    Ok(kept)
+}

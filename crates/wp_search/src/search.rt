@@ -1,0 +1,197 @@
+ghost use Rattle.std.specs.Prelude.{◌≡◌, ◌+◌, ◌<◌, ◌≤◌, ◌⊎◌, ◌^◌, ℕ, Bool, IfOk, OnOk, Some, length, sum};
+ghost use Rattle.wp_batch.specs.Batchings.{no_pairs};
+ghost use Rattle.wp_duals.specs.Duals.{AreShares, units_of};
+ghost use Rattle.wp_search.specs.Branches.{HasBound, IsBranch, bound_of as least_of};
+ghost use Rattle.wp_search.specs.Prices.{price};
+ghost use Rattle.wp_search.specs.Raises.{AreDuals};
+ghost use Rattle.wp_search.specs.Searches.{HasEnded, IsBest, IsOnward, IsSearch};
+ghost use Rattle.wp_search.specs.Turns.{IsFound, IsProper, IsTurned};
+
+use crate::best::{Best, best_of, cheaper_of};
+use crate::branch::Branch;
+use crate::price::{pays, price_of};
+use crate::shares::bound_of;
+use crate::turn::{Turn, take_turn};
+use std::alloc::Global;
+use std::thread::Threads;
+use wp_batch::{Batching, Wave};
+use wp_model::Memory;
+
+/// A search for a plan: its tree, the best batching that it knows, what it may spend, and what it has spent.
+#[derive(Drop)]
+pub struct Search {
+    pub tree: Branch,
+    pub best: Best,
+    pub budget: u64,
+    pub spent: u64,
+}
+
+/// A search after a turn, and whether it goes on.
+#[derive(Drop)]
+pub struct Step {
+    pub search: Search,
+    pub goes_on: bool,
+}
+
+// A turn at the first leaf of the tree with the least bound.
+fn turn_at_root<R: Threads + Sync>(
+    rt: &R,
+    alloc: Global,
+    wave: &Wave,
+    capacity: u32,
+    shares: &[u64],
+    search: &mut Search,
+    bound: u64,
+    pays: bool,
+    workers: u32,
+) -> Result<Turn, Memory>
+    requires some { 1 ≤ capacity }
+    requires most { capacity ≤ 8 }
+    requires shares { AreShares wave.now capacity shares.now }
+    requires duals { AreDuals (length wave.now.orders) shares.now }
+    requires tree { IsBranch wave.now (no_pairs (length wave.now.orders) capacity) (sum shares.now) search.old.tree }
+    requires bound { least_of (units_of (sum shares.now)) search.old.tree ≡ Some bound }
+    requires some_workers { 1 ≤ workers }
+    requires most_workers { workers ≤ 16 }
+    ensures turned { IfOk result (IsTurned wave.now (no_pairs (length wave.now.orders) capacity) (sum shares.now) pays bound search.old.tree search.new.tree) }
+    ensures best { OnOk result (search.new.best ≡ search.old.best) }
+    ensures budget { OnOk result (search.new.budget ≡ search.old.budget) }
+    ensures spent { OnOk result (search.new.spent ≡ search.old.spent) }
+{
+    let mut path = Vec::new(alloc);
+    let columns = search.best.batching.as_slice();
+    let tree = &mut search.tree;
+    take_turn(
+        rt, alloc, wave, capacity, &mut path, shares, columns, tree, bound, pays, workers,
+    )
+}
+
+// A search after a node was paid for, at which a batching was found, or none.
+fn paid(wave: &Wave, capacity: u32, search: Search, found: Option<Batching>) -> Search
+    requires capacity { capacity ≤ 8 }
+    requires pays { search.spent + price (length wave.now.orders) capacity ≤ search.budget }
+    requires best { IsBest wave.now capacity search.best }
+    requires found { IsFound wave.now capacity found }
+    ensures best { IsBest wave.now capacity result.best }
+    ensures tree { result.tree ≡ search.tree }
+    ensures budget { result.budget ≡ search.budget }
+    ensures spent { result.spent ≡ search.spent + price (length wave.now.orders) capacity }
+{
+    let spent = search.spent + price_of(wave.orders(), capacity) as u64;
+    let best = cheaper_of(wave, capacity, search.best, found);
+    Search {
+        tree: search.tree,
+        best,
+        budget: search.budget,
+        spent,
+    }
+}
+
+// A search whose best batching is this.
+fn settled(wave: &Wave, capacity: u32, search: Search, batching: Batching) -> Search
+    requires { IsProper wave.now capacity batching }
+    ensures best { IsBest wave.now capacity result.best }
+    ensures same { result.best.batching ≡ batching }
+    ensures tree { result.tree ≡ search.tree }
+    ensures budget { result.budget ≡ search.budget }
+    ensures spent { result.spent ≡ search.spent }
+{
+    Search {
+        tree: search.tree,
+        best: best_of(wave, capacity, batching),
+        budget: search.budget,
+        spent: search.spent,
+    }
+}
+
+// A turn of the search, whose tree has this bound, which the best batching costs more than.
+fn take_step<R: Threads + Sync>(
+    rt: &R,
+    alloc: Global,
+    wave: &Wave,
+    capacity: u32,
+    shares: &[u64],
+    mut search: Search,
+    bound: u64,
+    workers: u32,
+) -> Result<Step, Memory>
+    requires some { 1 ≤ capacity }
+    requires most { capacity ≤ 8 }
+    requires shares { AreShares wave.now capacity shares.now }
+    requires duals { AreDuals (length wave.now.orders) shares.now }
+    requires search { IsSearch wave.now capacity (sum shares.now) search }
+    requires bound { least_of (units_of (sum shares.now)) search.tree ≡ Some bound }
+    requires some_workers { 1 ≤ workers }
+    requires most_workers { workers ≤ 16 }
+    ensures { IfOk result (λ step. IsOnward wave.now capacity (sum shares.now) search step.search step.goes_on) }
+{
+    let pays = pays(wave.orders(), capacity, search.budget - search.spent);
+    let turn = turn_at_root(
+        rt,
+        alloc,
+        wave,
+        capacity,
+        shares,
+        &mut search,
+        bound,
+        pays,
+        workers,
+    )?;
+    Ok(match turn {
+        Turn::Worked(found) => Step {
+            search: paid(wave, capacity, search, found),
+            goes_on: true,
+        },
+        Turn::Onward => Step {
+            search,
+            goes_on: true,
+        },
+        Turn::Spent => Step {
+            search,
+            goes_on: false,
+        },
+        Turn::Settled(batching) => Step {
+            search: settled(wave, capacity, search, batching),
+            goes_on: false,
+        },
+    })
+}
+
+/// Searches until the best batching costs the tree's bound, or the budget doesn't pay for a further node: of the leaves whose
+/// bound is the least the first takes a turn. Above the root stand the share duals. The workers, 1 to 16, are handed to the
+/// pricing.
+pub fn search_on<R: Threads + Sync>(
+    rt: &R,
+    alloc: Global,
+    wave: &Wave,
+    capacity: u32,
+    shares: &[u64],
+    start: Search,
+    workers: u32,
+) -> Result<Search, Memory>
+    requires some { 1 ≤ capacity }
+    requires most { capacity ≤ 8 }
+    requires shares { AreShares wave.now capacity shares.now }
+    requires duals { AreDuals (length wave.now.orders) shares.now }
+    requires start { IsSearch wave.now capacity (sum shares.now) start }
+    requires some_workers { 1 ≤ workers }
+    requires most_workers { workers ≤ 16 }
+    ensures search { IfOk result (IsSearch wave.now capacity (sum shares.now)) }
+    ensures budget { IfOk result (λ search. search.budget ≡ start.budget) }
+    ensures ended { IfOk result (HasEnded wave.now capacity (sum shares.now)) }
+{
+    let orders = wave.orders();
+    let above = bound_of(orders, shares);
+    let mut search = start;
+    loop {
+        let bound = search.tree.bound(orders, above).unwrap();
+        if search.best.cost <= bound {
+            return Ok(search);
+        }
+        let step = take_step(rt, alloc, wave, capacity, shares, search, bound, workers)?;
+        if !step.goes_on {
+            return Ok(step.search);
+        }
+        search = step.search;
+    }
+}

@@ -1,0 +1,330 @@
+ghost use Rattle.std.specs.Prelude.{◌≡◌, ◌<◌, ◌≤◌, ℕ, ◌++◌, ◌∷◌, [], ◌↔◌, IfOk, IsTrue, OnOk, Some, length, sum};
+ghost use Rattle.wp_cert.specs.Paths.{IsPath, pairing_of};
+ghost use Rattle.wp_cert.specs.Trees.{lower_of, with_pair};
+ghost use Rattle.wp_duals.specs.Duals.{AreFeasible, units_of};
+ghost use Rattle.wp_pairs.specs.Permitted.{AreUndecided};
+ghost use Rattle.wp_search.specs.Branches.{HasBound, IsBranch, IsCut, IsFreshSplit, IsWorked, bound_of as least_of, own_bound};
+ghost use Rattle.wp_search.specs.Raises.{AreDuals};
+ghost use Rattle.wp_search.specs.Turns.{IsTurned};
+ghost use Rattle.wp_search.specs.declared.branch.Branch.TheVariants as branches;
+
+use crate::branch::{Branch, Cut, lower_bound};
+use crate::choice::choose_pair;
+use crate::classes::class_batching;
+use crate::shares::bound_of;
+use crate::whole::better_batching;
+use crate::work::{Worked, work_node};
+use std::alloc::Global;
+use std::thread::Threads;
+use wp_batch::{Batching, Wave};
+use wp_cert::pairs_of;
+use wp_model::Memory;
+use wp_pairs::{Batch, Pair, Pairs};
+
+/// What a turn did at a leaf.
+#[derive(Drop)]
+pub enum Turn {
+    /// The leaf has duals of its own; a batching was found on the way, or none.
+    Worked(Option<Batching>),
+    /// The leaf is split, or dead.
+    Onward,
+    /// Nothing: the budget doesn't pay for the leaf's own duals.
+    Spent,
+    /// Nothing: all pairs are decided there, so this batching costs the leaf's bound.
+    Settled(Batching),
+}
+
+/// A subtree after a turn, and what the turn did.
+#[derive(Drop)]
+pub struct Turned {
+    pub branch: Branch,
+    pub turn: Turn,
+}
+
+// A turn at a leaf that keeps the duals of the node above.
+fn turn_kept<R: Threads + Sync>(
+    rt: &R,
+    alloc: Global,
+    wave: &Wave,
+    pairs: &Pairs,
+    above: &[u64],
+    columns: &[Batch],
+    pays: bool,
+    workers: u32,
+) -> Result<Turned, Memory>
+    requires some { 1 ≤ pairs.now.capacity }
+    requires pairs { pairs.now.orders ≡ length wave.now.orders }
+    requires duals { AreDuals (length wave.now.orders) above.now }
+    requires feasible { AreFeasible wave.now pairs.now above.now }
+    requires some_workers { 1 ≤ workers }
+    requires most_workers { workers ≤ 16 }
+    ensures { IfOk result (λ turned. IsTurned wave.now pairs.now (sum above.now) pays (units_of (sum above.now)) (branches.Leaf None) turned.branch turned.turn) }
+{
+    if let Some(order) = pairs.dead() {
+        return Ok(Turned {
+            branch: Branch::Dead(order),
+            turn: Turn::Onward,
+        });
+    }
+    if !pays {
+        return Ok(Turned {
+            branch: Branch::Leaf(None),
+            turn: Turn::Spent,
+        });
+    }
+    let worked = work_node(rt, alloc, wave, pairs, above, columns, workers)?;
+    let found = better_batching(alloc, wave, pairs.capacity(), worked.whole.as_slice())?;
+    Ok(Turned {
+        branch: Branch::Leaf(Some(worked)),
+        turn: Turn::Worked(found),
+    })
+}
+
+// A node that is split on a pair: below it are two leaves that keep its duals.
+fn split_on(
+    alloc: Global,
+    orders: u32,
+    first: u32,
+    second: u32,
+    worked: Worked,
+) -> Result<Branch, Memory>
+    requires few { orders ≤ 64 }
+    requires duals { AreDuals orders worked.own.duals }
+    ensures { IfOk result (IsFreshSplit (record { first = first; second = second; worked = worked; least = Some (own_bound worked) })) }
+{
+    let least = bound_of(orders, worked.own.duals.as_slice());
+    let together = Box::new(alloc, Branch::Leaf(None))?;
+    let apart = Box::new(alloc, Branch::Leaf(None))?;
+    let cut = Cut {
+        first,
+        second,
+        worked,
+        least: Some(least),
+    };
+    Ok(Branch::Split(cut, together, apart))
+}
+
+// A turn at a leaf with duals of its own.
+fn turn_worked<R: Threads + Sync>(
+    rt: &R,
+    alloc: Global,
+    wave: &Wave,
+    pairs: &Pairs,
+    worked: Worked,
+    pays: bool,
+    workers: u32,
+) -> Result<Turned, Memory>
+    requires some { 1 ≤ pairs.now.capacity }
+    requires pairs { pairs.now.orders ≡ length wave.now.orders }
+    requires worked { IsWorked wave.now pairs.now 0 worked }
+    requires some_workers { 1 ≤ workers }
+    requires most_workers { workers ≤ 16 }
+    ensures { IfOk result (λ turned. (above : ℕ) → above ≤ sum worked.own.duals
+        → IsTurned wave.now pairs.now above pays (own_bound worked) (branches.Leaf (Some worked)) turned.branch turned.turn) }
+{
+    match choose_pair(alloc, pairs, &worked)? {
+        Some((first, second)) => Ok(Turned {
+            branch: split_on(alloc, wave.orders(), first, second, worked)?,
+            turn: Turn::Onward,
+        }),
+        None => {
+            let batching = class_batching(alloc, wave, pairs, &worked.own)?;
+            Ok(Turned {
+                branch: Branch::Leaf(Some(worked)),
+                turn: Turn::Settled(batching),
+            })
+        }
+    }
+}
+
+// A turn at a leaf, at the end of a path of pairs.
+fn turn_leaf<R: Threads + Sync>(
+    rt: &R,
+    alloc: Global,
+    wave: &Wave,
+    capacity: u32,
+    path: &Vec<Pair>,
+    above: &[u64],
+    columns: &[Batch],
+    leaf: Option<Worked>,
+    pays: bool,
+    workers: u32,
+) -> Result<Turned, Memory>
+    requires some { 1 ≤ capacity }
+    requires most { capacity ≤ 8 }
+    requires path { IsPath (length wave.now.orders) capacity path.now.items }
+    requires duals { AreDuals (length wave.now.orders) above.now }
+    requires feasible { AreFeasible wave.now (pairing_of (length wave.now.orders) capacity path.now.items) above.now }
+    requires leaf { IsBranch wave.now (pairing_of (length wave.now.orders) capacity path.now.items) (sum above.now) (branches.Leaf leaf) }
+    requires some_workers { 1 ≤ workers }
+    requires most_workers { workers ≤ 16 }
+    ensures { IfOk result (λ turned. (least : ℕ) → least_of (units_of (sum above.now)) (branches.Leaf leaf) ≡ Some least
+        → IsTurned wave.now (pairing_of (length wave.now.orders) capacity path.now.items) (sum above.now) pays least (branches.Leaf leaf)
+        turned.branch turned.turn) }
+{
+    let pairs = pairs_of(wave.orders(), capacity, path);
+    match leaf {
+        None => turn_kept(rt, alloc, wave, &pairs, above, columns, pays, workers),
+        Some(worked) => turn_worked(rt, alloc, wave, &pairs, worked, pays, workers),
+    }
+}
+
+// The pair of a node that is split, to go together or apart.
+fn pair_of(cut: &Cut, together: bool) -> Pair
+    requires first { cut.now.first < 64 }
+    requires second { cut.now.second < 64 }
+    ensures { result ≡ record { first = cut.now.first; second = cut.now.second; together = together } }
+{
+    Pair {
+        first: cut.first as u8,
+        second: cut.second as u8,
+        together,
+    }
+}
+
+// Keeps the least bound below a node that is split.
+fn keep_least(orders: u32, cut: &mut Cut, together: &Branch, apart: &Branch)
+    requires few { orders ≤ 64 }
+    requires duals { AreDuals orders cut.old.worked.own.duals }
+    requires together { HasBound orders together.now }
+    requires apart { HasBound orders apart.now }
+    ensures { cut.new ≡ record {
+      first = cut.old.first;
+      second = cut.old.second;
+      worked = cut.old.worked;
+      least = lower_of (least_of (own_bound cut.old.worked) together.now) (least_of (own_bound cut.old.worked) apart.now);
+    } }
+{
+    let above = bound_of(orders, cut.worked.own.duals.as_slice());
+    cut.least = lower_bound(together.bound(orders, above), apart.bound(orders, above));
+}
+
+// Whether the first leaf with the least bound is below a node where its pair goes together.
+fn is_together(orders: u32, cut: &Cut, together: &Branch, least: u64) -> bool
+    requires few { orders ≤ 64 }
+    requires duals { AreDuals orders cut.now.worked.own.duals }
+    requires together { HasBound orders together.now }
+    ensures { IsTrue result ↔ (least_of (own_bound cut.now.worked) together.now ≡ Some least) }
+{
+    let above = bound_of(orders, cut.worked.own.duals.as_slice());
+    together.bound(orders, above) == Some(least)
+}
+
+/// A turn at the first leaf of a subtree, in preorder, whose bound is the least. The subtree is at the end of a path of pairs, below
+/// a node with these duals and columns; where the budget doesn't pay for a node, none gets duals of its own. After `Memory`,
+/// which comes only where memory is wanting, nothing is said of the subtree.
+#[cycle(turns)]
+pub fn take_turn<R: Threads + Sync>(
+    rt: &R,
+    alloc: Global,
+    wave: &Wave,
+    capacity: u32,
+    path: &mut Vec<Pair>,
+    above: &[u64],
+    columns: &[Batch],
+    branch: &mut Branch,
+    least: u64,
+    pays: bool,
+    workers: u32,
+) -> Result<Turn, Memory>
+    requires some { 1 ≤ capacity }
+    requires most { capacity ≤ 8 }
+    requires path { IsPath (length wave.now.orders) capacity path.old.items }
+    requires duals { AreDuals (length wave.now.orders) above.now }
+    requires feasible { AreFeasible wave.now (pairing_of (length wave.now.orders) capacity path.old.items) above.now }
+    requires branch { IsBranch wave.now (pairing_of (length wave.now.orders) capacity path.old.items) (sum above.now) branch.old }
+    requires least { least_of (units_of (sum above.now)) branch.old ≡ Some least }
+    requires some_workers { 1 ≤ workers }
+    requires most_workers { workers ≤ 16 }
+    ensures turned { IfOk result (IsTurned wave.now (pairing_of (length wave.now.orders) capacity path.old.items) (sum above.now) pays least branch.old
+        branch.new) }
+    ensures path { OnOk result (path.new.items ≡ path.old.items) }
+{
+    match branch {
+        Branch::Split(cut, together, apart) => {
+            let orders = wave.orders();
+            if is_together(orders, cut, together, least) {
+                let pair = pair_of(cut, true);
+                let turn = take_turn_below(
+                    rt,
+                    alloc,
+                    wave,
+                    capacity,
+                    path,
+                    pair,
+                    &cut.worked,
+                    together,
+                    least,
+                    pays,
+                    workers,
+                )?;
+                keep_least(orders, cut, together, apart);
+                return Ok(turn);
+            }
+            let pair = pair_of(cut, false);
+            let turn = take_turn_below(
+                rt,
+                alloc,
+                wave,
+                capacity,
+                path,
+                pair,
+                &cut.worked,
+                apart,
+                least,
+                pays,
+                workers,
+            )?;
+            keep_least(orders, cut, together, apart);
+            Ok(turn)
+        }
+        Branch::Leaf(leaf) => {
+            let leaf = leaf.take();
+            let turned = turn_leaf(
+                rt, alloc, wave, capacity, path, above, columns, leaf, pays, workers,
+            )?;
+            *branch = turned.branch;
+            Ok(turned.turn)
+        }
+        Branch::Dead(_) => unreachable!(),
+    }
+}
+
+// A turn in the subtree that is at the end of a path of pairs and one more, below a node with duals of its own.
+#[cycle(turns)]
+fn take_turn_below<R: Threads + Sync>(
+    rt: &R,
+    alloc: Global,
+    wave: &Wave,
+    capacity: u32,
+    path: &mut Vec<Pair>,
+    pair: Pair,
+    worked: &Worked,
+    branch: &mut Branch,
+    least: u64,
+    pays: bool,
+    workers: u32,
+) -> Result<Turn, Memory>
+    requires some { 1 ≤ capacity }
+    requires most { capacity ≤ 8 }
+    requires path { IsPath (length wave.now.orders) capacity path.old.items }
+    requires pair { AreUndecided (pairing_of (length wave.now.orders) capacity path.old.items) pair.first pair.second }
+    requires worked { IsWorked wave.now (pairing_of (length wave.now.orders) capacity path.old.items) 0 worked.now }
+    requires branch { IsBranch wave.now (pairing_of (length wave.now.orders) capacity (path.old.items ++ pair ∷ [])) (sum worked.now.own.duals)
+        branch.old }
+    requires least { least_of (own_bound worked.now) branch.old ≡ Some least }
+    requires some_workers { 1 ≤ workers }
+    requires most_workers { workers ≤ 16 }
+    ensures turned { IfOk result (IsTurned wave.now (pairing_of (length wave.now.orders) capacity (path.old.items ++ pair ∷ []))
+        (sum worked.now.own.duals) pays least branch.old branch.new) }
+    ensures path { OnOk result (path.new.items ≡ path.old.items) }
+{
+    path.push(pair)?;
+    let above = worked.own.duals.as_slice();
+    let columns = worked.columns.as_slice();
+    let turn = take_turn(
+        rt, alloc, wave, capacity, path, above, columns, branch, least, pays, workers,
+    )?;
+    path.pop();
+    Ok(turn)
+}
