@@ -1,5 +1,5 @@
-//! What a program meets outside itself: files that are read whole, a sink that takes text, and the
-//! answer where memory runs out.
+//! What a program meets outside itself: files that are read whole, a sink that takes text, a gate at
+//! which tests hold desks, and the answer where memory runs out.
 //!
 //! Files and a sink are traits with a written meaning: the bytes that each name holds, the bytes
 //! that a sink has taken, and counts of faults that never fall. Code that is generic over them is
@@ -11,6 +11,7 @@ mod calls;
 mod fault_count;
 mod files;
 mod flushing;
+mod gate;
 mod mem_files;
 mod mem_sink;
 mod never_fails;
@@ -23,6 +24,7 @@ mod writing;
 
 pub use files::{FileFault, Files};
 pub use flushing::Tells;
+pub use gate::{Gate, Moment, OpenGate};
 pub use mem_files::MemFiles;
 pub use mem_sink::MemSink;
 pub use never_fails::NeverFails;
