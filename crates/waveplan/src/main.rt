@@ -14,9 +14,10 @@ ghost use Rattle.wp_words.specs.Words.{job_said};
 use std::alloc::{AllocError, Global};
 use std::env::Args;
 use std::process::ExitCode;
+use std::sync::Wait;
 use std::thread::Threads;
 use std::{env, io};
-use wp_outside::{Files, RealFiles, Sink, StdSink, SystemFiles};
+use wp_outside::{Files, Gate, OpenGate, RealFiles, Sink, StdSink, SystemFiles};
 use wp_top::run;
 
 // Words that stand for those of which one isn't UTF-8: a mode without its options, which is refused as bad words.
@@ -60,12 +61,13 @@ fn words_given(alloc: Global, given: io::Result<Args>) -> Result<Vec<String>, Al
 }
 
 // The end of a run of these words, where there was memory for them.
-fn end_of<R: Threads + Sync, F: Files, K: Sink>(
+fn end_of<R: Threads + Wait + Sync, F: Files, K: Sink, G: Gate>(
     rt: &R,
     alloc: Global,
     words: Result<Vec<String>, AllocError>,
     files: &mut F,
     out: &mut K,
+    gate: &G,
 ) -> ExitCode
     ensures runs { IfOk words (λ words. Keeps (asked_by words.items)
         (course (F.holds files.old) (F.holds files.new) (F.faults files.old) (F.faults files.new) (K.taken out.old) (K.taken out.new) (K.faults out.old)
@@ -74,19 +76,20 @@ fn end_of<R: Threads + Sync, F: Files, K: Sink>(
         (K.taken out.new) (K.faults out.old) (K.faults out.new)) (exit_status result)) }
 {
     match words {
-        Ok(words) => ExitCode::from(run(rt, alloc, &words, files, out)),
+        Ok(words) => ExitCode::from(run(rt, alloc, &words, files, out, gate)),
         Err(AllocError) => ExitCode::from(5),
     }
 }
 
 // The end of the run that the system's words ask for: as `run` promises for the words after the program's name, or for
 // bad words where one isn't UTF-8; or 5, and nothing done, where there is no memory for the words.
-fn run_given<R: Threads + Sync, F: Files, K: Sink>(
+fn run_given<R: Threads + Wait + Sync, F: Files, K: Sink, G: Gate>(
     rt: &R,
     alloc: Global,
     given: io::Result<Args>,
     files: &mut F,
     out: &mut K,
+    gate: &G,
 ) -> ExitCode
     ensures given { IfOk given (λ given. EndsFor (asked_by (drop 1 (into_iter_items given)))
         (course (F.holds files.old) (F.holds files.new) (F.faults files.old) (F.faults files.new) (K.taken out.old) (K.taken out.new) (K.faults out.old)
@@ -98,11 +101,18 @@ fn run_given<R: Threads + Sync, F: Files, K: Sink>(
         (course (F.holds files.old) (F.holds files.new) (F.faults files.old) (F.faults files.new) (K.taken out.old) (K.taken out.new) (K.faults out.old)
         (K.faults out.new)) (exit_status result)) }
 {
-    end_of(rt, alloc, words_given(alloc, given), files, out)
+    end_of(rt, alloc, words_given(alloc, given), files, out, gate)
 }
 
 fn main(rt: HostRuntime) -> ExitCode {
     let mut files = RealFiles::new(SystemFiles::of(&rt));
     let mut out = StdSink::new(io::writer(&rt));
-    run_given(&rt, rt.alloc(), env::args(&rt), &mut files, &mut out)
+    run_given(
+        &rt,
+        rt.alloc(),
+        env::args(&rt),
+        &mut files,
+        &mut out,
+        &OpenGate,
+    )
 }

@@ -12,10 +12,11 @@ use crate::lines::{has_line, sink_of, test_lines, words_of};
 use crate::narrow::NarrowSink;
 use std::alloc::Global;
 use std::process::ExitCode;
+use std::sync::Wait;
 use std::thread::Threads;
 use std::{fs, io};
 use wp_model::Memory;
-use wp_outside::{Files, MemFiles, RealFiles, Sink, StdSink, SystemFiles, write_text};
+use wp_outside::{Files, MemFiles, OpenGate, RealFiles, Sink, StdSink, SystemFiles, write_text};
 use wp_top::{run, run_audit, run_check};
 use wp_words::{Job, read_words};
 
@@ -62,7 +63,7 @@ fn own_status<F: Files, K: Sink>(
 }
 
 /// The status of the run that the lines of a case ask for.
-fn status_of<R: Threads + Sync, F: Files, K: Sink>(
+fn status_of<R: Threads + Wait + Sync, F: Files, K: Sink>(
     rt: &R,
     alloc: Global,
     lines: &str,
@@ -73,12 +74,12 @@ fn status_of<R: Threads + Sync, F: Files, K: Sink>(
     if has_line(lines, "by itself") {
         own_status(alloc, &words, files, out)
     } else {
-        Ok(run(rt, alloc, &words, files, out))
+        Ok(run(rt, alloc, &words, files, out, &OpenGate))
     }
 }
 
 /// Runs a case over its files and into a sink, prints how that ends, and gives the status.
-fn run_into<R: Threads + Sync, K: Sink>(
+fn run_into<R: Threads + Wait + Sync, K: Sink>(
     rt: &R,
     alloc: Global,
     (name, lines): (&str, &str),
@@ -92,7 +93,7 @@ fn run_into<R: Threads + Sync, K: Sink>(
 }
 
 /// Runs a case with its write of this number failing.
-fn run_up_to<R: Threads + Sync, K: Sink>(
+fn run_up_to<R: Threads + Wait + Sync, K: Sink>(
     rt: &R,
     alloc: Global,
     (name, lines): (&str, &str),
@@ -106,7 +107,7 @@ fn run_up_to<R: Threads + Sync, K: Sink>(
 }
 
 /// Runs a case again and again, with the first write failing, the second, and so on, up to the run in which none fails.
-fn run_each<R: Threads + Sync, K: Sink>(
+fn run_each<R: Threads + Wait + Sync, K: Sink>(
     rt: &R,
     alloc: Global,
     case: (&str, &str),
@@ -122,7 +123,7 @@ fn run_each<R: Threads + Sync, K: Sink>(
 }
 
 /// Runs the words of a case over its files, and prints how that ends.
-fn run_over<R: Threads + Sync, K: Sink>(
+fn run_over<R: Threads + Wait + Sync, K: Sink>(
     rt: &R,
     alloc: Global,
     (name, lines): (&str, &str),
@@ -138,7 +139,7 @@ fn run_over<R: Threads + Sync, K: Sink>(
     }
 }
 
-fn run_case<R: Threads + Sync, F: Files, K: Sink>(
+fn run_case<R: Threads + Wait + Sync, F: Files, K: Sink>(
     rt: &R,
     alloc: Global,
     case: &str,
@@ -155,7 +156,7 @@ fn run_case<R: Threads + Sync, F: Files, K: Sink>(
 }
 
 /// Runs the cases of a text one after the other. What stands before the first holds for every case.
-fn run_cases<R: Threads + Sync, F: Files, K: Sink>(
+fn run_cases<R: Threads + Wait + Sync, F: Files, K: Sink>(
     rt: &R,
     alloc: Global,
     text: &str,
@@ -170,8 +171,8 @@ fn run_cases<R: Threads + Sync, F: Files, K: Sink>(
     Ok(())
 }
 
-/// Runs the cases of the file `cases.txt`. The handle for threads is that of `main`, which alone has it.
-fn run_file<R: Threads + Sync>(rt: &HostRuntime, threads: &R) -> Result<(), CaseFault> {
+/// Runs the cases of the file `cases.txt`. The handle for threads and for waiting is that of `main`, which alone has it.
+fn run_file<R: Threads + Wait + Sync>(rt: &HostRuntime, threads: &R) -> Result<(), CaseFault> {
     let Ok(text) = fs::read_to_string(rt, "cases.txt") else {
         return Err(CaseFault::File);
     };

@@ -1,3 +1,4 @@
 pub mod Stepping
 pub mod Askings
 pub mod Outcomes
+pub mod Sent

@@ -15,6 +15,7 @@ use Rattle.wp_model.specs.declared.entry.Entry.{Entry}
 use Rattle.wp_machine.specs.declared.outcome.Outcome.{Outcome}
 use Rattle.wp_machine.specs.declared.outcome.Outcome.TheVariants as outcome
 use Rattle.wp_machine.specs.declared.outcome.Refill.{Refill}
+use Rattle.wp_machine.specs.declared.outcome.WaveHolds.{WaveHolds}
 
 -- all that the wave of a name holds in a state, by order and then by row
 abbrev pub wave_holds : ℕ → State → List ℕ → Outcome
@@ -74,6 +75,16 @@ refill_in (outcome.Refilled refill) = refill ∷ []
 -- the refills of a history, in the order of its entries
 abbrev pub refills_of : History → List Refill
 refills_of history = flat_map refill_in (outcomes_from history.opening 0 (opening_state history.opening) history.entries)
+
+-- the wave that a step sends out, if it sends one out
+abbrev pub released_in : Outcome → List WaveHolds
+released_in outcome.Plain = []
+released_in (outcome.Released released) = released ∷ []
+released_in (outcome.Refilled refill) = []
+
+-- the waves that went out in a history, in the order of its entries
+abbrev pub released_of : History → List WaveHolds
+released_of history = flat_map released_in (outcomes_from history.opening 0 (opening_state history.opening) history.entries)
 
 -- an outcome tells the holds of a wave that went out
 abbrev pub tells_holds : Outcome → Bool

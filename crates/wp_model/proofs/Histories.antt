@@ -1,6 +1,6 @@
 -- Histories grow answer by answer.
 use Rattle.std.proofs.Common.{◌≡◌, ◌∙◌, refl, ℕ, suc, ◌+◌, List, [], ◌∷◌, ◌++◌, length, arith, add-zero}
-use Rattle.wp_model.specs.History.{History, IsLegal, IsLegalFrom, answered, answered_all, next_entry, state_after, state_from}
+use Rattle.wp_model.specs.History.{History, IsLegal, IsLegalFrom, answered, next_entry, state_after, state_from}
 use Rattle.wp_model.specs.Opening.{Opening}
 use Rattle.wp_model.specs.State.{State, opening_state}
 use Rattle.wp_model.specs.Step.{step}
@@ -36,14 +36,3 @@ legal_more opening number state (first ∷ entries) entry legal numbered replied
 pub answered_is_legal : (history : History) (desk : ℕ) (command : Command) → IsLegal history → IsLegal (answered history desk command)
 answered_is_legal history desk command legal =
     legal_more history.opening 0 (opening_state history.opening) history.entries (next_entry history desk command) legal (omega arith) refl
-
--- so is one with many
-pub all_answered_is_legal : (history : History) (desk : ℕ) (commands : List Command) → IsLegal history → IsLegal (answered_all history desk commands)
-all_answered_is_legal history desk [] legal = legal
-all_answered_is_legal history desk (command ∷ commands) legal =
-    all_answered_is_legal (answered history desk command) desk commands (answered_is_legal history desk command legal)
-
--- the opening stays
-pub answered_all-opening : (history : History) (desk : ℕ) (commands : List Command) → (answered_all history desk commands).opening ≡ history.opening
-answered_all-opening history desk [] = refl
-answered_all-opening history desk (command ∷ commands) = answered_all-opening (answered history desk command) desk commands

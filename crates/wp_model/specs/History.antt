@@ -1,5 +1,5 @@
 -- Legal histories.
-use Rattle.std.specs.Prelude.{◌≡◌, ℕ, ◌+◌, ◌==◌, ⊤, List, [], ◌∷◌, ◌++◌, if◌then◌else◌, length, map}
+use Rattle.std.specs.Prelude.{◌≡◌, ℕ, ◌+◌, ◌==◌, ⊤, List, [], ◌∷◌, ◌++◌, if◌then◌else◌, length}
 use Rattle.wp_model.specs.Opening.{Opening}
 use Rattle.wp_model.specs.State.{State, opening_state}
 use Rattle.wp_model.specs.Step.{step}
@@ -47,15 +47,6 @@ answered history desk command = record history { entries = history.entries ++ ne
 -- nothing was answered yet
 abbrev pub opened : Opening → History
 opened opening = record { opening = opening; entries = [] }
-
--- the commands of entries, in order
-abbrev pub commands_of : List Entry → List Command
-commands_of entries = map (λ entry. entry.command) entries
-
--- the history in which one desk gives these commands, after another history
-abbrev pub answered_all : History → ℕ → List Command → History
-answered_all history desk [] = history
-answered_all history desk (command ∷ commands) = answered_all (answered history desk command) desk commands
 
 -- what a desk asks for, command by command
 pub record Script : Type 0 where

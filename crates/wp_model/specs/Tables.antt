@@ -2,7 +2,7 @@
 use Rattle.std.specs.Prelude.{ℕ, ◌≡◌, ◌+◌, ◌<◌, ◌≤◌, ◌==◌, List, [], ◌∷◌, length, Option, Some, None, if◌then◌else◌, slice_get, IfSome, IsTrue}
 use Rattle.std.specs.List.{All, sum_by}
 use Rattle.wp_model.specs.History.{Script}
-use Rattle.wp_model.specs.Limits.{most_commands, most_file_orders, most_places, most_rows}
+use Rattle.wp_model.specs.Limits.{greatest_desk, most_commands, most_file_orders, most_places, most_rows}
 use Rattle.wp_model.specs.Location.{is_before}
 use Rattle.wp_model.specs.Name.{is_name}
 use Rattle.wp_model.specs.Opening.{IsOrder, IsStockRow, Opening, Order, Stock}
@@ -47,9 +47,10 @@ pub record IsReadOpening (opening : Opening) : Type 0 where
   pub stock : IsReadStock opening.stock
   pub orders : AreReadOrders opening.stock.articles opening.orders
 
--- the scripts of desks 1, 2 and so on: of one desk, not too many commands, and each is plain and names names
+-- the scripts of desks 1, 2 and so on, of one desk at least: not too many commands together, and each is plain and names names
 pub record AreReadScripts (scripts : List Script) : Type 0 where
-  pub desks : length scripts ≡ 1
+  pub some : 1 ≤ length scripts
+  pub few : length scripts ≤ greatest_desk
   pub numbered : (i : ℕ) → IfSome (slice_get scripts i) (λ script. script.desk ≡ i + 1)
   pub most : sum_by (λ script. length script.commands) scripts ≤ most_commands
   pub plain : All (λ script. All (λ command. IsTrue (is_plain command)) script.commands) scripts

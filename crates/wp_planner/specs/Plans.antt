@@ -1,13 +1,33 @@
 -- Plans of waves that went out.
+use Rattle.std.specs.Prelude.{◌≤◌, ◌^◌, ◌↔◌, Option, IfSome, IsSome}
 use Rattle.wp_model.specs.Opening.{Stock}
 use Rattle.wp_model.specs.Warehouse.{Layout}
 use Rattle.wp_machine.specs.declared.outcome.WaveHolds.{WaveHolds}
 use Rattle.wp_search.specs.Plans.{IsGoodPlan}
-use Rattle.wp_planner.specs.Released.{IsWaveOf}
+use Rattle.wp_planner.specs.Released.{IsReleased, IsWaveOf}
 use Rattle.wp_planner.specs.declared.planner.Terms.{Terms}
 use Rattle.wp_planner.specs.declared.planner.WavePlan.{WavePlan}
+
+-- a capacity, a budget and a number of workers within their ranges
+pub record AreTerms (terms : Terms) : Type 0 where
+  pub some_capacity : 1 ≤ terms.capacity
+  pub most_capacity : terms.capacity ≤ 8
+  pub budget : terms.budget ≤ 10 ^ 18
+  pub some_workers : 1 ≤ terms.workers
+  pub most_workers : terms.workers ≤ 16
 
 -- a good plan of the wave that picks where the one that went out holds units
 pub record IsPlanOf (layout : Layout) (stock : Stock) (released : WaveHolds) (terms : Terms) (plan : WavePlan) : Type 0 where
   pub wave : IsWaveOf layout stock released plan.wave
   pub good : IsGoodPlan plan.wave terms.capacity terms.budget plan.planned
+
+-- there is a plan of a wave exactly where it is one that goes out, and it is a good one
+pub record IsPlanFor (layout : Layout) (stock : Stock) (terms : Terms) (wave : WaveHolds) (plan : Option WavePlan) : Type 0 where
+  pub there : IsSome plan ↔ IsReleased stock wave
+  pub good : IfSome plan (IsPlanOf layout stock wave terms)
+
+-- what the waves of a day are planned with
+pub record DayTerms : Type 0 where
+  pub layout : Layout
+  pub stock : Stock
+  pub terms : Terms

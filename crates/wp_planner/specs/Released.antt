@@ -1,5 +1,5 @@
 -- Waves that went out, and where their orders pick.
-use Rattle.std.specs.Prelude.{◌≡◌, ℕ, ◌<◌, ◌≤◌, ◌↔◌, All, Contains, length}
+use Rattle.std.specs.Prelude.{◌≡◌, ℕ, ◌<◌, ◌≤◌, ◌↔◌, List, All, Contains, length}
 use Rattle.wp_model.specs.HoldLists.{IsHoldWithin, Rises}
 use Rattle.wp_model.specs.Limits.{most_wave_orders}
 use Rattle.wp_model.specs.Opening.{Stock}
@@ -10,6 +10,10 @@ use Rattle.wp_machine.specs.declared.outcome.WaveHolds.{WaveHolds}
 use Rattle.wp_batch.specs.Waves.{WavePicks, picks_of}
 use Rattle.wp_planner.specs.Slots.{HoldsAt, slot_at}
 
+-- a hold is for an order
+abbrev pub HasHold : List Hold → ℕ → Type 0
+HasHold holds order = (hold : Hold) × Contains holds hold × (hold.order ≡ order)
+
 -- A wave that went out has 1 to 64 orders, each of which holds units. All that it holds is held for one of them in a row of the stock, and is listed by
 -- order and then by row.
 pub record IsReleased (stock : Stock) (released : WaveHolds) : Type 0 where
@@ -17,7 +21,7 @@ pub record IsReleased (stock : Stock) (released : WaveHolds) : Type 0 where
   pub most : length released.orders ≤ most_wave_orders
   pub within : All (IsHoldWithin (length released.orders) (length stock.rows)) released.holds
   pub rise : Rises released.holds
-  pub filled : (order : ℕ) → order < length released.orders → (hold : Hold) × Contains released.holds hold × (hold.order ≡ order)
+  pub filled : (order : ℕ) → order < length released.orders → HasHold released.holds order
 
 -- each row of the stock lies at a slot of the layout
 abbrev pub LiesIn : Layout → Stock → Type 0

@@ -1,15 +1,20 @@
 //! The plan of a wave that went out: its batches and their bound, and its sheet.
 #![tactic(auto)]
 
+mod day_planner;
 mod laws;
+mod leave;
 mod planner;
+mod released;
 mod sheet;
 mod slots;
 mod tours;
 mod waves;
 
+pub use day_planner::DayPlanner;
 pub use laws::waves_that_go_out_are_filled;
 pub use planner::{Terms, WavePlan, plan_of};
+pub use released::is_released;
 pub use sheet::print_sheet;
 pub use waves::wave_of;
 

@@ -1,5 +1,5 @@
-ghost use Rattle.std.specs.Prelude.{◌≤◌, ◌^◌, IfOk};
-ghost use Rattle.wp_planner.specs.Plans.{IsPlanOf};
+ghost use Rattle.std.specs.Prelude.{◌≤◌, IfOk};
+ghost use Rattle.wp_planner.specs.Plans.{AreTerms, IsPlanOf};
 ghost use Rattle.wp_planner.specs.Released.{IsReleased, LiesIn};
 
 use crate::waves::wave_of;
@@ -70,11 +70,7 @@ pub fn plan_of<R: Threads + Sync>(
     released: &WaveHolds,
     terms: &Terms,
 ) -> Result<WavePlan, Memory>
-    requires some { 1 ≤ terms.now.capacity }
-    requires most { terms.now.capacity ≤ 8 }
-    requires budget { terms.now.budget ≤ 10 ^ 18 }
-    requires some_workers { 1 ≤ terms.now.workers }
-    requires most_workers { terms.now.workers ≤ 16 }
+    requires terms { AreTerms terms.now }
     requires released { IsReleased stock.now released.now }
     requires lies { LiesIn layout.now stock.now }
     ensures { IfOk result (IsPlanOf layout.now stock.now released.now terms.now) }

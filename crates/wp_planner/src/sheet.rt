@@ -2,7 +2,7 @@ ghost use Rattle.std.specs.Prelude.{◌≡◌, ◌≤◌, ◌<◌, ◌++◌, All
 ghost use Rattle.wp_model.specs.Warehouse.{Layout as Block};
 ghost use Rattle.wp_cert.specs.TextData.{HaveDualsWithin};
 ghost use Rattle.wp_sheets.specs.Picks.{AreSingle};
-ghost use Rattle.wp_planner.specs.Plans.{IsPlanOf};
+ghost use Rattle.wp_planner.specs.Plans.{AreTerms, IsPlanOf};
 ghost use Rattle.wp_planner.specs.Released.{IsReleased};
 ghost use Rattle.wp_planner.specs.Sheets.{AreParts, GrowsBy, IsPart, IsSheet, IsShortestTour, certificate_line, is_open as is_open_state, plan_line};
 
@@ -141,8 +141,7 @@ pub fn print_sheet(
     plan: &WavePlan,
     cancelled_later: bool,
 ) -> Result<(), Memory>
-    requires some { 1 ≤ terms.now.capacity }
-    requires most { terms.now.capacity ≤ 8 }
+    requires terms { AreTerms terms.now }
     requires released { IsReleased stock.now released.now }
     requires plan { (layout : Block) × IsPlanOf layout stock.now released.now terms.now plan.now }
     ensures { IfOk result (λ _. GrowsBy (IsSheet stock.now released.now terms.now plan.now cancelled_later) text.old.items text.new.items) }

@@ -4,11 +4,12 @@ ghost use Rattle.wp_model.specs.Warehouse.{IsSlot};
 ghost use Rattle.wp_planner.specs.Released.{IsReleased, LiesIn};
 ghost use Rattle.wp_planner.specs.Slots.{slot_at};
 
-use crate::{Terms, plan_of, print_sheet, wave_of};
+use crate::{DayPlanner, Terms, plan_of, print_sheet, wave_of};
 use std::alloc::Global;
 use std::test::Fail;
-use std::thread::Threads;
+use std::thread::{Threads, join};
 use wp_batch::Wave;
+use wp_desk::Planner;
 use wp_graph::{Layout, Point};
 use wp_machine::WaveHolds;
 use wp_model::{Hold, Holds, Name, Names, StockRow};
@@ -148,5 +149,45 @@ fn the_smallest_wave_has_its_sheet(rt: HostRuntime) -> Result<(), Fail> {
     let layout = Layout::new(3, 4, 2, 1, 5, 1).ok_or("no layout")?;
     let sheet = smallest_sheet(&rt, rt.alloc(), &layout)?;
     assert!(rt; sheet.as_slice() == SHEET.as_bytes());
+    Ok(())
+}
+
+/// A wave with no order.
+fn empty(alloc: Global) -> Result<WaveHolds, Fail> {
+    let wave = Name::new(b"W2").ok_or("no name")?;
+    Ok(WaveHolds {
+        number: 2,
+        wave,
+        orders: Names::of(Vec::new(alloc)),
+        holds: Holds::of(Vec::new(alloc)),
+    })
+}
+
+/// Whether two threads that share the planner of a day, in a layout, have plans of a wave.
+fn have_plans<R: Threads + Sync>(
+    rt: &R,
+    alloc: Global,
+    layout: &Layout,
+    wave: &WaveHolds,
+) -> Result<(bool, bool), Fail> {
+    let stock = stock_of(alloc, layout)?;
+    if !lie_in(layout, stock.as_rows()) {
+        return Err("no stock".into());
+    }
+    let planner = DayPlanner::of(rt, layout, &stock, TERMS);
+    let (one, other) = join(
+        rt,
+        || planner.plan(alloc, wave),
+        || planner.plan(alloc, wave),
+    );
+    Ok((one?.is_some(), other?.is_some()))
+}
+
+#[test]
+fn a_wave_has_a_plan_exactly_where_it_goes_out(rt: HostRuntime) -> Result<(), Fail> {
+    let alloc = rt.alloc();
+    let layout = Layout::new(3, 4, 2, 1, 5, 1).ok_or("no layout")?;
+    assert!(rt; have_plans(&rt, alloc, &layout, &smallest(alloc)?)? == (true, true));
+    assert!(rt; have_plans(&rt, alloc, &layout, &empty(alloc)?)? == (false, false));
     Ok(())
 }

@@ -1,6 +1,6 @@
 -- The fields of a command, one after the other.
 use Rattle.std.proofs.Common.{◌≡◌, refl, ap, List, [], ◌∷◌, ◌++◌, ℕ, Result, Ok, Err, append_assoc, sym, true}
-use Rattle.wp_tables.specs.DeskFile.{command_in_fields, command_of, desk_read, names_read, word_read}
+use Rattle.wp_tables.specs.DeskFile.{asked_by, command_in_fields, command_of, desk_read, names_read, word_read}
 use Rattle.std.specs.List.{list_all}
 use Rattle.std.specs.Str.{is_utf8}
 use Rattle.wp_tables.specs.Fields.{name_read}
@@ -29,5 +29,5 @@ names_more names rest field name is = rw is (more_if names name (names_read rest
 -- the command of a record whose first two fields are read
 pub command_then : (desk text : List ℕ) (rest : List (List ℕ)) (d : ℕ) (w : Word) → list_all is_utf8 (desk ∷ text ∷ rest) ≡ true → desk_read desk ≡ Ok d
     → word_read text ≡ Ok w
-    → command_in_fields (desk ∷ text ∷ rest) ≡ command_of w rest
+    → command_in_fields (desk ∷ text ∷ rest) ≡ asked_by d (command_of w rest)
 command_then desk text rest d w texts first second = rw (texts, first, second) refl

@@ -10,3 +10,5 @@ pub mod Arguments
 pub mod FirstFaults
 pub mod DeskScripts
 pub mod ReadNames
+pub mod Dealing
+pub mod KeptCommands

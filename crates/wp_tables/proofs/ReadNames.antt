@@ -17,6 +17,7 @@ use Rattle.wp_tables.specs.DeskFile.{wave_of, word_read}
 use Rattle.wp_tables.specs.Fields.{four_of, location_read, name_read, one_of, quantity_read, texts_of, three_of}
 use Rattle.wp_tables.specs.declared.fault.Why.{Why}
 use Rattle.wp_tables.specs.declared.fault.Why.TheVariants as why
+use Rattle.wp_tables.specs.declared.scripts.DeskCommand.{DeskCommand}
 use Rattle.wp_tables.specs.declared.scripts.NamedHold.{NamedHold}
 use Rattle.wp_tables.specs.declared.word.Word.{Word}
 use Rattle.wp_tables.specs.declared.word.Word.TheVariants as word
@@ -106,11 +107,16 @@ command_named word.Pick arguments = of_hold_named command.Pick arguments (λ hol
 command_named word.Missing arguments = of_hold_named command.Missing arguments (λ hold is. is)
 command_named word.Receive arguments = receipt_named arguments
 
--- a command that fields write names names
-pub command_in_fields_named : (fields : Record) → IfOk (command_in_fields fields) (λ c. IsTrue (has_names c))
+-- a desk's command names names
+abbrev IsAsked : DeskCommand → Type 0
+IsAsked asked = IsCommand asked.command
+
+-- a command of a desk that fields write names names
+pub command_in_fields_named : (fields : Record) → IfOk (command_in_fields fields) (λ asked. IsTrue (has_names asked.command))
 command_in_fields_named [] = tt
 command_in_fields_named (a ∷ []) = tt
 command_in_fields_named (desk ∷ text ∷ arguments) =
-    after (texts_of (desk ∷ text ∷ arguments)) _ IsCommand
-    (λ texts. after (desk_read desk) _ IsCommand
-    (λ d. after (word_read text) _ IsCommand (λ w. command_named w arguments)))
+    after (texts_of (desk ∷ text ∷ arguments)) _ IsAsked
+    (λ texts. after (desk_read desk) _ IsAsked
+    (λ d. after (word_read text) _ IsAsked
+    (λ w. then_ok (command_of w arguments) _ IsCommand IsAsked (command_named w arguments) (λ c is. is))))

@@ -1,12 +1,12 @@
 -- What a desk file says.
-use Rattle.std.specs.Prelude.{ℕ, ◌==◌, ◌||◌, not, nat_le, nat_lt, Bool, true, false, List, [], ◌∷◌, ◌++◌, length, codes, Option, Some, None, if◌then◌else◌}
-use Rattle.std.specs.Prelude.{Result, Ok, Err}
-use Rattle.std.specs.List.{count_by}
+use Rattle.std.specs.Prelude.{ℕ, ◌==◌, ◌||◌, ◌&&◌, not, nat_le, nat_lt, max, Bool, true, false, List, [], ◌∷◌, ◌++◌, length, map, codes, Option, Some, None}
+use Rattle.std.specs.Prelude.{Result, Ok, Err, if◌then◌else◌}
+use Rattle.std.specs.List.{count_by, filter, range_with_len}
 use Rattle.std.specs.Option.{ok_or}
 use Rattle.std.specs.Str.{bytes_eq}
 use Rattle.wp_model.specs.TableLines.{Record}
 use Rattle.wp_model.specs.History.{Script}
-use Rattle.wp_model.specs.Limits.{most_commands, most_named, most_submissions}
+use Rattle.wp_model.specs.Limits.{greatest_desk, most_commands, most_named, most_submissions}
 use Rattle.wp_model.specs.declared.command.Command.{Command}
 use Rattle.wp_model.specs.declared.command.Command.TheVariants as command
 use Rattle.wp_model.specs.declared.location.Location.{Location}
@@ -18,6 +18,7 @@ use Rattle.wp_tables.specs.Records.{kept_in}
 use Rattle.wp_tables.specs.declared.fault.RowFault.{RowFault}
 use Rattle.wp_tables.specs.declared.fault.Why.{Why}
 use Rattle.wp_tables.specs.declared.fault.Why.TheVariants as why
+use Rattle.wp_tables.specs.declared.scripts.DeskCommand.{DeskCommand}
 use Rattle.wp_tables.specs.declared.scripts.NamedHold.{NamedHold}
 use Rattle.wp_tables.specs.declared.word.Word.{Word}
 use Rattle.wp_tables.specs.declared.word.Word.TheVariants as word
@@ -89,9 +90,13 @@ command_of word.Pick = of_hold command.Pick
 command_of word.Missing = of_hold command.Missing
 command_of word.Receive = receipt_of
 
--- the field is the number of the one desk
+-- a number is that of a desk
+abbrev pub is_desk : ℕ → Bool
+is_desk number = nat_le 1 number && nat_le number greatest_desk
+
+-- a field that is the number of a desk
 abbrev pub desk_read : List ℕ → Result ℕ Why
-desk_read field = and_then (ok_or (number_of 18 field) why.BadNumber) (λ n. if n == 1 then Ok n else Err why.DeskNumber)
+desk_read field = and_then (ok_or (number_of 18 field) why.BadNumber) (λ n. if is_desk n then Ok n else Err why.DeskNumber)
 
 -- the command submits a wave
 abbrev pub is_submission : Command → Bool
@@ -103,41 +108,62 @@ is_submission (command.Pick wave order location quantity) = false
 is_submission (command.Missing wave order location quantity) = false
 is_submission (command.Receive location article quantity) = false
 
--- how many commands submit a wave
-abbrev pub submissions : List Command → ℕ
-submissions commands = count_by is_submission commands
+-- how many of the desks' commands submit a wave
+abbrev pub submissions : List DeskCommand → ℕ
+submissions commands = count_by (λ asked. is_submission asked.command) commands
 
 -- there is room for a further command: it doesn't submit one wave too many
-abbrev pub has_room : List Command → Command → Bool
+abbrev pub has_room : List DeskCommand → Command → Bool
 has_room commands c = not (is_submission c) || nat_lt (submissions commands) most_submissions
 
--- a further command, where there is room for it
-abbrev pub with_room : List Command → Command → Result Command Why
-with_room commands c = if has_room commands c then Ok c else Err why.TooManyWaves
+-- a further command of a desk, where there is room for it
+abbrev pub with_room : List DeskCommand → DeskCommand → Result DeskCommand Why
+with_room commands asked = if has_room commands asked.command then Ok asked else Err why.TooManyWaves
 
--- the command that a desk, a word and arguments write
-abbrev pub command_in : List ℕ → List ℕ → Record → Result Command Why
-command_in desk text arguments = and_then (desk_read desk) (λ d. and_then (word_read text) (λ w. command_of w arguments))
+-- a command that is read, as that of a desk
+abbrev pub asked_by : ℕ → Result Command Why → Result DeskCommand Why
+asked_by desk given = and_then given (λ c. Ok (record { desk = desk; command = c }))
 
--- the command that fields write
-abbrev pub command_in_fields : Record → Result Command Why
+-- the command of a desk that a number, a word and arguments write
+abbrev pub command_in : List ℕ → List ℕ → Record → Result DeskCommand Why
+command_in desk text arguments = and_then (desk_read desk) (λ d. and_then (word_read text) (λ w. asked_by d (command_of w arguments)))
+
+-- the command of a desk that fields write
+abbrev pub command_in_fields : Record → Result DeskCommand Why
 command_in_fields [] = Err why.Columns
 command_in_fields (a ∷ []) = Err why.Columns
 command_in_fields (desk ∷ text ∷ arguments) = and_then (texts_of (desk ∷ text ∷ arguments)) (λ texts. command_in desk text arguments)
 
--- the command that a record writes, after these commands; or the first test that the record fails
-abbrev pub command_after : List Command → Record → Result Command Why
+-- the command of a desk that a record writes, after these commands; or the first test that the record fails
+abbrev pub command_after : List DeskCommand → Record → Result DeskCommand Why
 command_after commands fields =
     if nat_lt (length commands) most_commands then and_then (command_in_fields fields) (with_room commands) else Err why.TooManyRows
 
--- the commands with a record's
-abbrev pub script_after : List Command → Record → Result (List Command) Why
-script_after commands fields = and_then (command_after commands fields) (λ c. Ok (commands ++ c ∷ []))
+-- the desks' commands with a record's
+abbrev pub script_after : List DeskCommand → Record → Result (List DeskCommand) Why
+script_after commands fields = and_then (command_after commands fields) (λ asked. Ok (commands ++ asked ∷ []))
+
+-- the desk is the one that asks for the command
+abbrev pub is_of : ℕ → DeskCommand → Bool
+is_of desk asked = asked.desk == desk
+
+-- the script of a desk: what that desk asks for, in order
+abbrev pub script_from : List DeskCommand → ℕ → Script
+script_from commands desk = record { desk = desk; commands = map (λ asked. asked.command) (filter (is_of desk) commands) }
+
+-- how many desks there are: the greatest number of a desk that asks for a command, and 1 where none does
+abbrev pub desks_in : List DeskCommand → ℕ
+desks_in [] = 1
+desks_in (asked ∷ commands) = max asked.desk (desks_in commands)
+
+-- the scripts of all desks, from desk 1 on; that of a desk that asks for nothing is empty
+abbrev pub scripts_of : List DeskCommand → List Script
+scripts_of commands = map (script_from commands) (range_with_len 1 (desks_in commands))
 
 -- the heading of a desk file
 abbrev pub desks_heading : Record
 desks_heading = codes "desk" ∷ codes "command" ∷ codes "arguments" ∷ []
 
--- the scripts that a desk file says, that of desk 1 alone; or the first record that fails and its first failing test
+-- the scripts that a desk file says; or the first record that fails and its first failing test
 abbrev pub scripts_said : List ℕ → Result (List Script) RowFault
-scripts_said text = and_then (table_of desks_heading script_after [] (kept_in text)) (λ commands. Ok (record { desk = 1; commands = commands } ∷ []))
+scripts_said text = and_then (table_of desks_heading script_after [] (kept_in text)) (λ commands. Ok (scripts_of commands))

@@ -1,15 +1,16 @@
-ghost use Rattle.std.specs.Prelude.{◌≡◌, ◌<◌, ◌≤◌, ◌+◌, [], ◌∷◌, ◌++◌, Some, Ok, length, slice_get, drop, map, vec_len, IfOk, IsTrue};
+ghost use Rattle.std.specs.Prelude.{◌≡◌, ℕ, ◌<◌, ◌≤◌, ◌+◌, List, [], ◌∷◌, ◌++◌, Some, Ok, length, slice_get, drop, map, vec_len, IfOk, IsTrue};
 ghost use Rattle.std.specs.List.{All};
 ghost use Rattle.csv.specs.Records.{fields_of};
 ghost use Rattle.wp_model.specs.History.{script_of};
 ghost use Rattle.wp_model.specs.Plain.{is_plain, is_plain_location, is_plain_quantity};
 ghost use Rattle.wp_model.specs.Tables.{AreReadScripts};
 ghost use Rattle.wp_model.specs.declared.command.Command.TheVariants as command;
-ghost use Rattle.wp_tables.specs.DeskFile.{command_after, command_in_fields, command_of, desk_read, has_room, hold_of, is_submission, names_read, of_hold};
-ghost use Rattle.wp_tables.specs.DeskFile.{receipt_of, script_after, scripts_said, submission_of, wave_of, word_read};
+ghost use Rattle.wp_tables.specs.DeskFile.{command_after, command_in_fields, command_of, desk_read, has_room, hold_of, is_desk, is_submission, names_read};
+ghost use Rattle.wp_tables.specs.DeskFile.{of_hold, receipt_of, script_after, scripts_of, scripts_said, submission_of, wave_of, word_read};
 ghost use Rattle.wp_tables.specs.Reading.{Gives, GivesBy, Reads, TakesIn, at_row, made_by};
 ghost use Rattle.wp_tables.specs.RecordsLeft.{IsReading, kept_left};
-ghost use Rattle.wp_tables.specs.Scripts.{MayFollow};
+ghost use Rattle.wp_tables.specs.Scripts.{AreDealt, IsReadCommand, MayFollow};
+ghost use Rattle.wp_tables.specs.declared.scripts.DeskCommand.{DeskCommand};
 
 use crate::fault::{RowFault, Why};
 use crate::fields::{
@@ -21,9 +22,16 @@ use csv::ByteRecord;
 use std::alloc::Global;
 use std::marker::Model;
 use wp_model::{
-    Command, Location, MOST_COMMANDS, MOST_NAMED, MOST_SUBMISSIONS, Memory, Name, Names,
-    read_number,
+    Command, GREATEST_DESK, Location, MOST_COMMANDS, MOST_NAMED, MOST_SUBMISSIONS, Memory, Name,
+    Names, read_number,
 };
+
+/// What a desk, counted from 1, asks for.
+#[derive(Drop)]
+struct DeskCommand {
+    desk: u32,
+    command: Command,
+}
 
 /// A desk, counted from 1, and its commands, in order.
 #[derive(Drop)]
@@ -52,7 +60,7 @@ impl Model for Scripts {
 }
 
 impl Scripts {
-    /// How many desks there are: 1.
+    /// How many desks there are, 1 to 8.
     pub fn desks(&self) -> u32
         ensures desks { result ≡ length self.now }
         ensures read { AreReadScripts self.now }
@@ -60,7 +68,7 @@ impl Scripts {
         self.scripts.len() as u32
     }
 
-    /// The commands of a desk, counted from 1, in order. Each is plain.
+    /// The commands of a desk, counted from 1, in order: none where the desk asks for nothing. Each is plain.
     pub fn script(&self, desk: u32) -> &[Command]
         requires first { 1 ≤ desk }
         requires last { desk ≤ length self.now }
@@ -71,12 +79,13 @@ impl Scripts {
     }
 }
 
-fn read_desk(field: &[u8]) -> Result<u64, Why>
-    ensures { result ≡ desk_read field.now }
+fn read_desk(field: &[u8]) -> Result<u32, Why>
+    ensures desk { result ≡ desk_read field.now }
+    ensures range { IfOk result (λ desk. IsTrue (is_desk desk)) }
 {
     let desk = read_number(field, 18).ok_or(Why::BadNumber)?;
-    if desk == 1 {
-        Ok(desk)
+    if 1 <= desk && desk <= u64::from(GREATEST_DESK) {
+        Ok(desk as u32)
     } else {
         Err(Why::DeskNumber)
     }
@@ -228,9 +237,9 @@ fn read_word(field: &[u8]) -> Result<Word, Why>
     Word::read(field).ok_or(Why::UnknownCommand)
 }
 
-fn read_fields(alloc: Global, fields: &ByteRecord) -> Result<Command, Why>
+fn read_fields(alloc: Global, fields: &ByteRecord) -> Result<DeskCommand, Why>
     ensures command { Gives result (command_in_fields (fields_of fields.now)) }
-    ensures plain { IfOk result (λ c. IsTrue (is_plain c)) }
+    ensures read { IfOk result IsReadCommand }
 {
     if fields.len() < 2 {
         return Err(Why::Columns);
@@ -238,9 +247,10 @@ fn read_fields(alloc: Global, fields: &ByteRecord) -> Result<Command, Why>
     if !are_texts(fields) {
         return Err(Why::NotUtf8);
     }
-    read_desk(field_of(fields, 0))?;
+    let desk = read_desk(field_of(fields, 0))?;
     let word = read_word(field_of(fields, 1))?;
-    read_command(alloc, word, fields)
+    let command = read_command(alloc, word, fields)?;
+    Ok(DeskCommand { desk, command })
 }
 
 fn submits(command: &Command) -> bool
@@ -249,32 +259,58 @@ fn submits(command: &Command) -> bool
     matches!(command, Command::Submit { .. })
 }
 
-/// The commands read so far, and how many of them submit a wave.
-#[derive(Drop)]
-struct ScriptSoFar {
-    commands: Vec<Command>,
-    submissions: u32,
+/// Scripts of the desks 1 to the last, each with no command yet.
+fn empty_scripts(alloc: Global, desks: u32) -> Result<Vec<DeskScript>, Memory>
+    ensures { IfOk result (λ scripts. AreDealt [] desks scripts.items) }
+{
+    let mut scripts = Vec::new(alloc);
+    for desk in 1..=desks {
+        let commands = Vec::new(alloc);
+        scripts.push(DeskScript { desk, commands })?;
+    }
+    Ok(scripts)
 }
 
-impl Model for ScriptSoFar {
-    ghost use Rattle.std.specs.Prelude.{List};
-    ghost use Rattle.wp_model.specs.declared.command.Command.{Command};
-    ghost use Rattle.wp_tables.specs.Scripts.{IsKeptScript};
+/// Puts a command last in the script of its desk.
+fn deal(scripts: &mut Vec<DeskScript>, asked: DeskCommand) -> Result<(), Memory>
+    requires first { 1 ≤ asked.desk }
+    requires last { asked.desk ≤ length scripts.old.items }
+    ensures { IfOk result (λ _. (commands : List DeskCommand) (desks : ℕ) → AreDealt commands desks scripts.old.items
+        → AreDealt (commands ++ asked ∷ []) desks scripts.new.items) }
+{
+    let place = asked.desk as usize - 1;
+    scripts[place].commands.push(asked.command)?;
+    Ok(())
+}
 
-    ghost Value = { List Command };
+/// The commands read so far, in the order of the file, how many of them submit a wave, and how many desks there are.
+#[derive(Drop)]
+struct CommandsSoFar {
+    commands: Vec<DeskCommand>,
+    submissions: u32,
+    desks: u32,
+}
+
+impl Model for CommandsSoFar {
+    ghost use Rattle.std.specs.Prelude.{List};
+    ghost use Rattle.wp_tables.specs.declared.scripts.DeskCommand.{DeskCommand};
+    ghost use Rattle.wp_tables.specs.Scripts.{AreKeptCommands};
+
+    ghost Value = { List DeskCommand };
 
     ghost view = { λ s. s.commands.items };
 
-    ghost invariant = { λ s. IsKeptScript s.commands.items s.submissions };
+    ghost invariant = { λ s. AreKeptCommands s.commands.items s.submissions s.desks };
 }
 
-impl ScriptSoFar {
-    fn new(alloc: Global) -> ScriptSoFar
+impl CommandsSoFar {
+    fn new(alloc: Global) -> CommandsSoFar
         ensures { result ≡ [] }
     {
-        ScriptSoFar {
+        CommandsSoFar {
             commands: Vec::new(alloc),
             submissions: 0,
+            desks: 1,
         }
     }
 
@@ -284,28 +320,30 @@ impl ScriptSoFar {
         !submits(command) || self.submissions < MOST_SUBMISSIONS
     }
 
-    fn read(&self, alloc: Global, fields: &ByteRecord) -> Result<Command, Why>
+    fn read(&self, alloc: Global, fields: &ByteRecord) -> Result<DeskCommand, Why>
         ensures command { Gives result (command_after self.now (fields_of fields.now)) }
         ensures follows { IfOk result (MayFollow self.now) }
     {
         if self.commands.len() >= MOST_COMMANDS {
             return Err(Why::TooManyRows);
         }
-        let command = read_fields(alloc, fields)?;
-        if self.has_room(&command) {
-            Ok(command)
+        let asked = read_fields(alloc, fields)?;
+        if self.has_room(&asked.command) {
+            Ok(asked)
         } else {
             Err(Why::TooManyWaves)
         }
     }
 
-    fn add(&mut self, command: Command) -> Result<(), Memory>
-        requires { MayFollow self.old command }
-        ensures { IfOk result (λ _. self.new ≡ self.old ++ command ∷ []) }
+    fn add(&mut self, asked: DeskCommand) -> Result<(), Memory>
+        requires { MayFollow self.old asked }
+        ensures { IfOk result (λ _. self.new ≡ self.old ++ asked ∷ []) }
     {
-        let more = u32::from(submits(&command));
-        self.commands.push(command)?;
+        let more = u32::from(submits(&asked.command));
+        let desks = self.desks.max(asked.desk);
+        self.commands.push(asked)?;
         self.submissions += more;
+        self.desks = desks;
         Ok(())
     }
 
@@ -313,51 +351,52 @@ impl ScriptSoFar {
         ensures { TakesIn result self.new (at_row row (script_after self.old (fields_of fields.now))) }
     {
         match self.read(alloc, fields) {
-            Ok(command) => Ok(self.add(command)?),
+            Ok(asked) => Ok(self.add(asked)?),
             Err(why) => Err(RowFault { row, why }),
         }
     }
 
     fn finish(self, alloc: Global) -> Result<Scripts, Memory>
-        ensures { IfOk result (λ scripts. scripts ≡ record { desk = 1; commands = self } ∷ []) }
+        ensures { IfOk result (λ scripts. scripts ≡ scripts_of self) }
     {
-        let mut scripts = Vec::with_capacity(alloc, 1)?;
-        scripts.push(DeskScript {
-            desk: 1,
-            commands: self.commands,
-        })?;
+        let mut scripts = empty_scripts(alloc, self.desks)?;
+        for asked in self.commands {
+            deal(&mut scripts, asked)?;
+        }
         Ok(Scripts { scripts })
     }
 }
 
-fn read_script(alloc: Global, records: &mut Records) -> Result<ScriptSoFar, RowFault>
+fn read_commands(alloc: Global, records: &mut Records) -> Result<CommandsSoFar, RowFault>
     requires { IsReading records.old }
     ensures { Reads result (made_by script_after [] (kept_left records.old)) }
 {
     let mut fields = ByteRecord::new(alloc);
-    let mut script = ScriptSoFar::new(alloc);
+    let mut commands = CommandsSoFar::new(alloc);
     while let Some(row) = records.next(&mut fields)? {
-        script.take(alloc, row, &fields)?;
+        commands.take(alloc, row, &fields)?;
     }
-    Ok(script)
+    Ok(commands)
 }
 
-/// The script that a desk file says, that of desk 1: the heading `desk,command,arguments`, and then a record for each
-/// command, as `1,submit,WAVE,ORDER,..` with at most 100 orders, `1,allot,WAVE`, `1,release,WAVE`, `1,cancel,WAVE`,
+/// The scripts that a desk file says: the heading `desk,command,arguments`, and then a record for each command of a
+/// desk, 1 to 8, as `1,submit,WAVE,ORDER,..` with at most 100 orders, `1,allot,WAVE`, `1,release,WAVE`, `1,cancel,WAVE`,
 /// `1,pick,WAVE,ORDER,LOCATION,QUANTITY`, `1,missing,WAVE,ORDER,LOCATION,QUANTITY` and
-/// `1,receive,LOCATION,ARTICLE,QUANTITY`. A record is refused, in this order, as `TooManyRows` where it is the 10,001st,
-/// `Columns` where it has fewer than two fields, `NotUtf8` where one isn't text, `BadNumber` or `DeskNumber` where the
-/// first isn't the number 1, `UnknownCommand`, `Columns` where it hasn't its command's number of fields, for the
-/// arguments from left to right `BadName` where one is no name or location, and `BadNumber` or `OutOfRange` where one is
-/// no quantity 1 to 100,000, and `TooManyWaves` where it is the 501st that submits a wave. The first record that is
-/// refused is the answer, and so is the first record at all, or row 1 where there is none, as `Columns` where it isn't
-/// the heading.
+/// `1,receive,LOCATION,ARTICLE,QUANTITY`. There are as many desks as the greatest number of a desk in the file, and one
+/// where it has no command. Each desk has its commands in the order of the file, and none where the file has none of it.
+/// A record is refused, in this order, as `TooManyRows` where it is the 10,001st of all desks together, `Columns` where
+/// it has fewer than two fields, `NotUtf8` where one isn't text, `BadNumber` where the first isn't 1 to 18 digits,
+/// `DeskNumber` where it is no number 1 to 8, `UnknownCommand`, `Columns` where it hasn't its command's number of fields,
+/// for the arguments from left to right `BadName` where one is no name or location, and `BadNumber` or `OutOfRange` where
+/// one is no quantity 1 to 100,000, and `TooManyWaves` where it is the 501st of all desks together that submits a wave.
+/// The first record that is refused is the answer, and so is the first record at all, or row 1 where there is none, as
+/// `Columns` where it isn't the heading.
 pub fn read_desks(alloc: Global, text: &Vec<u8>) -> Result<Scripts, RowFault>
     ensures exact { Reads result (scripts_said text.now.items) }
     ensures read { IfOk result AreReadScripts }
 {
     let mut records = Records::under(alloc, text, b"desk", b"command", b"arguments")?;
-    let script = read_script(alloc, &mut records)?;
-    let scripts = script.finish(alloc)?;
+    let commands = read_commands(alloc, &mut records)?;
+    let scripts = commands.finish(alloc)?;
     Ok(scripts)
 }

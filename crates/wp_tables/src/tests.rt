@@ -507,7 +507,7 @@ fn orders_are_refused(rt: HostRuntime) -> Result<(), Fail> {
 }
 
 /// Records of desk files, and what is read of them: each command with its desk.
-const DESK_RECORDS: [(&str, &str); 5] = [
+const DESK_RECORDS: [(&str, &str); 7] = [
     ("", ""),
     (
         "1,submit,W,O2,O1,O2\n1,release,W",
@@ -525,6 +525,11 @@ const DESK_RECORDS: [(&str, &str); 5] = [
         "1,pick,W,O,99999-00000-L,1\n1,missing,W,O,0-99999-R,100000\n1,receive,01-1-L,A,007\n",
         "1 pick W O 99999-0-L 1;1 missing W O 0-99999-R 100000;1 receive 1-1-L A 7;",
     ),
+    (
+        "3,submit,W\n1,allot,V\n3,cancel,W\n1,release,V\n",
+        "1 allot V;1 release V;3 submit W;3 cancel W;",
+    ),
+    ("000000000000000008,allot,W\n", "8 allot W;"),
 ];
 
 #[test]
@@ -536,15 +541,35 @@ fn desks_are_read(rt: HostRuntime) -> Result<(), Fail> {
     Ok(())
 }
 
+/// Desk files, and how many desks they are of.
+const DESK_COUNTS: [(&[u8], u32); 4] = [
+    (b"desk,command,arguments\n", 1),
+    (b"desk,command,arguments\n1,allot,W\n", 1),
+    (b"desk,command,arguments\n3,allot,W\n2,allot,W\n", 3),
+    (b"desk,command,arguments\n8,allot,W\n", 8),
+];
+
+/// The first file that is of another number of desks than stands beside it.
+fn first_other_count<'a>(
+    alloc: Global,
+    cases: &[(&'a [u8], u32)],
+) -> Result<Option<&'a [u8]>, RowFault> {
+    for (text, desks) in cases {
+        if desks_of(alloc, text)?.desks() != *desks {
+            return Ok(Some(*text));
+        }
+    }
+    Ok(None)
+}
+
 #[test]
-fn there_is_one_desk(rt: HostRuntime) -> Result<(), Fail> {
-    let scripts = desks_of(rt.alloc(), DESKS.as_bytes())?;
-    assert_eq!(rt; scripts.desks(), 1);
+fn desks_are_counted(rt: HostRuntime) -> Result<(), Fail> {
+    assert_eq!(rt; first_other_count(rt.alloc(), &DESK_COUNTS)?, None);
     Ok(())
 }
 
 /// Records of desk files, and what they are told as.
-const BAD_DESKS: [(&str, &str); 23] = [
+const BAD_DESKS: [(&str, &str); 24] = [
     ("1,\n", "row 2 columns"),
     ("1,allot,W,O\n", "row 2 columns"),
     ("1,release,W,\n", "1 release W;"),
@@ -555,7 +580,8 @@ const BAD_DESKS: [(&str, &str); 23] = [
     (",allot,W\n", "row 2 bad-number"),
     ("0000000000000000001,allot,W\n", "row 2 bad-number"),
     ("9,hold,W\n", "row 2 desk-number"),
-    ("2,allot,W\n", "row 2 desk-number"),
+    ("0,allot,W\n", "row 2 desk-number"),
+    ("18446744073709551617,allot,W\n", "row 2 bad-number"),
     ("1,,W\n", "row 2 unknown-command"),
     ("1,submit,,O\n", "row 2 bad-name"),
     ("1,submit,W,O,,O\n", "row 2 bad-name"),

@@ -1,7 +1,7 @@
 -- The text of a day, section by section.
 use Rattle.std.proofs.Common.{◌≡◌, ◌∙◌, sym, ap, subst, ℕ, List, ◌++◌}
 use Rattle.std.specs.Prelude.{codes}
-use Rattle.wp_machine.specs.Outcome.{refills_of}
+use Rattle.wp_machine.specs.Outcome.{refills_of, released_of}
 use Rattle.wp_machine.specs.declared.outcome.Refill.{Refill}
 use Rattle.wp_machine.specs.declared.outcome.WaveHolds.{WaveHolds}
 use Rattle.wp_model.specs.History.{History, state_after}
@@ -11,7 +11,7 @@ use Rattle.wp_model.specs.Warehouse.{Layout}
 use Rattle.wp_planner.specs.Sheets.{GrowsBy}
 use Rattle.wp_planner.specs.declared.planner.Terms.{Terms}
 use Rattle.wp_top.specs.Sections.{refills_section, stock_section}
-use Rattle.wp_top.specs.Sheets.{AreSheets, released_of}
+use Rattle.wp_top.specs.Sheets.{AreSheets}
 use Rattle.wp_top.specs.Stops.{IsTextOf}
 
 -- sheets of waves under another name for the waves and the text before

@@ -1,18 +1,15 @@
 -- What the jobs come to.
 use Rattle.std.proofs.Common.{◌≡◌, refl, sym, subst, ℕ, inl, inr, List, [], ◌∷◌, ◌++◌, Ok}
-use Rattle.wp_machine.proofs.Askings.{states_sound}
 use Rattle.wp_floor.proofs.Floors.{is_opening}
-use Rattle.wp_model.proofs.Histories.{all_answered_is_legal, answered_all-opening}
-use Rattle.wp_model.specs.History.{opened}
+use Rattle.wp_model.proofs.Coverage.{allotted_where_covered, released_where_covered}
+use Rattle.wp_model.specs.History.{History}
 use Rattle.wp_model.specs.Opening.{IsOpening, Opening}
 use Rattle.wp_model.specs.Tables.{IsReadOpening}
 use Rattle.wp_model.specs.Warehouse.{Layout}
 use Rattle.wp_outside.specs.Outside.{NoneFalls, SameBytes}
 use Rattle.wp_top.proofs.FilesRead.{Counts, Holding, held_before, have_next, none_fell, say_there, stops_among_more, stops_there}
-use Rattle.wp_top.proofs.OneDesk.{parts_are}
 use Rattle.wp_top.specs.Ends.{HaveSaid, IsOutput}
-use Rattle.wp_top.specs.OneDesk.{desk_history, only_script}
-use Rattle.wp_top.specs.Runs.{audit_line}
+use Rattle.wp_top.specs.Runs.{StockGoesWhereItCovers, audit_line, state_at}
 use Rattle.wp_top.specs.Sheets.{terms_of}
 use Rattle.wp_top.specs.Stops.{IsDay, IsRead, IsRightJournal, IsStop, IsUnsaid, StopsAmong, StopsAudit, StopsFinding, opening_files, opening_said}
 use Rattle.wp_top.specs.Texts.{File, Said, files_of, scripts_in, text_in}
@@ -98,31 +95,38 @@ stop_at_finding holds held names before first after layout opening s same said s
 stop_at_finding holds held names before first after layout opening s same said so_far (inr (text, read, wrong)) =
     stop_at_fault holds held names before after layout opening text s same said read wrong
 
+-- in each state a submitted wave gets stock exactly where it covers
+covered_stock : (history : History) → IsOpening history.opening → StockGoesWhereItCovers history
+covered_stock history is entries name number w found submitted = (
+  allotted_where_covered history.opening (state_at history entries) name number w is found submitted,
+  released_where_covered history.opening (state_at history entries) name number w is found submitted,
+)
+
 -- the output of a plan
 pub plan_is : (holds held : Holding) (names : PlanNames) (layout : Layout) (opening : Opening) (output : List ℕ)
-    → SameBytes holds held → HaveSaid holds (opening_files names.layout names.stock names.orders) (opening_said layout opening) → IsReadOpening opening
-    → IsDay held layout opening (terms_of names) names.desks output
+    → SameBytes holds held → HaveSaid holds (opening_files names.layout names.stock names.orders) (opening_said layout opening)
+    → IsReadOpening opening → IsDay held layout opening (terms_of names) names.desks output
     → IsOutput holds (Ok (plan names)) output
 plan_is holds held names layout opening output same said read day =
-    let script = day.script in
-    let history = desk_history opening script in
-    let begun = answered_all-opening (opened opening) 1 script in
-    let all : Said = record (opening_said layout opening) { scripts = only_script script } in
+    let all : Said = record (opening_said layout opening) { scripts = day.scripts } in
+    let answers = day.day.answers in
+    let text = day.day.text in
     record {
       job = plan names;
       asked_for = refl;
       said = all;
       accepted = say_there scripts_in holds held (opening_files names.layout names.stock names.orders)
-          (opening_said layout opening) all input.Desks names.desks (only_script script) (λ text is. rw is refl) same said day.desk_file;
+          (opening_said layout opening) all input.Desks names.desks day.scripts (λ text is. rw is refl) same said day.desk_file;
       comes = record {
-        history = history;
-        starts = begun;
-        legal = all_answered_is_legal (opened opening) 1 script tt;
-        parts = parts_are opening script;
-        sound = states_sound history (subst IsOpening (sym begun) (is_opening opening read));
-        sheets = day.day.sheets;
-        planned = day.day.planned;
-        is = day.day.is;
+        history = day.day.history;
+        starts = answers.starts;
+        legal = answers.legal;
+        parts = answers.parts;
+        sound = answers.sound;
+        stock = covered_stock day.day.history (is_opening day.day.history.opening (subst IsReadOpening (sym answers.starts) read));
+        sheets = text.sheets;
+        planned = text.planned;
+        is = text.is;
       };
     }
 

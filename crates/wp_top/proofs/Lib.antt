@@ -1,5 +1,4 @@
 pub mod FilesRead
-pub mod OneDesk
 pub mod StockInLayout
 pub mod RowsKept
 pub mod Taken

@@ -1,12 +1,12 @@
--- The journal of a plan is right: each of its entries answers what the one desk asks, within the bounds of a journal.
-use Rattle.std.proofs.Common.{◌≡◌, ◌≢◌, ◌∙◌, refl, sym, ap, subst, ℕ, ◌≤◌, ◌==◌, List, [], ◌∷◌, ◌++◌, length, map, inl, inr, arith, eq-eqb, ne_eqb}
+-- The journal of a plan is right: each of its entries answers what a desk's script asks, within the bounds of a journal.
+use Rattle.std.proofs.Common.{◌≡◌, ◌≢◌, ◌∙◌, refl, sym, ap, subst, ℕ, suc, ◌+◌, ◌<◌, ◌≤◌, ◌==◌, List, [], ◌∷◌, ◌++◌, length, inl, inr, arith, eq-eqb, ne_eqb}
 use Rattle.std.proofs.Common.{append_assoc}
 use Rattle.std.proofs.lemmas.Bool.{cases_eq, cond-false, cond-true}
-use Rattle.std.proofs.lemmas.List.Elements.{All-cons, All-head, All-nil, All-tail}
-use Rattle.std.proofs.lemmas.List.{length-map}
+use Rattle.std.proofs.lemmas.List.Elements.{All-cons, All-head, All-nil, All-tail, All-weaker}
 use Rattle.std.proofs.lemmas.List.Sums.{sum_by-cons}
-use Rattle.std.specs.List.{All}
-use Rattle.std.specs.Prelude.{IsTrue, codes}
+use Rattle.std.proofs.lemmas.Option.{IfSome_then}
+use Rattle.std.specs.List.{All, sum_by}
+use Rattle.std.specs.Prelude.{⊤, IfSome, IsTrue, codes, slice_get}
 use Rattle.wp_floor.proofs.Floors.{is_opening}
 use Rattle.wp_journal.proofs.DayJournals.{day_journal}
 use Rattle.wp_journal.specs.Days.{IsAsked, IsDay}
@@ -14,111 +14,221 @@ use Rattle.wp_journal.specs.Journals.{IsJournalOf}
 use Rattle.wp_machine.specs.Outcome.{refills_of}
 use Rattle.wp_model.specs.History.{Script, part_of, script_of, state_after}
 use Rattle.wp_model.specs.Journal.{journal, line}
-use Rattle.wp_model.specs.Limits.{most_commands}
 use Rattle.wp_model.specs.Name.{is_name}
 use Rattle.wp_model.specs.Opening.{IsOpening, Opening}
 use Rattle.wp_model.specs.Plain.{has_names, is_plain}
 use Rattle.wp_model.specs.Tables.{AreReadScripts, IsReadOpening}
 use Rattle.wp_model.specs.declared.command.Command.{Command}
 use Rattle.wp_model.specs.declared.entry.Entry.{Entry}
-use Rattle.wp_top.specs.Runs.{IsPlan}
+use Rattle.wp_top.specs.Runs.{IsPlan, command_count}
 use Rattle.wp_words.specs.Words.{PlanNames}
 use Rattle.wp_top.specs.Sections.{output_of, refills_section, stock_section}
 use Rattle.wp_top.specs.Texts.{Said}
 
--- entries are of one desk, and their commands are these
-record AreOf (desk : ℕ) (entries : List Entry) (commands : List Command) : Type 0 where
-  desks : All (λ e. e.desk ≡ desk) entries
-  asked : map (λ (e : Entry). e.command) entries ≡ commands
+-- scripts of desks that are numbered on from the one after this
+abbrev AreNumbered : ℕ → List Script → Type 0
+AreNumbered before [] = ⊤
+AreNumbered before (script ∷ scripts) = (script.desk ≡ before + 1) × AreNumbered (before + 1) scripts
 
--- entries of which no other desk has a part are all of one desk
-all_of : (desk : ℕ) (entries : List Entry) → ((other : ℕ) → other ≢ desk → part_of other entries ≡ []) → All (λ e. e.desk ≡ desk) entries
-all_of desk [] others = All-nil (λ (e : Entry). e.desk ≡ desk)
-all_of desk (entry ∷ entries) others = elim (cases_eq entry.desk desk) [
-  | inl own ↦
-      All-cons (λ (e : Entry). e.desk ≡ desk) entry entries own
-      (all_of desk entries (λ other differs. sym (cond-false (entry.desk == other) (entry.command ∷ part_of other entries) (part_of other entries)
-      (ne_eqb entry.desk other (λ e. differs (sym e ∙ own)))) ∙ others other differs))
-  | inr differs ↦
-      let none : entry.command ∷ part_of entry.desk entries ≡ [] =
-      sym (cond-true (entry.desk == entry.desk) (entry.command ∷ part_of entry.desk entries) (part_of entry.desk entries)
-      (eq-eqb entry.desk entry.desk refl)) ∙ others entry.desk differs in
-      absurd (cc none)
-]
+numbered_on : (before : ℕ) (scripts : List Script) → ((i : ℕ) → IfSome (slice_get scripts i) (λ script. script.desk ≡ before + i + 1))
+    → AreNumbered before scripts
+numbered_on before [] each = tt
+numbered_on before (script ∷ scripts) each = (
+  omega (arith, each 0),
+  numbered_on (before + 1) scripts (λ i. IfSome_then (slice_get scripts i) (each (suc i)) (λ s is. omega (arith, is))),
+)
 
--- the part of the one desk has all commands
-whole_part : (desk : ℕ) (entries : List Entry) → All (λ e. e.desk ≡ desk) entries → map (λ (e : Entry). e.command) entries ≡ part_of desk entries
-whole_part desk [] all = refl
-whole_part desk (entry ∷ entries) all =
-    let P : Entry → Type 0 = λ e. e.desk ≡ desk in
-    ap (λ commands. entry.command ∷ commands) (whole_part desk entries (All-tail P entry entries all))
-    ∙ sym (cond-true (entry.desk == desk) (entry.command ∷ part_of desk entries) (part_of desk entries)
-    (eq-eqb entry.desk desk (All-head P entry entries all)))
+-- the command of an entry heads the part of its desk
+own_part : (desk : ℕ) (entry : Entry) (entries : List Entry) → entry.desk ≡ desk → part_of desk (entry ∷ entries) ≡ entry.command ∷ part_of desk entries
+own_part desk entry entries own =
+    cond-true (entry.desk == desk) (entry.command ∷ part_of desk entries) (part_of desk entries) (eq-eqb entry.desk desk own)
 
--- each entry answers what a desk may ask
-each_asked : (desk : ℕ) (entries : List Entry) → 1 ≤ desk → desk ≤ 8 → All (λ e. e.desk ≡ desk) entries
-    → All (λ c. IsTrue (is_plain c)) (map (λ (e : Entry). e.command) entries) → All (λ c. IsTrue (has_names c)) (map (λ (e : Entry). e.command) entries)
-    → All IsAsked entries
-each_asked desk [] some few desks plain names = All-nil IsAsked
-each_asked desk (entry ∷ entries) some few desks plain names =
-    let D : Entry → Type 0 = λ e. e.desk ≡ desk in
+-- and is in no other part
+other_part : (desk : ℕ) (entry : Entry) (entries : List Entry) → entry.desk ≢ desk → part_of desk (entry ∷ entries) ≡ part_of desk entries
+other_part desk entry entries differs =
+    cond-false (entry.desk == desk) (entry.command ∷ part_of desk entries) (part_of desk entries) (ne_eqb entry.desk desk differs)
+
+-- a desk's script is the first of that desk
+own_script : (desk : ℕ) (script : Script) (scripts : List Script) → script.desk ≡ desk → script_of (script ∷ scripts) desk ≡ script.commands
+own_script desk script scripts own =
+    cond-true (script.desk == desk) script.commands (script_of scripts desk) (eq-eqb script.desk desk own)
+
+-- and no other before it
+other_script : (desk : ℕ) (script : Script) (scripts : List Script) → script.desk ≢ desk → script_of (script ∷ scripts) desk ≡ script_of scripts desk
+other_script desk script scripts differs =
+    cond-false (script.desk == desk) script.commands (script_of scripts desk) (ne_eqb script.desk desk differs)
+
+-- a command that a desk may ask, where the desk is within a range
+record MayAsk (before last desk : ℕ) (command : Command) : Type 0 where
+  after : before < desk
+  within : desk ≤ last
+  plain : IsTrue (is_plain command)
+  names : IsTrue (has_names command)
+
+-- commands that a desk may ask
+each_may : (before last desk : ℕ) (commands : List Command) → before < desk → desk ≤ last → All (λ c. IsTrue (is_plain c)) commands
+    → All (λ c. IsTrue (has_names c)) commands → All (MayAsk before last desk) commands
+each_may before last desk [] after within plain names = All-nil (MayAsk before last desk)
+each_may before last desk (command ∷ commands) after within plain names =
     let P : Command → Type 0 = λ c. IsTrue (is_plain c) in
     let N : Command → Type 0 = λ c. IsTrue (has_names c) in
-    let commands = map (λ (e : Entry). e.command) entries in
-    let own : entry.desk ≡ desk = All-head D entry entries desks in
-    All-cons IsAsked entry entries
-    (record {
-      desk = (omega (arith, own, some), omega (arith, own, few));
-      plain = All-head P entry.command commands plain;
-      names = All-head N entry.command commands names;
-    })
-    (each_asked desk entries some few (All-tail D entry entries desks) (All-tail P entry.command commands plain) (All-tail N entry.command commands names))
+    All-cons (MayAsk before last desk) command commands
+    (record { after = after; within = within; plain = All-head P command commands plain; names = All-head N command commands names })
+    (each_may before last desk commands after within (All-tail P command commands plain) (All-tail N command commands names))
 
--- the parts of one script make all entries of its desk
-of_script : (script : Script) (entries : List Entry) → script.desk ≡ 1 → ((desk : ℕ) → part_of desk entries ≡ script_of (script ∷ []) desk)
-    → AreOf 1 entries script.commands
-of_script script entries own parts =
-    let others = all_of 1 entries (λ other differs. parts other ∙ cond-false (script.desk == other) script.commands []
-    (ne_eqb script.desk other (λ e. differs (sym e ∙ own)))) in
-    record {
-      desks = others;
-      asked = whole_part 1 entries others ∙ (parts 1 ∙ cond-true (script.desk == 1) script.commands [] (eq-eqb script.desk 1 own));
-    }
+wider : (before last desk : ℕ) (commands : List Command) → All (MayAsk (before + 1) last desk) commands → All (MayAsk before last desk) commands
+wider before last desk commands all = All-weaker (MayAsk (before + 1) last desk) (MayAsk before last desk)
+    (λ c may. record { after = omega (arith, may.after); within = may.within; plain = may.plain; names = may.names }) commands all
 
--- the history of a plan is that of a day
-plan_is_day : (names : PlanNames) (said : Said) (output : List ℕ) (scripts : List Script) → scripts ≡ said.scripts
-    → IsReadOpening said.opening → AreReadScripts scripts
-    → (plan : IsPlan names said output) → IsDay plan.history × (length plan.history.entries ≡ length (script_of scripts 1))
-plan_is_day names said output [] same read are plan = absurd (omega (arith, are.desks))
-plan_is_day names said output (script ∷ []) same read are plan =
+-- what scripts ask may be asked, and by their desks alone
+scripts_may : (before last : ℕ) (scripts : List Script) (desk : ℕ) → AreNumbered before scripts → before + length scripts ≤ last
+    → All (λ s. All (λ c. IsTrue (is_plain c)) s.commands) scripts → All (λ s. All (λ c. IsTrue (has_names c)) s.commands) scripts
+    → All (MayAsk before last desk) (script_of scripts desk)
+scripts_may before last [] desk numbered few plain names = All-nil (MayAsk before last desk)
+scripts_may before last (script ∷ scripts) desk (own, more) few plain names =
+    let P : Script → Type 0 = λ s. All (λ c. IsTrue (is_plain c)) s.commands in
+    let N : Script → Type 0 = λ s. All (λ c. IsTrue (has_names c)) s.commands in
+    elim (cases_eq script.desk desk) [
+      | inl is ↦
+          subst (All (MayAsk before last desk)) (sym (own_script desk script scripts is))
+          (each_may before last desk script.commands (omega (arith, own, is)) (omega (arith, own, is, few)) (All-head P script scripts plain)
+          (All-head N script scripts names))
+      | inr differs ↦
+          subst (All (MayAsk before last desk)) (sym (other_script desk script scripts differs))
+          (wider before last desk (script_of scripts desk)
+          (scripts_may (before + 1) last scripts desk more (omega (arith, few)) (All-tail P script scripts plain) (All-tail N script scripts names)))
+    ]
+
+-- an entry is of a desk that may ask its command
+abbrev MayBe : ℕ → Entry → Type 0
+MayBe last entry = MayAsk 0 last entry.desk entry.command
+
+-- each is so, since it is in the part of its desk
+each_may_be : (last : ℕ) (entries : List Entry) → ((desk : ℕ) → All (MayAsk 0 last desk) (part_of desk entries)) → All (MayBe last) entries
+each_may_be last [] parts = All-nil (MayBe last)
+each_may_be last (entry ∷ entries) parts =
+    All-cons (MayBe last) entry entries
+    (All-head (MayAsk 0 last entry.desk) entry.command (part_of entry.desk entries)
+    (subst (All (MayAsk 0 last entry.desk)) (own_part entry.desk entry entries refl) (parts entry.desk)))
+    (each_may_be last entries (λ desk. elim (cases_eq entry.desk desk) [
+      | inl own ↦
+          All-tail (MayAsk 0 last desk) entry.command (part_of desk entries)
+          (subst (All (MayAsk 0 last desk)) (own_part desk entry entries own) (parts desk))
+      | inr differs ↦ subst (All (MayAsk 0 last desk)) (other_part desk entry entries differs) (parts desk)
+    ]))
+
+-- how many entries are in the parts of the scripts' desks
+abbrev parts_count : List Entry → List Script → ℕ
+parts_count entries scripts = sum_by (λ s. length (part_of s.desk entries)) scripts
+
+parts_cons : (entries : List Entry) (script : Script) (scripts : List Script)
+    → parts_count entries (script ∷ scripts) ≡ length (part_of script.desk entries) + parts_count entries scripts
+parts_cons entries script scripts = sum_by-cons (λ (s : Script). length (part_of s.desk entries)) script scripts
+
+-- an entry of a desk before them is in no part
+none_more : (before : ℕ) (entry : Entry) (entries : List Entry) (scripts : List Script) → AreNumbered before scripts → entry.desk ≤ before
+    → parts_count (entry ∷ entries) scripts ≡ parts_count entries scripts
+none_more before entry entries [] numbered early = refl
+none_more before entry entries (script ∷ scripts) (own, more) early =
+    omega (
+      arith,
+      parts_cons (entry ∷ entries) script scripts,
+      parts_cons entries script scripts,
+      ap length (other_part script.desk entry entries (λ is. omega (arith, own, early, is))),
+      none_more (before + 1) entry entries scripts more (omega (arith, early)),
+    )
+
+-- an entry of one of the desks is in one part
+one_more : (before : ℕ) (entry : Entry) (entries : List Entry) (scripts : List Script) → AreNumbered before scripts → before < entry.desk
+    → entry.desk ≤ before + length scripts → parts_count (entry ∷ entries) scripts ≡ parts_count entries scripts + 1
+one_more before entry entries [] numbered after within = absurd (omega (arith, after, within))
+one_more before entry entries (script ∷ scripts) (own, more) after within = elim (cases_eq entry.desk script.desk) [
+  | inl is ↦
+      omega (
+        arith,
+        parts_cons (entry ∷ entries) script scripts,
+        parts_cons entries script scripts,
+        ap length (own_part script.desk entry entries is),
+        none_more (before + 1) entry entries scripts more (omega (arith, own, is)),
+      )
+  | inr differs ↦
+      omega (
+        arith,
+        parts_cons (entry ∷ entries) script scripts,
+        parts_cons entries script scripts,
+        ap length (other_part script.desk entry entries differs),
+        one_more (before + 1) entry entries scripts more (omega (arith, own, after, differs)) (omega (arith, within)),
+      )
+]
+
+no_parts : (scripts : List Script) → parts_count [] scripts ≡ 0
+no_parts [] = refl
+no_parts (script ∷ scripts) = omega (arith, parts_cons [] script scripts, no_parts scripts)
+
+-- entries of the scripts' desks are as many as their parts have together
+entries_count : (entries : List Entry) (scripts : List Script) → AreNumbered 0 scripts
+    → All (MayBe (length scripts)) entries → length entries ≡ parts_count entries scripts
+entries_count [] scripts numbered desks = sym (no_parts scripts)
+entries_count (entry ∷ entries) scripts numbered desks =
+    let here = All-head (MayBe (length scripts)) entry entries desks in
+    omega (
+      arith,
+      one_more 0 entry entries scripts numbered here.after (omega (arith, here.within)),
+      entries_count entries scripts numbered (All-tail (MayBe (length scripts)) entry entries desks),
+    )
+
+-- parts that are the scripts of later desks
+later_parts : (before : ℕ) (entries : List Entry) (script : Script) (scripts : List Script) → script.desk ≡ before + 1
+    → ((desk : ℕ) → before < desk → part_of desk entries ≡ script_of (script ∷ scripts) desk) → (desk : ℕ) → before + 1 < desk
+    → part_of desk entries ≡ script_of scripts desk
+later_parts before entries script scripts own parts desk later =
+    parts desk (omega (arith, later)) ∙ other_script desk script scripts (λ is. omega (arith, own, is, later))
+
+-- parts that are scripts have together as many entries as the scripts have commands
+commands_count : (before : ℕ) (entries : List Entry) (scripts : List Script) → AreNumbered before scripts
+    → ((desk : ℕ) → before < desk → part_of desk entries ≡ script_of scripts desk) → parts_count entries scripts ≡ command_count scripts
+commands_count before entries [] numbered parts = refl
+commands_count before entries (script ∷ scripts) (own, more) parts =
+    omega (
+      arith,
+      parts_cons entries script scripts,
+      sum_by-cons (λ (s : Script). length s.commands) script scripts,
+      ap length (parts script.desk (omega (arith, own)) ∙ own_script script.desk script scripts refl),
+      commands_count (before + 1) entries scripts more (later_parts before entries script scripts own parts),
+    )
+
+-- the history of a plan is that of a day, with an entry for each command
+plan_is_day : (names : PlanNames) (said : Said) (output : List ℕ) → IsReadOpening said.opening → AreReadScripts said.scripts
+    → (plan : IsPlan names said output) → IsDay plan.history × (length plan.history.entries ≡ command_count said.scripts)
+plan_is_day names said output read are plan =
     let entries = plan.history.entries in
-    let own : script.desk ≡ 1 = are.numbered 0 in
-    let P : Script → Type 0 = λ s. All (λ command. IsTrue (is_plain command)) s.commands in
-    let N : Script → Type 0 = λ s. All (λ command. IsTrue (has_names command)) s.commands in
-    let parts : (desk : ℕ) → part_of desk entries ≡ script_of (script ∷ []) desk =
-    λ desk. plan.parts desk ∙ ap (λ scripts. script_of scripts desk) (sym same) in
-    let of = of_script script entries own parts in
-    let plain = subst (λ cs. All (λ command. IsTrue (is_plain command)) cs) (sym of.asked) (All-head P script [] are.plain) in
-    let named = subst (λ cs. All (λ command. IsTrue (has_names command)) cs) (sym of.asked) (All-head N script [] are.named) in
-    let few : length script.commands ≤ most_commands = omega (arith, are.most, sum_by-cons (λ (s : Script). length s.commands) script []) in
-    let count : length entries ≡ length script.commands = sym (length-map entries (λ (e : Entry). e.command)) ∙ ap length of.asked in
-    let one : script_of (script ∷ []) 1 ≡ script.commands = cond-true (script.desk == 1) script.commands [] (eq-eqb script.desk 1 own) in (
+    let scripts = said.scripts in
+    let last = length scripts in
+    let numbered : AreNumbered 0 scripts =
+    numbered_on 0 scripts (λ i. IfSome_then (slice_get scripts i) (are.numbered i) (λ s is. omega (arith, is))) in
+    let may : All (MayBe last) entries = each_may_be last entries (λ desk.
+    subst (All (MayAsk 0 last desk)) (sym (plan.parts desk)) (scripts_may 0 last scripts desk numbered (omega arith) are.plain are.named)) in
+    let count : length entries ≡ command_count scripts =
+    entries_count entries scripts numbered may ∙ commands_count 0 entries scripts numbered (λ desk after. plan.parts desk) in (
       record {
         opening = subst IsOpening (sym plan.starts) (is_opening said.opening read);
         articles = subst (λ (o : Opening). All (λ article. IsTrue (is_name article)) o.stock.articles) (sym plan.starts) read.stock.named;
         legal = plan.legal;
-        few = omega (arith, count, few);
-        asked = each_asked 1 entries (omega arith) (omega arith) of.desks plain named;
+        few = omega (arith, count, are.most);
+        asked = All-weaker (MayBe last) IsAsked (λ e is. record {
+          desk = (omega (arith, is.after), omega (arith, is.within, are.few));
+          plain = is.plain;
+          names = is.names;
+        }) entries may;
       },
-      count ∙ ap length (sym one),
+      count,
     )
-plan_is_day names said output (first ∷ second ∷ more) same read are plan = absurd (omega (arith, are.desks))
 
 -- the output of a plan is a right journal
 pub plan_journal : (names : PlanNames) (said : Said) (output : List ℕ) → IsReadOpening said.opening → AreReadScripts said.scripts → IsPlan names said output
-    → IsJournalOf said.opening output (length (script_of said.scripts 1))
+    → IsJournalOf said.opening output (command_count said.scripts)
 plan_journal names said output read are plan =
-    let day = plan_is_day names said output said.scripts refl read are plan in
+    let day = plan_is_day names said output read are plan in
     let history = plan.history in
     let first = journal history.entries in
     let sheets = plan.sheets in
@@ -130,8 +240,8 @@ plan_journal names said output read are plan =
     ap (λ text. text ++ last) (ap (λ text. text ++ stock) (append_assoc first sheets refills) ∙ append_assoc first (sheets ++ refills) stock)
     ∙ append_assoc first (sheets ++ refills ++ stock) last in
     let right : IsJournalOf history.opening (first ++ more) (length history.entries) = day_journal history more day.0 in
-    let counted : IsJournalOf history.opening (first ++ more) (length (script_of said.scripts 1)) =
+    let counted : IsJournalOf history.opening (first ++ more) (command_count said.scripts) =
     subst (λ n. IsJournalOf history.opening (first ++ more) n) day.1 right in
-    let opened : IsJournalOf said.opening (first ++ more) (length (script_of said.scripts 1)) =
-    subst (λ (o : Opening). IsJournalOf o (first ++ more) (length (script_of said.scripts 1))) plan.starts counted in
-    subst (λ text. IsJournalOf said.opening text (length (script_of said.scripts 1))) (sym (plan.is ∙ parts)) opened
+    let opened : IsJournalOf said.opening (first ++ more) (command_count said.scripts) =
+    subst (λ (o : Opening). IsJournalOf o (first ++ more) (command_count said.scripts)) plan.starts counted in
+    subst (λ text. IsJournalOf said.opening text (command_count said.scripts)) (sym (plan.is ∙ parts)) opened

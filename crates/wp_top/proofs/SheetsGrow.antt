@@ -5,14 +5,14 @@ use Rattle.wp_machine.specs.declared.outcome.WaveHolds.{WaveHolds}
 use Rattle.wp_model.specs.History.{History}
 use Rattle.wp_model.specs.Opening.{Stock}
 use Rattle.wp_model.specs.Warehouse.{Layout}
-use Rattle.wp_model.proofs.Elements.{All-at}
+use Rattle.wp_planner.specs.Plans.{IsPlanOf}
 use Rattle.wp_planner.specs.Sheets.{GrowsBy, IsSheet}
 use Rattle.wp_planner.specs.declared.planner.Terms.{Terms}
+use Rattle.wp_planner.specs.declared.planner.WavePlan.{WavePlan}
 use Rattle.wp_top.proofs.Waves.{one_wave_more}
 use Rattle.wp_top.proofs.Writing.{take_more}
-use Rattle.wp_top.specs.Planned.{ArePlanned, IsPlanned, waves_of}
+use Rattle.wp_top.specs.Planned.{IsPlanned, Sent, waves_of}
 use Rattle.wp_top.specs.Sheets.{AreSheets, IsSheetOf, is_cancelled_later}
-use Rattle.wp_top.specs.declared.answering.Planned.{Planned}
 
 -- the sheets of waves and that of one more
 sheets_more : (layout : Layout) (stock : Stock) (terms : Terms) (history : History) (waves : List WaveHolds) (released : WaveHolds) (sheets sheet : List ℕ)
@@ -44,14 +44,26 @@ pub grown_by_none : (layout : Layout) (stock : Stock) (terms : Terms) (history :
 grown_by_none layout stock terms history text = ([], refl, sym (append-nil text))
 
 -- a text that grew by the sheets of the first waves grows by that of the next
-pub grown_next : (layout : Layout) (stock : Stock) (terms : Terms) (history : History) (planned : List Planned) (i : ℕ) (one : Planned) (cancelled : Bool)
-    (old mid new : List ℕ) → slice_get planned i ≡ Some one → ArePlanned layout stock terms planned
-    → cancelled ≡ is_cancelled_later history one.released
-    → GrowsBy (AreSheets layout stock terms history (waves_of (take i planned))) old mid → GrowsBy (IsSheet stock one.released terms one.plan cancelled) mid new
-    → GrowsBy (AreSheets layout stock terms history (waves_of (take (i + 1) planned))) old new
-grown_next layout stock terms history planned i one cancelled old mid new at are same so_far (sheet, is, grows) =
-    let next = ap waves_of (take_more planned i one at) ∙ one_wave_more (take i planned) one in
-    let kept = All-at (IsPlanned layout stock terms) planned i one are at in
-    subst (λ (waves : List WaveHolds). GrowsBy (AreSheets layout stock terms history waves) old new) (sym next)
-    (grown_more layout stock terms history (waves_of (take i planned)) one.released old mid new so_far
-    (sheet, record { plan = one.plan; good = kept.plan; is = subst (λ (b : Bool). IsSheet stock one.released terms one.plan b sheet) same is }, grows))
+pub grown_next : (layout : Layout) (stock : Stock) (terms : Terms) (history : History) (sent : List Sent) (i : ℕ) (one : Sent) (old mid new : List ℕ)
+    → slice_get sent i ≡ Some one → GrowsBy (AreSheets layout stock terms history (waves_of (take i sent))) old mid
+    → GrowsBy (IsSheetOf layout stock terms history one.wave) mid new
+    → GrowsBy (AreSheets layout stock terms history (waves_of (take (i + 1) sent))) old new
+grown_next layout stock terms history sent i one old mid new at so_far next =
+    subst (λ (waves : List WaveHolds). GrowsBy (AreSheets layout stock terms history waves) old new)
+    (sym (ap waves_of (take_more sent i one at) ∙ one_wave_more (take i sent) one))
+    (grown_more layout stock terms history (waves_of (take i sent)) one.wave old mid new so_far next)
+
+-- the sheet that was written is that of a wave with a good plan
+pub one_sheet : (layout : Layout) (stock : Stock) (terms : Terms) (history : History) (sent : Sent) (plan : WavePlan) (cancelled : Bool) (old new : List ℕ)
+    → sent.plan ≡ Some plan → IsPlanned layout stock terms sent → cancelled ≡ is_cancelled_later history sent.wave
+    → GrowsBy (IsSheet stock sent.wave terms plan cancelled) old new → GrowsBy (IsSheetOf layout stock terms history sent.wave) old new
+one_sheet layout stock terms history sent plan cancelled old new here planned same (sheet, is, grows) =
+    let one : planned.plan ≡ plan = cc (here, planned.there) in (
+      sheet,
+      record {
+        plan = plan;
+        good = subst (IsPlanOf layout stock sent.wave terms) one planned.good;
+        is = subst (λ (b : Bool). IsSheet stock sent.wave terms plan b sheet) same is;
+      },
+      grows,
+    )

@@ -1,9 +1,98 @@
--- The waves that went out, with the plans that are kept of them.
-use Rattle.std.proofs.Common.{◌≡◌, refl, ap, List, [], ◌∷◌, ◌++◌}
-use Rattle.wp_top.specs.Planned.{waves_of}
-use Rattle.wp_top.specs.declared.answering.Planned.{Planned}
+-- The waves that went out in a day, and their plans.
+use Rattle.std.proofs.Common.{◌≡◌, ◌∙◌, refl, sym, ap, subst, List, [], ◌∷◌, ◌++◌, Option, Some, None, Result, Ok, Err, Contains}
+use Rattle.std.proofs.lemmas.List.Concat.{flat_map-cons}
+use Rattle.std.proofs.lemmas.List.Elements.{All-append, All-cons, All-contains_itself, All-head, All-nil, All-tail, All-weaker}
+use Rattle.std.specs.List.{All, flat_map}
+use Rattle.std.specs.Prelude.{IfOk}
+use Rattle.wp_desk.specs.declared.day_run.DayRun.{DayRun}
+use Rattle.wp_machine.specs.Outcome.{outcomes_from, refills_of, released_in, released_of}
+use Rattle.wp_machine.specs.declared.outcome.Outcome.{Outcome}
+use Rattle.wp_machine.specs.declared.outcome.Outcome.TheVariants as outcome
+use Rattle.wp_machine.specs.declared.outcome.WaveHolds.{WaveHolds}
+use Rattle.wp_model.specs.History.{History}
+use Rattle.wp_model.specs.Opening.{Opening, Stock}
+use Rattle.wp_model.specs.State.{opening_state}
+use Rattle.wp_model.specs.Tables.{IsReadOpening}
+use Rattle.wp_model.specs.Warehouse.{Layout}
+use Rattle.wp_model.specs.declared.memory.Memory.{Memory}
+use Rattle.wp_planner.proofs.Outgoing.{each_wave_out_is_filled}
+use Rattle.wp_planner.specs.Plans.{DayTerms, IsPlanFor}
+use Rattle.wp_planner.specs.Released.{IsReleased}
+use Rattle.wp_planner.specs.declared.planner.Terms.{Terms}
+use Rattle.wp_planner.specs.declared.planner.WavePlan.{WavePlan}
+use Rattle.wp_top.specs.Planned.{ArePlanned, IsPlanned, IsToldOf, Sent, waves_of}
 
 -- one more
-pub one_wave_more : (planned : List Planned) (one : Planned) → waves_of (planned ++ one ∷ []) ≡ waves_of planned ++ one.released ∷ []
+pub one_wave_more : (sent : List Sent) (one : Sent) → waves_of (sent ++ one ∷ []) ≡ waves_of sent ++ one.wave ∷ []
 one_wave_more [] one = refl
-one_wave_more (first ∷ planned) one = ap (λ waves. first.released ∷ waves) (one_wave_more planned one)
+one_wave_more (first ∷ sent) one = ap (λ waves. first.wave ∷ waves) (one_wave_more sent one)
+
+-- where a step sends a wave out, that wave holds units for each of its orders
+sent_filled : (stock : Stock) (told : Outcome) → ((out : WaveHolds) → told ≡ outcome.Released out → IsReleased stock out)
+    → All (IsReleased stock) (released_in told)
+sent_filled stock outcome.Plain filled = All-nil (IsReleased stock)
+sent_filled stock (outcome.Refilled refill) filled = All-nil (IsReleased stock)
+sent_filled stock (outcome.Released out) filled = All-cons (IsReleased stock) out [] (filled out refl) (All-nil (IsReleased stock))
+
+-- so it is with each that steps send out
+each_filled : (stock : Stock) (outcomes : List Outcome) → All (λ told. All (IsReleased stock) (released_in told)) outcomes
+    → All (IsReleased stock) (flat_map released_in outcomes)
+each_filled stock [] all = All-nil (IsReleased stock)
+each_filled stock (told ∷ more) all =
+    let P : Outcome → Type 0 = λ told. All (IsReleased stock) (released_in told) in
+    subst (All (IsReleased stock)) (sym (flat_map-cons released_in told more))
+    (All-append (IsReleased stock) (released_in told) (flat_map released_in more) (All-head P told more all)
+    (each_filled stock more (All-tail P told more all)))
+
+-- each wave that goes out in a history holds units for each of its orders
+pub released_each : (history : History) → IsReadOpening history.opening → All (IsReleased history.opening.stock) (released_of history)
+released_each history read =
+    let outcomes = outcomes_from history.opening 0 (opening_state history.opening) history.entries in
+    each_filled history.opening.stock outcomes
+    (All-weaker (Contains outcomes) (λ told. All (IsReleased history.opening.stock) (released_in told)) (λ told among.
+    sent_filled history.opening.stock told (λ out is. each_wave_out_is_filled history out read (subst (Contains outcomes) is among)))
+    outcomes (All-contains_itself outcomes))
+
+-- a wave that went out and holds units for each of its orders has a plan
+one_planned : (layout : Layout) (stock : Stock) (terms : Terms) (sent : Sent) (plan : Option WavePlan) → sent.plan ≡ plan
+    → IsPlanFor layout stock terms sent.wave plan → IsReleased stock sent.wave → IsPlanned layout stock terms sent
+one_planned layout stock terms sent (Some plan) same is released = record { released = released; plan = plan; there = same; good = is.good }
+one_planned layout stock terms sent None same is released = absurd (cc (is.there.1 released))
+
+-- so it is with each
+each_planned : (layout : Layout) (stock : Stock) (terms : Terms) (sent : List Sent) → All (λ s. IsPlanFor layout stock terms s.wave s.plan) sent
+    → All (IsReleased stock) (waves_of sent) → ArePlanned layout stock terms sent
+each_planned layout stock terms [] plans released = All-nil (IsPlanned layout stock terms)
+each_planned layout stock terms (one ∷ sent) plans released =
+    let P : Sent → Type 0 = λ s. IsPlanFor layout stock terms s.wave s.plan in
+    let R : WaveHolds → Type 0 = IsReleased stock in
+    All-cons (IsPlanned layout stock terms) one sent
+    (one_planned layout stock terms one one.plan refl (All-head P one sent plans) (All-head R one.wave (waves_of sent) released))
+    (each_planned layout stock terms sent (All-tail P one sent plans) (All-tail R one.wave (waves_of sent) released))
+
+-- plans that are made with this are made with that
+planned_with : (old new : DayTerms) (sent : List Sent) → old ≡ new → All (λ s. IsPlanFor old.layout old.stock old.terms s.wave s.plan) sent
+    → All (λ s. IsPlanFor new.layout new.stock new.terms s.wave s.plan) sent
+planned_with old new sent same plans = subst (λ (d : DayTerms). All (λ s. IsPlanFor d.layout d.stock d.terms s.wave s.plan) sent) same plans
+
+-- what the waves of a day are planned with
+abbrev with_terms : Layout → Terms → Stock → DayTerms
+with_terms layout terms stock = record { layout = layout; stock = stock; terms = terms }
+
+-- a day of an opening that was read, whose waves are planned, tells what the steps of its history tell
+pub told_of : (layout : Layout) (terms : Terms) (stock : Stock) (opening : Opening) (day_terms : DayTerms)
+    (result : Result (DayRun (Option WavePlan)) Memory) → IsReadOpening opening → day_terms ≡ with_terms layout terms stock → stock ≡ opening.stock
+    → IfOk result (λ day. day.machine.opening ≡ opening) → IfOk result (λ day. waves_of day.plans.items ≡ released_of day.machine)
+    → IfOk result (λ day. All (λ s. IsPlanFor day_terms.layout day_terms.stock day_terms.terms s.wave s.plan) day.plans.items)
+    → IfOk result (λ day. day.refills.items ≡ refills_of day.machine) → IfOk result (IsToldOf layout terms)
+told_of layout terms stock opening day_terms (Err lack) read made own starts waves plans refills = tt
+told_of layout terms stock opening day_terms (Ok day) read made own starts waves plans refills =
+    let begun = day.machine.opening.stock in
+    let same : stock ≡ begun = own ∙ ap (λ (o : Opening). o.stock) (sym starts) in
+    record {
+      waves = waves;
+      planned = each_planned layout begun terms day.plans.items
+          (planned_with day_terms (with_terms layout terms begun) day.plans.items (made ∙ ap (with_terms layout terms) same) plans)
+          (subst (All (IsReleased begun)) (sym waves) (released_each day.machine (subst IsReadOpening (sym starts) read)));
+      refills = refills;
+    }

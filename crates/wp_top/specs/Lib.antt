@@ -1,5 +1,4 @@
 pub mod Ends
-pub mod OneDesk
 pub mod Promise
 pub mod Runs
 pub mod Sections

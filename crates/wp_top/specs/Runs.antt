@@ -1,5 +1,6 @@
 -- What a job comes to.
-use Rattle.std.specs.Prelude.{◌≡◌, ◌⊎◌, ◌++◌, ℕ, ⊤, List, Err, codes}
+use Rattle.std.specs.Prelude.{◌≡◌, ◌⊎◌, ◌++◌, ◌↔◌, ℕ, ⊤, List, Some, None, Err, codes, length, take}
+use Rattle.std.specs.List.{sum_by}
 use Rattle.wp_batch.specs.Waves.{WavePicks}
 use Rattle.wp_cert.specs.Bounds.{NoBatchingCostsLess}
 use Rattle.wp_cert.specs.Refusals.{IsFirstBroken}
@@ -9,28 +10,58 @@ use Rattle.wp_cert.specs.declared.tree.CertFault.{CertFault}
 use Rattle.wp_cert.specs.declared.tree.Node.{Node}
 use Rattle.wp_journal.specs.Journals.{IsJournalOf, Shows}
 use Rattle.wp_machine.specs.Machine.{EachStateIsSound}
-use Rattle.wp_model.specs.History.{History, IsLegal}
+use Rattle.wp_model.specs.Demand.{IsCovered}
+use Rattle.wp_model.specs.History.{History, IsLegal, Script, part_of, script_of, state_after}
 use Rattle.wp_model.specs.Journal.{line, number_after_space}
-use Rattle.wp_model.specs.History.{part_of, script_of}
+use Rattle.wp_model.specs.State.{State, Wave}
+use Rattle.wp_model.specs.Step.{step, wave_from}
 use Rattle.wp_model.specs.Warehouse.{Layout}
+use Rattle.wp_model.specs.declared.command.Command.TheVariants as command
+use Rattle.wp_model.specs.declared.reply.Reply.TheVariants as reply
+use Rattle.wp_model.specs.declared.reply.WaveState.TheVariants as wave
 use Rattle.wp_top.specs.Sections.{output_of}
-use Rattle.wp_top.specs.Sheets.{AreSheets, released_of, terms_of}
+use Rattle.wp_top.specs.Sheets.{AreSheets, terms_of}
+use Rattle.wp_machine.specs.Outcome.{released_of}
 use Rattle.wp_top.specs.Texts.{Said}
 use Rattle.wp_top.specs.declared.complaint.Finding.{Finding}
 use Rattle.wp_top.specs.declared.complaint.Finding.TheVariants as finding
 use Rattle.wp_words.specs.Words.{JobNames, PlanNames, audit, check, plan}
 
--- the output of a plan: that of one legal history whose part for each desk is that desk's script, and each of whose states is sound; with a sheet for each
--- wave that goes out in it, of a good plan
+-- the state after the first entries of a history
+abbrev pub state_at : History → ℕ → State
+state_at history entries = state_after (record history { entries = take entries history.entries })
+
+-- in each state of a history, a wave that is submitted gets stock, by its allotment or by its release, exactly where free stock covers its orders
+abbrev pub StockGoesWhereItCovers : History → Type 0
+StockGoesWhereItCovers history = (entries : ℕ) (name : List ℕ) (number : ℕ) (w : Wave) → wave_from 0 (state_at history entries).waves name ≡ Some (number, w)
+    → w.state ≡ wave.Submitted
+    → ((step history.opening (state_at history entries) (command.Allot name)).reply ≡ reply.Allotted
+    ↔ IsCovered history.opening (state_at history entries).rows w.orders None)
+    × ((step history.opening (state_at history entries) (command.Release name)).reply ≡ reply.Released
+    ↔ IsCovered history.opening (state_at history entries).rows w.orders None)
+
+-- What a plan promises where it ends with status 0, in the words in which it is promised.
 pub record IsPlan (names : PlanNames) (said : Said) (output : List ℕ) : Type 0 where
+  -- its output is the text of one history of a single thread, from the opening that the files say,
   pub history : History
   pub starts : history.opening ≡ said.opening
   pub legal : IsLegal history
+  -- holding every desk's commands once and in order;
   pub parts : (desk : ℕ) → part_of desk history.entries ≡ script_of said.scripts desk
+  -- on hand is always free plus held;
   pub sound : EachStateIsSound history
+  -- a wave gets stock exactly when free stock covers it;
+  pub stock : StockGoesWhereItCovers history
+  -- each released wave has a sheet with a good plan: every released order lies in one batch within capacity; every tour is a shortest closed walk; no
+  -- batching costs less than the printed bound
   pub sheets : List ℕ
   pub planned : AreSheets said.layout history.opening.stock (terms_of names) history (released_of history) sheets
+  -- this is the text: its journal, the sheets, its refills, the stock after it
   pub is : output ≡ output_of history sheets
+
+-- how many commands scripts have together
+abbrev pub command_count : List Script → ℕ
+command_count scripts = sum_by (λ script. length script.commands) scripts
 
 -- the line of a journal that is right, with so many entries
 abbrev pub audit_line : ℕ → List ℕ

@@ -1,14 +1,9 @@
 -- The sheets of the waves that went out.
 use Rattle.std.specs.Prelude.{◌≡◌, ℕ, Bool, true, false, List, [], ◌∷◌, ◌++◌}
-use Rattle.std.specs.List.{flat_map}
 use Rattle.std.specs.Option.{option_map_or}
-use Rattle.wp_machine.specs.Outcome.{outcomes_from}
-use Rattle.wp_machine.specs.declared.outcome.Outcome.{Outcome}
-use Rattle.wp_machine.specs.declared.outcome.Outcome.TheVariants as outcome
 use Rattle.wp_machine.specs.declared.outcome.WaveHolds.{WaveHolds}
 use Rattle.wp_model.specs.History.{History, state_after}
 use Rattle.wp_model.specs.Opening.{Stock}
-use Rattle.wp_model.specs.State.{opening_state}
 use Rattle.wp_model.specs.Step.{wave_from}
 use Rattle.wp_model.specs.declared.reply.WaveState.{WaveState}
 use Rattle.wp_model.specs.declared.reply.WaveState.TheVariants as wave
@@ -18,16 +13,6 @@ use Rattle.wp_planner.specs.Sheets.{IsSheet}
 use Rattle.wp_planner.specs.declared.planner.Terms.{Terms}
 use Rattle.wp_planner.specs.declared.planner.WavePlan.{WavePlan}
 use Rattle.wp_words.specs.Words.{PlanNames}
-
--- the wave that a step sends out, if it sends one out
-abbrev pub released_in : Outcome → List WaveHolds
-released_in outcome.Plain = []
-released_in (outcome.Released released) = released ∷ []
-released_in (outcome.Refilled refill) = []
-
--- the waves that went out in a history, in the order of its entries
-abbrev pub released_of : History → List WaveHolds
-released_of history = flat_map released_in (outcomes_from history.opening 0 (opening_state history.opening) history.entries)
 
 -- a wave in this state is cancelled
 abbrev pub is_cancelled : WaveState → Bool

@@ -7,17 +7,17 @@ use Rattle.wp_cert.specs.declared.tree.CertWhy.TheVariants as cert_why
 use Rattle.wp_journal.specs.Journals.{IsJournalOf, Shows}
 use Rattle.wp_layout.specs.declared.fault.LayoutFault.{LayoutFault}
 use Rattle.wp_layout.specs.declared.fault.LayoutFault.TheVariants as layout_fault
-use Rattle.wp_model.specs.History.{History}
+use Rattle.wp_machine.specs.Machine.{EachStateIsSound}
+use Rattle.wp_model.specs.History.{History, IsLegal, Script, part_of, script_of}
 use Rattle.wp_model.specs.Opening.{Opening}
 use Rattle.wp_model.specs.Warehouse.{Layout}
-use Rattle.wp_model.specs.declared.command.Command.{Command}
 use Rattle.wp_outside.specs.Outside.{Grows, TookPrefix}
 use Rattle.wp_top.specs.Ends.{Asked, HasRisen, IsCause, IsFirstRefused, IsOutput, complaint_line}
-use Rattle.wp_top.specs.OneDesk.{desk_history, only_script}
 use Rattle.wp_top.specs.Runs.{IsRefusedCertificate, ShowsBound}
 use Rattle.wp_planner.specs.declared.planner.Terms.{Terms}
 use Rattle.wp_top.specs.Sections.{output_of}
-use Rattle.wp_top.specs.Sheets.{AreSheets, released_of}
+use Rattle.wp_top.specs.Sheets.{AreSheets}
+use Rattle.wp_machine.specs.Outcome.{released_of}
 use Rattle.wp_top.specs.Texts.{File, IsHeld, Said, file_of, nothing_said, scripts_in, text_in}
 use Rattle.wp_top.specs.declared.complaint.Complaint.TheVariants as complaint
 use Rattle.wp_top.specs.declared.complaint.Finding.TheVariants as finding
@@ -86,17 +86,30 @@ abbrev pub IsStop : (List ℕ → Option (List ℕ)) → Asked → (List ℕ →
 IsStop holds asked before after (stop.Complaint why) = IsCause holds asked before after why
 IsStop holds asked before after stop.Memory = ⊤
 
+-- one legal history of an opening whose part for each desk is that desk's script, and each of whose states is sound
+pub record IsHistoryOf (opening : Opening) (scripts : List Script) (history : History) : Type 0 where
+  pub starts : history.opening ≡ opening
+  pub legal : IsLegal history
+  pub parts : (desk : ℕ) → part_of desk history.entries ≡ script_of scripts desk
+  pub sound : EachStateIsSound history
+
 -- the output of a history and of the sheets of its waves, each with a good plan
 pub record IsTextOf (layout : Layout) (terms : Terms) (history : History) (output : List ℕ) : Type 0 where
   pub sheets : List ℕ
   pub planned : AreSheets layout history.opening.stock terms history (released_of history) sheets
   pub is : output ≡ output_of history sheets
 
+-- the output of a layout, of an opening and of scripts: that of one such history, whatever order the desks came in
+pub record IsDayOf (layout : Layout) (opening : Opening) (terms : Terms) (scripts : List Script) (output : List ℕ) : Type 0 where
+  pub history : History
+  pub answers : IsHistoryOf opening scripts history
+  pub text : IsTextOf layout terms history output
+
 -- the output of a layout, of an opening and of the desk file of this name
 pub record IsDay (holds : List ℕ → Option (List ℕ)) (layout : Layout) (opening : Opening) (terms : Terms) (name output : List ℕ) : Type 0 where
-  pub script : List Command
-  pub desk_file : IsSaid scripts_in holds name (only_script script)
-  pub day : IsTextOf layout terms (desk_history opening script) output
+  pub scripts : List Script
+  pub desk_file : IsSaid scripts_in holds name scripts
+  pub day : IsDayOf layout opening terms scripts output
 
 -- a journal stops a run where it isn't right
 abbrev pub StopsAudit : Opening → List ℕ → Stop → Type 0

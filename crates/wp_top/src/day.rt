@@ -1,29 +1,49 @@
-//! A day of one desk, from its script to its text.
-ghost use Rattle.std.specs.Prelude.{◌≡◌, ◌<◌, ◌≤◌, ◌++◌, length, IfOk, IsTrue, string_bytes};
-ghost use Rattle.std.specs.List.{All};
-ghost use Rattle.wp_model.specs.History.{state_after};
+//! A day of all desks, from their scripts to its text.
+ghost use Rattle.std.specs.Prelude.{◌≡◌, ◌++◌, IfOk, string_bytes};
 ghost use Rattle.wp_model.specs.Journal.{journal};
-ghost use Rattle.wp_model.specs.Limits.{most_commands};
-ghost use Rattle.wp_model.specs.Plain.{is_plain};
 ghost use Rattle.wp_model.specs.Tables.{IsReadOpening};
 ghost use Rattle.wp_model.specs.Warehouse.{Layout as Block};
+ghost use Rattle.wp_planner.specs.Plans.{AreTerms};
 ghost use Rattle.wp_planner.specs.Released.{LiesIn};
 ghost use Rattle.wp_planner.specs.Sheets.{GrowsBy};
-ghost use Rattle.wp_top.specs.OneDesk.{desk_history};
-ghost use Rattle.wp_top.specs.Planned.{AreTerms, IsToldOf};
-ghost use Rattle.wp_top.specs.Sheets.{AreSheets, released_of};
-ghost use Rattle.wp_top.specs.Stops.{IsTextOf};
+ghost use Rattle.wp_top.specs.Planned.{IsToldOf};
+ghost use Rattle.wp_top.specs.Sheets.{AreSheets};
+ghost use Rattle.wp_machine.specs.Outcome.{released_of};
+ghost use Rattle.wp_top.specs.Stops.{IsDayOf, IsHistoryOf, IsTextOf};
 
-use crate::answering::{Answered, answer_script};
 use crate::print::{print_journal, print_refills, print_stock};
 use crate::sheets::print_sheets;
 use std::alloc::Global;
+use std::sync::Wait;
 use std::thread::Threads;
+use wp_desk::{DayRun, run_desks};
 use wp_graph::Layout;
 use wp_machine::{Machine, Opening};
-use wp_model::{Command, Memory};
-use wp_planner::Terms;
-use wp_tables::Stock;
+use wp_model::Memory;
+use wp_outside::Gate;
+use wp_planner::{DayPlanner, Terms, WavePlan};
+use wp_tables::{Scripts, Stock};
+
+// Runs the scripts of all desks, from the opening on. Each wave that goes out is planned.
+fn run_day<'a, R: Threads + Wait + Sync, G: Gate>(
+    rt: &R,
+    alloc: Global,
+    layout: &Layout,
+    opening: &'a Opening,
+    terms: &Terms,
+    scripts: &Scripts,
+    gate: &G,
+) -> Result<DayRun<'a, Option<WavePlan>>, Memory>
+    requires read { IsReadOpening opening.now }
+    requires lies { LiesIn layout.now opening.now.stock }
+    requires terms { AreTerms terms.now }
+    ensures history { IfOk result (λ day. IsHistoryOf opening.now scripts.now day.machine) }
+    ensures told { IfOk result (IsToldOf layout.now terms.now) }
+{
+    let machine = Machine::open(alloc, opening)?;
+    let planner = DayPlanner::of(rt, layout, opening.stock(), *terms);
+    run_desks(rt, alloc, opening, machine, scripts, &planner, gate)
+}
 
 fn print_entries(alloc: Global, text: &mut String, machine: &Machine<'_>) -> Result<(), Memory>
     ensures { IfOk result (λ _. string_bytes text.new ≡ string_bytes text.old ++ journal machine.now.entries) }
@@ -45,22 +65,22 @@ fn journal_and_sheets(
     alloc: Global,
     stock: &Stock,
     terms: &Terms,
-    answered: &Answered<'_>,
+    day: &DayRun<'_, Option<WavePlan>>,
 ) -> Result<Vec<u8>, Memory>
-    requires stock { answered.now.machine.opening.stock ≡ stock.now }
+    requires stock { day.now.machine.opening.stock ≡ stock.now }
     requires terms { AreTerms terms.now }
-    requires told { (layout : Block) × IsToldOf layout terms.now answered.now.machine answered.now.told }
-    ensures { (layout : Block) → IsToldOf layout terms.now answered.now.machine answered.now.told → IfOk result (λ text. GrowsBy
-        (AreSheets layout stock.now terms.now answered.now.machine (released_of answered.now.machine)) (journal answered.now.machine.entries) text.items) }
+    requires told { (layout : Block) × IsToldOf layout terms.now day.now }
+    ensures { (layout : Block) → IsToldOf layout terms.now day.now → IfOk result (λ text. GrowsBy
+        (AreSheets layout stock.now terms.now day.now.machine (released_of day.now.machine)) (journal day.now.machine.entries) text.items) }
 {
-    let mut text = journal_text(alloc, &answered.machine)?;
+    let mut text = journal_text(alloc, &day.machine)?;
     print_sheets(
         alloc,
         &mut text,
         stock,
         terms,
-        &answered.machine,
-        answered.told.planned.as_slice(),
+        &day.machine,
+        day.plans.as_slice(),
     )?;
     Ok(text)
 }
@@ -70,40 +90,37 @@ fn text_of(
     alloc: Global,
     stock: &Stock,
     terms: &Terms,
-    answered: &Answered<'_>,
+    day: &DayRun<'_, Option<WavePlan>>,
 ) -> Result<Vec<u8>, Memory>
-    requires stock { answered.now.machine.opening.stock ≡ stock.now }
+    requires read { IsReadOpening day.now.machine.opening }
+    requires stock { day.now.machine.opening.stock ≡ stock.now }
     requires terms { AreTerms terms.now }
-    requires rows { All (λ row. row.article < length stock.now.articles) (state_after answered.now.machine).rows }
-    requires refills { All (λ refill. All (λ hold. hold.row < length stock.now.rows) refill.holds) answered.now.told.refills.items }
-    requires told { (layout : Block) × IsToldOf layout terms.now answered.now.machine answered.now.told }
-    ensures { (layout : Block) → IsToldOf layout terms.now answered.now.machine answered.now.told
-        → IfOk result (λ text. IsTextOf layout terms.now answered.now.machine text.items) }
+    requires told { (layout : Block) × IsToldOf layout terms.now day.now }
+    ensures { (layout : Block) → IsToldOf layout terms.now day.now → IfOk result (λ text. IsTextOf layout terms.now day.now.machine text.items) }
 {
-    let mut text = journal_and_sheets(alloc, stock, terms, answered)?;
-    print_refills(alloc, &mut text, stock, answered.told.refills.as_slice())?;
-    print_stock(alloc, &mut text, stock, &answered.machine)?;
+    let mut text = journal_and_sheets(alloc, stock, terms, day)?;
+    print_refills(alloc, &mut text, stock, day.refills.as_slice())?;
+    print_stock(alloc, &mut text, stock, &day.machine)?;
     text.extend_from_slice(b"end\n")?;
     Ok(text)
 }
 
-/// The text of desk 1's commands, one after the other: the journal, a sheet for each wave that goes out, and the refills and
-/// the stock as they leave it.
-pub fn day_text<R: Threads + Sync>(
+/// The text of a day of these scripts: the journal of all that the desks asked, in the order in which it was answered, a sheet for
+/// each wave that went out, and the refills and the stock as they leave it.
+pub fn day_text<R: Threads + Wait + Sync, G: Gate>(
     rt: &R,
     alloc: Global,
     layout: &Layout,
     opening: &Opening,
     terms: &Terms,
-    script: &[Command],
+    scripts: &Scripts,
+    gate: &G,
 ) -> Result<Vec<u8>, Memory>
     requires read { IsReadOpening opening.now }
     requires lies { LiesIn layout.now opening.now.stock }
     requires terms { AreTerms terms.now }
-    requires plain { All (λ command. IsTrue (is_plain command)) script.now }
-    requires few { length script.now ≤ most_commands }
-    ensures { IfOk result (λ text. IsTextOf layout.now terms.now (desk_history opening.now script.now) text.items) }
+    ensures { IfOk result (λ text. IsDayOf layout.now opening.now terms.now scripts.now text.items) }
 {
-    let answered = answer_script(rt, alloc, layout, opening, terms, script)?;
-    text_of(alloc, opening.stock(), terms, &answered)
+    let day = run_day(rt, alloc, layout, opening, terms, scripts, gate)?;
+    text_of(alloc, opening.stock(), terms, &day)
 }

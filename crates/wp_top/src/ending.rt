@@ -12,9 +12,10 @@ use crate::plan::plan_output;
 use crate::status::Status;
 use std::alloc::Global;
 use std::fmt::Write;
+use std::sync::Wait;
 use std::thread::Threads;
 use wp_model::Memory;
-use wp_outside::{Files, Sink, SinkFault, write_text};
+use wp_outside::{Files, Gate, Sink, SinkFault, write_text};
 use wp_words::{AuditWords, CheckWords, Job, read_words};
 
 /// How a run ends, where its text is taken.
@@ -51,11 +52,12 @@ fn ending_with(output: Result<Vec<u8>, Stop>) -> Result<Ending, Memory>
 }
 
 // The output of the job that words ask for.
-fn job_output<R: Threads + Sync, F: Files>(
+fn job_output<R: Threads + Wait + Sync, F: Files, G: Gate>(
     rt: &R,
     alloc: Global,
     words: &Vec<String>,
     files: &mut F,
+    gate: &G,
 ) -> Result<Vec<u8>, Stop>
     ensures output { IfOk result (λ text. IsOutput (F.holds files.old) (asked_by words.now.items) text.items) }
     ensures stops { IfErr result (IsStop (F.holds files.old) (asked_by words.now.items) (F.faults files.old) (F.faults files.new)) }
@@ -64,24 +66,25 @@ fn job_output<R: Threads + Sync, F: Files>(
 {
     let job = read_words(alloc, words)?;
     match &job {
-        Job::Plan(words) => plan_output(rt, alloc, files, words),
+        Job::Plan(words) => plan_output(rt, alloc, files, words, gate),
         Job::Check(words) => check_output(alloc, files, words),
         Job::Audit(words) => audit_output(alloc, files, words),
     }
 }
 
 /// How a run of these words ends.
-pub fn ending_of<R: Threads + Sync, F: Files>(
+pub fn ending_of<R: Threads + Wait + Sync, F: Files, G: Gate>(
     rt: &R,
     alloc: Global,
     words: &Vec<String>,
     files: &mut F,
+    gate: &G,
 ) -> Result<Ending, Memory>
     ensures is { IfOk result (IsEnding (F.holds files.old) (asked_by words.now.items) (F.faults files.old) (F.faults files.new)) }
     ensures same { SameBytes (F.holds files.old) (F.holds files.new) }
     ensures counts { NoneFalls (F.faults files.old) (F.faults files.new) }
 {
-    ending_with(job_output(rt, alloc, words, files))
+    ending_with(job_output(rt, alloc, words, files, gate))
 }
 
 /// How a check with these words ends.

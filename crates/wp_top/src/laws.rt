@@ -1,16 +1,15 @@
-ghost use Rattle.std.specs.Prelude.{ℕ, List, length};
+ghost use Rattle.std.specs.Prelude.{ℕ, List};
 ghost use Rattle.wp_journal.specs.Journals.{IsJournalOf};
-ghost use Rattle.wp_model.specs.History.{script_of};
 ghost use Rattle.wp_model.specs.Tables.{AreReadScripts, IsReadOpening};
-ghost use Rattle.wp_top.specs.Runs.{IsPlan};
+ghost use Rattle.wp_top.specs.Runs.{IsPlan, command_count};
 ghost use Rattle.wp_top.specs.Texts.{Said};
 ghost use Rattle.wp_words.specs.Words.{PlanNames};
 
-/// A law: the output of a plan is a right journal, with as many entries as there are commands. So an audit of it finds
+/// A law: the output of a plan is a right journal, with as many entries as the scripts of all desks have commands. So an audit of it finds
 /// nothing wrong, where there is memory. What the readers of the tables give keeps what is asked of the opening and of
 /// the scripts.
 pub fn plans_print_right_journals()
     ensures { (names : PlanNames) (said : Said) (output : List ℕ) → IsReadOpening said.opening → AreReadScripts said.scripts
         → IsPlan names said output
-        → IsJournalOf said.opening output (length (script_of said.scripts 1)) }
+        → IsJournalOf said.opening output (command_count said.scripts) }
 {}

@@ -1,11 +1,10 @@
 //! The whole run: from the words of the command line and the files to the text that goes out.
 //!
-//! The words ask for a job, and each job has a file of its own: planning a day, checking a certificate, and
-//! auditing a journal. A job reads its
-//! files one after the other, and gives its output or stops; then the text of its ending goes out.
+//! The words ask for a job, and each job has a file of its own: planning a day, checking a certificate, and auditing a
+//! journal. A job reads its files one after the other, and gives its output or stops; then the text of its ending goes out. The
+//! desks of a day run beside each other, so a day's output is that of one legal history of theirs, and another run may give another.
 #![tactic(auto)]
 
-mod answering;
 mod audit;
 mod check;
 mod complaint;
@@ -26,24 +25,27 @@ ghost use Rattle.wp_top.specs.Promise.{Keeps, course};
 use crate::ending::{audit_ending, check_ending, ending_of, finish};
 pub use laws::plans_print_right_journals;
 use std::alloc::Global;
+use std::sync::Wait;
 use std::thread::Threads;
-use wp_outside::{Files, Sink};
+use wp_outside::{Files, Gate, Sink};
 pub use wp_words::{AuditWords, CheckWords};
 
 /// Runs the job that the words ask for, and gives its status: 0 the whole output was taken; 1 the words ask for no job;
 /// 2 a file is refused; 3 a file could not be read; 4 the output could not be written; 5 memory ran out; 6 the
 /// certificate or the journal isn't right. With 1, 2, 3 and 6 one line was written; with 4 and 5 a beginning of the text, or nothing.
-pub fn run<R: Threads + Sync, F: Files, K: Sink>(
+/// The desks of a plan pass the gate, and what is promised doesn't hang on when it lets them.
+pub fn run<R: Threads + Wait + Sync, F: Files, K: Sink, G: Gate>(
     rt: &R,
     alloc: Global,
     words: &Vec<String>,
     files: &mut F,
     out: &mut K,
+    gate: &G,
 ) -> u8
     ensures { Keeps (asked_by words.now.items) (course (F.holds files.old) (F.holds files.new) (F.faults files.old) (F.faults files.new) (K.taken out.old)
         (K.taken out.new) (K.faults out.old) (K.faults out.new)) result }
 {
-    let ending = ending_of(rt, alloc, words, files);
+    let ending = ending_of(rt, alloc, words, files, gate);
     finish(alloc, ending, out).number()
 }
 

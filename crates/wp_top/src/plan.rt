@@ -1,10 +1,10 @@
 //! The mode `plan`.
 ghost use Rattle.std.specs.Prelude.{◌≡◌, Ok, IfOk, IfErr};
 ghost use Rattle.wp_model.specs.Tables.{IsReadOpening};
+ghost use Rattle.wp_planner.specs.Plans.{AreTerms};
 ghost use Rattle.wp_planner.specs.Released.{LiesIn};
 ghost use Rattle.wp_outside.specs.Outside.{NoneFalls, SameBytes};
 ghost use Rattle.wp_top.specs.Ends.{IsOutput, plan_job};
-ghost use Rattle.wp_top.specs.Planned.{AreTerms};
 ghost use Rattle.wp_top.specs.Sheets.{terms_of};
 ghost use Rattle.wp_top.specs.Stops.{IsDay, IsStop, IsUnsaid};
 ghost use Rattle.wp_top.specs.Texts.{scripts_in};
@@ -16,10 +16,11 @@ use crate::complaint::Stop;
 use crate::day::day_text;
 use crate::reading::{read_warehouse, scripts_from};
 use std::alloc::Global;
+use std::sync::Wait;
 use std::thread::Threads;
 use wp_graph::Layout;
 use wp_machine::Opening;
-use wp_outside::Files;
+use wp_outside::{Files, Gate};
 use wp_planner::Terms;
 use wp_words::PlanWords;
 
@@ -35,7 +36,7 @@ fn terms_of(words: &PlanWords) -> Terms
 }
 
 // The output of a layout, of an opening and of the desk file of this name.
-fn output_of_desks<R: Threads + Sync, F: Files>(
+fn output_of_desks<R: Threads + Wait + Sync, F: Files, G: Gate>(
     rt: &R,
     alloc: Global,
     files: &mut F,
@@ -43,6 +44,7 @@ fn output_of_desks<R: Threads + Sync, F: Files>(
     opening: &Opening,
     terms: &Terms,
     name: &str,
+    gate: &G,
 ) -> Result<Vec<u8>, Stop>
     requires read { IsReadOpening opening.now }
     requires lies { LiesIn layout.now opening.now.stock }
@@ -53,16 +55,17 @@ fn output_of_desks<R: Threads + Sync, F: Files>(
     ensures counts { NoneFalls (F.faults files.old) (F.faults files.new) }
 {
     let scripts = scripts_from(alloc, files, name)?;
-    let text = day_text(rt, alloc, layout, opening, terms, scripts.script(1))?;
+    let text = day_text(rt, alloc, layout, opening, terms, &scripts, gate)?;
     Ok(text)
 }
 
 /// The output of a plan.
-pub fn plan_output<R: Threads + Sync, F: Files>(
+pub fn plan_output<R: Threads + Wait + Sync, F: Files, G: Gate>(
     rt: &R,
     alloc: Global,
     files: &mut F,
     words: &PlanWords,
+    gate: &G,
 ) -> Result<Vec<u8>, Stop>
     requires { HasRanges (plan_names words.now) }
     ensures output { IfOk result (λ text. IsOutput (F.holds files.old) (Ok (plan_job words.now)) text.items) }
@@ -85,5 +88,6 @@ pub fn plan_output<R: Threads + Sync, F: Files>(
         &warehouse.opening,
         &terms_of(words),
         words.desks.as_str(),
+        gate,
     )
 }

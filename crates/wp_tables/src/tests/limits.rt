@@ -83,7 +83,7 @@ fn fault_after(alloc: Global, of: FullFile, more: &str) -> Result<Option<RowFaul
 }
 
 /// Full files, further records, and the record that is refused and why.
-const LIMITS: [(FullFile, &str, Option<(u64, Why)>); 14] = [
+const LIMITS: [(FullFile, &str, Option<(u64, Why)>); 16] = [
     (FullFile::Rows, "", None),
     (FullFile::Rows, "x\n", Some((25_602, Why::TooManyRows))),
     (FullFile::PlacesOfA, "60-1-L,B,1\n", None),
@@ -106,10 +106,20 @@ const LIMITS: [(FullFile, &str, Option<(u64, Why)>); 14] = [
     ),
     (FullFile::Commands, "", None),
     (FullFile::Commands, "x\n", Some((10_002, Why::TooManyRows))),
+    (
+        FullFile::Commands,
+        "8,allot,W\n",
+        Some((10_002, Why::TooManyRows)),
+    ),
     (FullFile::Waves, "1,allot,W\n", None),
     (
         FullFile::Waves,
         "1,submit,W\n",
+        Some((502, Why::TooManyWaves)),
+    ),
+    (
+        FullFile::Waves,
+        "8,submit,W\n",
         Some((502, Why::TooManyWaves)),
     ),
     (FullFile::Waves, "1,submit,W b\n", Some((502, Why::BadName))),

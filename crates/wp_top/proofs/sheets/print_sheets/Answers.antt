@@ -1,15 +1,25 @@
 use Rattle.std.proofs.Common.{refl, length}
 use Rattle.std.proofs.lemmas.Option.{slice_get_read}
+use Rattle.wp_model.proofs.Elements.{All-at}
 use Rattle.wp_top.proofs.SheetsGrow.{grown_by_none, grown_next}
 use Rattle.wp_top.proofs.sheets.print_sheets.Goals as goal
+use Rattle.wp_top.specs.Planned.{IsPlanned}
 
 pub loop-one-init : goal.loop-one-init
 loop-one-init c = λ layout are.
     grown_by_none layout c.args.stock.now c.args.terms.now c.args.machine.now c.args.text.now.items
 
+pub print_one-requires-clause-planned : goal.print_one-requires-clause-planned
+print_one-requires-clause-planned c =
+    let at = slice_get_read c.args.planned.now (length c.args.planned.now) c.loop-one.one-index c.one-item.result refl c.loop-one-test.true c.one-item.is in
+    let planned = c.requires.planned in (
+      planned.0,
+      All-at (IsPlanned planned.0 c.args.stock.now c.args.terms.now) c.args.planned.now c.loop-one.one-index c.one-item.result planned.1 at,
+    )
+
 pub loop-one-preserved : goal.loop-one-preserved
 loop-one-preserved c = λ layout are.
     let at = slice_get_read c.args.planned.now (length c.args.planned.now) c.loop-one.one-index c.one-item.result refl c.loop-one-test.true c.one-item.is in
+    let one = All-at (IsPlanned layout c.args.stock.now c.args.terms.now) c.args.planned.now c.loop-one.one-index c.one-item.result are at in
     grown_next layout c.args.stock.now c.args.terms.now c.args.machine.now c.args.planned.now c.loop-one.one-index
-    c.one-item.result _ c.args.text.now.items c.loop-one.text.items _ at are c.is_cancelled-cancelled.ensures (c.loop-one.invariant layout are)
-    c.in_ok-print_sheet.ensures
+    c.one-item.result c.args.text.now.items c.loop-one.text.items _ at (c.loop-one.invariant layout are) (c.in_ok-print_one.ensures layout one)

@@ -1,0 +1,9 @@
+pub mod Parts
+pub mod Whole
+pub mod Rising
+pub mod Asking
+pub mod Scripts
+pub mod WholeDay
+pub mod Sent
+pub mod Joining
+pub mod Beginning

@@ -1,0 +1,117 @@
+//! A day: all desks run, and then the machine has what they asked for, in one history.
+ghost use Rattle.std.specs.Prelude.{◌≡◌, ℕ, IfOk, IsOk, map};
+ghost use Rattle.std.specs.List.{All};
+ghost use Rattle.std.specs.List.Sorted.{IsPermutation};
+ghost use Rattle.wp_desk.specs.Work.{AreOfDesks, ArePlanned, BeginsAt, EndsWith, desks_of, waves_of};
+ghost use Rattle.wp_machine.specs.Machine.{EachStateIsSound};
+ghost use Rattle.wp_machine.specs.Outcome.{refills_of, released_of};
+ghost use Rattle.wp_model.specs.History.{History, IsLegal, opened, part_of, script_of};
+
+use crate::day_run::{DayRun, Planned};
+use crate::desk::Day;
+use crate::desks::{Desks, DesksWork, run_all};
+use crate::planner::Planner;
+use crate::shared::Shared;
+use crate::told::Told;
+use std::alloc::Global;
+use std::sync::Wait;
+use std::thread::Threads;
+use wp_machine::{Machine, Opening, Refill};
+use wp_model::Memory;
+use wp_outside::Gate;
+use wp_tables::Scripts;
+use wp_turn::Turn;
+
+impl<'a> Day<'a> {
+    // The machine again, once all desks are back.
+    fn close(self, desks: Desks<'a>) -> Machine<'a>
+        requires begins { BeginsAt self.opening.now self.turn }
+        requires all { AreOfDesks self.turn (desks_of self.turn) desks.passes.list }
+        ensures { EndsWith self.entry.opening.now desks.entry.passes.list result }
+    {
+        let Day { opening: _, turn } = self;
+        let Desks { passes } = desks;
+        match turn.close(passes) {
+            Ok(Shared { machine }) => machine,
+            Err(_) => unreachable!(),
+        }
+    }
+}
+
+// Plans in the order of their waves' entries.
+fn sort_plans<P: Planner>(plans: &mut Vec<Planned<P::Plan>>, planner: &P)
+    requires planned { ArePlanned (P.plans planner.now) plans.old.items }
+    ensures waves { (machine : History) → IsPermutation (released_of machine) (waves_of plans.old.items) → waves_of plans.new.items ≡ released_of machine }
+    ensures planned { ArePlanned (P.plans planner.now) plans.new.items }
+{
+    plans.sort_unstable_by_key(|planned| planned.wave.number);
+}
+
+// Refills in the order of their entries.
+fn sort_refills(refills: &mut Vec<Refill>)
+    ensures { (machine : History) → IsPermutation (refills_of machine) refills.old.items → refills.new.items ≡ refills_of machine }
+{
+    refills.sort_unstable_by_key(|refill| refill.number);
+}
+
+// What a day gives, where there was memory for all that was told.
+fn day_of<'a, P: Planner>(
+    machine: Machine<'a>,
+    told: Result<Told<P::Plan>, Memory>,
+    planner: &P,
+) -> Result<DayRun<'a, P::Plan>, Memory>
+    requires waves { IfOk told (λ told. IsPermutation (released_of machine) (waves_of told.plans.items)) }
+    requires refills { IfOk told (λ told. IsPermutation (refills_of machine) told.refills.items) }
+    requires planned { IfOk told (λ told. ArePlanned (P.plans planner.now) told.plans.items) }
+    ensures there { IfOk result (λ _. IsOk told) }
+    ensures machine { IfOk result (λ day. day.machine ≡ machine.entry) }
+    ensures legal { IfOk result (λ day. IsLegal day.machine) }
+    ensures sound { IfOk result (λ day. EachStateIsSound day.machine) }
+    ensures waves { IfOk result (λ day. waves_of day.plans.items ≡ released_of day.machine) }
+    ensures planned { IfOk result (λ day. ArePlanned (P.plans planner.now) day.plans.items) }
+    ensures refills { IfOk result (λ day. day.refills.items ≡ refills_of day.machine) }
+{
+    let _legal = machine.count();
+    let Told {
+        mut plans,
+        mut refills,
+    } = told?;
+    sort_plans(&mut plans, planner);
+    sort_refills(&mut refills);
+    Ok(DayRun {
+        machine,
+        plans,
+        refills,
+    })
+}
+
+/// Runs the scripts of all desks, each in a thread of its own. The machine has answered nothing yet. The machine that comes back has one legal
+/// history, in which each desk's part is its script and there is nothing else, and each state of it is sound. Each wave that went out has one plan,
+/// related to it as the planner says, and each refill is told; both in the order of their entries. An `Err` comes from a want of memory alone,
+/// once all desks have ended, and the machine is then gone. A desk passes the gate before each of its commands, and before and after it plans a
+/// wave that it sent out.
+pub fn run_desks<'a, R: Threads + Wait + Sync, P: Planner, G: Gate>(
+    rt: &R,
+    alloc: Global,
+    opening: &'a Opening,
+    machine: Machine<'a>,
+    scripts: &Scripts,
+    planner: &P,
+    gate: &G,
+) -> Result<DayRun<'a, P::Plan>, Memory>
+    requires { machine ≡ opened opening.now }
+    ensures opening { IfOk result (λ day. day.machine.opening ≡ opening.now) }
+    ensures legal { IfOk result (λ day. IsLegal day.machine) }
+    ensures parts { IfOk result (λ day. (desk : ℕ) → part_of desk day.machine.entries ≡ script_of scripts.now desk) }
+    ensures sound { IfOk result (λ day. EachStateIsSound day.machine) }
+    ensures waves { IfOk result (λ day. map (λ planned. planned.wave) day.plans.items ≡ released_of day.machine) }
+    ensures plans { IfOk result (λ day. All (λ planned. P.plans planner.now planned.wave planned.plan) day.plans.items) }
+    ensures refills { IfOk result (λ day. day.refills.items ≡ refills_of day.machine) }
+{
+    let (turn, passes) = Turn::open(alloc, Shared { machine }, scripts.desks())?;
+    let day = Day { opening, turn };
+    let desks = Desks { passes };
+    let DesksWork { desks, told } = run_all(rt, alloc, &day, desks, scripts, planner, gate);
+    let machine = day.close(desks);
+    day_of(machine, told, planner)
+}

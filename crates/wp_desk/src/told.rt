@@ -1,0 +1,88 @@
+ghost use Rattle.std.specs.Prelude.{◌≡◌, [], ◌∷◌, ◌++◌, IfOk, IsOk};
+ghost use Rattle.wp_desk.specs.Work.{ArePlanned, waves_of};
+ghost use Rattle.wp_machine.specs.Outcome.{refill_in, released_in};
+
+use crate::day_run::Planned;
+use crate::planner::Planner;
+use std::alloc::Global;
+use wp_machine::{Outcome, Refill, WaveHolds};
+use wp_model::Memory;
+use wp_outside::{Gate, Moment};
+
+/// What steps told: the waves that went out, each with its plan, and the refills.
+#[derive(Drop)]
+pub(crate) struct Told<T> {
+    pub(crate) plans: Vec<Planned<T>>,
+    pub(crate) refills: Vec<Refill>,
+}
+
+// Nothing was told yet.
+pub(crate) fn nothing_told<P: Planner>(alloc: Global) -> Told<P::Plan>
+    ensures plans { result.plans.items ≡ [] }
+    ensures refills { result.refills.items ≡ [] }
+{
+    Told {
+        plans: Vec::new(alloc),
+        refills: Vec::new(alloc),
+    }
+}
+
+// Plans a wave that this desk sent out, and keeps it with its plan.
+fn keep_plan<P: Planner, G: Gate>(
+    alloc: Global,
+    plans: &mut Vec<Planned<P::Plan>>,
+    desk: u32,
+    wave: WaveHolds,
+    planner: &P,
+    gate: &G,
+) -> Result<(), Memory>
+    requires planned { ArePlanned (P.plans planner.now) plans.old.items }
+    ensures waves { IfOk result (λ _. waves_of plans.new.items ≡ waves_of plans.old.items ++ wave ∷ []) }
+    ensures planned { IfOk result (λ _. ArePlanned (P.plans planner.now) plans.new.items) }
+{
+    gate.pass(desk, Moment::BeforePlan);
+    let plan = planner.plan(alloc, &wave)?;
+    gate.pass(desk, Moment::AfterPlan);
+    plans.push(Planned { wave, plan })?;
+    Ok(())
+}
+
+// Keeps what a step of this desk told: a wave that went out with its plan, or a refill.
+pub(crate) fn keep_outcome<P: Planner, G: Gate>(
+    alloc: Global,
+    told: &mut Told<P::Plan>,
+    desk: u32,
+    outcome: Outcome,
+    planner: &P,
+    gate: &G,
+) -> Result<(), Memory>
+    requires planned { ArePlanned (P.plans planner.now) told.old.plans.items }
+    ensures waves { IfOk result (λ _. waves_of told.new.plans.items ≡ waves_of told.old.plans.items ++ released_in outcome) }
+    ensures planned { IfOk result (λ _. ArePlanned (P.plans planner.now) told.new.plans.items) }
+    ensures refills { IfOk result (λ _. told.new.refills.items ≡ told.old.refills.items ++ refill_in outcome) }
+{
+    match outcome {
+        Outcome::Released(wave) => { keep_plan(alloc, &mut told.plans, desk, wave, planner, gate) }
+        Outcome::Refilled(refill) => {
+            told.refills.push(refill)?;
+            Ok(())
+        }
+        Outcome::Plain => Ok(()),
+    }
+}
+
+// What was told to some desks, and then what was told to one more, where there was memory for both.
+pub(crate) fn both_told<P: Planner>(
+    some: Result<Told<P::Plan>, Memory>,
+    one: Result<Told<P::Plan>, Memory>,
+) -> Result<Told<P::Plan>, Memory>
+    ensures both { IfOk result (λ both. IfOk some (λ told. IfOk one (λ more.
+        (both.plans.items ≡ told.plans.items ++ more.plans.items) × (both.refills.items ≡ told.refills.items ++ more.refills.items)))) }
+    ensures there { IfOk result (λ _. IsOk some × IsOk one) }
+{
+    let mut told = some?;
+    let mut more = one?;
+    told.plans.append(&mut more.plans)?;
+    told.refills.append(&mut more.refills)?;
+    Ok(told)
+}
