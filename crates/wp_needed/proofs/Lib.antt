@@ -1,0 +1,11 @@
+pub mod Tables
+pub mod Steps
+pub mod Spare
+pub mod Crossing
+pub mod Alone
+pub mod Beginning
+pub mod Walks
+pub mod GoingRuns
+pub mod LeastNeeded
+pub mod Warehouse
+pub mod Shorter

@@ -1,0 +1,102 @@
+ghost use Rattle.std.specs.Prelude.{◌≡◌, ◌+◌, ◌-◌, ◌*◌, ◌<◌, ◌≤◌, ◌^◌, None};
+ghost use Rattle.wp_graph.specs.PickSets.{AreSlots};
+ghost use Rattle.wp_model.specs.Tours.{IsShortest};
+ghost use Rattle.wp_model.specs.Warehouse.{IsUpTo};
+ghost use Rattle.wp_classes.specs.Choices.{block_of};
+ghost use Rattle.wp_needed.specs.Lengths.{AreGoing};
+ghost use Rattle.wp_needed.specs.Runs.{IsFirstLeast, NoneBetween};
+
+use crate::lengths::{Lengths, before_last, before_way, first_length, only_length};
+use crate::needed::needed_below;
+use wp_graph::{Layout, Picks, aisle_ways};
+
+// How long the crossings from an aisle to a later one are together.
+fn span_between(layout: &Layout, aisle: u32, later: u32) -> u64
+    requires order { aisle < later }
+    requires last { later ≤ layout.now.aisles }
+    ensures value { result ≡ (later - aisle) * layout.now.spacing }
+    ensures small { result ≤ 2 ^ 30 }
+{
+    u64::from(later - aisle) * u64::from(layout.spacing())
+}
+
+// The least lengths on from after the way through a needed aisle, from those on from after the next one behind it.
+fn after_next(layout: &Layout, picks: &Picks, next: u32, aisle: u32, after: &Lengths) -> Lengths
+    requires picks { picks.now.layout ≡ layout.now }
+    requires first { 1 ≤ next }
+    requires order { next < aisle }
+    requires last { aisle ≤ layout.now.aisles }
+    requires needed { ((block_of layout.now picks.now.points).ways aisle).skip ≡ None }
+    requires between { NoneBetween (block_of layout.now picks.now.points) next aisle }
+    requires after { AreGoing (block_of layout.now picks.now.points) (layout.now.aisles - aisle) aisle after.now }
+    ensures { AreGoing (block_of layout.now picks.now.points) (layout.now.aisles - next) next result }
+{
+    let before = before_way(&aisle_ways(layout, picks, aisle), after);
+    before.along(span_between(layout, next, aisle))
+}
+
+// The least lengths on from after the way through the needed aisle before the last one.
+fn after_next_to_last(layout: &Layout, picks: &Picks, next: u32, last: u32) -> Lengths
+    requires picks { picks.now.layout ≡ layout.now }
+    requires first { 1 ≤ next }
+    requires order { next < last }
+    requires last { last ≤ layout.now.aisles }
+    requires needed { ((block_of layout.now picks.now.points).ways last).skip ≡ None }
+    requires between { NoneBetween (block_of layout.now picks.now.points) next last }
+    requires behind { NoneBetween (block_of layout.now picks.now.points) last (layout.now.aisles + 1) }
+    ensures { AreGoing (block_of layout.now picks.now.points) (layout.now.aisles - next) next result }
+{
+    let before = before_last(&aisle_ways(layout, picks, last));
+    before.along(span_between(layout, next, last))
+}
+
+// The length of a shortest tour, from the least lengths on from after the way through a needed aisle.
+fn length_from(layout: &Layout, picks: &Picks, aisle: u32, after: Lengths) -> u64
+    requires picks { picks.now.layout ≡ layout.now }
+    requires aisle { IsUpTo layout.now.aisles aisle }
+    requires needed { ((block_of layout.now picks.now.points).ways aisle).skip ≡ None }
+    requires after { AreGoing (block_of layout.now picks.now.points) (layout.now.aisles - aisle) aisle after }
+    ensures least { IsFirstLeast (block_of layout.now picks.now.points) (layout.now.aisles - 1) result }
+    ensures slots { AreSlots layout.now picks.now.points }
+{
+    let mut first = aisle;
+    let mut onward = after;
+    while let Some(next) = needed_below(layout, picks, first) {
+        onward = after_next(layout, picks, next, first, &onward);
+        first = next;
+    }
+    first_length(&aisle_ways(layout, picks, first), &onward)
+}
+
+// The length of a shortest tour, of which this is the last needed aisle.
+fn length_to(layout: &Layout, picks: &Picks, last: u32) -> u64
+    requires picks { picks.now.layout ≡ layout.now }
+    requires aisle { IsUpTo layout.now.aisles last }
+    requires needed { ((block_of layout.now picks.now.points).ways last).skip ≡ None }
+    requires behind { NoneBetween (block_of layout.now picks.now.points) last (layout.now.aisles + 1) }
+    ensures least { IsFirstLeast (block_of layout.now picks.now.points) (layout.now.aisles - 1) result }
+    ensures slots { AreSlots layout.now picks.now.points }
+{
+    match needed_below(layout, picks, last) {
+        Some(next) => {
+            length_from(
+                layout,
+                picks,
+                next,
+                after_next_to_last(layout, picks, next, last),
+            )
+        }
+        None => only_length(&aisle_ways(layout, picks, last)),
+    }
+}
+
+/// The length of the shortest tour of the picks: some closed walk from the depot past all picks has this length, and none is
+/// shorter. It is below 2 ^ 28. The aisles with picks and the depot's are visited, and no other.
+pub fn tour_length(layout: &Layout, picks: &Picks) -> u64
+    requires { picks.now.layout ≡ layout.now }
+    ensures shortest { IsShortest layout.now picks.now.points result }
+    ensures small { result < 2 ^ 28 }
+{
+    let last = needed_below(layout, picks, layout.aisles() + 1).unwrap();
+    length_to(layout, picks, last)
+}
