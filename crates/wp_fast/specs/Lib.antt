@@ -1,0 +1,5 @@
+pub mod Rows
+pub mod Numbers
+pub mod Summaries
+pub mod Passages
+pub mod Laws

@@ -1,0 +1,130 @@
+ghost use Rattle.std.specs.Prelude.{◌≡◌, unwrap_or};
+ghost use Rattle.wp_classes.specs.declared.class.Class.{Class as ClassData};
+ghost use Rattle.wp_fast.specs.Rows.{is_greatest, length_at, length_for, length_to};
+
+use wp_classes::Class;
+
+/// The number that stands for no length.
+pub(crate) const NO_LENGTH: u64 = u64::MAX;
+
+/// For each class after a run of aisles, the least length to it from one class before the run. None where there is none.
+#[derive(Clone, Copy)]
+pub(crate) struct Lengths {
+    pub(crate) uu1: Option<u64>,
+    pub(crate) e01: Option<u64>,
+    pub(crate) ze1: Option<u64>,
+    pub(crate) ee1: Option<u64>,
+    pub(crate) ee2: Option<u64>,
+    pub(crate) z00: Option<u64>,
+    pub(crate) z01: Option<u64>,
+}
+
+/// A mark at some of the classes.
+#[derive(Clone, Copy)]
+struct Marks {
+    uu1: bool,
+    e01: bool,
+    ze1: bool,
+    ee1: bool,
+    ee2: bool,
+    z00: bool,
+    z01: bool,
+}
+
+/// The same lengths, each as one number. The greatest number stands for no length where it isn't marked as one itself, so
+/// that sums and least ones need no test.
+#[derive(Clone, Copy)]
+pub(crate) struct Row {
+    uu1: u64,
+    e01: u64,
+    ze1: u64,
+    ee1: u64,
+    ee2: u64,
+    z00: u64,
+    z01: u64,
+    greatest: Marks,
+}
+
+// The number that stands for a length, or for none.
+#[inline(always)]
+fn number_of(length: Option<u64>) -> u64
+    ensures { result ≡ unwrap_or length NO_LENGTH }
+{
+    length.unwrap_or(NO_LENGTH)
+}
+
+// Whether a length is the greatest number itself, so that it needs a mark.
+#[inline(always)]
+fn needs_mark(length: Option<u64>) -> bool
+    ensures { result ≡ is_greatest length }
+{
+    match length {
+        Some(number) => number == NO_LENGTH,
+        None => false,
+    }
+}
+
+// The length that a number stands for, marked or not.
+fn length_of(number: u64, marked: bool) -> Option<u64>
+    ensures { result ≡ length_for number marked }
+{
+    (number != NO_LENGTH || marked).then_some(number)
+}
+
+impl Row {
+    /// The row of these lengths.
+    #[inline(always)]
+    pub(crate) fn of(lengths: &Lengths) -> Row
+        ensures { (after : ClassData) → length_to result after ≡ length_at lengths.now after }
+    {
+        Row {
+            uu1: number_of(lengths.uu1),
+            e01: number_of(lengths.e01),
+            ze1: number_of(lengths.ze1),
+            ee1: number_of(lengths.ee1),
+            ee2: number_of(lengths.ee2),
+            z00: number_of(lengths.z00),
+            z01: number_of(lengths.z01),
+            greatest: Marks {
+                uu1: needs_mark(lengths.uu1),
+                e01: needs_mark(lengths.e01),
+                ze1: needs_mark(lengths.ze1),
+                ee1: needs_mark(lengths.ee1),
+                ee2: needs_mark(lengths.ee2),
+                z00: needs_mark(lengths.z00),
+                z01: needs_mark(lengths.z01),
+            },
+        }
+    }
+
+    /// The number that stands for the length to a class.
+    #[inline(always)]
+    pub(crate) fn number(&self, after: Class) -> u64
+        ensures { result ≡ unwrap_or (length_to self.now after) NO_LENGTH }
+    {
+        match after {
+            Class::UU1 => self.uu1,
+            Class::E01 => self.e01,
+            Class::ZE1 => self.ze1,
+            Class::EE1 => self.ee1,
+            Class::EE2 => self.ee2,
+            Class::Z00 => self.z00,
+            Class::Z01 => self.z01,
+        }
+    }
+
+    /// The length to a class, where there is one.
+    pub(crate) fn length(&self, after: Class) -> Option<u64>
+        ensures { result ≡ length_to self.now after }
+    {
+        match after {
+            Class::UU1 => length_of(self.uu1, self.greatest.uu1),
+            Class::E01 => length_of(self.e01, self.greatest.e01),
+            Class::ZE1 => length_of(self.ze1, self.greatest.ze1),
+            Class::EE1 => length_of(self.ee1, self.greatest.ee1),
+            Class::EE2 => length_of(self.ee2, self.greatest.ee2),
+            Class::Z00 => length_of(self.z00, self.greatest.z00),
+            Class::Z01 => length_of(self.z01, self.greatest.z01),
+        }
+    }
+}
