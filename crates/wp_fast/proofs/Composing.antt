@@ -10,7 +10,7 @@ use Rattle.wp_fast.specs.Summaries.{length_between}
 use Rattle.wp_fast.proofs.ToTheEnd.{least_told}
 
 -- the numbers with two properties have the same least one, where each number with the one is at least some with the other
-least_between : (P Q : ℕ → Type 0) (least : Option ℕ) → ((t : ℕ) → P t → (s : ℕ) × Q s × (s ≤ t)) → ((t : ℕ) → Q t → (s : ℕ) × P s × (s ≤ t)) → IsLeastOf P least
+pub least_between : (P Q : ℕ → Type 0) (least : Option ℕ) → ((t : ℕ) → P t → (s : ℕ) × Q s × (s ≤ t)) → ((t : ℕ) → Q t → (s : ℕ) × P s × (s ≤ t)) → IsLeastOf P least
     → IsLeastOf Q least
 least_between P Q None there back is = λ t h. is (back t h).0 (back t h).1
 least_between P Q (Some m) there back is =
@@ -21,11 +21,11 @@ least_between P Q (Some m) there back is =
     (subst Q same low.1, λ t h. let from = back t h in let least = is.1 from.0 from.1 in omega (arith, least, from.2))
 
 -- a least number has the property
-least_has : (P : ℕ → Type 0) (least : Option ℕ) (m : ℕ) → IsLeastOf P least → least ≡ Some m → P m
+pub least_has : (P : ℕ → Type 0) (least : Option ℕ) (m : ℕ) → IsLeastOf P least → least ≡ Some m → P m
 least_has P least m is told = (subst (λ (o : Option ℕ). IsLeastOf P o) told is).0
 
 -- where some number has the property, there is a least one
-least_found : (P : ℕ → Type 0) (least : Option ℕ) (t : ℕ) → IsLeastOf P least → P t → (m : ℕ) × (least ≡ Some m) × (m ≤ t)
+pub least_found : (P : ℕ → Type 0) (least : Option ℕ) (t : ℕ) → IsLeastOf P least → P t → (m : ℕ) × (least ≡ Some m) × (m ≤ t)
 least_found P None t is h = absurd (is t h)
 least_found P (Some m) t is h = (m, refl, is.1 t h)
 

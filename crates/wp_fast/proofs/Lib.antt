@@ -4,3 +4,11 @@ pub mod ClassByClass
 pub mod LeastSums
 pub mod ToTheEnd
 pub mod Composing
+pub mod SmallPassages
+pub mod PickedAisles
+pub mod JoinedRuns
+pub mod WholeRuns
+pub mod PastAisles
+pub mod TreeSteps
+pub mod TreeRoot
+pub mod KeptAisles

@@ -6,7 +6,10 @@
 mod laws;
 mod passages;
 mod row;
+mod runs;
 mod summary;
+mod tree;
 
 pub use laws::composing_is_associative;
+pub use runs::Runs;
 pub use summary::Summary;

@@ -1,0 +1,103 @@
+-- The summary at the root of a tree: that of all aisles, which gives the length of a shortest tour.
+use Rattle.std.proofs.Common.{◌≡◌, ℕ, suc, ◌+◌, ◌-◌, ◌*◌, ◌<◌, ◌≤◌, IsTrue, List, Option, Some, get_or, arith, refl, subst, sym}
+use Rattle.wp_model.specs.declared.point.Point.{Point}
+use Rattle.wp_model.specs.Warehouse.{IsLayout, IsUpTo, Layout}
+use Rattle.wp_classes.specs.declared.class.Class.{Class}
+use Rattle.wp_classes.specs.declared.class.Class.TheVariants.{Z00}
+use Rattle.wp_classes.specs.Choices.{block_of}
+use Rattle.wp_classes.specs.Onward.{IsLeastOf}
+use Rattle.wp_classes.specs.Tables.{is_whole}
+use Rattle.wp_classes.proofs.Leasts.{least_like}
+use Rattle.wp_classes.proofs.Routes.{IsLeastFirst}
+use Rattle.wp_fast.specs.declared.summary.Summary.{Summary}
+use Rattle.wp_fast.specs.Passages.{AreLeast, Then, ToTheEnd}
+use Rattle.wp_fast.specs.Runs.{PastAisle, PastRun}
+use Rattle.wp_fast.specs.Summaries.{length_between}
+use Rattle.wp_fast.specs.Trees.{IsTree}
+use Rattle.wp_fast.proofs.Composing.{composed_least, least_alike, least_between, least_found, least_has}
+use Rattle.wp_fast.proofs.JoinedRuns.{first_run, none_run, run_first, run_none, run_parts, runs_join}
+use Rattle.wp_fast.proofs.WholeRuns.{RunToTheEnd, ThroughAndOn, goes_on_run, run_goes_on}
+
+-- each node with so many aisles below it, from the first one on, has the least lengths past them
+abbrev Spans : Layout → List Point → List Summary → ℕ → Type 0
+Spans layout picks tree span = (node first : ℕ) (d : Summary) → first + 63 ≡ span * node → 1 ≤ first → first ≤ 64
+    → AreLeast (PastRun layout picks span first) (get_or tree node d)
+
+-- a run of one aisle is that aisle
+run_of_one : (layout : Layout) (picks : List Point) (aisle : ℕ) (summary : Summary) → AreLeast (PastAisle layout picks aisle) summary
+    → AreLeast (PastRun layout picks 1 aisle) summary
+run_of_one layout picks aisle summary are =
+    least_alike (PastAisle layout picks aisle) (PastRun layout picks 1 aisle) summary
+    (λ before after t h. first_run layout picks 0 aisle before after t
+    (after, (t, 0, h, none_run layout picks (suc aisle) after after 0 (refl, refl), omega arith)))
+    (λ before after t h. one before after t (run_first layout picks 0 aisle before after t h)) are
+  where
+    one : (before after : Class) (t : ℕ) → Then (PastAisle layout picks aisle) (PastRun layout picks 0 (suc aisle)) before after t
+        → PastAisle layout picks aisle before after t
+    one before after t (between, (near, far, first, rest, total)) =
+        let stays = run_none layout picks (suc aisle) between after far rest in
+        let length : near ≡ t = omega (arith, total, stays.1) in
+        subst (λ (s : ℕ). PastAisle layout picks aisle before after s) length
+        (subst (λ (c : Class). PastAisle layout picks aisle before c near) stays.0 first)
+
+single_spans : (layout : Layout) (picks : List Point) (tree : List Summary) → IsTree layout picks tree → Spans layout picks tree 1
+single_spans layout picks tree is node first d at low high =
+    let there : 63 + first ≡ node = omega (arith, at) in
+    run_of_one layout picks first (get_or tree node d)
+    (subst (λ (k : ℕ). AreLeast (PastAisle layout picks first) (get_or tree k d)) there (is.aisles first (low, high) d))
+
+-- a node has twice as many aisles below it as each of the two nodes below it
+double_spans : (layout : Layout) (picks : List Point) (tree : List Summary) (span : ℕ) → IsTree layout picks tree → Spans layout picks tree span →
+    ((node first : ℕ) → first + 63 ≡ (span + span) * node → 1 ≤ first → first ≤ 64 → IsUpTo 63 node × (first + span ≤ 64))
+    → Spans layout picks tree (span + span)
+double_spans layout picks tree span is below fits node first d at low high =
+    let within = fits node first at low high in
+    let left : AreLeast (PastRun layout picks span first) (get_or tree (2 * node) d) = below (2 * node) first d (omega (arith, at)) low high in
+    let right : AreLeast (PastRun layout picks span (first + span)) (get_or tree (2 * node + 1) d) =
+    below (2 * node + 1) (first + span) d (omega (arith, at)) (omega (arith, low)) within.1 in
+    least_alike (Then (PastRun layout picks span first) (PastRun layout picks span (first + span))) (PastRun layout picks (span + span) first) (get_or tree node d)
+    (runs_join layout picks span span first) (run_parts layout picks span span first)
+    (composed_least (PastRun layout picks span first) (PastRun layout picks span (first + span)) (get_or tree (2 * node) d) (get_or tree (2 * node + 1) d)
+    (get_or tree node d) left right (is.composed node within.0 d))
+
+-- the root has the least lengths past all aisles
+pub root_least : (layout : Layout) (picks : List Point) (tree : List Summary) (d : Summary) → IsTree layout picks tree
+    → AreLeast (PastRun layout picks 64 1) (get_or tree 1 d)
+root_least layout picks tree d is =
+    let two = double_spans layout picks tree 1 is (single_spans layout picks tree is) (λ node first at low high. ((omega arith, omega arith), omega arith)) in
+    let four = double_spans layout picks tree 2 is two (λ node first at low high. ((omega arith, omega arith), omega arith)) in
+    let eight = double_spans layout picks tree 4 is four (λ node first at low high. ((omega arith, omega arith), omega arith)) in
+    let sixteen = double_spans layout picks tree 8 is eight (λ node first at low high. ((omega arith, omega arith), omega arith)) in
+    let half = double_spans layout picks tree 16 is sixteen (λ node first at low high. ((omega arith, omega arith), omega arith)) in
+    let all = double_spans layout picks tree 32 is half (λ node first at low high. ((omega arith, omega arith), omega arith)) in
+    all 1 1 d refl (omega arith) (omega arith)
+
+-- the least length to the end past all aisles is the least length of all ways to go on from the first aisle
+pub first_of_root : (layout : Layout) (picks : List Point) (root : Summary) (least : Option ℕ) → IsLayout layout → AreLeast (PastRun layout picks 64 1) root
+    → IsLeastOf (ToTheEnd root) least → IsLeastFirst (block_of layout picks) (layout.aisles - 1) least
+first_of_root layout picks root least valid are is = record {
+  is = least_like (RunToTheEnd layout picks 64 1 Z00) (ThroughAndOn layout picks (layout.aisles - 1) 1 Z00) least on_from_run run_from_on
+      (least_between (ToTheEnd root) (RunToTheEnd layout picks 64 1 Z00) least run_up run_down is);
+}
+  where
+    run_up : (t : ℕ) → ToTheEnd root t → (s : ℕ) × RunToTheEnd layout picks 64 1 Z00 s × (s ≤ t)
+    run_up t (after, whole, told) =
+        (t, (after, whole, least_has (PastRun layout picks 64 1 Z00 after) (length_between root Z00 after) t (are.least Z00 after) told), omega arith)
+
+    run_down : (t : ℕ) → RunToTheEnd layout picks 64 1 Z00 t → (s : ℕ) × ToTheEnd root s × (s ≤ t)
+    run_down t (after, whole, run) =
+        let found = least_found (PastRun layout picks 64 1 Z00 after) (length_between root Z00 after) t (are.least Z00 after) run in
+        (found.0, (after, whole, found.1), found.2)
+
+    count : suc (layout.aisles - 1) + (64 - layout.aisles) ≡ 64
+    count = omega (arith, valid.aisles)
+
+    on_from_run : (t : ℕ) → RunToTheEnd layout picks 64 1 Z00 t → ThroughAndOn layout picks (layout.aisles - 1) 1 Z00 t
+    on_from_run t (after, whole, run) =
+        run_goes_on layout picks (layout.aisles - 1) 1 (64 - layout.aisles) Z00 after t (omega (arith, valid.aisles))
+        (subst (λ (k : ℕ). PastRun layout picks k 1 Z00 after t) (sym count) run) whole
+
+    run_from_on : (t : ℕ) → ThroughAndOn layout picks (layout.aisles - 1) 1 Z00 t → RunToTheEnd layout picks 64 1 Z00 t
+    run_from_on t on =
+        let run = goes_on_run layout picks (layout.aisles - 1) 1 (64 - layout.aisles) Z00 t (omega (arith, valid.aisles)) on in
+        (run.0, run.1, subst (λ (k : ℕ). PastRun layout picks k 1 Z00 run.0 t) count run.2)
