@@ -1,10 +1,10 @@
 -- Summaries of two passages compose to one of both, and composing is associative.
-use Rattle.std.proofs.Common.{◌≡◌, ℕ, ◌+◌, ◌≤◌, Option, Some, None, arith, refl, subst, sym, ◌∙◌}
+use Rattle.std.proofs.Common.{◌≡◌, ℕ, ◌+◌, ◌≤◌, Option, Some, None, arith, refl, subst}
 use Rattle.wp_classes.specs.declared.class.Class.{Class}
 use Rattle.wp_classes.specs.Onward.{IsLeastOf}
 use Rattle.wp_classes.proofs.Leasts.{least_like, least_same}
 use Rattle.wp_fast.specs.declared.summary.Summary.{Summary}
-use Rattle.wp_fast.specs.Laws.{ComposingIsAssociative, TellTheSame}
+use Rattle.wp_fast.specs.Laws.{ComposingIsAssociative}
 use Rattle.wp_fast.specs.Passages.{AreLeast, IsComposed, Passage, Tells, Then}
 use Rattle.wp_fast.specs.Summaries.{length_between}
 use Rattle.wp_fast.proofs.ToTheEnd.{least_told}

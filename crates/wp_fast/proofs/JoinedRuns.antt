@@ -3,7 +3,7 @@ use Rattle.std.proofs.Common.{◌≡◌, ℕ, zero, suc, ◌+◌, ◌<◌, List,
 use Rattle.wp_model.specs.declared.point.Point.{Point}
 use Rattle.wp_model.specs.Warehouse.{Layout}
 use Rattle.wp_classes.specs.declared.class.Class.{Class}
-use Rattle.wp_fast.specs.Passages.{Passage, Stays, Then}
+use Rattle.wp_fast.specs.Passages.{Stays, Then}
 use Rattle.wp_fast.specs.Runs.{PastAisle, PastRun}
 use Rattle.wp_fast.specs.Runs.PastAisle.{behind}
 use Rattle.wp_fast.proofs.PastAisles.{past_behind}

@@ -1,5 +1,5 @@
 -- What further picks, and a layout without picks, leave of a tree.
-use Rattle.std.proofs.Common.{◌≡◌, ℕ, ◌+◌, ◌*◌, ◌<◌, ◌≤◌, ◌↔◌, Bool, true, false, List, [], Option, Some, None, IfSome, Contains, get_or, replicate, arith, refl, ◌⊎◌, ⊎_elim}
+use Rattle.std.proofs.Common.{◌≡◌, ℕ, ◌+◌, ◌*◌, ◌<◌, ◌↔◌, Bool, false, List, Contains, get_or, replicate, arith, refl, ◌⊎◌, ⊎_elim}
 use Rattle.std.proofs.Common.{subst, sym, ◌∙◌}
 use Rattle.std.proofs.lemmas.List.{get_or-replicate}
 use Rattle.wp_model.specs.declared.point.Point.{Point}

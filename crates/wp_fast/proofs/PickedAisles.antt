@@ -1,10 +1,10 @@
 -- Which aisles have picks, and what further picks leave of the ways through an aisle.
-use Rattle.std.proofs.Common.{◌≡◌, ℕ, zero, suc, ◌+◌, ◌-◌, ◌*◌, ◌<◌, ◌≤◌, ◌==◌, ◌↔◌, true, List, [], ◌∷◌, Option, Some, None, length, slice_get, filter, map, option_map}
-use Rattle.std.proofs.Common.{unwrap_or, Contains, arith, refl, inl, inr, ◌⊎◌, ⊎_elim, ap, sym, ◌∙◌, subst}
+use Rattle.std.proofs.Common.{◌≡◌, ℕ, zero, suc, ◌+◌, ◌-◌, ◌*◌, ◌<◌, ◌≤◌, ◌==◌, ◌↔◌, true, List, [], ◌∷◌, length, slice_get, map, option_map}
+use Rattle.std.proofs.Common.{unwrap_or, Contains, arith, refl, inl, inr, ◌⊎◌, ⊎_elim, ap, subst}
 use Rattle.std.specs.List.{range_with_len}
 use Rattle.std.proofs.lemmas.List.Elements.{filter_agree}
 use Rattle.wp_model.specs.declared.point.Point.{Point}
-use Rattle.wp_model.specs.Warehouse.{IsLayout, Layout, depot_point}
+use Rattle.wp_model.specs.Warehouse.{Layout, depot_point}
 use Rattle.wp_graph.specs.AisleLengths.{ways_from, ways_of}
 use Rattle.wp_graph.specs.Members.{Among}
 use Rattle.wp_graph.specs.PickSets.{AreSlots}

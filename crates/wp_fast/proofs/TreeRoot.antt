@@ -1,12 +1,11 @@
 -- The summary at the root of a tree: that of all aisles, which gives the length of a shortest tour.
-use Rattle.std.proofs.Common.{◌≡◌, ℕ, suc, ◌+◌, ◌-◌, ◌*◌, ◌<◌, ◌≤◌, IsTrue, List, Option, Some, get_or, arith, refl, subst, sym}
+use Rattle.std.proofs.Common.{◌≡◌, ℕ, suc, ◌+◌, ◌-◌, ◌*◌, ◌≤◌, List, Option, get_or, arith, refl, subst, sym}
 use Rattle.wp_model.specs.declared.point.Point.{Point}
 use Rattle.wp_model.specs.Warehouse.{IsLayout, IsUpTo, Layout}
 use Rattle.wp_classes.specs.declared.class.Class.{Class}
 use Rattle.wp_classes.specs.declared.class.Class.TheVariants.{Z00}
 use Rattle.wp_classes.specs.Choices.{block_of}
 use Rattle.wp_classes.specs.Onward.{IsLeastOf}
-use Rattle.wp_classes.specs.Tables.{is_whole}
 use Rattle.wp_classes.proofs.Leasts.{least_like}
 use Rattle.wp_classes.proofs.Routes.{IsLeastFirst}
 use Rattle.wp_fast.specs.declared.summary.Summary.{Summary}

@@ -1,5 +1,5 @@
 -- What a new summary at a node leaves of a tree.
-use Rattle.std.proofs.Common.{◌≡◌, ℕ, ◌+◌, ◌*◌, ◌<◌, ◌≤◌, List, Option, Some, None, IfSome, length, get_or, set, arith, subst, sym, ◌∙◌, ⊎_elim, get_or-set_other}
+use Rattle.std.proofs.Common.{◌≡◌, ℕ, ◌+◌, ◌*◌, ◌≤◌, List, Option, Some, None, IfSome, length, get_or, set, arith, subst, sym, ◌∙◌, ⊎_elim, get_or-set_other}
 use Rattle.std.proofs.Common.{get_or-set_same}
 use Rattle.std.proofs.lemmas.Bool.{cases_eq}
 use Rattle.std.proofs.lemmas.List.{get_or_default}
@@ -11,7 +11,7 @@ use Rattle.wp_classes.specs.Onward.{IsLeastOf}
 use Rattle.wp_fast.specs.declared.summary.Summary.{Summary}
 use Rattle.wp_fast.specs.Passages.{IsComposed, Tells, Then}
 use Rattle.wp_fast.specs.Summaries.{length_between}
-use Rattle.wp_fast.specs.Trees.{AreSmall, IsComposedAt, IsPastAisleAt}
+use Rattle.wp_fast.specs.Trees.{AreSmall, IsComposedAt, IsKeptAt, IsPastAisleAt}
 use Rattle.wp_fast.proofs.SmallPassages.{AreUpTo}
 
 -- the lengths of a summary are small enough for a node
@@ -19,14 +19,13 @@ abbrev pub IsSmallAt : ℕ → Summary → Type 0
 IsSmallAt node summary = (before after : Class) → IfSome (length_between summary before after) (λ t. t * node ≤ 519680000)
 
 -- a node is composed still where its summary and those below it are what they were
-pub composed_still : (tree now : List Summary) (node : ℕ) → ((d : Summary) → get_or now (2 * node) d ≡ get_or tree (2 * node) d) →
-    ((d : Summary) → get_or now (2 * node + 1) d ≡ get_or tree (2 * node + 1) d) → ((d : Summary) → get_or now node d ≡ get_or tree node d)
+pub composed_still : (tree now : List Summary) (node : ℕ) → IsKeptAt tree now (2 * node) → IsKeptAt tree now (2 * node + 1) → IsKeptAt tree now node
     → IsComposedAt tree node → IsComposedAt now node
 composed_still tree now node left right here composed d = rw (left d, right d, here d) (composed d)
 
 -- an aisle's node tells the least lengths past it still where its summary is what it was
-pub past_still : (layout : Layout) (picks : List Point) (tree now : List Summary) (aisle : ℕ)
-    → ((d : Summary) → get_or now (63 + aisle) d ≡ get_or tree (63 + aisle) d) → IsPastAisleAt layout picks tree aisle → IsPastAisleAt layout picks now aisle
+pub past_still : (layout : Layout) (picks : List Point) (tree now : List Summary) (aisle : ℕ) → IsKeptAt tree now (63 + aisle)
+    → IsPastAisleAt layout picks tree aisle → IsPastAisleAt layout picks now aisle
 past_still layout picks tree now aisle same past d = rw (same d) (past d)
 
 -- a new summary at a node that is composed of those below it

@@ -1,12 +1,11 @@
 -- The run past all aisles, and how a tour goes on from the first aisle to its end.
-use Rattle.std.proofs.Common.{◌≡◌, ℕ, zero, suc, ◌+◌, ◌-◌, ◌<◌, ◌≤◌, IsTrue, List, Option, arith, refl, subst, sym}
+use Rattle.std.proofs.Common.{◌≡◌, ℕ, zero, suc, ◌+◌, IsTrue, List, arith, refl, subst, sym}
 use Rattle.wp_model.specs.declared.point.Point.{Point}
 use Rattle.wp_model.specs.Warehouse.{Layout}
 use Rattle.wp_graph.specs.AisleLengths.{ways_of}
 use Rattle.wp_classes.specs.declared.class.Class.{Class}
-use Rattle.wp_classes.specs.declared.class.Class.TheVariants.{Z00}
 use Rattle.wp_classes.specs.Choices.{block_of}
-use Rattle.wp_classes.specs.Onward.{IsLeastOf, Onward, Through}
+use Rattle.wp_classes.specs.Onward.{Onward, Through}
 use Rattle.wp_classes.specs.Tables.{is_whole}
 use Rattle.wp_fast.specs.Runs.{PastRun}
 use Rattle.wp_fast.specs.Runs.PastAisle.{on, last}

@@ -29,7 +29,8 @@ Stays before after total = (before ≡ after) × (total ≡ 0)
 
 -- by one passage to a class between, and by another on from it
 abbrev pub Over : Passage → Passage → Class → Passage
-Over First Next between before after total = (near : ℕ) × (far : ℕ) × First before between near × Next between after far × (total ≡ near + far)
+Over First Next between before after total =
+    (near : ℕ) × (far : ℕ) × First before between near × Next between after far × (total ≡ near + far)
 
 -- by one passage and then by another, with some class between
 abbrev pub Then : Passage → Passage → Passage

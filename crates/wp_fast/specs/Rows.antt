@@ -16,11 +16,11 @@ length_at lengths EE2 = lengths.ee2
 length_at lengths Z00 = lengths.z00
 length_at lengths Z01 = lengths.z01
 
--- the length that a number stands for: the greatest number stands for none, unless it is marked as a length itself
+-- the length that a number stands for: the greatest number stands for none, unless it is the length itself
 abbrev pub length_for : ℕ → Bool → Option ℕ
-length_for number marked = if (number == NO_LENGTH) && not marked then None else Some number
+length_for number itself = if (number == NO_LENGTH) && not itself then None else Some number
 
--- whether a length is the greatest number itself
+-- whether a length is the greatest number
 abbrev pub is_greatest : Option ℕ → Bool
 is_greatest None = false
 is_greatest (Some number) = number == NO_LENGTH

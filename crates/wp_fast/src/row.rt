@@ -1,6 +1,6 @@
 ghost use Rattle.std.specs.Prelude.{◌≡◌, unwrap_or};
 ghost use Rattle.wp_classes.specs.declared.class.Class.{Class as ClassData};
-ghost use Rattle.wp_fast.specs.Rows.{is_greatest, length_at, length_for, length_to};
+ghost use Rattle.wp_fast.specs.Rows.{is_greatest as is_greatest_of, length_at, length_for, length_to};
 
 use wp_classes::Class;
 
@@ -19,9 +19,9 @@ pub(crate) struct Lengths {
     pub(crate) z01: Option<u64>,
 }
 
-/// A mark at some of the classes.
+/// For each class, whether the greatest number is itself the length.
 #[derive(Clone, Copy)]
-struct Marks {
+struct Greatest {
     uu1: bool,
     e01: bool,
     ze1: bool,
@@ -31,8 +31,8 @@ struct Marks {
     z01: bool,
 }
 
-/// The same lengths, each as one number. The greatest number stands for no length where it isn't marked as one itself, so
-/// that sums and least ones need no test.
+/// The same lengths, each as one number, so that sums and least ones need no test. The greatest number stands for no length,
+/// unless it is the length itself.
 #[derive(Clone, Copy)]
 pub(crate) struct Row {
     uu1: u64,
@@ -42,7 +42,7 @@ pub(crate) struct Row {
     ee2: u64,
     z00: u64,
     z01: u64,
-    greatest: Marks,
+    greatest: Greatest,
 }
 
 // The number that stands for a length, or for none.
@@ -53,10 +53,10 @@ fn number_of(length: Option<u64>) -> u64
     length.unwrap_or(NO_LENGTH)
 }
 
-// Whether a length is the greatest number itself, so that it needs a mark.
+// Whether a length is the greatest number.
 #[inline(always)]
-fn needs_mark(length: Option<u64>) -> bool
-    ensures { result ≡ is_greatest length }
+fn is_greatest(length: Option<u64>) -> bool
+    ensures { result ≡ is_greatest_of length }
 {
     match length {
         Some(number) => number == NO_LENGTH,
@@ -64,11 +64,11 @@ fn needs_mark(length: Option<u64>) -> bool
     }
 }
 
-// The length that a number stands for, marked or not.
-fn length_of(number: u64, marked: bool) -> Option<u64>
-    ensures { result ≡ length_for number marked }
+// The length that a number stands for. The greatest may be one itself.
+fn length_of(number: u64, itself: bool) -> Option<u64>
+    ensures { result ≡ length_for number itself }
 {
-    (number != NO_LENGTH || marked).then_some(number)
+    (number != NO_LENGTH || itself).then_some(number)
 }
 
 impl Row {
@@ -85,14 +85,14 @@ impl Row {
             ee2: number_of(lengths.ee2),
             z00: number_of(lengths.z00),
             z01: number_of(lengths.z01),
-            greatest: Marks {
-                uu1: needs_mark(lengths.uu1),
-                e01: needs_mark(lengths.e01),
-                ze1: needs_mark(lengths.ze1),
-                ee1: needs_mark(lengths.ee1),
-                ee2: needs_mark(lengths.ee2),
-                z00: needs_mark(lengths.z00),
-                z01: needs_mark(lengths.z01),
+            greatest: Greatest {
+                uu1: is_greatest(lengths.uu1),
+                e01: is_greatest(lengths.e01),
+                ze1: is_greatest(lengths.ze1),
+                ee1: is_greatest(lengths.ee1),
+                ee2: is_greatest(lengths.ee2),
+                z00: is_greatest(lengths.z00),
+                z01: is_greatest(lengths.z01),
             },
         }
     }

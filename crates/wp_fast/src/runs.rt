@@ -30,6 +30,7 @@ impl Model for Runs {
 
 impl Runs {
     // The runs of a layout without picks.
+    #[inline(always)]
     fn new(layout: &Layout) -> Runs
         ensures layout { result.layout ≡ layout.now }
         ensures empty { result.points ≡ [] }

@@ -1,11 +1,10 @@
-ghost use Rattle.std.specs.Prelude.{◌≡◌, ◌+◌, ◌*◌, ◌<◌, ◌≤◌, ◌≢◌, ◌↔◌, ℕ, false, IsTrue, slice_index_or};
+ghost use Rattle.std.specs.Prelude.{◌≡◌, ◌+◌, ◌*◌, ◌<◌, ◌≤◌, ◌≢◌, ◌↔◌, ℕ, false, IsTrue};
 ghost use Rattle.wp_model.specs.Limits.{most_aisles};
 ghost use Rattle.wp_model.specs.Warehouse.{IsLayout, IsUpTo};
 ghost use Rattle.wp_graph.specs.PickSets.{AreSlots};
-ghost use Rattle.wp_fast.specs.declared.summary.Summary.{Summary as SummaryData};
 ghost use Rattle.wp_fast.specs.Passages.{AreLeast};
 ghost use Rattle.wp_fast.specs.Runs.{HaveSlotIn, PastAisle};
-ghost use Rattle.wp_fast.specs.Trees.{AreComposed, AreSmall, IsComposedAt, IsPastAisleAt, IsTree, IsTreeBut};
+ghost use Rattle.wp_fast.specs.Trees.{AreComposed, AreSmall, IsComposedAt, IsKeptAt, IsPastAisleAt, IsTree, IsTreeBut, is_marked};
 
 use crate::summary::Summary;
 use wp_graph::{Layout, Picks, aisle_ways};
@@ -32,9 +31,9 @@ fn node_of(aisle: u32) -> usize
     INNER - 1 + aisle as usize
 }
 
-// The least lengths past an aisle: through it, and to the next where it isn't the last. Behind the last aisle there is
-// nothing to pass.
-fn past_aisle(layout: &Layout, picks: &Picks, aisle: u32) -> Summary
+/// The least lengths past an aisle: through it, and to the next where it isn't the last. Behind the last aisle there is
+/// nothing to pass.
+pub(crate) fn past_aisle(layout: &Layout, picks: &Picks, aisle: u32) -> Summary
     requires picks { picks.now.layout ≡ layout.now }
     requires aisle { IsUpTo most_aisles aisle }
     ensures least { AreLeast (PastAisle layout.now picks.now.points aisle) result }
@@ -64,7 +63,8 @@ fn have_slot(layout: &Layout, picks: &Picks, aisle: u32) -> bool
 /// Marks the nodes of the aisles in which picks have a slot.
 pub(crate) fn marks_of(layout: &Layout, picks: &Picks) -> Marks
     requires { picks.now.layout ≡ layout.now }
-    ensures marked { (aisle : ℕ) → IsUpTo most_aisles aisle → slice_index_or result (63 + aisle) false ≡ false → HaveSlotIn picks.now.points aisle → ⊥ }
+    ensures marked { (aisle : ℕ) → IsUpTo most_aisles aisle → is_marked result (63 + aisle) ≡ false
+        → HaveSlotIn picks.now.points aisle → ⊥ }
     ensures slots { AreSlots layout.now picks.now.points }
 {
     let mut marks = [false; NODES];
@@ -76,7 +76,7 @@ pub(crate) fn marks_of(layout: &Layout, picks: &Picks) -> Marks
 
 /// Marks the nodes of all aisles of a layout.
 pub(crate) fn all_marks(layout: &Layout) -> Marks
-    ensures marked { (aisle : ℕ) → IsUpTo most_aisles aisle → slice_index_or result (63 + aisle) false ≡ false → layout.now.aisles < aisle }
+    ensures marked { (aisle : ℕ) → IsUpTo most_aisles aisle → is_marked result (63 + aisle) ≡ false → layout.now.aisles < aisle }
     ensures valid { IsLayout layout.now }
 {
     let mut marks = [false; NODES];
@@ -93,7 +93,7 @@ fn put_aisle(tree: &mut Tree, layout: &Layout, picks: &Picks, aisle: u32)
     requires small { AreSmall tree.old }
     ensures past { IsPastAisleAt layout.now picks.now.points tree.new aisle }
     ensures small { AreSmall tree.new }
-    ensures others { (other : ℕ) (d : SummaryData) → other ≢ 63 + aisle → slice_index_or tree.new other d ≡ slice_index_or tree.old other d }
+    ensures others { (other : ℕ) → other ≢ 63 + aisle → IsKeptAt tree.old tree.new other }
 {
     let node = node_of(aisle);
     tree[node] = past_aisle(layout, picks, aisle);
@@ -104,12 +104,11 @@ fn put_if_marked(tree: &mut Tree, layout: &Layout, picks: &Picks, marks: &Marks,
     requires picks { picks.now.layout ≡ layout.now }
     requires aisle { IsUpTo most_aisles aisle }
     requires small { AreSmall tree.old }
-    requires past { slice_index_or marks.now (63 + aisle) false ≡ false → IsPastAisleAt layout.now picks.now.points tree.old aisle }
+    requires past { is_marked marks.now (63 + aisle) ≡ false → IsPastAisleAt layout.now picks.now.points tree.old aisle }
     ensures past { IsPastAisleAt layout.now picks.now.points tree.new aisle }
     ensures small { AreSmall tree.new }
-    ensures others { (other : ℕ) (d : SummaryData) → other ≢ 63 + aisle → slice_index_or tree.new other d ≡ slice_index_or tree.old other d }
-    ensures unmarked { (d : SummaryData) → slice_index_or marks.now (63 + aisle) false ≡ false
-        → slice_index_or tree.new (63 + aisle) d ≡ slice_index_or tree.old (63 + aisle) d }
+    ensures others { (other : ℕ) → other ≢ 63 + aisle → IsKeptAt tree.old tree.new other }
+    ensures unmarked { is_marked marks.now (63 + aisle) ≡ false → IsKeptAt tree.old tree.new (63 + aisle) }
 {
     if marks[node_of(aisle)] {
         put_aisle(tree, layout, picks, aisle);
@@ -122,9 +121,8 @@ fn put_aisles(tree: &mut Tree, layout: &Layout, picks: &Picks, marks: &Marks)
     requires but { IsTreeBut layout.now picks.now.points marks.now tree.old }
     ensures past { (aisle : ℕ) → IsUpTo most_aisles aisle → IsPastAisleAt layout.now picks.now.points tree.new aisle }
     ensures small { AreSmall tree.new }
-    ensures inner { (node : ℕ) (d : SummaryData) → node < 64 → slice_index_or tree.new node d ≡ slice_index_or tree.old node d }
-    ensures unmarked { (node : ℕ) (d : SummaryData) → slice_index_or marks.now node false ≡ false
-        → slice_index_or tree.new node d ≡ slice_index_or tree.old node d }
+    ensures inner { (node : ℕ) → node < 64 → IsKeptAt tree.old tree.new node }
+    ensures unmarked { (node : ℕ) → is_marked marks.now node ≡ false → IsKeptAt tree.old tree.new node }
 {
     for aisle in 1..MOST_AISLES + 1 {
         put_if_marked(tree, layout, picks, marks, aisle);
@@ -137,22 +135,21 @@ fn compose_at(tree: &mut Tree, node: usize)
     requires small { AreSmall tree.old }
     ensures composed { IsComposedAt tree.new node }
     ensures small { AreSmall tree.new }
-    ensures others { (other : ℕ) (d : SummaryData) → other ≢ node → slice_index_or tree.new other d ≡ slice_index_or tree.old other d }
+    ensures others { (other : ℕ) → other ≢ node → IsKeptAt tree.old tree.new other }
 {
-    let both = tree[2 * node].compose(&tree[2 * node + 1]);
-    tree[node] = both;
+    tree[node] = tree[2 * node].compose(&tree[2 * node + 1]);
 }
 
 // Composes a node where one below it is marked, and then marks it too.
 fn compose_if_marked(tree: &mut Tree, marks: &mut Marks, node: usize)
     requires node { IsUpTo 63 node }
     requires small { AreSmall tree.old }
-    requires composed { slice_index_or marks.old (2 * node) false ≡ false → slice_index_or marks.old (2 * node + 1) false ≡ false → IsComposedAt tree.old node }
+    requires composed { is_marked marks.old (2 * node) ≡ false → is_marked marks.old (2 * node + 1) ≡ false → IsComposedAt tree.old node }
     ensures composed { IsComposedAt tree.new node }
     ensures small { AreSmall tree.new }
-    ensures others { (other : ℕ) (d : SummaryData) → other ≢ node → slice_index_or tree.new other d ≡ slice_index_or tree.old other d }
-    ensures unmarked { (d : SummaryData) → slice_index_or marks.new node false ≡ false → slice_index_or tree.new node d ≡ slice_index_or tree.old node d }
-    ensures marks { (other : ℕ) → slice_index_or marks.new other false ≡ false → slice_index_or marks.old other false ≡ false }
+    ensures others { (other : ℕ) → other ≢ node → IsKeptAt tree.old tree.new other }
+    ensures unmarked { is_marked marks.new node ≡ false → IsKeptAt tree.old tree.new node }
+    ensures marks { (other : ℕ) → is_marked marks.new other ≡ false → is_marked marks.old other ≡ false }
 {
     if marks[2 * node] || marks[2 * node + 1] {
         compose_at(tree, node);
@@ -163,11 +160,11 @@ fn compose_if_marked(tree: &mut Tree, marks: &mut Marks, node: usize)
 // Composes the nodes above marked ones.
 fn compose_above(tree: &mut Tree, mut marks: Marks)
     requires small { AreSmall tree.old }
-    requires composed { (node : ℕ) → IsUpTo 63 node → slice_index_or marks (2 * node) false ≡ false → slice_index_or marks (2 * node + 1) false ≡ false
+    requires composed { (node : ℕ) → IsUpTo 63 node → is_marked marks (2 * node) ≡ false → is_marked marks (2 * node + 1) ≡ false
         → IsComposedAt tree.old node }
     ensures composed { AreComposed tree.new }
     ensures small { AreSmall tree.new }
-    ensures aisles { (node : ℕ) (d : SummaryData) → 64 ≤ node → slice_index_or tree.new node d ≡ slice_index_or tree.old node d }
+    ensures aisles { (node : ℕ) → 64 ≤ node → IsKeptAt tree.old tree.new node }
 {
     for done in 1..INNER {
         compose_if_marked(tree, &mut marks, INNER - done);

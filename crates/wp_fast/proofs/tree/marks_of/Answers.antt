@@ -1,4 +1,4 @@
-use Rattle.std.proofs.Common.{◌≡◌, ◌+◌, ℕ, Bool, false, List, get_or, set, arith, length-set, refl, ap, sym, subst, ◌∙◌, ⊎_elim, get_or-set_other, get_or-set_same}
+use Rattle.std.proofs.Common.{◌≡◌, ◌+◌, ℕ, Bool, false, List, get_or, set, arith, length-set, refl, ap, sym, ◌∙◌, ⊎_elim, get_or-set_other, get_or-set_same}
 use Rattle.std.proofs.lemmas.Bool.{both_ways, cases_eq, cases_lt}
 use Rattle.wp_fast.proofs.tree.marks_of.Goals as goal
 

@@ -1,5 +1,4 @@
 use Rattle.std.proofs.Common.{◌^◌, arith, lit≤}
-use Rattle.wp_fast.specs.Passages.{ByCrossings, ByWays}
 use Rattle.wp_fast.proofs.PastAisles.{least_behind, least_last, least_on}
 use Rattle.wp_fast.proofs.SmallPassages.{by_crossings_small, by_ways_small, least_up_to, up_to_below}
 use Rattle.wp_fast.proofs.tree.past_aisle.Goals as goal

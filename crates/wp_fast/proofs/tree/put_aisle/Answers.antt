@@ -1,5 +1,4 @@
 use Rattle.std.proofs.Common.{◌≡◌, ◌+◌, ℕ, get_or, set, arith, get_or-set_same, subst}
-use Rattle.wp_fast.specs.declared.summary.Summary.{Summary}
 use Rattle.wp_fast.proofs.SmallPassages.{least_up_to, past_aisle_small}
 use Rattle.wp_fast.proofs.TreeSteps.{aisle_small, small_set}
 use Rattle.wp_fast.proofs.tree.put_aisle.Goals as goal

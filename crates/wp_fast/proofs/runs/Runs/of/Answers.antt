@@ -1,4 +1,4 @@
-use Rattle.std.proofs.Common.{arith, inr, ⊎_elim, Contains}
+use Rattle.std.proofs.Common.{arith, inr, ⊎_elim}
 use Rattle.wp_fast.proofs.runs.Runs.of.Goals as goal
 
 pub returns-clause-points : goal.returns-clause-points

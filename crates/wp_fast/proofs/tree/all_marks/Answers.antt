@@ -1,1 +1,0 @@
-use Rattle.wp_fast.proofs.tree.all_marks.Goals as goal
