@@ -1,0 +1,10 @@
+pub mod Growth
+pub mod Words
+pub mod ReadBack
+pub mod Lines
+pub mod Making
+pub mod StockRead
+pub mod OrdersRead
+pub mod DesksRead
+pub mod LayoutRead
+pub mod DaySaid

@@ -1,0 +1,6 @@
+pub mod Draws
+pub mod Lines
+pub mod Sizes
+pub mod Records
+pub mod Texts
+pub mod Accepted

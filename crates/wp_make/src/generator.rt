@@ -1,0 +1,92 @@
+//! The generator of made numbers, and the lines of orders that are drawn from it.
+ghost use Rattle.std.specs.Prelude.{◌≡◌, ◌<◌};
+ghost use Rattle.wp_make.specs.Draws.{draw_at, next_state, state_after};
+ghost use Rattle.wp_make.specs.Lines.{line_count, line_from};
+
+use std::marker::Model;
+
+/// How many slots a made aisle has.
+pub(crate) const SLOTS: u32 = 40;
+
+/// How many lines an order may have.
+const MOST_LINES: u32 = 3;
+
+/// How many units a line may want.
+const MOST_UNITS: u32 = 5;
+
+/// A generator of numbers that follow from its first state alone: the linear congruential one of 64 bits with the
+/// factor and the increment of MMIX (Knuth, The Art of Computer Programming, volume 2). Contracts see its state.
+#[derive(Debug, Drop)]
+pub struct Generator {
+    state: u64,
+}
+
+impl Model for Generator {
+    ghost use Rattle.std.specs.Prelude.{ℕ};
+
+    ghost Value = { ℕ };
+
+    ghost view = { λ g. g.state };
+}
+
+/// A line of a made order: the aisle and the slot where its article lies, counted from 1, and 1 to 5 units of it.
+#[derive(Clone, Copy, Debug, PartialEq, Eq)]
+pub struct MadeLine {
+    pub aisle: u32,
+    pub slot: u32,
+    pub quantity: u32,
+}
+
+impl Generator {
+    /// The generator whose first state is this number.
+    pub fn new(number: u64) -> Generator
+        ensures { result ≡ number }
+    {
+        Generator { state: number }
+    }
+
+    /// The state, which says all numbers that are to come.
+    pub fn state(&self) -> u64
+        ensures { result ≡ self.now }
+    {
+        self.state
+    }
+
+    /// The next number, below this one.
+    pub fn draw(&mut self, below: u32) -> u32
+        requires { 0 < below }
+        ensures below { result < below }
+        ensures state { self.new ≡ next_state self.old }
+        ensures value { result ≡ draw_at self.new below }
+    {
+        self.state = self
+            .state
+            .wrapping_mul(6364136223846793005)
+            .wrapping_add(1442695040888963407);
+        ((self.state >> 33) % u64::from(below)) as u32
+    }
+
+    /// How many lines the next order has, 1 to 3.
+    pub fn draw_line_count(&mut self) -> u32
+        ensures count { result ≡ line_count self.old }
+        ensures state { self.new ≡ next_state self.old }
+    {
+        1 + self.draw(MOST_LINES)
+    }
+
+    /// The next line of an order, in a warehouse of so many aisles with 40 slots each.
+    pub fn draw_line(&mut self, aisles: u32) -> MadeLine
+        requires { 0 < aisles }
+        ensures line { result ≡ line_from aisles self.old }
+        ensures state { self.new ≡ state_after 3 self.old }
+    {
+        let aisle = 1 + self.draw(aisles);
+        let slot = 1 + self.draw(SLOTS);
+        let quantity = 1 + self.draw(MOST_UNITS);
+        MadeLine {
+            aisle,
+            slot,
+            quantity,
+        }
+    }
+}

@@ -1,0 +1,18 @@
+//! The made input: the four files of a day in a warehouse, as large as is asked for, drawn from a number.
+//!
+//! The same number and size always make the same files. The readers accept them, and the stock covers every wave.
+#![tactic(auto)]
+
+mod desks;
+mod generator;
+mod input;
+mod layout;
+mod orders;
+mod stock;
+
+pub use generator::{Generator, MadeLine};
+pub use input::{Input, Size, make};
+pub use wp_model::Memory;
+
+#[cfg(test)]
+mod tests;
