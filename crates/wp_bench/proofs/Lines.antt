@@ -1,31 +1,28 @@
 -- The lines of a made order, the orders of a batch and the tours of batches, one after another.
-use Rattle.std.proofs.Common.{◌≡◌, ℕ, List, suc, ◌+◌, ◌*◌, ◌↔◌, ◌⊎◌, inl, inr, ⊎_elim, arith, refl, sym, ap, ◌∙◌, subst, Contains}
+use Rattle.std.proofs.Common.{◌≡◌, ℕ, List, suc, ◌+◌, ◌*◌, ◌↔◌, ◌⊎◌, inl, inr, ⊎_elim, arith, sym, ap, ◌∙◌, subst, Contains}
 use Rattle.std.proofs.lemmas.Bool.{cases_eq}
 use Rattle.wp_model.specs.Tours.{IsShortest}
 use Rattle.wp_model.specs.Warehouse.{Layout}
 use Rattle.wp_model.specs.declared.point.Point.{Point}
-use Rattle.wp_bench.specs.Made.{IsOfLines, IsOfOrder, IsOfOrders, IsSumOfTours, IsTourOfBatch, after_orders, draw_at, layout_of_batches, line_count}
-use Rattle.wp_bench.specs.Made.{line_slot, next_state, state_after}
+use Rattle.wp_make.specs.Draws.{next_state, state_after}
+use Rattle.wp_make.specs.Lines.{after_orders, line_count, line_from}
+use Rattle.wp_make.specs.Texts.{made_layout}
+use Rattle.wp_bench.specs.Made.{IsOfLines, IsOfOrder, IsOfOrders, IsSumOfTours, IsTourOfBatch, aisles_of_batches, slot_of}
 
 -- each line takes three draws
-pub three_draws : (n state : ℕ) → next_state (next_state (next_state (state_after (3 * n) state))) ≡ state_after (3 * (n + 1)) state
+pub three_draws : (n state : ℕ) → state_after 3 (state_after (3 * n) state) ≡ state_after (3 * (n + 1)) state
 three_draws n state =
     let more : suc (suc (suc (3 * n))) ≡ 3 * (n + 1) = omega arith in ap (λ (draws : ℕ). state_after draws state) more
 
--- the slot of a line, by its draws
-pub slot_drawn : (aisle slot first second state : ℕ) → first ≡ next_state state → second ≡ next_state first → aisle ≡ draw_at first 60
-    → slot ≡ draw_at second 40 → (let p : Point = record { aisle = 1 + aisle; slot = 1 + slot } in p) ≡ line_slot state
-slot_drawn aisle slot first second state is next drawn drawn' = rw (drawn, drawn', next, is) refl
-
 -- one more line
-pub line_more : (n state : ℕ) (point : Point) (New Now Old : Point → Type 0) → point ≡ line_slot (state_after (3 * n) state)
+pub line_more : (n state : ℕ) (point : Point) (New Now Old : Point → Type 0) → point ≡ slot_of (line_from aisles_of_batches (state_after (3 * n) state))
     → ((p : Point) → New p ↔ (Now p ⊎ (p ≡ point))) → ((p : Point) → Now p ↔ (Old p ⊎ IsOfLines n state p)) →
     (p : Point) → New p ↔ (Old p ⊎ IsOfLines (n + 1) state p)
 line_more n state point New Now Old is added before p = (
   λ new. ⊎_elim (λ now. ⊎_elim (λ old. inl old) (λ of. inr (of.0, omega (arith, of.1), of.2)) ((before p).0 now)) (λ e. inr (n, omega arith, e ∙ is))
       ((added p).0 new),
   λ either. (added p).1 (⊎_elim (λ old. inl ((before p).1 (inl old)))
-      (λ of. ⊎_elim (λ e. inr (of.2 ∙ ap (λ (k : ℕ). line_slot (state_after (3 * k) state)) e ∙ sym is))
+      (λ of. ⊎_elim (λ e. inr (of.2 ∙ ap (λ (k : ℕ). slot_of (line_from aisles_of_batches (state_after (3 * k) state))) e ∙ sym is))
       (λ other. inl ((before p).1 (inr (of.0, omega (arith, of.1, other), of.2)))) (cases_eq of.0 n))
       either),
 )
@@ -53,7 +50,7 @@ batch_end n now new is made =
     made ∙ ap (λ (s : ℕ). after_orders 3 s) is ∙ ap (λ (orders : ℕ). after_orders orders 1) more
 
 -- one more tour
-pub tour_more : (n now sum total next : ℕ) (layout : Layout) (picks : List Point) → now ≡ after_orders (3 * n) 1 → layout ≡ layout_of_batches
+pub tour_more : (n now sum total next : ℕ) (layout : Layout) (picks : List Point) → now ≡ after_orders (3 * n) 1 → layout ≡ made_layout aisles_of_batches
     → ((p : Point) → Contains picks p ↔ IsOfOrders 3 now p) → IsShortest layout picks total → IsSumOfTours n sum → next ≡ sum + total →
     IsSumOfTours (n + 1) next
 tour_more n now sum total next layout picks is numbers points shortest before added =

@@ -1,23 +1,21 @@
 -- The readers accept the made texts.
-use Rattle.std.proofs.Common.{◌≡◌, ◌∙◌, refl, ap, subst, ℕ, ◌+◌, ◌*◌, ◌<◌, ◌≤◌, true, List, [], ◌∷◌, ◌++◌, arith, Ok}
+use Rattle.std.proofs.Common.{◌≡◌, refl, ap, ℕ, List, [], arith, Ok}
 use Rattle.csv.specs.Reading.{strip_bom}
 use Rattle.wp_layout.specs.LayoutFile.{layout_said}
-use Rattle.wp_model.specs.Limits.{most_aisles}
 use Rattle.wp_model.specs.TableLines.{Record, empty_stock}
 use Rattle.wp_model.specs.Outcomes.{and_then}
 use Rattle.wp_tables.specs.DeskFile.{desks_heading, script_after, scripts_of}
 use Rattle.wp_tables.specs.OrderFile.{orders_after, orders_heading}
 use Rattle.wp_tables.specs.StockFile.{stock_after, stock_heading}
 use Rattle.wp_make.specs.Accepted.{AreAccepted}
-use Rattle.wp_make.specs.Lines.{made_slots}
 use Rattle.wp_make.specs.Records.{desks_records, orders_records, stock_records}
-use Rattle.wp_make.specs.Sizes.{IsSize, wave_count}
+use Rattle.wp_make.specs.Sizes.{IsSize}
 use Rattle.wp_make.specs.Texts.{made_layout, made_texts, table_text}
 use Rattle.wp_make.specs.declared.input.Size.{Size}
-use Rattle.wp_make.proofs.DesksRead.{HasCommands, desks_made}
+use Rattle.wp_make.proofs.DesksRead.{desks_made}
 use Rattle.wp_make.proofs.Making.{table_said}
-use Rattle.wp_make.proofs.OrdersRead.{HasArticles, HasOrders, orders_made}
-use Rattle.wp_make.proofs.StockRead.{HasRowsBelow, stock_made}
+use Rattle.wp_make.proofs.OrdersRead.{HasArticles, orders_made}
+use Rattle.wp_make.proofs.StockRead.{stock_made}
 
 -- no heading begins with a byte order mark
 stock_bare : (records : List Record) → strip_bom (table_text stock_heading records) ≡ table_text stock_heading records

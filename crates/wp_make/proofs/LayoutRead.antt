@@ -1,6 +1,6 @@
 -- The text of a layout is read again with a line feed after it.
-use Rattle.std.proofs.Common.{◌≡◌, ◌∙◌, refl, sym, ap, ℕ, zero, suc, ◌<◌, ◌^◌, arith, Bool, true, false, List, [], ◌∷◌, ◌++◌, codes, append_assoc, Ok, Err, None}
-use Rattle.std.specs.Prelude.{if◌then◌else◌, Option, Result, slice_index}
+use Rattle.std.proofs.Common.{◌≡◌, ◌∙◌, refl, sym, ap, ℕ, zero, suc, ◌<◌, ◌^◌, arith, Bool, true, false, List, [], ◌∷◌, ◌++◌, codes, append_assoc, Ok, None}
+use Rattle.std.specs.Prelude.{if◌then◌else◌, Option, slice_index}
 use Rattle.std.specs.Fmt.{decimal}
 use Rattle.std.specs.Option.{ok_or, option_and_then}
 use Rattle.std.specs.Str.{IsUtf8, is_utf8}
@@ -17,7 +17,6 @@ use Rattle.serde_json.specs.Data.{Data}
 use Rattle.serde_json.specs.Read.{max_depth, of_json, read}
 use Rattle.wp_layout.specs.LayoutFile.{layout_said, value_said}
 use Rattle.wp_layout.specs.LayoutText.{layout_text}
-use Rattle.wp_layout.specs.declared.fault.LayoutFault.{LayoutFault}
 use Rattle.wp_layout.specs.declared.fault.LayoutFault.TheVariants as fault
 use Rattle.wp_model.specs.Journal.{line}
 use Rattle.wp_model.specs.Outcomes.{and_then}

@@ -1,17 +1,16 @@
 -- What the records of a made table make, one after the other.
-use Rattle.std.proofs.Common.{◌≡◌, ◌∙◌, refl, sym, ap, subst, ℕ, zero, suc, ◌+◌, ◌<◌, ◌≤◌, Bool, true, false, List, [], ◌∷◌, ◌++◌, length, Ok, Err, arith}
-use Rattle.std.specs.Prelude.{◌&&◌, Result, map}
+use Rattle.std.proofs.Common.{◌≡◌, ◌∙◌, refl, ap, subst, ℕ, zero, suc, ◌+◌, ◌<◌, ◌≤◌, true, List, [], ◌∷◌, ◌++◌, length, Ok, Err, arith}
+use Rattle.std.specs.Prelude.{Result, map}
 use Rattle.std.specs.List.{flat_map, list_all, range_with_len}
 use Rattle.std.proofs.lemmas.List.Concat.{flat_map_single}
 use Rattle.std.proofs.lemmas.List.Folds.{list_all-append}
 use Rattle.csv.specs.Reading.{default_config, records as all_records, strip_bom}
-use Rattle.wp_model.specs.Name.{is_name}
 use Rattle.wp_model.specs.Outcomes.{and_then}
 use Rattle.wp_model.specs.TableLines.{Record, same_record}
 use Rattle.wp_tables.specs.Reading.{at_row, made_by, table_of}
-use Rattle.wp_tables.specs.Records.{kept_from, kept_in, records_in, trimmed}
+use Rattle.wp_tables.specs.Records.{kept_from, kept_in, records_in}
 use Rattle.wp_tables.specs.declared.fault.Why.{Why}
-use Rattle.wp_make.specs.Texts.{record_line, table_text}
+use Rattle.wp_make.specs.Texts.{table_text}
 use Rattle.wp_make.proofs.Lines.{both, few_records, is_named, lines_read, named_trimmed}
 use Rattle.wp_make.proofs.Words.{and_true}
 

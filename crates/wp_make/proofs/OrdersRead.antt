@@ -1,10 +1,8 @@
 -- The made orders are read, line by line.
-use Rattle.std.proofs.Common.{◌≡◌, ◌∙◌, refl, sym, ap, ap₂, subst, ℕ, suc, ◌+◌, ◌*◌, ◌%◌, ◌<◌, ◌≤◌, ◌^◌, Bool, true, false, List, [], ◌∷◌, ◌++◌, length, arith, length-append, lit<, lit≤, lt-ltb, le-leb}
-use Rattle.std.specs.Prelude.{◌&&◌, ◌||◌, ◌==◌, nat_lt, if◌then◌else◌, Ok, Err, Some, map}
-use Rattle.std.specs.Fmt.{decimal}
+use Rattle.std.proofs.Common.{◌≡◌, ◌∙◌, refl, sym, subst, ℕ, ◌+◌, ◌*◌, ◌<◌, ◌≤◌, Bool, true, false, List, [], ◌∷◌, ◌++◌, length, arith, length-append, lit<, lit≤, lt-ltb, le-leb}
+use Rattle.std.specs.Prelude.{◌||◌, nat_lt, if◌then◌else◌, Ok, Err, map}
 use Rattle.std.specs.List.{list_all, range_with_len}
 use Rattle.std.specs.Str.{bytes_eq}
-use Rattle.std.proofs.lemmas.Bool.{cases_Bool}
 use Rattle.std.proofs.lemmas.Slice.Eq.{bytes_eq-Decides}
 use Rattle.wp_model.specs.Limits.{most_aisles, most_file_orders, most_lines}
 use Rattle.wp_model.specs.Name.{is_name}
@@ -16,7 +14,7 @@ use Rattle.wp_model.proofs.OrderLists.{added_length}
 use Rattle.wp_tables.specs.OrderFile.{order_line_of, order_with_room, orders_after}
 use Rattle.wp_tables.specs.declared.fault.Why.TheVariants as why
 use Rattle.wp_make.specs.Draws.{draw_at, state_after}
-use Rattle.wp_make.specs.Lines.{after_orders, line_count, line_from, made_slots, order_lines}
+use Rattle.wp_make.specs.Lines.{after_orders, line_count, line_from, made_slots}
 use Rattle.wp_make.specs.Records.{article_name, line_record, order_name, order_records, orders_records}
 use Rattle.wp_make.specs.declared.generator.MadeLine.{MadeLine}
 use Rattle.wp_make.proofs.Growth.{mapped}

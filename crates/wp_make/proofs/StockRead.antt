@@ -1,6 +1,6 @@
 -- The made stock is read, row by row.
-use Rattle.std.proofs.Common.{◌≡◌, ◌∙◌, ◌⊎◌, ⊎_elim, refl, sym, ap, ap₂, subst, ℕ, ◌+◌, ◌*◌, ◌<◌, ◌≤◌, ◌^◌, Bool, true, false, List, [], ◌∷◌, ◌++◌, length, arith, length-append, lit<, lit≤, lt-ltb, le-leb}
-use Rattle.std.specs.Prelude.{◌&&◌, ◌||◌, ◌==◌, nat_le, nat_lt, if◌then◌else◌, Ok, Some}
+use Rattle.std.proofs.Common.{◌≡◌, ◌∙◌, ⊎_elim, refl, sym, ap, ap₂, subst, ℕ, ◌+◌, ◌*◌, ◌<◌, ◌≤◌, Bool, true, false, List, [], ◌∷◌, ◌++◌, length, arith, length-append, lit<, lit≤, lt-ltb, le-leb}
+use Rattle.std.specs.Prelude.{◌&&◌, ◌||◌, ◌==◌, nat_lt, if◌then◌else◌, Ok}
 use Rattle.std.specs.Fmt.{decimal}
 use Rattle.std.specs.List.{AllByRecursion, list_all, list_any}
 use Rattle.std.specs.Str.{bytes_eq}
@@ -15,7 +15,6 @@ use Rattle.wp_model.specs.Opening.{Stock}
 use Rattle.wp_model.specs.Step.{is_among, same_location}
 use Rattle.wp_model.specs.TableLines.{add_line, empty_stock, join, lies_at, number_among, places_named, put_row, row_of}
 use Rattle.wp_model.specs.Tables.{places_of}
-use Rattle.wp_model.specs.Warehouse.{Layout}
 use Rattle.wp_model.specs.declared.line.StockLine.{StockLine}
 use Rattle.wp_model.specs.declared.row.StockRow.{StockRow}
 use Rattle.wp_model.proofs.NameEq.{number_joined}

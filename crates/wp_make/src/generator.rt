@@ -2,6 +2,7 @@
 ghost use Rattle.std.specs.Prelude.{◌≡◌, ◌<◌};
 ghost use Rattle.wp_make.specs.Draws.{draw_at, next_state, state_after};
 ghost use Rattle.wp_make.specs.Lines.{line_count, line_from};
+ghost use Rattle.wp_model.specs.Warehouse.{IsUpTo};
 
 use std::marker::Model;
 
@@ -79,6 +80,9 @@ impl Generator {
         requires { 0 < aisles }
         ensures line { result ≡ line_from aisles self.old }
         ensures state { self.new ≡ state_after 3 self.old }
+        ensures aisle { IsUpTo aisles result.aisle }
+        ensures slot { IsUpTo 40 result.slot }
+        ensures quantity { IsUpTo 5 result.quantity }
     {
         let aisle = 1 + self.draw(aisles);
         let slot = 1 + self.draw(SLOTS);

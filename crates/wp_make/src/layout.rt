@@ -19,7 +19,8 @@ const CLEARANCE: u32 = 1;
 
 const SPACING: u32 = 5;
 
-fn made_layout(aisles: u32) -> Layout
+/// The layout of so many aisles, 1 to 64, of 40 slots each, with the depot in the middle.
+pub fn made_layout(aisles: u32) -> Layout
     requires some { 1 ≤ aisles }
     requires most { aisles ≤ 64 }
     ensures { result ≡ made_layout aisles }

@@ -230,50 +230,55 @@ fn orders_read(alloc: Global, input: &Input, stock: &Stock) -> Option<u32> {
 }
 
 /// How many desks there are and how many commands they have together, or nothing where their text is refused.
-fn commands_read(alloc: Global, input: &Input) -> Option<[u32; 2]> {
+fn commands_read(alloc: Global, input: &Input) -> Option<(u32, usize)> {
     let scripts: Scripts = read_desks(alloc, &input.desks).ok()?;
-    let mut commands = 0;
+    let mut commands: usize = 0;
     for desk in 1..=scripts.desks() {
-        commands += scripts.script(desk).len() as u32;
+        commands = commands.saturating_add(scripts.script(desk).len());
     }
-    Some([scripts.desks(), commands])
+    Some((scripts.desks(), commands))
 }
 
-/// The numbers of aisles, rows, articles, orders, desks and commands that the readers find in a made input.
-fn counts(alloc: Global, input: &Input) -> Option<[u32; 6]> {
+/// The numbers of aisles, rows, articles, orders and desks that the readers find in a made input, and that of commands.
+fn counts(alloc: Global, input: &Input) -> Option<([u32; 5], usize)> {
     let layout = read_layout(alloc, &input.layout).ok()?;
     let (stock, [rows, articles]) = rows_read(alloc, input, &layout)?;
     let orders = orders_read(alloc, input, &stock)?;
-    let [desks, commands] = commands_read(alloc, input)?;
-    Some([layout.aisles(), rows, articles, orders, desks, commands])
+    let (desks, commands) = commands_read(alloc, input)?;
+    Some(([layout.aisles(), rows, articles, orders, desks], commands))
 }
 
 /// Sizes, and the numbers of rows, desks and commands of the inputs that are made of them.
-const COUNTS: &[([u32; 4], [u32; 3])] = &[
-    ([1, 1, 1, 1], [40, 1, 2]),
-    ([1, 3, 1, 2], [40, 1, 4]),
-    ([4, 5, 2, 2], [160, 2, 6]),
-    ([3, 4, 8, 1], [120, 4, 8]),
-    ([64, 64, 8, 64], [2560, 1, 2]),
-    ([64, 65, 8, 64], [2560, 2, 4]),
-    ([64, 500, 8, 1], [2560, 8, 1000]),
-    ([64, 10_000, 8, 20], [2560, 8, 1000]),
-    ([64, 9_981, 7, 20], [2560, 7, 1000]),
+const COUNTS: &[([u32; 4], [u32; 2], usize)] = &[
+    ([1, 1, 1, 1], [40, 1], 2),
+    ([1, 3, 1, 2], [40, 1], 4),
+    ([4, 5, 2, 2], [160, 2], 6),
+    ([3, 4, 8, 1], [120, 4], 8),
+    ([64, 64, 8, 64], [2560, 1], 2),
+    ([64, 65, 8, 64], [2560, 2], 4),
+    ([64, 500, 8, 1], [2560, 8], 1000),
+    ([64, 10_000, 8, 20], [2560, 8], 1000),
+    ([64, 9_981, 7, 20], [2560, 7], 1000),
 ];
 
-fn has_counts(alloc: Global, size: [u32; 4], found: [u32; 3]) -> Result<bool, Memory> {
+fn has_counts(
+    alloc: Global,
+    size: [u32; 4],
+    found: [u32; 2],
+    commands: usize,
+) -> Result<bool, Memory> {
     let [aisles, orders, _, _] = size;
-    let [rows, desks, commands] = found;
+    let [rows, desks] = found;
     let Some(input) = made(alloc, 1, size)? else {
         return Ok(false);
     };
-    Ok(counts(alloc, &input) == Some([aisles, rows, rows, orders, desks, commands]))
+    Ok(counts(alloc, &input) == Some(([aisles, rows, rows, orders, desks], commands)))
 }
 
 /// The first size whose input the readers refuse, or in which they count otherwise.
 fn miscounted(alloc: Global) -> Result<Option<[u32; 4]>, Memory> {
-    for (size, found) in COUNTS {
-        if !has_counts(alloc, *size, *found)? {
+    for (size, found, commands) in COUNTS {
+        if !has_counts(alloc, *size, *found, *commands)? {
             return Ok(Some(*size));
         }
     }

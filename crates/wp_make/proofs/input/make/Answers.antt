@@ -1,4 +1,3 @@
-use Rattle.std.proofs.Common.{◌≡◌}
 use Rattle.wp_make.proofs.DaySaid.{day_said}
 use Rattle.wp_make.proofs.input.make.Goals as goal
 

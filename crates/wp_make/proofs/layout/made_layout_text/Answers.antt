@@ -1,4 +1,4 @@
-use Rattle.std.proofs.Common.{◌≡◌, ◌∙◌, sym, ap, subst, arith, Ok}
+use Rattle.std.proofs.Common.{◌≡◌, ◌∙◌, sym, ap, arith, Ok}
 use Rattle.wp_layout.specs.LayoutFile.{layout_said}
 use Rattle.wp_layout.specs.LayoutText.{layout_text}
 use Rattle.wp_model.specs.Journal.{line}
