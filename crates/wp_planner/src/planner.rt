@@ -9,6 +9,7 @@ use wp_batch::Wave;
 use wp_graph::Layout;
 use wp_machine::WaveHolds;
 use wp_model::Memory;
+use wp_outside::OpenGate;
 use wp_search::{Planned, pays, plan_wave};
 use wp_tables::Stock;
 
@@ -85,6 +86,7 @@ pub fn plan_of<R: Threads + Sync>(
         terms.capacity,
         terms.budget,
         terms.workers,
+        &OpenGate,
     )?;
     wave.keep_lengths(alloc, 0)?;
     Ok(WavePlan { wave, planned })

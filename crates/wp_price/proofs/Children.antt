@@ -138,6 +138,10 @@ names_more pairing place union from order low adds below = λ x has item. ⊎_el
     (λ (old : Contains place x). omega (arith, below x old item, low))
     (λ (j : AreJoined pairing.pairs order x). omega (arith, item.least order (joined_back j))) ((adds.orders x).0 has)
 
+-- a place of no order has no order that names an item
+pub names_none : (pairing : Pairing) (place : List ℕ) → place ≡ [] → NamesBelow pairing place 0
+names_none pairing place e order has item = absurd (nothing place order e has)
+
 -- the least order of a class names it
 pub least_names : (pairing : Pairing) (class : List ℕ) (order least : ℕ) → IsStrictlyIncreasing class
     → ((other : ℕ) → Contains class other ↔ AreJoined pairing.pairs order other) → slice_get class 0 ≡ Some least → least < pairing.orders

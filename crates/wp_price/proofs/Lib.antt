@@ -2,7 +2,10 @@ pub mod Options
 pub mod Lists
 pub mod Children
 pub mod Reaches
+pub mod Bests
 pub mod Extensions
 pub mod Searching
 pub mod Passing
 pub mod LeastSlacks
+pub mod Dealing
+pub mod ItemMarking

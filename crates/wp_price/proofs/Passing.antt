@@ -1,15 +1,15 @@
 -- Short marks of feasible duals pass the visit.
-use Rattle.std.proofs.Common.{◌≡◌, ℕ, ◌+◌, ◌*◌, ◌≤◌, Bool, List, [], ◌++◌, arith, refl, ap, sym, ◌∙◌, subst, inl, inr, ⊎_elim, Contains}
+use Rattle.std.proofs.Common.{◌≡◌, ℕ, ◌+◌, ◌*◌, ◌≤◌, Bool, true, false, List, [], ◌∷◌, ◌++◌, arith, refl, ap, sym, ◌∙◌, subst, inl, inr, ⊎_elim, Contains}
 use Rattle.std.proofs.Common.{append_assoc, append-nil}
 use Rattle.std.specs.Prelude.{⊤}
 use Rattle.wp_pairs.specs.Permitted.{IsPermitted, Pairing}
 use Rattle.wp_batch.specs.Lengths.{IsLengthOf}
 use Rattle.wp_batch.specs.Waves.{WavePicks}
 use Rattle.wp_duals.specs.Duals.{AreFeasible, duals_of}
-use Rattle.wp_duals.specs.Visits.{AddsItem, Children, Due, IsItem, IsVisit, IsVisitOfAll, IsWithin, Passed, Place}
+use Rattle.wp_duals.specs.Visits.{AddsItem, Children, Due, IsItem, IsReach, IsVisit, IsVisitOfAll, IsWithin, Passed, Place}
 use Rattle.wp_duals.specs.Visits as visit
 use Rattle.wp_price.specs.Searches.{IsNoChild, IsReached, NamesBelow}
-use Rattle.wp_price.specs.ShortMarks.{AddsShort, AreShort, AreShortMarks}
+use Rattle.wp_price.specs.ShortMarks.{AreShort, AreShortMarks, IsMarked}
 use Rattle.wp_price.specs.ShortMarks as short
 
 -- where a place is due, it is one that a search comes to
@@ -70,10 +70,20 @@ short_past wave pairing duals place from order rest low below none more = ⊎_el
     (λ (u : (union : List ℕ) × AddsItem pairing place order union × (IsPermitted pairing union → ⊥)). short.not_permitted {batch = u.0} u.1 u.2 more)
     adds_none) none
 
--- the short marks of the place of no order, put behind none, are those of a node
-pub adds_all : (wave : WavePicks) (pairing : Pairing) (duals root : List ℕ) (old new : List Bool) → root ≡ [] → old ≡ []
-    → AddsShort wave pairing duals (Place root 0) old new → AreShortMarks wave pairing duals new
-adds_all wave pairing duals root old new empty none adds =
-    let same : new ≡ adds.marks = adds.is ∙ ap (λ (ms : List Bool). ms ++ adds.marks) none in
-    subst (AreShortMarks wave pairing duals) (sym same)
-    (subst (λ (place : List ℕ). AreShort wave pairing duals (Place place 0) adds.marks) empty adds.short)
+-- where the place of no order isn't entered its mark is all
+pub all_closed : (wave : WavePicks) (pairing : Pairing) (duals root : List ℕ) (reach : ℕ) (none marks : List Bool) → root ≡ [] → none ≡ []
+    → IsReach pairing duals [] 0 reach → IsMarked wave duals root reach true → marks ≡ none ++ false ∷ [] → AreShortMarks wave pairing duals marks
+all_closed wave pairing duals root reach none marks empty nothing reaches marked is =
+    let at = subst (λ (place : List ℕ). IsMarked wave duals place reach true) empty marked in
+    subst (AreShortMarks wave pairing duals) (sym (is ∙ ap (λ (ms : List Bool). ms ++ false ∷ []) nothing))
+    (short.closed at.long reaches (at.within refl))
+
+-- where it is entered the marks of the subtrees of all first items follow
+pub all_entered : (wave : WavePicks) (pairing : Pairing) (duals root : List ℕ) (reach : ℕ) (none entered marks more : List Bool) → root ≡ []
+    → none ≡ [] → IsReach pairing duals [] 0 reach → IsMarked wave duals root reach false → entered ≡ none ++ true ∷ []
+    → AreShort wave pairing duals (Children [] 0) more → marks ≡ entered ++ more → AreShortMarks wave pairing duals marks
+all_entered wave pairing duals root reach none entered marks more empty nothing reaches marked begun rest is =
+    let at = subst (λ (place : List ℕ). IsMarked wave duals place reach false) empty marked in
+    subst (AreShortMarks wave pairing duals)
+    (sym (is ∙ ap (λ (ms : List Bool). ms ++ more) (begun ∙ ap (λ (ms : List Bool). ms ++ true ∷ []) nothing)))
+    (short.entered at.long reaches (at.above refl) rest)

@@ -1,29 +1,18 @@
 -- The search, step by step: what the best is known to be better than, after each order.
-use Rattle.std.proofs.Common.{◌≡◌, ℕ, ◌+◌, ◌≤◌, false, List, arith, rules, refl, ap, ◌↔◌, sym, ◌∙◌, subst, inl, inr, ◌⊎◌, ⊎_elim, Contains}
-use Rattle.std.specs.Prelude.{Option, Some, None, IfSome}
+use Rattle.std.proofs.Common.{◌≡◌, ℕ, zero, suc, ◌+◌, ◌-◌, ◌<◌, ◌≤◌, false, List, arith, rules, refl, ap, ◌↔◌, sym, ◌∙◌, subst, inl, inr, ◌⊎◌, ⊎_elim}
+use Rattle.std.proofs.Common.{Contains, length}
+use Rattle.std.specs.Prelude.{Option, Some, None, IfSome, slice_index_or}
 use Rattle.wp_pairs.specs.Permitted.{AreJoined, IsPermitted, itself}
 use Rattle.wp_duals.specs.Visits.{AddsItem}
 use Rattle.wp_duals.proofs.Visits.{Extends, IsPlace}
 use Rattle.wp_price.specs.declared.best.Best.{Best}
-use Rattle.wp_price.specs.Bests.{IsBetterOf, IsNoWorse}
-use Rattle.wp_price.specs.Searches.{IsBeaten, IsFound, IsNoChild, IsRaised, IsSearched, Task}
+use Rattle.wp_price.specs.Bests.{IsBestAmong, IsBetterOf, IsNoBetter, IsNoWorse}
+use Rattle.wp_price.specs.Searches.{AreItemsSearched, AreSharesOf, AreSharesSearched, IsBeaten, IsFound, IsItemPast, IsNoChild, IsRaised, IsSearched, Task}
+use Rattle.wp_price.specs.Shares.{IsDealt}
 use Rattle.wp_price.specs.Slacks.{comes_before}
+use Rattle.wp_price.proofs.Bests.{no_worse_on}
 use Rattle.wp_price.proofs.Extensions.{known_beaten, past_no_child, past_same, with_or_after}
-use Rattle.wp_price.proofs.Lists.{never_before_itself, not_before_on}
-
--- what is known when all batches were searched that extend a place with an item before an order
-pub record HasSearched (task : Task) (place : List ℕ) (from order : ℕ) (old best : Option Best) : Type 0 where
-  pub found : IfSome best (λ (b : Best). (old ≡ Some b) ⊎ IsFound task place b)
-  pub kept : (batch : List ℕ) → IsBeaten task old batch → IsBeaten task best batch
-  pub covered : (batch : List ℕ) → Extends task.pairing place from batch → Extends task.pairing place order batch ⊎ IsBeaten task best batch
-
--- what is no worse than one that is no worse than another is no worse than that
-no_worse_on : (one other last : Best) → IsNoWorse one other → IsNoWorse other last → IsNoWorse one last
-no_worse_on one other last first second = record {
-  low = omega (arith, first.low, second.low);
-  first = λ e. not_before_on one.batch other.batch last.batch (first.first (omega (arith, e, first.low, second.low)))
-      (second.first (omega (arith, e, first.low, second.low)));
-}
+use Rattle.wp_price.proofs.Lists.{never_before_itself}
 
 -- what is no better than the old best is no better than one that is no worse
 pub beaten_on : (task : Task) (old : Option Best) (best : Best) (batch : List ℕ) → IfSome old (IsNoWorse best) → IsBeaten task old batch
@@ -36,22 +25,13 @@ found_self : (task : Task) (place : List ℕ) (old : Option Best) → IfSome old
 found_self task place None = search rules
 found_self task place (Some best) = inl refl
 
--- at first the best is the old one
-pub begin_search : (task : Task) (place : List ℕ) (from : ℕ) (old : Option Best) → HasSearched task place from from old old
-begin_search task place from old = record {
-  found = found_self task place old;
+-- an order that adds nothing has no item to search
+pub pass_item : (task : Task) (place : List ℕ) (order : ℕ) (best : Option Best) → IsPlace task.pairing place → IsNoChild task.pairing place order
+    → AreItemsSearched task place (λ (item : ℕ). item ≡ order) best best
+pass_item task place order best closed adds_none = record {
+  found = found_self task place best;
   kept = λ batch beaten. beaten;
-  covered = λ batch extends. inl extends;
-}
-
--- an order that adds nothing is passed over
-pub pass_search : (task : Task) (place : List ℕ) (from order : ℕ) (old best : Option Best) → IsPlace task.pairing place
-    → IsNoChild task.pairing place order → HasSearched task place from order old best → HasSearched task place from (order + 1) old best
-pass_search task place from order old best closed adds_none has = record {
-  found = has.found;
-  kept = has.kept;
-  covered = λ batch extends. ⊎_elim (λ (e : Extends task.pairing place order batch). inl (past_no_child task.pairing place batch order closed adds_none e))
-      (λ beaten. inr beaten) (has.covered batch extends);
+  past = λ item e. subst (IsItemPast task place best) (sym e) (λ batch extends. inl (past_no_child task.pairing place batch order closed adds_none extends));
 }
 
 same_best : (one other : Best) → Some one ≡ Some other → one ≡ other
@@ -77,20 +57,56 @@ found_below task place union order old next (Some b) adds before after = ⊎_eli
     after
 
 -- a child was compared with the best, and what extends it was searched
-pub enter_search : (task : Task) (place union : List ℕ) (from order raised : ℕ) (old best : Option Best) (next : Best) (result : Option Best)
+pub enter_item : (task : Task) (place union : List ℕ) (order raised : ℕ) (old : Option Best) (next : Best) (result : Option Best)
     → AddsItem task.pairing place order union → IsPermitted task.pairing union → IsRaised task union raised
-    → IsBetterOf best (record { batch = union; raised = raised }) next → IsSearched task union (order + 1) (Some next) result
-    → HasSearched task place from order old best → HasSearched task place from (order + 1) old result
-enter_search task place union from order raised old best next result adds permitted is better below has = record {
+    → IsBetterOf old (record { batch = union; raised = raised }) next → IsSearched task union (order + 1) (Some next) result
+    → AreItemsSearched task place (λ (item : ℕ). item ≡ order) old result
+enter_item task place union order raised old next result adds permitted is better below = record {
   found = found_below task place union order old next result adds
-      (found_better task place union order raised old best next adds permitted is has.found better) below.found;
-  kept = λ batch beaten. below.kept batch (beaten_on task best next batch better.best_no_better (has.kept batch beaten));
-  covered = λ batch extends. ⊎_elim
-      (λ (e : Extends task.pairing place order batch). ⊎_elim (λ (u : Extends task.pairing union (order + 1) batch). inr (below.covered batch u))
-      (λ past. inl past) (with_or_after task.pairing place union batch order adds e))
-      (λ (beaten : IsBeaten task best batch). inr (below.kept batch (beaten_on task best next batch better.best_no_better beaten)))
-      (has.covered batch extends);
+      (found_better task place union order raised old old next adds permitted is (found_self task place old) better) below.found;
+  kept = λ batch beaten. below.kept batch (beaten_on task old next batch better.best_no_better beaten);
+  past = λ item e. subst (IsItemPast task place result) (sym e) (λ batch extends.
+      ⊎_elim (λ (u : Extends task.pairing union (order + 1) batch). inr (below.covered batch u)) (λ past. inl past)
+      (with_or_after task.pairing place union batch order adds extends));
 }
+
+-- what was found after more items is the old best, or has all orders of the place
+found_on : (task : Task) (place : List ℕ) (old best next : Option Best) → IfSome best (λ (b : Best). (old ≡ Some b) ⊎ IsFound task place b)
+    → IfSome next (λ (b : Best). (best ≡ Some b) ⊎ IsFound task place b) → IfSome next (λ (b : Best). (old ≡ Some b) ⊎ IsFound task place b)
+found_on task place old best None before after = search rules
+found_on task place old best (Some next) before after = ⊎_elim
+    (λ (e : best ≡ Some next). subst (λ (o : Option Best). IfSome o (λ (b : Best). (old ≡ Some b) ⊎ IsFound task place b)) e before)
+    (λ (f : IsFound task place next). inr f) after
+
+-- after some items one more was searched
+pub then_item : (task : Task) (place : List ℕ) (before after : ℕ → Type 0) (order : ℕ) (old best next : Option Best)
+    → ((item : ℕ) → after item → before item ⊎ (item ≡ order)) → AreItemsSearched task place before old best
+    → AreItemsSearched task place (λ (item : ℕ). item ≡ order) best next → AreItemsSearched task place after old next
+then_item task place before after order old best next split first last = record {
+  found = found_on task place old best next first.found last.found;
+  kept = λ batch beaten. last.kept batch (first.kept batch beaten);
+  past = λ item among batch extends. ⊎_elim
+      (λ (earlier : before item). ⊎_elim (λ (e : Extends task.pairing place (item + 1) batch). inl e)
+      (λ (beaten : IsBeaten task best batch). inr (last.kept batch beaten)) (first.past item earlier batch extends))
+      (λ (e : item ≡ order). last.past item e batch extends) (split item among);
+}
+
+-- what is known of items is known of some of them
+pub fewer_items : (task : Task) (place : List ℕ) (more fewer : ℕ → Type 0) (old best : Option Best) → ((item : ℕ) → fewer item → more item)
+    → AreItemsSearched task place more old best → AreItemsSearched task place fewer old best
+fewer_items task place more fewer old best within searched =
+    record { found = searched.found; kept = searched.kept; past = λ item among. searched.past item (within item among) }
+
+-- what extends a place is no better than the best, or has only items after so many
+past_items : (task : Task) (place : List ℕ) (from count : ℕ) (best : Option Best)
+    → ((item : ℕ) → from ≤ item → item < from + count → IsItemPast task place best item) → (batch : List ℕ) → Extends task.pairing place from batch
+    → Extends task.pairing place (from + count) batch ⊎ IsBeaten task best batch
+past_items task place from zero best past batch extends = inl (subst (λ (n : ℕ). Extends task.pairing place n batch) (omega arith) extends)
+past_items task place from (suc count) best past batch extends = ⊎_elim
+    (λ (e : Extends task.pairing place (from + count) batch).
+    subst (λ (n : ℕ). Extends task.pairing place n batch ⊎ IsBeaten task best batch) (omega arith)
+    (past (from + count) (omega arith) (omega arith) batch e))
+    (λ beaten. inr beaten) (past_items task place from count best (λ item low high. past item low (omega (arith, high))) batch extends)
 
 -- nothing that extends a place is better than the best: it was searched
 pub closed_search : (task : Task) (place : List ℕ) (from : ℕ) (best : Best)
@@ -98,16 +114,67 @@ pub closed_search : (task : Task) (place : List ℕ) (from : ℕ) (best : Best)
 closed_search task place from best none = record { found = inl refl; kept = λ batch beaten. beaten; covered = none }
 
 -- past all orders only the place itself is left
-pub end_search : (task : Task) (place : List ℕ) (from order : ℕ) (old best : Option Best) → IsPlace task.pairing place → task.pairing.orders ≤ order
-    → (IsPermitted task.pairing place → IsBeaten task old place) → HasSearched task place from order old best → IsSearched task place from old best
-end_search task place from order old best closed past known has = record {
+covered_all : (task : Task) (place : List ℕ) (from order : ℕ) (old best : Option Best) → IsPlace task.pairing place → from ≤ order
+    → task.pairing.orders ≤ order → (IsPermitted task.pairing place → IsBeaten task old place)
+    → ((batch : List ℕ) → IsBeaten task old batch → IsBeaten task best batch)
+    → ((item : ℕ) → from ≤ item → item < order → IsItemPast task place best item) → (batch : List ℕ) → Extends task.pairing place from batch
+    → IsBeaten task best batch
+covered_all task place from order old best closed begun past known kept items batch extends = ⊎_elim
+    (λ (e : Extends task.pairing place (from + (order - from)) batch).
+    let same = past_same task.pairing place batch (from + (order - from)) closed (omega (arith, past, begun)) e in
+    subst (IsBeaten task best) (sym same) (kept place (known (subst (IsPermitted task.pairing) same e.permitted))))
+    (λ beaten. beaten)
+    (past_items task place from (order - from) best (λ item low high. items item low (omega (arith, high, begun))) batch extends)
+
+-- where all items from an order on were searched, all that extends the place was
+pub end_search : (task : Task) (place : List ℕ) (from order : ℕ) (old best : Option Best) → IsPlace task.pairing place → from ≤ order
+    → task.pairing.orders ≤ order → (IsPermitted task.pairing place → IsBeaten task old place)
+    → AreItemsSearched task place (λ (item : ℕ). (from ≤ item) × (item < order)) old best → IsSearched task place from old best
+end_search task place from order old best closed begun past known has = record {
   found = has.found;
   kept = has.kept;
-  covered = λ batch extends. ⊎_elim
-      (λ (e : Extends task.pairing place order batch). let same = past_same task.pairing place batch order closed past e in
-      subst (IsBeaten task best) (sym same) (has.kept place (known (subst (IsPermitted task.pairing) same e.permitted))))
-      (λ beaten. beaten) (has.covered batch extends);
+  covered = covered_all task place from order old best closed begun past known has.kept (λ item low high. has.past item (low, high));
 }
+
+-- what is no better than the old best is no better than one that the old best isn't better than
+beaten_by : (task : Task) (old best : Option Best) (batch : List ℕ) → IfSome old (λ (one : Best). IsNoBetter one best) → IsBeaten task old batch
+    → IsBeaten task best batch
+beaten_by task None best batch no_better beaten = absurd beaten
+beaten_by task (Some old) None batch no_better beaten = absurd no_better
+beaten_by task (Some old) (Some best) batch no_better beaten = beaten_on task (Some old) best batch no_better beaten
+
+-- the best of what workers found is the old one or one of theirs
+found_among : (task : Task) (place : List ℕ) (shares : List (List ℕ)) (old : Option Best) (found : List (Option Best)) (best : Option Best)
+    → length found ≡ length shares → AreSharesSearched task place shares old found → IsBestAmong old found (length found) best
+    → IfSome best (λ (b : Best). (old ≡ Some b) ⊎ IsFound task place b)
+found_among task place shares old found best count searched is = ⊎_elim
+    (λ (e : best ≡ old). subst (λ (o : Option Best). IfSome o (λ (b : Best). (old ≡ Some b) ⊎ IsFound task place b)) (sym e) (found_self task place old))
+    (λ (one : (at : ℕ) × (at < length found) × (slice_index_or found at best ≡ best)).
+    subst (λ (o : Option Best). IfSome o (λ (b : Best). (old ≡ Some b) ⊎ IsFound task place b)) one.2
+    (searched one.0 best (omega (arith, one.1, count))).found) is.either
+
+-- an item that a worker searched is past, and so is an order that names no first item
+past_shares : (task : Task) (place : List ℕ) (shares : List (List ℕ)) (old : Option Best) (found : List (Option Best)) (best : Option Best)
+    → IsPlace task.pairing place → AreSharesOf task place shares → length found ≡ length shares → AreSharesSearched task place shares old found
+    → IsBestAmong old found (length found) best → (item : ℕ) → item < task.pairing.orders → IsItemPast task place best item
+past_shares task place shares old found best closed all count searched is item known batch extends = ⊎_elim
+    (λ (there : IsDealt shares item). ⊎_elim (λ (e : Extends task.pairing place (item + 1) batch). inl e)
+    (λ beaten. inr (beaten_by task (slice_index_or found there.0 best) best batch (is.no_better there.0 best (omega (arith, there.1, count))) beaten))
+    ((searched there.0 best there.1).past item (known, there.2) batch extends))
+    (λ none. inl (past_no_child task.pairing place batch item closed none extends)) (all item known)
+
+-- where workers searched all first items, the best of what they found is that of all that extends the place
+pub put_together : (task : Task) (place : List ℕ) (shares : List (List ℕ)) (old : Option Best) (found : List (Option Best)) (best : Option Best)
+    → IsPlace task.pairing place → (IsPermitted task.pairing place → IsBeaten task old place) → AreSharesOf task place shares
+    → length found ≡ length shares → AreSharesSearched task place shares old found → IsBestAmong old found (length found) best
+    → IsSearched task place 0 old best
+put_together task place shares old found best closed known all count searched is =
+    let kept = λ (batch : List ℕ) (beaten : IsBeaten task old batch). beaten_by task old best batch is.first_no_better beaten in record {
+      found = found_among task place shares old found best count searched is;
+      kept = kept;
+      covered = covered_all task place 0 task.pairing.orders old best closed (omega arith) (omega arith) known kept
+          (λ item low high. past_shares task place shares old found best closed all count searched is item high);
+    }
 
 -- a place that is the best is no better than itself
 pub alone_beaten : (task : Task) (best : Best) (place : List ℕ) → best.batch ≡ place → IsRaised task place best.raised → IsBeaten task (Some best) place

@@ -1,5 +1,5 @@
 -- The best batch so far, and which batches are no better.
-use Rattle.std.specs.Prelude.{◌≡◌, ◌≤◌, ◌⊎◌, false, Option, Some, IfSome}
+use Rattle.std.specs.Prelude.{◌≡◌, ℕ, ◌<◌, ◌≤◌, ◌⊎◌, false, List, Option, Some, None, IfSome, slice_index_or}
 use Rattle.wp_price.specs.declared.best.Best.{Best}
 use Rattle.wp_price.specs.Slacks.{comes_before}
 
@@ -13,3 +13,14 @@ pub record IsBetterOf (best : Option Best) (next better : Best) : Type 0 where
   pub either : (better ≡ next) ⊎ (best ≡ Some better)
   pub next_no_better : IsNoWorse better next
   pub best_no_better : IfSome best (IsNoWorse better)
+
+-- one batch is no better than the best
+abbrev pub IsNoBetter : Best → Option Best → Type 0
+IsNoBetter one None = ⊥
+IsNoBetter one (Some best) = IsNoWorse best one
+
+-- the best of a first one and of the others below an end: it is one of them, and none of them is better
+pub record IsBestAmong (first : Option Best) (others : List (Option Best)) (end : ℕ) (best : Option Best) : Type 0 where
+  pub either : (best ≡ first) ⊎ ((at : ℕ) × (at < end) × (slice_index_or others at best ≡ best))
+  pub first_no_better : IfSome first (λ (one : Best). IsNoBetter one best)
+  pub no_better : (at : ℕ) (d : Option Best) → at < end → IfSome (slice_index_or others at d) (λ (one : Best). IsNoBetter one best)

@@ -2,4 +2,6 @@ pub mod Slacks
 pub mod ShortMarks
 pub mod Items
 pub mod Bests
+pub mod Shares
 pub mod Searches
+pub mod ItemMarks

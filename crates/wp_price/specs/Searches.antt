@@ -1,5 +1,5 @@
 -- The search: the places that it comes to, and what it has found when it has visited all batches that extend a place.
-use Rattle.std.specs.Prelude.{◌≡◌, ℕ, ◌+◌, ◌*◌, ◌<◌, ◌≤◌, ◌⊎◌, ◌↔◌, List, [], All, Option, Some, None, IfSome, Contains, length}
+use Rattle.std.specs.Prelude.{◌≡◌, ℕ, ◌+◌, ◌*◌, ◌<◌, ◌≤◌, ◌⊎◌, ◌↔◌, List, [], All, Option, Some, None, IfSome, Contains, length, slice_index_or}
 use Rattle.wp_pairs.specs.Kept.{IsPairing}
 use Rattle.wp_pairs.specs.Permitted.{AreParted, IsPermitted, Pairing}
 use Rattle.wp_batch.specs.Lengths.{IsLengthOf}
@@ -12,6 +12,7 @@ use Rattle.wp_price.specs.declared.item.Item.{Item}
 use Rattle.wp_price.specs.declared.place.Place.{Place}
 use Rattle.wp_price.specs.Bests.{IsNoWorse}
 use Rattle.wp_price.specs.Items.{AreItemsBelow}
+use Rattle.wp_price.specs.Shares.{IsDealt}
 
 -- what is searched: a wave, its pairs and the duals of its orders
 pub record Task : Type 0 where
@@ -83,3 +84,28 @@ pub record IsSearched (task : Task) (place : List ℕ) (from : ℕ) (old best : 
   pub found : IfSome best (λ (b : Best). (old ≡ Some b) ⊎ IsFound task place b)
   pub kept : (batch : List ℕ) → IsBeaten task old batch → IsBeaten task best batch
   pub covered : (batch : List ℕ) → Extends task.pairing place from batch → IsBeaten task best batch
+
+-- what extends a place with items from an order on is no better than the best, or has only items after the order
+abbrev pub IsItemPast : Task → List ℕ → Option Best → ℕ → Type 0
+IsItemPast task place best order = (batch : List ℕ) → Extends task.pairing place order batch
+    → Extends task.pairing place (order + 1) batch ⊎ IsBeaten task best batch
+
+-- The best after the search of the items that some orders name: it is the old best or has all orders of the place, and no batch that was no better than the
+-- old best is better than it, nor any that extends the place with one of these items first.
+pub record AreItemsSearched (task : Task) (place : List ℕ) (orders : ℕ → Type 0) (old best : Option Best) : Type 0 where
+  pub found : IfSome best (λ (b : Best). (old ≡ Some b) ⊎ IsFound task place b)
+  pub kept : (batch : List ℕ) → IsBeaten task old batch → IsBeaten task best batch
+  pub past : (order : ℕ) → orders order → IsItemPast task place best order
+
+-- each order of the wave is in the share of some worker, or names no first item of a place
+abbrev pub AreSharesOf : Task → List ℕ → List (List ℕ) → Type 0
+AreSharesOf task place shares = (order : ℕ) → order < task.pairing.orders → IsDealt shares order ⊎ IsNoChild task.pairing place order
+
+-- the orders of a share that are orders of the wave
+abbrev pub InShare : Task → List ℕ → ℕ → Type 0
+InShare task share order = (order < task.pairing.orders) × Contains share order
+
+-- what each worker found when it had searched the items of its share
+abbrev pub AreSharesSearched : Task → List ℕ → List (List ℕ) → Option Best → List (Option Best) → Type 0
+AreSharesSearched task place shares old found = (worker : ℕ) (d : Option Best) → worker < length shares
+    → AreItemsSearched task place (InShare task (slice_index_or shares worker [])) old (slice_index_or found worker d)

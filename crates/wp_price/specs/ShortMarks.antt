@@ -32,3 +32,10 @@ pub record AddsShort (wave : WavePicks) (pairing : Pairing) (duals : List ℕ) (
   pub marks : List Bool
   pub short : AreShort wave pairing duals due marks
   pub is : new ≡ old ++ marks
+
+-- whether a place is marked as not to be entered: its reach doesn't make it too much
+pub record IsMarked (wave : WavePicks) (duals place : List ℕ) (reach : ℕ) (closed : Bool) : Type 0 where
+  pub total : ℕ
+  pub long : IsLengthOf wave place total
+  pub within : closed ≡ true → duals_of duals place + reach ≤ 60 * total
+  pub above : closed ≡ false → 60 * total < duals_of duals place + reach

@@ -1,5 +1,5 @@
-ghost use Rattle.std.specs.Prelude.{◌≡◌, false, true};
-ghost use Rattle.wp_price.specs.Bests.{IsBetterOf, IsNoWorse};
+ghost use Rattle.std.specs.Prelude.{◌≡◌, false, length, true};
+ghost use Rattle.wp_price.specs.Bests.{IsBestAmong, IsBetterOf, IsNoWorse};
 ghost use Rattle.wp_price.specs.Slacks.{comes_before};
 
 use wp_pairs::Batch;
@@ -50,4 +50,17 @@ pub fn better_of(best: Option<Best>, next: Best) -> Best
         Some(best) => { if is_better(&next, &best) { next } else { best } }
         None => next,
     }
+}
+
+/// The best of the best so far and of those that workers found.
+pub fn best_of(best: Option<Best>, found: &[Option<Best>]) -> Option<Best>
+    ensures { IsBestAmong best found.now (length found.now) result }
+{
+    let mut least = best;
+    for worker in 0..found.len() {
+        if let Some(next) = found[worker] {
+            least = Some(better_of(least, next));
+        }
+    }
+    least
 }

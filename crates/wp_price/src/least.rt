@@ -1,13 +1,18 @@
-ghost use Rattle.std.specs.Prelude.{◌≡◌, ◌+◌, ◌<◌, ◌↔◌, List, ℕ, Contains, IfNone, IfSome, Some, false};
+ghost use Rattle.std.specs.Prelude.{◌≡◌, ◌+◌, ◌<◌, ◌≤◌, ◌↔◌, List, ℕ, Contains, IfNone, IfOk, IfSome, Some, false};
 ghost use Rattle.wp_pairs.specs.Permitted.{AreJoined, IsPermitted};
 ghost use Rattle.wp_duals.proofs.Visits.{Extends};
 ghost use Rattle.wp_price.specs.Bests.{IsNoWorse};
-ghost use Rattle.wp_price.specs.Searches.{IsAt, IsBeaten, IsRaised, IsSearched};
+ghost use Rattle.wp_price.specs.Searches.{AreItemsSearched, IsAt, IsBeaten, IsRaised, IsSearched};
 ghost use Rattle.wp_price.specs.Slacks.{HasNoCandidate, IsCandidate};
 
 use crate::best::{Best, better_of};
+use crate::crew::Crew;
 use crate::place::Place;
 use crate::search::Search;
+use std::alloc::Global;
+use std::thread::Threads;
+use wp_model::Memory;
+use wp_outside::Gate;
 
 /// By how much slacks are raised: eight times the greatest dual.
 const RAISE: u64 = 8_000_000_000_000;
@@ -45,29 +50,37 @@ impl Search<'_> {
         self.room_at(place) > 0 && raised - best.raised <= self.reach_after(order, place)
     }
 
-    /// The best of the best batch so far and all batches that extend a place, with items from an order on.
-    pub fn search(&self, place: &Place, from: u32, best: Option<Best>) -> Option<Best>
+    /// The best of the best batch so far and all batches that extend a place with the item that an order names, and with items of
+    /// later orders.
+    #[cycle(search)]
+    pub fn search_item(&self, place: &Place, order: u32, best: Option<Best>) -> Option<Best>
+        requires known { order < self.now.pairing.orders }
+        requires place { IsAt self.now place.now }
+        ensures { AreItemsSearched self.now place.now.batch (λ item. item ≡ order) best result }
+    {
+        let Some(child) = self.child_of(place, order) else {
+            return best;
+        };
+        let _orders = self.orders();
+        let raised = self.raised_of(&child);
+        let batch = child.batch;
+        let next = better_of(best, Best { batch, raised });
+        if self.can_better(order, &child, raised, &next) {
+            return self.search(&child, order + 1, Some(next));
+        }
+        Some(next)
+    }
+
+    // The best of the best batch so far and all batches that extend a place, with items from an order on.
+    #[cycle(search)]
+    fn search(&self, place: &Place, from: u32, best: Option<Best>) -> Option<Best>
         requires place { IsAt self.now place.now }
         requires known { IsPermitted self.now.pairing place.now.batch → IsBeaten self.now best place.now.batch }
         ensures { IsSearched self.now place.now.batch from best result }
     {
         let mut found = best;
         for order in from..self.orders() {
-            if let Some(child) = self.child_of(place, order) {
-                let raised = self.raised_of(&child);
-                let next = better_of(
-                    found,
-                    Best {
-                        batch: child.batch,
-                        raised,
-                    },
-                );
-                found = if self.can_better(order, &child, raised, &next) {
-                    self.search(&child, order + 1, Some(next))
-                } else {
-                    Some(next)
-                };
-            }
+            found = self.search_item(place, order, found);
         }
         found
     }
@@ -84,36 +97,55 @@ impl Search<'_> {
         self.child_of(&root, self.joined_to(order).least()?)
     }
 
-    /// The best of all permitted batches, or of those that have an order where one is given.
-    pub fn best(&self, through: Option<u32>) -> Option<Best>
-        requires { IfSome through (λ order. order < self.now.pairing.orders) }
-        ensures candidate { IfSome result (λ best. IsCandidate self.now.pairing through best.batch) }
-        ensures is { IfSome result (λ best. IsRaised self.now best.batch best.raised) }
-        ensures all { (batch : List ℕ) → IsCandidate self.now.pairing through batch → IsBeaten self.now result batch }
+    /// The best of all permitted batches, or of those that have an order where one is given, found by a crew.
+    pub fn best<R: Threads + Sync, G: Gate>(
+        &self,
+        alloc: Global,
+        crew: &Crew<'_, R, G>,
+        through: Option<u32>,
+    ) -> Result<Option<Best>, Memory>
+        requires through { IfSome through (λ order. order < self.now.pairing.orders) }
+        requires workers { crew.now.workers ≤ 16 }
+        ensures candidate { IfOk result (λ found. IfSome found (λ best. IsCandidate self.now.pairing through best.batch)) }
+        ensures is { IfOk result (λ found. IfSome found (λ best. IsRaised self.now best.batch best.raised)) }
+        ensures all { IfOk result (λ found. (batch : List ℕ) → IsCandidate self.now.pairing through batch → IsBeaten self.now found batch) }
     {
         match through {
-            None => self.best_of_all(),
-            Some(order) => self.best_with(order),
+            None => self.best_of_all(alloc, crew),
+            Some(order) => self.best_with(alloc, crew, order),
         }
     }
 
     // The best of all permitted batches.
-    fn best_of_all(&self) -> Option<Best>
-        ensures candidate { IfSome result (λ best. IsPermitted self.now.pairing best.batch) }
-        ensures is { IfSome result (λ best. IsRaised self.now best.batch best.raised) }
-        ensures all { (batch : List ℕ) → IsPermitted self.now.pairing batch → IsBeaten self.now result batch }
+    fn best_of_all<R: Threads + Sync, G: Gate>(
+        &self,
+        alloc: Global,
+        crew: &Crew<'_, R, G>,
+    ) -> Result<Option<Best>, Memory>
+        requires { crew.now.workers ≤ 16 }
+        ensures candidate { IfOk result (λ found. IfSome found (λ best. IsPermitted self.now.pairing best.batch)) }
+        ensures is { IfOk result (λ found. IfSome found (λ best. IsRaised self.now best.batch best.raised)) }
+        ensures all { IfOk result (λ found. (batch : List ℕ) → IsPermitted self.now.pairing batch → IsBeaten self.now found batch) }
     {
-        self.search(&self.root(), 0, None)
+        self.search_below(alloc, crew, &self.root(), None)
     }
 
     // The best of all permitted batches that have an order.
-    fn best_with(&self, order: u32) -> Option<Best>
-        requires { order < self.now.pairing.orders }
-        ensures candidate { IfSome result (λ best. IsCandidate self.now.pairing (Some order) best.batch) }
-        ensures is { IfSome result (λ best. IsRaised self.now best.batch best.raised) }
-        ensures all { (batch : List ℕ) → IsCandidate self.now.pairing (Some order) batch → IsBeaten self.now result batch }
+    fn best_with<R: Threads + Sync, G: Gate>(
+        &self,
+        alloc: Global,
+        crew: &Crew<'_, R, G>,
+        order: u32,
+    ) -> Result<Option<Best>, Memory>
+        requires order { order < self.now.pairing.orders }
+        requires workers { crew.now.workers ≤ 16 }
+        ensures candidate { IfOk result (λ found. IfSome found (λ best. IsCandidate self.now.pairing (Some order) best.batch)) }
+        ensures is { IfOk result (λ found. IfSome found (λ best. IsRaised self.now best.batch best.raised)) }
+        ensures all { IfOk result (λ found. (batch : List ℕ) → IsCandidate self.now.pairing (Some order) batch → IsBeaten self.now found batch) }
     {
-        let place = self.place_through(order)?;
-        self.search(&place, 0, Some(self.best_at(&place)))
+        let Some(place) = self.place_through(order) else {
+            return Ok(None);
+        };
+        self.search_below(alloc, crew, &place, Some(self.best_at(&place)))
     }
 }

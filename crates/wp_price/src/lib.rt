@@ -2,13 +2,17 @@
 #![tactic(auto)]
 
 mod best;
+mod crew;
 mod item;
 mod least;
+mod marking;
 mod place;
 mod priced;
 mod pricing;
 mod search;
+mod share;
 mod short;
+mod workers;
 
 pub use priced::Priced;
 pub use pricing::least_slack;

@@ -4,21 +4,25 @@ ghost use Rattle.wp_duals.specs.Visits.{IsVisitOfAll, Passed};
 ghost use Rattle.wp_price.specs.ShortMarks.{AreShortMarks};
 ghost use Rattle.wp_price.specs.Slacks.{HasNoCandidate, IsLeastSlack};
 
+use crate::crew::Crew;
 use crate::priced::Priced;
 use crate::search::Search;
 use std::alloc::Global;
 use std::thread::Threads;
 use wp_batch::{Marks, Wave};
 use wp_model::Memory;
+use wp_outside::Gate;
 use wp_pairs::Pairs;
 
 // The short marks, where no order is given and the least slack isn't below 0.
-fn marks_of(
+fn marks_of<R: Threads + Sync, G: Gate>(
     alloc: Global,
     search: &Search<'_>,
+    crew: &Crew<'_, R, G>,
     through: Option<u32>,
     slack: i64,
 ) -> Result<Option<Marks>, Memory>
+    requires workers { crew.now.workers ≤ 16 }
     requires feasible { through ≡ None → pos 0 ≤ℤ slack → AreFeasible search.now.wave search.now.pairing search.now.duals }
     ensures marked { IfOk result (λ marks. IsSome marks ↔ ((through ≡ None) × (pos 0 ≤ℤ slack))) }
     ensures short { IfOk result (λ marks. IfSome marks (AreShortMarks search.now.wave search.now.pairing search.now.duals)) }
@@ -28,13 +32,17 @@ fn marks_of(
     if through.is_some() || slack < 0 {
         return Ok(None);
     }
-    let mut marks = Marks::new(alloc);
-    search.push_marks(&search.root(), 0, search.whole_reach(), &mut marks)?;
-    Ok(Some(marks))
+    Ok(Some(search.all_marks(alloc, crew)?))
 }
 
 // The batch of least slack of a search, of those with an order where one is given, and the short marks.
-fn price(alloc: Global, search: &Search<'_>, through: Option<u32>) -> Result<Option<Priced>, Memory>
+fn price<R: Threads + Sync, G: Gate>(
+    alloc: Global,
+    search: &Search<'_>,
+    crew: &Crew<'_, R, G>,
+    through: Option<u32>,
+) -> Result<Option<Priced>, Memory>
+    requires workers { crew.now.workers ≤ 16 }
     requires through { IfSome through (λ order. order < search.now.pairing.orders) }
     ensures none { IfOk result (λ found. IfNone found (HasNoCandidate search.now.pairing through)) }
     ensures least { IfOk result (λ found. IfSome found (λ priced.
@@ -45,11 +53,12 @@ fn price(alloc: Global, search: &Search<'_>, through: Option<u32>) -> Result<Opt
     ensures pass { IfOk result (λ found. IfSome found (λ priced. IfSome priced.marks (λ marks.
         IsVisitOfAll search.now.wave search.now.pairing search.now.duals marks (Passed [])))) }
 {
-    let Some(best) = search.best(through) else {
+    let found = search.best(alloc, crew, through)?;
+    let Some(best) = found else {
         return Ok(None);
     };
     let slack = search.slack_of(best.batch);
-    let marks = marks_of(alloc, search, through, slack)?;
+    let marks = marks_of(alloc, search, crew, through, slack)?;
     Ok(Some(Priced {
         batch: best.batch,
         slack,
@@ -60,9 +69,12 @@ fn price(alloc: Global, search: &Search<'_>, through: Option<u32>) -> Result<Opt
 /// The permitted batch of least slack, of those with an order where one is given: sixty times its length less the duals of
 /// its orders, one dual for each order of the wave, 0 to 1,000,000,000,000 sixtieths. Of batches with the same slack it is
 /// the one whose list of orders comes first. None comes exactly where there is no such batch. Where no order is given and
-/// the slack isn't below 0 the duals are feasible, and their short marks come with it. The workers, 1 to 16, aren't used
-/// yet: the answer is found on one thread.
-pub fn least_slack<R: Threads + Sync>(
+/// the slack isn't below 0 the duals are feasible, and their short marks come with it.
+///
+/// Up to so many workers, 1 to 16, search the subtrees of the first items, at least two beside each other where there are two
+/// workers and two first items. A worker passes the gate by its own number, 1 at first, before it searches the subtree of a
+/// first item. The answer doesn't depend on the workers.
+pub fn least_slack<R: Threads + Sync, G: Gate>(
     rt: &R,
     alloc: Global,
     wave: &Wave,
@@ -70,6 +82,7 @@ pub fn least_slack<R: Threads + Sync>(
     duals: &Vec<u64>,
     through: Option<u32>,
     workers: u32,
+    gate: &G,
 ) -> Result<Option<Priced>, Memory>
     requires orders { pairs.now.orders ≡ length wave.now.orders }
     requires count { length duals.now.items ≡ length wave.now.orders }
@@ -86,5 +99,6 @@ pub fn least_slack<R: Threads + Sync>(
         IsVisitOfAll wave.now pairs.now duals.now.items marks (Passed [])))) }
 {
     let search = Search::of(alloc, wave, pairs, duals)?;
-    price(alloc, &search, through)
+    let crew = Crew { rt, workers, gate };
+    price(alloc, &search, &crew, through)
 }

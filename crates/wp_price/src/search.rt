@@ -132,7 +132,8 @@ impl Search<'_> {
 
     /// The number of orders of the wave, 1 to 64.
     pub fn orders(&self) -> u32
-        ensures { result ≡ self.now.pairing.orders }
+        ensures value { result ≡ self.now.pairing.orders }
+        ensures few { result ≤ 64 }
     {
         self.pairs.orders()
     }

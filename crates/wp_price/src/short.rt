@@ -1,7 +1,7 @@
 ghost use Rattle.std.specs.Prelude.{◌≡◌, ◌≤◌, OnOk, []};
 ghost use Rattle.wp_duals.specs.Visits.{IsReach, Place as PlaceDue};
 ghost use Rattle.wp_price.specs.Searches.{IsAt, NamesBelow};
-ghost use Rattle.wp_price.specs.ShortMarks.{AddsShort};
+ghost use Rattle.wp_price.specs.ShortMarks.{AddsShort, IsMarked};
 
 use crate::place::Place;
 use crate::search::Search;
@@ -9,6 +9,15 @@ use wp_batch::Marks;
 use wp_model::Memory;
 
 impl Search<'_> {
+    /// Whether the reach of a place doesn't make it too much, so that it isn't entered.
+    pub fn is_closed(&self, place: &Place, reach: u64) -> bool
+        requires { IsAt self.now place.now }
+        ensures { IsMarked self.now.wave self.now.duals place.now.batch reach result }
+    {
+        let most = 60 * self.length_of(place);
+        place.sum <= most && reach <= most - place.sum
+    }
+
     /// Pushes the short marks of a place whose later items begin from an order on, and which has this reach.
     pub fn push_marks(
         &self,
@@ -22,8 +31,7 @@ impl Search<'_> {
         requires past { NamesBelow self.now.pairing place.now.batch from }
         ensures { OnOk result (AddsShort self.now.wave self.now.pairing self.now.duals (PlaceDue place.now.batch from) marks.old marks.new) }
     {
-        let most = 60 * self.length_of(place);
-        if place.sum <= most && reach <= most - place.sum {
+        if self.is_closed(place, reach) {
             marks.push(false)?;
             return Ok(());
         }

@@ -2,13 +2,16 @@ ghost use Rattle.std.specs.Prelude.{◌≡◌, ◌≤◌, ◌<◌, All, IfSome, 
 ghost use Rattle.wp_duals.specs.Duals.{greatest_dual};
 ghost use Rattle.wp_model.specs.Warehouse.{IsSlot};
 
+mod gates;
 mod slow;
+mod workers;
 
 use super::*;
 use std::alloc::Global;
 use std::thread::Threads;
 use wp_batch::{Marks, Wave};
 use wp_graph::{Layout, Picks, Point};
+use wp_outside::{Gate, OpenGate};
 use wp_pairs::{Batch, Pairs};
 
 /// Where each order picks in the small layout: 3 aisles of 4 slots, the depot at the first.
@@ -241,18 +244,23 @@ fn duals_of(alloc: Global, rows: &[u64]) -> Option<Vec<u64>>
     Some(duals)
 }
 
-/// What is found, where it can be asked for; by one worker and by many, as they find the same.
-fn asked<R: Threads + Sync>(
+/// What so many workers find who pass this gate, where it can be asked for.
+fn asked<R: Threads + Sync, G: Gate>(
     rt: &R,
     alloc: Global,
     wave: &Wave,
     pairs: &Pairs,
     duals: &Vec<u64>,
     through: Option<u32>,
+    workers: u32,
+    gate: &G,
 ) -> Option<Option<Priced>>
     requires { All (λ dual. dual ≤ greatest_dual) duals.now.items }
 {
     if pairs.orders() != wave.orders() || duals.len() != wave.orders() as usize {
+        return None;
+    }
+    if workers < 1 || 16 < workers {
         return None;
     }
     if let Some(order) = through {
@@ -260,7 +268,7 @@ fn asked<R: Threads + Sync>(
             return None;
         }
     }
-    least_slack(rt, alloc, wave, pairs, duals, through, 16).ok()
+    least_slack(rt, alloc, wave, pairs, duals, through, workers, gate).ok()
 }
 
 /// Whether a batch has exactly these orders.
@@ -296,33 +304,59 @@ fn is_found(priced: &Priced, expected: Found) -> bool {
     has_exactly(priced.batch, orders) && priced.slack == slack && is_marked(&priced.marks, marks)
 }
 
-/// Whether pricing finds what is expected, with lengths that are kept and without.
-fn finds<R: Threads + Sync>(
+/// A way to price: by so many workers, with lengths that are kept, or without.
+type Way = (u32, bool);
+
+const WAYS: &[Way] = &[
+    (1, false),
+    (1, true),
+    (3, false),
+    (3, true),
+    (16, false),
+    (16, true),
+];
+
+/// What is found in one way.
+fn found<R: Threads + Sync>(
     rt: &R,
     alloc: Global,
     given: Given,
     through: Option<u32>,
-    expected: Option<Found>,
-    kept: bool,
-) -> Option<bool> {
+    way: Way,
+) -> Option<Option<Priced>> {
+    let (workers, kept) = way;
     let mut wave = wave_of(alloc, given.orders)?;
     if kept {
         wave.keep_lengths(alloc, given.capacity).ok()?;
     }
     let pairs = pairs_of(wave.orders(), given.capacity, given.pairs)?;
     let duals = duals_of(alloc, given.duals)?;
-    match (asked(rt, alloc, &wave, &pairs, &duals, through)?, expected) {
+    asked(
+        rt, alloc, &wave, &pairs, &duals, through, workers, &OpenGate,
+    )
+}
+
+/// Whether pricing finds what is expected in one way.
+fn finds<R: Threads + Sync>(
+    rt: &R,
+    alloc: Global,
+    given: Given,
+    through: Option<u32>,
+    expected: Option<Found>,
+    way: Way,
+) -> Option<bool> {
+    match (found(rt, alloc, given, through, way)?, expected) {
         (Some(priced), Some(expected)) => Some(is_found(&priced, expected)),
         (None, None) => Some(true),
         _ => Some(false),
     }
 }
 
-fn wrong_case<R: Threads + Sync>(rt: &R, alloc: Global) -> Option<usize> {
+fn wrong_case<R: Threads + Sync>(rt: &R, alloc: Global) -> Option<(usize, Way)> {
     for (place, (given, through, expected)) in CASES.iter().enumerate() {
-        for kept in [false, true] {
-            if finds(rt, alloc, *given, *through, *expected, kept) != Some(true) {
-                return Some(place);
+        for way in WAYS {
+            if finds(rt, alloc, *given, *through, *expected, *way) != Some(true) {
+                return Some((place, *way));
             }
         }
     }
@@ -330,6 +364,6 @@ fn wrong_case<R: Threads + Sync>(rt: &R, alloc: Global) -> Option<usize> {
 }
 
 #[test]
-fn the_batch_of_least_slack_is_found_with_its_marks(rt: HostRuntime) {
+fn the_batch_of_least_slack_is_found_with_its_marks_by_any_number_of_workers(rt: HostRuntime) {
     assert_eq!(rt; wrong_case(&rt, rt.alloc()), None);
 }

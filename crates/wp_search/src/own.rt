@@ -12,17 +12,19 @@ use wp_batch::{Batching, Marks, Wave};
 use wp_cert::{Duals, Own};
 use wp_duals::total_of;
 use wp_model::Memory;
+use wp_outside::Gate;
 use wp_pairs::Pairs;
 use wp_price::least_slack;
 
 /// Whether duals are feasible.
-pub fn are_feasible<R: Threads + Sync>(
+pub fn are_feasible<R: Threads + Sync, G: Gate>(
     rt: &R,
     alloc: Global,
     wave: &Wave,
     pairs: &Pairs,
     duals: &Vec<u64>,
     workers: u32,
+    gate: &G,
 ) -> Result<bool, Memory>
     requires some_orders { 1 ≤ length wave.now.orders }
     requires pairs { pairs.now.orders ≡ length wave.now.orders }
@@ -32,18 +34,19 @@ pub fn are_feasible<R: Threads + Sync>(
     requires most_workers { workers ≤ 16 }
     ensures { IfOk result (λ feasible. IsTrue feasible → AreFeasible wave.now pairs.now duals.now.items) }
 {
-    let priced = least_slack(rt, alloc, wave, pairs, duals, None, workers)?.unwrap();
+    let priced = least_slack(rt, alloc, wave, pairs, duals, None, workers, gate)?.unwrap();
     Ok(priced.slack >= 0)
 }
 
 // The marks of feasible duals.
-fn marks_of<R: Threads + Sync>(
+fn marks_of<R: Threads + Sync, G: Gate>(
     rt: &R,
     alloc: Global,
     wave: &Wave,
     pairs: &Pairs,
     duals: &Vec<u64>,
     workers: u32,
+    gate: &G,
 ) -> Result<Marks, Memory>
     requires some_orders { 1 ≤ length wave.now.orders }
     requires pairs { pairs.now.orders ≡ length wave.now.orders }
@@ -54,18 +57,19 @@ fn marks_of<R: Threads + Sync>(
     requires most_workers { workers ≤ 16 }
     ensures { IfOk result (λ marks. IsVisitOfAll wave.now pairs.now duals.now.items marks (Passed [])) }
 {
-    let priced = least_slack(rt, alloc, wave, pairs, duals, None, workers)?.unwrap();
+    let priced = least_slack(rt, alloc, wave, pairs, duals, None, workers, gate)?.unwrap();
     Ok(priced.marks.unwrap())
 }
 
 // What a node has of its own, from feasible duals on: they are raised until they are tight.
-fn own_from<R: Threads + Sync>(
+fn own_from<R: Threads + Sync, G: Gate>(
     rt: &R,
     alloc: Global,
     wave: &Wave,
     pairs: &Pairs,
     feasible: &[u64],
     workers: u32,
+    gate: &G,
 ) -> Result<Own, Memory>
     requires some_orders { 1 ≤ length wave.now.orders }
     requires most_orders { length wave.now.orders ≤ 64 }
@@ -79,8 +83,8 @@ fn own_from<R: Threads + Sync>(
     ensures duals { IfOk result (λ own. AreDuals (length wave.now.orders) own.duals) }
 {
     let mut duals = Vec::from_slice(alloc, feasible)?;
-    let tight = raise_all(rt, alloc, wave, pairs, &mut duals, workers)?;
-    let marks = marks_of(rt, alloc, wave, pairs, &duals, workers)?;
+    let tight = raise_all(rt, alloc, wave, pairs, &mut duals, workers, gate)?;
+    let marks = marks_of(rt, alloc, wave, pairs, &duals, workers, gate)?;
     Ok(Own {
         duals: Duals::of(duals),
         marks,
@@ -90,7 +94,7 @@ fn own_from<R: Threads + Sync>(
 
 /// What a node has of its own, from duals that are tried first: they are taken where they are feasible, and raised come to no
 /// less than those above the node. Else those above are raised.
-pub fn own_of<R: Threads + Sync>(
+pub fn own_of<R: Threads + Sync, G: Gate>(
     rt: &R,
     alloc: Global,
     wave: &Wave,
@@ -98,6 +102,7 @@ pub fn own_of<R: Threads + Sync>(
     above: &[u64],
     tried: &Vec<u64>,
     workers: u32,
+    gate: &G,
 ) -> Result<Own, Memory>
     requires some_orders { 1 ≤ length wave.now.orders }
     requires most_orders { length wave.now.orders ≤ 64 }
@@ -111,11 +116,11 @@ pub fn own_of<R: Threads + Sync>(
     ensures right { IfOk result (IsRightOwn wave.now pairs.now (sum above.now)) }
     ensures duals { IfOk result (λ own. AreDuals (length wave.now.orders) own.duals) }
 {
-    if are_feasible(rt, alloc, wave, pairs, tried, workers)? {
-        let own = own_from(rt, alloc, wave, pairs, tried.as_slice(), workers)?;
+    if are_feasible(rt, alloc, wave, pairs, tried, workers, gate)? {
+        let own = own_from(rt, alloc, wave, pairs, tried.as_slice(), workers, gate)?;
         if total_of(above) <= total_of(own.duals.as_slice()) {
             return Ok(own);
         }
     }
-    own_from(rt, alloc, wave, pairs, above, workers)
+    own_from(rt, alloc, wave, pairs, above, workers, gate)
 }

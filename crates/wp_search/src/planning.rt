@@ -14,6 +14,7 @@ use std::thread::Threads;
 use wp_batch::{Wave, merged_start};
 use wp_cert::{Nodes, Tree};
 use wp_model::Memory;
+use wp_outside::Gate;
 
 // The state of a plan with this bound and this cost.
 fn state_of(bound: u64, cost: u64) -> State
@@ -62,15 +63,16 @@ fn plan_of(alloc: Global, search: Search, bound: u64) -> Result<Planned, Memory>
 
 /// A good plan of a wave for a capacity, 1 to 8, and a budget, 0 to 10 ^ 18. The search is that of branch and price (Ryan and
 /// Foster, 1981): of the leaves of its tree whose bound is the least the first takes a turn, until that bound is the cost of
-/// the best batching, or the budget doesn't pay for the leaf's own duals. The workers, 1 to 16, are handed to the pricing.
-/// `Memory` comes only where memory is wanting.
-pub fn plan_wave<R: Threads + Sync>(
+/// the best batching, or the budget doesn't pay for the leaf's own duals. The workers, 1 to 16, and the gate that they pass are
+/// handed to the pricing. `Memory` comes only where memory is wanting.
+pub fn plan_wave<R: Threads + Sync, G: Gate>(
     rt: &R,
     alloc: Global,
     wave: &Wave,
     capacity: u32,
     budget: u64,
     workers: u32,
+    gate: &G,
 ) -> Result<Planned, Memory>
     requires some { 1 ≤ capacity }
     requires most { capacity ≤ 8 }
@@ -87,7 +89,16 @@ pub fn plan_wave<R: Threads + Sync>(
         budget,
         spent: 0,
     };
-    let search = search_on(rt, alloc, wave, capacity, shares.as_slice(), start, workers)?;
+    let search = search_on(
+        rt,
+        alloc,
+        wave,
+        capacity,
+        shares.as_slice(),
+        start,
+        workers,
+        gate,
+    )?;
     let orders = wave.orders();
     let above = bound_of(orders, shares.as_slice());
     let bound = search.tree.bound(orders, above).unwrap();

@@ -9,6 +9,7 @@ use std::thread::Threads;
 use wp_batch::Wave;
 use wp_duals::sum_of;
 use wp_model::Memory;
+use wp_outside::Gate;
 use wp_pairs::{Batch, Pairs};
 use wp_price::least_slack;
 
@@ -25,7 +26,7 @@ fn room_of(wave: &Wave, duals: &[u64], batch: Batch) -> u64
 
 // Raises the dual of an order as far as duals stay feasible, and tells a batch that is tight for it then. Where memory runs
 // out the duals stay as they were.
-fn raise_order<R: Threads + Sync>(
+fn raise_order<R: Threads + Sync, G: Gate>(
     rt: &R,
     alloc: Global,
     wave: &Wave,
@@ -33,6 +34,7 @@ fn raise_order<R: Threads + Sync>(
     duals: &mut Vec<u64>,
     order: u32,
     workers: u32,
+    gate: &G,
 ) -> Result<Batch, Memory>
     requires pairs { pairs.now.orders ≡ length wave.now.orders }
     requires held { AreHeldBelow pairs.now pairs.now.orders }
@@ -47,20 +49,21 @@ fn raise_order<R: Threads + Sync>(
     ensures tight { IfOk result (IsTightFor wave.now pairs.now duals.new.items order) }
     ensures err { OnErr result (duals.new.items ≡ duals.old.items) }
 {
-    let priced = least_slack(rt, alloc, wave, pairs, duals, Some(order), workers)?.unwrap();
+    let priced = least_slack(rt, alloc, wave, pairs, duals, Some(order), workers, gate)?.unwrap();
     duals[order as usize] += room_of(wave, duals.as_slice(), priced.batch);
     Ok(priced.batch)
 }
 
 /// Raises feasible duals, order by order, until each order has a batch that is tight for it, and tells those batches. Where
 /// memory runs out the duals are feasible still, and none is lower than before.
-pub fn raise_all<R: Threads + Sync>(
+pub fn raise_all<R: Threads + Sync, G: Gate>(
     rt: &R,
     alloc: Global,
     wave: &Wave,
     pairs: &Pairs,
     duals: &mut Vec<u64>,
     workers: u32,
+    gate: &G,
 ) -> Result<Vec<Batch>, Memory>
     requires pairs { pairs.now.orders ≡ length wave.now.orders }
     requires held { AreHeldBelow pairs.now pairs.now.orders }
@@ -75,7 +78,7 @@ pub fn raise_all<R: Threads + Sync>(
 {
     let mut tight = Vec::new(alloc);
     for order in 0..wave.orders() {
-        tight.push(raise_order(rt, alloc, wave, pairs, duals, order, workers)?)?;
+        tight.push(raise_order(rt, alloc, wave, pairs, duals, order, workers, gate)?)?;
     }
     Ok(tight)
 }

@@ -16,6 +16,7 @@ use std::alloc::Global;
 use std::thread::Threads;
 use wp_batch::{Batching, Wave};
 use wp_model::Memory;
+use wp_outside::Gate;
 
 /// A search for a plan: its tree, the best batching that it knows, what it may spend, and what it has spent.
 #[derive(Drop)]
@@ -34,7 +35,7 @@ pub struct Step {
 }
 
 // A turn at the first leaf of the tree with the least bound.
-fn turn_at_root<R: Threads + Sync>(
+fn turn_at_root<R: Threads + Sync, G: Gate>(
     rt: &R,
     alloc: Global,
     wave: &Wave,
@@ -44,6 +45,7 @@ fn turn_at_root<R: Threads + Sync>(
     bound: u64,
     pays: bool,
     workers: u32,
+    gate: &G,
 ) -> Result<Turn, Memory>
     requires some { 1 ≤ capacity }
     requires most { capacity ≤ 8 }
@@ -62,7 +64,7 @@ fn turn_at_root<R: Threads + Sync>(
     let columns = search.best.batching.as_slice();
     let tree = &mut search.tree;
     take_turn(
-        rt, alloc, wave, capacity, &mut path, shares, columns, tree, bound, pays, workers,
+        rt, alloc, wave, capacity, &mut path, shares, columns, tree, bound, pays, workers, gate,
     )
 }
 
@@ -105,7 +107,7 @@ fn settled(wave: &Wave, capacity: u32, search: Search, batching: Batching) -> Se
 }
 
 // A turn of the search, whose tree has this bound, which the best batching costs more than.
-fn take_step<R: Threads + Sync>(
+fn take_step<R: Threads + Sync, G: Gate>(
     rt: &R,
     alloc: Global,
     wave: &Wave,
@@ -114,6 +116,7 @@ fn take_step<R: Threads + Sync>(
     mut search: Search,
     bound: u64,
     workers: u32,
+    gate: &G,
 ) -> Result<Step, Memory>
     requires some { 1 ≤ capacity }
     requires most { capacity ≤ 8 }
@@ -136,6 +139,7 @@ fn take_step<R: Threads + Sync>(
         bound,
         pays,
         workers,
+        gate,
     )?;
     Ok(match turn {
         Turn::Worked(found) => Step {
@@ -158,9 +162,9 @@ fn take_step<R: Threads + Sync>(
 }
 
 /// Searches until the best batching costs the tree's bound, or the budget doesn't pay for a further node: of the leaves whose
-/// bound is the least the first takes a turn. Above the root stand the share duals. The workers, 1 to 16, are handed to the
-/// pricing.
-pub fn search_on<R: Threads + Sync>(
+/// bound is the least the first takes a turn. Above the root stand the share duals. The workers, 1 to 16, and the gate that they
+/// pass are handed to the pricing.
+pub fn search_on<R: Threads + Sync, G: Gate>(
     rt: &R,
     alloc: Global,
     wave: &Wave,
@@ -168,6 +172,7 @@ pub fn search_on<R: Threads + Sync>(
     shares: &[u64],
     start: Search,
     workers: u32,
+    gate: &G,
 ) -> Result<Search, Memory>
     requires some { 1 ≤ capacity }
     requires most { capacity ≤ 8 }
@@ -188,7 +193,9 @@ pub fn search_on<R: Threads + Sync>(
         if search.best.cost <= bound {
             return Ok(search);
         }
-        let step = take_step(rt, alloc, wave, capacity, shares, search, bound, workers)?;
+        let step = take_step(
+            rt, alloc, wave, capacity, shares, search, bound, workers, gate,
+        )?;
         if !step.goes_on {
             return Ok(step.search);
         }

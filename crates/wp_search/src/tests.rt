@@ -10,6 +10,7 @@ use std::thread::Threads;
 use wp_batch::{Batching, Wave};
 use wp_cert::{Node, Tree, check};
 use wp_graph::{Layout, Picks, Point};
+use wp_outside::OpenGate;
 use wp_pairs::Batch;
 
 /// Where each order picks in the small layout: 3 aisles of 4 slots, the depot at the first.
@@ -299,7 +300,7 @@ fn checked_plan<R: Threads + Sync>(
         return None;
     }
     let budget = budget.min(1_000_000_000_000_000_000);
-    let planned = plan_wave(rt, alloc, wave, capacity, budget, workers).ok()?;
+    let planned = plan_wave(rt, alloc, wave, capacity, budget, workers, &OpenGate).ok()?;
     let bound = check(alloc, wave, capacity, &planned.tree).ok()?;
     (bound == planned.bound).then_some(planned)
 }

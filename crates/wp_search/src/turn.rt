@@ -19,6 +19,7 @@ use std::thread::Threads;
 use wp_batch::{Batching, Wave};
 use wp_cert::pairs_of;
 use wp_model::Memory;
+use wp_outside::Gate;
 use wp_pairs::{Batch, Pair, Pairs};
 
 /// What a turn did at a leaf.
@@ -42,7 +43,7 @@ pub struct Turned {
 }
 
 // A turn at a leaf that keeps the duals of the node above.
-fn turn_kept<R: Threads + Sync>(
+fn turn_kept<R: Threads + Sync, G: Gate>(
     rt: &R,
     alloc: Global,
     wave: &Wave,
@@ -51,6 +52,7 @@ fn turn_kept<R: Threads + Sync>(
     columns: &[Batch],
     pays: bool,
     workers: u32,
+    gate: &G,
 ) -> Result<Turned, Memory>
     requires some { 1 ≤ pairs.now.capacity }
     requires pairs { pairs.now.orders ≡ length wave.now.orders }
@@ -72,7 +74,7 @@ fn turn_kept<R: Threads + Sync>(
             turn: Turn::Spent,
         });
     }
-    let worked = work_node(rt, alloc, wave, pairs, above, columns, workers)?;
+    let worked = work_node(rt, alloc, wave, pairs, above, columns, workers, gate)?;
     let found = better_batching(alloc, wave, pairs.capacity(), worked.whole.as_slice())?;
     Ok(Turned {
         branch: Branch::Leaf(Some(worked)),
@@ -138,7 +140,7 @@ fn turn_worked<R: Threads + Sync>(
 }
 
 // A turn at a leaf, at the end of a path of pairs.
-fn turn_leaf<R: Threads + Sync>(
+fn turn_leaf<R: Threads + Sync, G: Gate>(
     rt: &R,
     alloc: Global,
     wave: &Wave,
@@ -149,6 +151,7 @@ fn turn_leaf<R: Threads + Sync>(
     leaf: Option<Worked>,
     pays: bool,
     workers: u32,
+    gate: &G,
 ) -> Result<Turned, Memory>
     requires some { 1 ≤ capacity }
     requires most { capacity ≤ 8 }
@@ -164,7 +167,7 @@ fn turn_leaf<R: Threads + Sync>(
 {
     let pairs = pairs_of(wave.orders(), capacity, path);
     match leaf {
-        None => turn_kept(rt, alloc, wave, &pairs, above, columns, pays, workers),
+        None => turn_kept(rt, alloc, wave, &pairs, above, columns, pays, workers, gate),
         Some(worked) => turn_worked(rt, alloc, wave, &pairs, worked, pays, workers),
     }
 }
@@ -214,7 +217,7 @@ fn is_together(orders: u32, cut: &Cut, together: &Branch, least: u64) -> bool
 /// a node with these duals and columns; where the budget doesn't pay for a node, none gets duals of its own. After `Memory`,
 /// which comes only where memory is wanting, nothing is said of the subtree.
 #[cycle(turns)]
-pub fn take_turn<R: Threads + Sync>(
+pub fn take_turn<R: Threads + Sync, G: Gate>(
     rt: &R,
     alloc: Global,
     wave: &Wave,
@@ -226,6 +229,7 @@ pub fn take_turn<R: Threads + Sync>(
     least: u64,
     pays: bool,
     workers: u32,
+    gate: &G,
 ) -> Result<Turn, Memory>
     requires some { 1 ≤ capacity }
     requires most { capacity ≤ 8 }
@@ -257,6 +261,7 @@ pub fn take_turn<R: Threads + Sync>(
                     least,
                     pays,
                     workers,
+                    gate,
                 )?;
                 keep_least(orders, cut, together, apart);
                 return Ok(turn);
@@ -274,6 +279,7 @@ pub fn take_turn<R: Threads + Sync>(
                 least,
                 pays,
                 workers,
+                gate,
             )?;
             keep_least(orders, cut, together, apart);
             Ok(turn)
@@ -281,7 +287,7 @@ pub fn take_turn<R: Threads + Sync>(
         Branch::Leaf(leaf) => {
             let leaf = leaf.take();
             let turned = turn_leaf(
-                rt, alloc, wave, capacity, path, above, columns, leaf, pays, workers,
+                rt, alloc, wave, capacity, path, above, columns, leaf, pays, workers, gate,
             )?;
             *branch = turned.branch;
             Ok(turned.turn)
@@ -292,7 +298,7 @@ pub fn take_turn<R: Threads + Sync>(
 
 // A turn in the subtree that is at the end of a path of pairs and one more, below a node with duals of its own.
 #[cycle(turns)]
-fn take_turn_below<R: Threads + Sync>(
+fn take_turn_below<R: Threads + Sync, G: Gate>(
     rt: &R,
     alloc: Global,
     wave: &Wave,
@@ -304,6 +310,7 @@ fn take_turn_below<R: Threads + Sync>(
     least: u64,
     pays: bool,
     workers: u32,
+    gate: &G,
 ) -> Result<Turn, Memory>
     requires some { 1 ≤ capacity }
     requires most { capacity ≤ 8 }
@@ -323,7 +330,7 @@ fn take_turn_below<R: Threads + Sync>(
     let above = worked.own.duals.as_slice();
     let columns = worked.columns.as_slice();
     let turn = take_turn(
-        rt, alloc, wave, capacity, path, above, columns, branch, least, pays, workers,
+        rt, alloc, wave, capacity, path, above, columns, branch, least, pays, workers, gate,
     )?;
     path.pop();
     Ok(turn)

@@ -15,6 +15,7 @@ use wp_batch::Wave;
 use wp_cert::Own;
 use wp_master::Column;
 use wp_model::Memory;
+use wp_outside::Gate;
 use wp_pairs::{Batch, Pairs};
 
 /// How many columns for each order a node hands on.
@@ -235,9 +236,9 @@ fn worked_of(alloc: Global, own: Own, weighted: Vec<Weighted>) -> Result<Worked,
 
 /// The work at one node of the search, whose pairs leave no order dead. Its duals come to no less than those above it, and
 /// where the linear program over all its permitted batches has an answer, to that, but for what is lost in rounding down to
-/// sixtieths. The columns that it begins with are taken from the batches that are handed to it. The workers, 1 to 16, are
-/// handed to the pricing.
-pub fn work_node<R: Threads + Sync>(
+/// sixtieths. The columns that it begins with are taken from the batches that are handed to it. The workers, 1 to 16, and the
+/// gate that they pass are handed to the pricing.
+pub fn work_node<R: Threads + Sync, G: Gate>(
     rt: &R,
     alloc: Global,
     wave: &Wave,
@@ -245,6 +246,7 @@ pub fn work_node<R: Threads + Sync>(
     above: &[u64],
     columns: &[Batch],
     workers: u32,
+    gate: &G,
 ) -> Result<Worked, Memory>
     requires some { 1 ≤ pairs.now.capacity }
     requires pairs { pairs.now.orders ≡ length wave.now.orders }
@@ -261,6 +263,6 @@ pub fn work_node<R: Threads + Sync>(
     let priced = price_columns(alloc, wave, pairs, first)?;
     let tried = tried_duals(alloc, wave, pairs, above, &priced.solved)?;
     let weighted = handed_on(alloc, orders, &priced)?;
-    let own = own_of(rt, alloc, wave, pairs, above, &tried, workers)?;
+    let own = own_of(rt, alloc, wave, pairs, above, &tried, workers, gate)?;
     worked_of(alloc, own, weighted)
 }

@@ -6,6 +6,7 @@ use std::alloc::Global;
 use std::thread::Threads;
 use wp_batch::Wave;
 use wp_duals::sum_of;
+use wp_outside::OpenGate;
 use wp_pairs::{Batch, Pairs};
 
 /// Six orders with several slots, two of them equal.
@@ -17,6 +18,14 @@ const ORDERS: &[Slots] = &[
     &[(1, 2)],
     &[(3, 3), (3, 4)],
 ];
+
+/// The six orders, with a capacity of three.
+pub(super) const SIX: Given = Given {
+    orders: ORDERS,
+    capacity: 3,
+    pairs: &[],
+    duals: &[900, 1100, 1500, 1100, 300, 1000],
+};
 
 /// Duals of six orders, and pairs.
 const GIVEN: &[(&[u64], &[(u32, u32, bool)])] = &[
@@ -136,11 +145,13 @@ fn are_same(priced: Option<Priced>, best: Option<(Batch, i128)>) -> bool {
     }
 }
 
+/// Whether so many workers find what going through the list of all batches finds.
 fn is_same<R: Threads + Sync>(
     rt: &R,
     alloc: Global,
     given: Given,
     through: Option<u32>,
+    workers: u32,
 ) -> Option<bool> {
     let wave = wave_of(alloc, given.orders)?;
     let pairs = pairs_of(wave.orders(), given.capacity, given.pairs)?;
@@ -148,18 +159,35 @@ fn is_same<R: Threads + Sync>(
     if duals.len() != wave.orders() as usize {
         return None;
     }
-    let found = asked(rt, alloc, &wave, &pairs, &duals, through)?;
+    let found = asked(
+        rt, alloc, &wave, &pairs, &duals, through, workers, &OpenGate,
+    )?;
     Some(are_same(found, best_of_all(&wave, &pairs, &duals, through)))
+}
+
+/// Whether any number of workers finds it.
+fn are_same_by_any<R: Threads + Sync>(
+    rt: &R,
+    alloc: Global,
+    given: Given,
+    through: Option<u32>,
+) -> bool {
+    for workers in [1, 3, 16] {
+        if is_same(rt, alloc, given, through, workers) != Some(true) {
+            return false;
+        }
+    }
+    true
 }
 
 /// Whether it is the same through each order and through none.
 fn are_same_through_all<R: Threads + Sync>(rt: &R, alloc: Global, given: Given) -> bool {
     for order in 0..6 {
-        if is_same(rt, alloc, given, Some(order)) != Some(true) {
+        if !are_same_by_any(rt, alloc, given, Some(order)) {
             return false;
         }
     }
-    is_same(rt, alloc, given, None) == Some(true)
+    are_same_by_any(rt, alloc, given, None)
 }
 
 fn wrong_row<R: Threads + Sync>(rt: &R, alloc: Global) -> Option<(usize, u32)> {

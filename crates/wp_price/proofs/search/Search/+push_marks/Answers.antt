@@ -4,18 +4,17 @@ use Rattle.wp_price.proofs.Children.{names_more}
 use Rattle.wp_price.proofs.Passing.{short_onward, short_past}
 use Rattle.wp_price.proofs.search.Search.+push_marks.Goals as goal
 use Rattle.wp_price.proofs.search.Search.+push_marks.Goals.{in-Some+in_ok-push_marks, in_default}
-use Rattle.wp_price.proofs.search.Search.+push_marks.Goals.{else-place-most-via-then-place-most+else-reach-most, else-place-most-via-else-place-most}
 
-pub returns-then-reach-most : goal.returns-then-reach-most
-returns-then-reach-most t c = record {
+pub returns-then-is_closed : goal.returns-then-is_closed
+returns-then-is_closed t c = record {
   marks = false ∷ [];
-  short = closed c.length_of-most.ensures.is c.requires.reach (omega (arith, c.if-place-most.true, c.if-reach-most.true, c.requires.place.sum));
+  short = closed c.is_closed.ensures.long c.requires.reach (c.is_closed.ensures.within c.if-is_closed.true);
   is = c.in_ok-push.ensures.ok;
 }
 
 pub push_marks-requires : goal.push_marks-requires
 push_marks-requires t c = (
-  omega (arith, c.decreases, c.loop-order-test.true, c.loop-order.auto.order, c.orders-order-end.ensures),
+  omega (arith, c.decreases, c.loop-order-test.true, c.loop-order.auto.order, c.orders-order-end.ensures.value),
   (
     c.in-Some.ensures.at,
     (
@@ -46,12 +45,8 @@ loop-order-preserved t c = elim c.match-child_of.branch [
 
 pub returns : goal.returns
 returns t c =
-    let short = entered c.length_of-most.ensures.is c.requires.reach
-    (elim c.else-place-most.branch [
-      | else-place-most-via-then-place-most+else-reach-most w ↦ omega (arith, w.if-place-most.true, w.if-reach-most.false, c.requires.place.sum)
-      | else-place-most-via-else-place-most w ↦ omega (arith, w.if-place-most.false, c.requires.place.sum)
-    ])
-    (c.loop-order.invariant.chain [] (all_added (omega (arith, c.loop-order-test.false, c.orders-order-end.ensures)))) in
+    let short = entered c.is_closed.ensures.long c.requires.reach (c.is_closed.ensures.above c.if-is_closed.false)
+    (c.loop-order.invariant.chain [] (all_added (omega (arith, c.loop-order-test.false, c.orders-order-end.ensures.value)))) in
     record {
       marks = true ∷ (c.loop-order.invariant.so_far ++ []);
       short = short;

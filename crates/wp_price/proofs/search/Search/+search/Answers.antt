@@ -1,23 +1,34 @@
-use Rattle.std.proofs.Common.{arith}
+use Rattle.std.proofs.Common.{◌≡◌, ◌≢◌, ◌+◌, ◌<◌, ◌≤◌, ℕ, arith, inl, inr, ⊎_elim}
+use Rattle.std.specs.Prelude.{Some}
+use Rattle.std.proofs.lemmas.Bool.{cases_eq}
 use Rattle.wp_price.proofs.Children.{reached_place}
-use Rattle.wp_price.proofs.Searching.{closed_search, end_search, enter_search, pass_search}
+use Rattle.wp_price.proofs.Searching.{closed_search, end_search, enter_item, pass_item, then_item}
 use Rattle.wp_price.proofs.search.Search.+search.Goals as goal
-use Rattle.wp_price.proofs.search.Search.+search.Goals.{in-Some+then-can_better, in-Some+else-can_better, in_default}
 
-pub loop-order-preserved : goal.loop-order-preserved
-loop-order-preserved t c = elim c.match-child_of.branch [
-  | in-Some+then-can_better w ↦ rw w.found-is (enter_search c.args.self.now c.args.place.now.batch w.in-Some.child.batch c.args.from c.loop-order.order
-      w.raised_of-raised.result c.args.best c.loop-order.found w.better_of-next.result w.search-found.result w.in-Some.ensures.adds
-      w.in-Some.ensures.permitted w.raised_of-raised.ensures w.better_of-next.ensures w.search-found.ensures c.loop-order.invariant)
-  | in-Some+else-can_better w ↦ rw w.found-is (enter_search c.args.self.now c.args.place.now.batch w.in-Some.child.batch c.args.from c.loop-order.order
-      w.raised_of-raised.result c.args.best c.loop-order.found w.better_of-next.result _ w.in-Some.ensures.adds w.in-Some.ensures.permitted
-      w.raised_of-raised.ensures w.better_of-next.ensures
-      (closed_search c.args.self.now w.in-Some.child.batch _ w.better_of-next.result (w.can_better.ensures w.if-can_better.false)) c.loop-order.invariant)
-  | in_default w ↦ rw w.found-is (pass_search c.args.self.now c.args.place.now.batch c.args.from c.loop-order.order c.args.best c.loop-order.found
-      (reached_place c.args.self.now.pairing c.args.place.now.batch c.requires.place.reached) w.in_default.ensures.none c.loop-order.invariant)
-]
+pub search-loop-order-preserved : goal.search-loop-order-preserved
+search-loop-order-preserved t c = then_item c.args.self.now c.args.place.now.batch
+    (λ (item : ℕ). (c.args.from ≤ item) × (item < c.loop-order.order))
+    (λ (item : ℕ). (c.args.from ≤ item) × (item < c.loop-order.order + 1)) c.loop-order.order c.args.best c.loop-order.found c.search_item-found.result
+    (λ item among. ⊎_elim (λ (same : item ≡ c.loop-order.order). inr same)
+    (λ (apart : item ≢ c.loop-order.order). inl (among.0, omega (arith, among.1, apart))) (cases_eq item c.loop-order.order))
+    c.loop-order.invariant c.search_item-found.ensures
 
-pub returns : goal.returns
-returns t c = end_search c.args.self.now c.args.place.now.batch c.args.from c.loop-order.order c.args.best c.loop-order.found
-    (reached_place c.args.self.now.pairing c.args.place.now.batch c.requires.place.reached)
-    (omega (arith, c.loop-order-test.false, c.orders-order-end.ensures)) c.requires.known c.loop-order.invariant
+pub search-returns : goal.search-returns
+search-returns t c = end_search c.args.self.now c.args.place.now.batch c.args.from c.loop-order.order c.args.best c.loop-order.found
+    (reached_place c.args.self.now.pairing c.args.place.now.batch c.requires.place.reached) c.loop-order.auto.order
+    (omega (arith, c.loop-order-test.false, c.orders-order-end.ensures.value)) c.requires.known c.loop-order.invariant
+
+pub search_item-returns-in_default : goal.search_item-returns-in_default
+search_item-returns-in_default t c = pass_item c.args.self.now c.args.place.now.batch c.args.order c.args.best
+    (reached_place c.args.self.now.pairing c.args.place.now.batch c.requires.place.reached) c.in_default.ensures.none
+
+pub search_item-returns-then-can_better : goal.search_item-returns-then-can_better
+search_item-returns-then-can_better t c = enter_item c.args.self.now c.args.place.now.batch c.in-Some.child.batch c.args.order c.raised_of-raised.result
+    c.args.best c.better_of-next.result c.search.result c.in-Some.ensures.adds c.in-Some.ensures.permitted c.raised_of-raised.ensures
+    c.better_of-next.ensures c.search.ensures
+
+pub search_item-returns : goal.search_item-returns
+search_item-returns t c = enter_item c.args.self.now c.args.place.now.batch c.in-Some.child.batch c.args.order c.raised_of-raised.result c.args.best
+    c.better_of-next.result (Some c.better_of-next.result) c.in-Some.ensures.adds c.in-Some.ensures.permitted c.raised_of-raised.ensures
+    c.better_of-next.ensures
+    (closed_search c.args.self.now c.in-Some.child.batch _ c.better_of-next.result (c.can_better.ensures c.if-can_better.false))

@@ -1,0 +1,128 @@
+//! A search by workers that run beside each other.
+ghost use Rattle.std.specs.Prelude.{◌≡◌, ◌<◌, ◌≤◌, ℕ, [], Contains, IfOk, length, slice_index_or};
+ghost use Rattle.wp_pairs.specs.Permitted.{IsPermitted};
+ghost use Rattle.wp_price.specs.Searches.{AreItemsSearched, AreSharesOf, AreSharesSearched, InShare, IsAt, IsBeaten, IsNoChild, IsSearched};
+
+use crate::best::{Best, best_of};
+use crate::crew::Crew;
+use crate::place::Place;
+use crate::search::Search;
+use crate::share::deal;
+use std::alloc::Global;
+use std::thread;
+use std::thread::Threads;
+use wp_model::Memory;
+use wp_outside::{Gate, Moment};
+use wp_pairs::Batch;
+
+impl Search<'_> {
+    // The orders that name first items of a place: those with which it makes a permitted batch.
+    fn first_items(&self, place: &Place) -> Batch
+        requires { IsAt self.now place.now }
+        ensures { (order : ℕ) → order < self.now.pairing.orders → (Contains result order → ⊥) → IsNoChild self.now.pairing place.now.batch order }
+    {
+        let mut firsts = Batch::empty();
+        for order in 0..self.orders() {
+            if self.child_of(place, order).is_some() {
+                firsts = firsts.with(order);
+            }
+        }
+        firsts
+    }
+
+    // Searches the items of a share, one after the other, and passes the gate before each.
+    fn search_share<G: Gate>(
+        &self,
+        place: &Place,
+        share: Batch,
+        best: Option<Best>,
+        number: u32,
+        gate: &G,
+    ) -> Option<Best>
+        requires { IsAt self.now place.now }
+        ensures { AreItemsSearched self.now place.now.batch (InShare self.now share) best result }
+    {
+        let mut found = best;
+        for order in 0..self.orders() {
+            if share.has(order) {
+                gate.pass(number, Moment::BeforePart);
+                found = self.search_item(place, order, found);
+            }
+        }
+        found
+    }
+
+    // Searches all shares, each by a worker of its own. The workers are numbered from 1 on.
+    fn search_shares<R: Threads + Sync, G: Gate>(
+        &self,
+        alloc: Global,
+        crew: &Crew<'_, R, G>,
+        place: &Place,
+        best: &Option<Best>,
+        shares: &[Batch],
+    ) -> Result<Vec<Option<Best>>, Memory>
+        requires place { IsAt self.now place.now }
+        requires few { length shares.now ≤ 16 }
+        ensures count { IfOk result (λ found. length found.items ≡ length shares.now) }
+        ensures searched { IfOk result (λ found. AreSharesSearched self.now place.now.batch shares.now best.now found.items) }
+    {
+        let search = self;
+        let gate = crew.gate;
+        let found = thread::map_indices(
+            crew.rt,
+            alloc,
+            shares.len(),
+            &|worker: usize| -> Option<Best>
+                requires { worker < length shares.now × (length shares.now ≤ 16) × IsAt search.now place.now }
+                ensures { AreItemsSearched search.entry.now place.entry.now.batch (InShare search.entry.now (slice_index_or shares.entry.now worker []))
+                    best.entry.now result }
+            { search.search_share(place, shares[worker], *best, worker as u32 + 1, gate) },
+        )?;
+        Ok(found)
+    }
+
+    // How many workers take part where there are so many first items.
+    fn workers_for(&self, firsts: Batch, workers: u32) -> u32
+        requires { workers ≤ 16 }
+        ensures some { 0 < result }
+        ensures most { result ≤ 16 }
+    {
+        workers.min(firsts.len()).max(1)
+    }
+
+    /// The first items of a place, dealt out to the workers of a crew.
+    pub fn shares_of<R, G>(
+        &self,
+        alloc: Global,
+        crew: &Crew<'_, R, G>,
+        place: &Place,
+    ) -> Result<Vec<Batch>, Memory>
+        requires workers { crew.now.workers ≤ 16 }
+        requires place { IsAt self.now place.now }
+        ensures few { IfOk result (λ shares. length shares.items ≤ 16) }
+        ensures all { IfOk result (λ shares. AreSharesOf self.now place.now.batch shares.items) }
+    {
+        let firsts = self.first_items(place);
+        let workers = self.workers_for(firsts, crew.workers);
+        deal(alloc, self.orders(), firsts, workers)
+    }
+
+    /// The best of the best batch so far and all batches that extend a place. The subtrees of the place's first items are searched by
+    /// the workers of a crew beside each other.
+    pub fn search_below<R: Threads + Sync, G: Gate>(
+        &self,
+        alloc: Global,
+        crew: &Crew<'_, R, G>,
+        place: &Place,
+        best: Option<Best>,
+    ) -> Result<Option<Best>, Memory>
+        requires workers { crew.now.workers ≤ 16 }
+        requires place { IsAt self.now place.now }
+        requires known { IsPermitted self.now.pairing place.now.batch → IsBeaten self.now best place.now.batch }
+        ensures { IfOk result (IsSearched self.now place.now.batch 0 best) }
+    {
+        let shares = self.shares_of(alloc, crew, place)?;
+        let found = self.search_shares(alloc, crew, place, &best, shares.as_slice())?;
+        Ok(best_of(best, found.as_slice()))
+    }
+}
