@@ -1,0 +1,140 @@
+"""Runs of the program and what is known of its answers, for the scripts beside this file."""
+
+import os
+import re
+import subprocess
+import sys
+from collections import namedtuple
+from pathlib import Path
+
+REPOSITORY = Path(__file__).resolve().parent.parent
+CASES = REPOSITORY / "crates" / "wp_cases" / "data"
+EXAMPLES = REPOSITORY / "examples"
+
+LIMIT = 10  # seconds that a run may take
+
+# How a run ended: its status, below 0 where a signal ended it and None where it took too long, and what it printed.
+End = namedtuple("End", "status output errors")
+
+ROW_WHY = (
+    b"columns|not-utf8|bad-name|bad-number|out-of-range|unknown-location|location-twice|unknown-article|unknown-command"
+    b"|desk-number|too-many-rows|too-many-places|too-many-orders|too-many-lines|too-many-waves"
+)
+NODE_WHY = (
+    rb"cut|split-kept|not-dead \d+|duals-length|sum-low|not-feasible( \d+)*|bad-marks|not-tight \d+|bad-pair"
+)
+KEY = b"(version|aisles|slots|pitch|clearance|spacing|depot)"
+FILE = b"(layout|stock|orders|desks|certificate|journal)"
+
+# The one line that each status but 0, 4 and 5 has.
+LINES = {
+    1: rb"refused words (no-mode|unknown-mode|bad-words|too-many-waves \d+)\n",
+    2: rb"refused (layout (not-json|not-object|unknown-key|(missing-key|not-whole|out-of-range) %s)|%s too-long"
+    rb"|(stock|orders|desks) row \d+ (%s))\n" % (KEY, FILE, ROW_WHY),
+    3: rb"read fault %s\n" % FILE,
+    6: rb"refused (certificate (not-json|bad-shape|out-of-range|node \d+ (%s))"
+    rb"|journal (line \d+|entry \d+ printed [^\n]+ right [^\n]+))\n" % NODE_WHY,
+}
+
+# What the whole output of each mode is, where the status is 0.
+OUTPUTS = {
+    "plan": rb"journal\n.*end journal\n.*refills\n.*end refills\nstock\n.*end stock\nend\n",
+    "check": rb"bound \d+\n",
+    "audit": rb"audit \d+ entries\n",
+    "make": rb"made [^\n]*\ncommands \d+ released \d+ units \d+\ncost \d+ bound \d+ proven \d+\n",
+}
+
+
+def run(program, words, folder, **how):
+    """Runs the program in a folder."""
+    how = {"stdout": subprocess.PIPE, "stderr": subprocess.PIPE, "stdin": subprocess.DEVNULL, "timeout": LIMIT, **how}
+    try:
+        done = subprocess.run([program, *words], cwd=folder, **how)
+    except subprocess.TimeoutExpired:
+        return End(None, b"", b"")
+    return End(done.returncode, done.stdout or b"", done.stderr or b"")
+
+
+def is_named(end, mode):
+    """Whether a run ended with its output, or with a status that has a line and just that line."""
+    if end.errors:
+        return False
+    if end.status == 0:
+        return re.fullmatch(OUTPUTS[mode], end.output, re.DOTALL) is not None
+    return end.status in LINES and re.fullmatch(LINES[end.status], end.output) is not None
+
+
+def knows_make(program):
+    """Whether the program has the mode `make`."""
+    return run(program, ["make"], "/").output != b"refused words unknown-mode\n"
+
+
+def plan_words(capacity=2, *more):
+    """The words of a plan of the files of `day`."""
+    files = ("--layout", "layout.json", "--stock", "stock.csv", "--orders", "orders.csv", "--desks", "desks.csv")
+    return ["plan", *files, "--capacity", str(capacity), *more]
+
+
+CHECK = ["check", "--layout", "layout.json", "--certificate", "certificate.json"]
+AUDIT = ["audit", "--layout", "layout.json", "--stock", "stock.csv", "--orders", "orders.csv", "--journal", "journal.txt"]
+MAKE = "make --number 1 --aisles 2 --orders 3 --desks 1 --wave 3 --capacity 2".split()
+
+
+def layout_text(aisles=3, slots=4):
+    """A layout with these aisles and slots."""
+    text = '{"version":1,"aisles":%d,"slots":%d,"pitch":2,"clearance":1,"spacing":5,"depot":1}'
+    return text % (aisles, slots)
+
+
+def wave_day(places):
+    """A day with one wave, whose orders pick at these places of three aisles with four slots: a text for each file."""
+    rows = sorted(set(places))
+    return {
+        "layout.json": layout_text(),
+        "stock.csv": "location,article,on_hand\n" + "".join("%s-L,A%s,9\n" % (row, row) for row in rows),
+        "orders.csv": "order,article,quantity\n" + "".join("O%d,A%s,1\n" % pair for pair in enumerate(places)),
+        "desks.csv": "desk,command,arguments\n1,submit,W1,%s\n1,release,W1\n"
+        % ",".join("O%d" % order for order, _ in enumerate(places)),
+    }
+
+
+def put(folder, files):
+    """Writes files into a folder, and gives the folder."""
+    folder = Path(folder)
+    folder.mkdir(parents=True, exist_ok=True)
+    for name, content in files.items():
+        (folder / name).write_bytes(content.encode() if isinstance(content, str) else content)
+    return folder
+
+
+def certificates(output):
+    """The certificates of an output, each with the bound of its sheet's heading."""
+    return re.findall(rb"^wave .* bound (\d+) .*\n(?:(?!certificate ).*\n)*certificate (.*)\n", output, re.MULTILINE)
+
+
+def shim(folder, name, text):
+    """Compiles C text to a library that is loaded before the C library, and gives its path."""
+    source, library = Path(folder, name + ".c"), Path(folder, name + ".so")
+    source.write_text(text)
+    subprocess.run([os.environ.get("CC", "cc"), "-O2", "-shared", "-fPIC", "-o", library, source], check=True)
+    return str(library)
+
+
+class Tally:
+    """Counts runs, and those that ended wrong."""
+
+    def __init__(self):
+        self.runs = self.wrong = 0
+
+    def add(self, right, what, end):
+        """Counts one run, and tells of it where it is wrong."""
+        self.runs += 1
+        if not right:
+            self.wrong += 1
+            told = (what, end.status, end.output[:200], end.errors[:200])
+            print("wrong: %s: status %s, output %r, errors %r" % told, flush=True)
+
+    def end(self):
+        """Prints the line that sums up, and ends the script."""
+        print("%d runs, %d wrong" % (self.runs, self.wrong))
+        sys.exit(1 if self.wrong else 0)
