@@ -5,8 +5,11 @@ pub mod PickSets
 pub mod Distances
 pub mod PointTests
 pub mod Places
+pub mod NeededAisles
+pub mod JoinedWords
 pub mod Stretches
 pub mod RequiredPlaces
+pub mod NeededWays
 pub mod WayBounds
 pub mod AscendingNumbers
 pub mod Circuits

@@ -8,7 +8,7 @@ use Rattle.std.proofs.lemmas.List.{get_or-replicate, get_or_past, get_or-set_sam
 use Rattle.std.proofs.lemmas.Nat.Bits.{bit_at-zero, bit_at_or, bit_at-lt, bit_at_set_same, bit_at_set_other}
 use Rattle.wp_model.specs.declared.point.Point.{Point}
 use Rattle.wp_model.specs.Warehouse.{Layout, IsSlot}
-use Rattle.wp_graph.specs.PickSets.{is_marked, points_in, points_where, slots_where}
+use Rattle.wp_graph.specs.PickSets.{HasBitsOfBoth, is_marked, points_in, points_where, slots_where}
 use Rattle.wp_graph.specs.Members.{Among}
 use Rattle.wp_graph.proofs.Members.{among-filter, among-flat_map, among-map, among-range, filter_passed, flat_map_source, map_source, range_bounds}
 
@@ -101,36 +101,36 @@ marked_before words aisle slot a s whole low high low' high' marked =
     (λ ne. inr (eq-eqb _ _ (sym (ap (λ w. bit_at w (s % 64)) (get_or-set_other words at here _ 0 ne)) ∙ bit)))
     (cases_eq here at)
 
--- where each word is an `or`, what is marked is marked in one of the two
-pub marked_or : (words left right : List ℕ) (aisle slot : ℕ) → ((at : ℕ) → at < 260 → get_or words at 0 ≡ bit_or (get_or left at 0) (get_or right at 0))
+-- where each word has the bits of both, what is marked is marked in one of the two
+pub marked_or : (words left right : List ℕ) (aisle slot : ℕ) → ((at : ℕ) → at < 260 → HasBitsOfBoth (get_or left at 0) (get_or right at 0) (get_or words at 0))
     → aisle ≤ 64 → slot < 256 →
     is_marked words aisle slot ≡ true → (is_marked left aisle slot ≡ true) ⊎ (is_marked right aisle slot ≡ true)
 unfolding is_marked
 marked_or words left right aisle slot each low high marked =
     let at = 4 * aisle + slot / 64 in
     let bit = eqb-true _ _ marked in
-    let or = ap (λ w. bit_at w (slot % 64)) (each at (omega arith)) ∙ bit_at_or (get_or left at 0) (get_or right at 0) (slot % 64) in
+    let both = each at (omega arith) (slot % 64) (omega arith) in
     ⊎_elim (λ e. inl (eq-eqb _ _ e)) (λ ne. inr (eq-eqb _ _ (omega (arith, bit_at-lt (get_or left at 0) (slot % 64)))))
     (cases_eq (bit_at (get_or left at 0) (slot % 64)) 1)
 
--- where each word is an `or`, what is marked in the first of the two is marked
-pub or_marked_left : (words left right : List ℕ) (aisle slot : ℕ) → ((at : ℕ) → at < 260 → get_or words at 0 ≡ bit_or (get_or left at 0) (get_or right at 0))
+-- where each word has the bits of both, what is marked in the first of the two is marked
+pub or_marked_left : (words left right : List ℕ) (aisle slot : ℕ) → ((at : ℕ) → at < 260 → HasBitsOfBoth (get_or left at 0) (get_or right at 0) (get_or words at 0))
     → aisle ≤ 64 → slot < 256 →
     is_marked left aisle slot ≡ true → is_marked words aisle slot ≡ true
 unfolding is_marked
 or_marked_left words left right aisle slot each low high marked =
     let at = 4 * aisle + slot / 64 in
     let bit = eqb-true _ _ marked in
-    let or = ap (λ w. bit_at w (slot % 64)) (each at (omega arith)) ∙ bit_at_or (get_or left at 0) (get_or right at 0) (slot % 64) in
+    let both = each at (omega arith) (slot % 64) (omega arith) in
     eq-eqb _ _ (omega (arith, bit_at-lt (get_or right at 0) (slot % 64)))
 
--- where each word is an `or`, what is marked in the second of the two is marked
-pub or_marked_right : (words left right : List ℕ) (aisle slot : ℕ) → ((at : ℕ) → at < 260 → get_or words at 0 ≡ bit_or (get_or left at 0) (get_or right at 0))
+-- where each word has the bits of both, what is marked in the second of the two is marked
+pub or_marked_right : (words left right : List ℕ) (aisle slot : ℕ) → ((at : ℕ) → at < 260 → HasBitsOfBoth (get_or left at 0) (get_or right at 0) (get_or words at 0))
     → aisle ≤ 64 → slot < 256 →
     is_marked right aisle slot ≡ true → is_marked words aisle slot ≡ true
 unfolding is_marked
 or_marked_right words left right aisle slot each low high marked =
     let at = 4 * aisle + slot / 64 in
     let bit = eqb-true _ _ marked in
-    let or = ap (λ w. bit_at w (slot % 64)) (each at (omega arith)) ∙ bit_at_or (get_or left at 0) (get_or right at 0) (slot % 64) in
+    let both = each at (omega arith) (slot % 64) (omega arith) in
     eq-eqb _ _ (omega (arith, bit_at-lt (get_or left at 0) (slot % 64)))

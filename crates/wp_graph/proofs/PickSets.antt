@@ -1,10 +1,10 @@
 -- What adding a slot, joining a set and looking a slot up come to, in points.
-use Rattle.std.proofs.Common.{◌≡◌, ℕ, ◌+◌, ◌*◌, ◌/◌, ◌%◌, ◌<◌, ◌↔◌, true, List, length, get_or, arith, inl, inr, sym, subst, ◌⊎◌, ⊎_elim, Contains, bit_or}
+use Rattle.std.proofs.Common.{◌≡◌, ℕ, ◌+◌, ◌*◌, ◌/◌, ◌%◌, ◌<◌, ◌↔◌, true, List, [], length, get_or, replicate, arith, inl, inr, sym, subst, ◌⊎◌, ⊎_elim, Contains}
 use Rattle.wp_model.specs.declared.point.Point.{Point}
 use Rattle.wp_model.specs.Warehouse.{Layout, IsSlot}
-use Rattle.wp_graph.specs.PickSets.{MarksSlots, is_marked, points_where}
-use Rattle.wp_graph.proofs.Marks.{listed_passes, marked_before, marked_or, marked_same, marked_still, or_marked_left, or_marked_right, passing_listed, with_bit}
-use Rattle.wp_graph.proofs.Members.{Contains-from_among, among_from_Contains}
+use Rattle.wp_graph.specs.PickSets.{AreSlots, HasBitsOfBoth, MarksSlots, is_marked, points_where}
+use Rattle.wp_graph.proofs.Marks.{listed_passes, marked_before, marked_or, marked_same, marked_still, none_marked, or_marked_left, or_marked_right, passing_listed, with_bit}
+use Rattle.wp_graph.proofs.Members.{Contains-from_among, among_from_Contains, nil_from_none}
 
 -- two points of the same aisle and slot are the same
 pub same_point : (p q : Point) → p.aisle ≡ q.aisle → p.slot ≡ q.slot → p ≡ q
@@ -19,6 +19,15 @@ contained_marked layout words p h = listed_passes layout (is_marked words) p (am
 pub marked_contained : (layout : Layout) (words : List ℕ) (p : Point) → IsSlot layout p → is_marked words p.aisle p.slot ≡ true
     → Contains (points_where layout (is_marked words)) p
 marked_contained layout words p slot marked = Contains-from_among _ p (passing_listed layout (is_marked words) p slot marked)
+
+-- the points of a set are slots of its layout
+pub points_slots : {layout : Layout} {words : List ℕ} → MarksSlots layout words → AreSlots layout (points_where layout (is_marked words))
+points_slots {layout} {words} marks = record { ranges = marks.ranges; slots = λ p has. (contained_marked layout words p has).0 }
+
+-- words without a bit stand for no points
+pub unmarked_points : (layout : Layout) (words : List ℕ) → words ≡ replicate 260 0 → points_where layout (is_marked words) ≡ []
+unmarked_points layout words empty =
+    nil_from_none _ (λ point listed. none_marked 260 point.aisle point.slot (rw empty at ((listed_passes layout (is_marked words) point listed).1)))
 
 -- one more bit, for a slot of the layout
 pub record AddsBit (layout : Layout) (words : List ℕ) (point : Point) (at : ℕ) : Type 0 where
@@ -64,7 +73,7 @@ added_points {layout} {words} {point} {at} h p =
 pub record JoinsBits (layout : Layout) (words left right : List ℕ) : Type 0 where
   pub left_marks : MarksSlots layout left
   pub right_marks : MarksSlots layout right
-  pub each : (at : ℕ) → at < 260 → get_or words at 0 ≡ bit_or (get_or left at 0) (get_or right at 0)
+  pub each : (at : ℕ) → at < 260 → HasBitsOfBoth (get_or left at 0) (get_or right at 0) (get_or words at 0)
 
 -- with the bits of both, still only slots of the layout are marked
 pub joined_slots : {layout : Layout} {words left right : List ℕ} → JoinsBits layout words left right → MarksSlots layout words

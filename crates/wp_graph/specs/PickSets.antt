@@ -1,9 +1,11 @@
 -- Sets of slots, as contracts see them and as words of bits keep them.
-use Rattle.std.specs.Prelude.{ℕ, ◌+◌, ◌*◌, ◌/◌, ◌%◌, ◌<◌, ◌≤◌, ◌==◌, Bool, Contains, List, filter, map, slice_index, IsTrue}
+use Rattle.std.specs.Prelude.{◌≡◌, ℕ, ◌+◌, ◌-◌, ◌*◌, ◌/◌, ◌%◌, ◌<◌, ◌≤◌, ◌==◌, Bool, Contains, List, filter, map, max, slice_index, IsTrue}
 use Rattle.std.specs.Int.{bit_at}
 use Rattle.std.specs.List.{flat_map, range_with_len}
 use Rattle.wp_model.specs.declared.point.Point.{Point}
+use Rattle.wp_model.specs.Limits.{most_aisles}
 use Rattle.wp_model.specs.Warehouse.{Layout, IsLayout, IsSlot}
+use Rattle.wp_graph.specs.NeededAisles.{MarksNeeded}
 
 -- a set of slots of a layout, in the order of their aisles and then of their slots
 pub record PickSet : Type 0 where
@@ -35,3 +37,16 @@ is_marked words aisle slot = bit_at (slice_index words (4 * aisle + slot / 64)) 
 pub record MarksSlots (layout : Layout) (words : List ℕ) : Type 0 where
   pub ranges : IsLayout layout
   pub slots : (aisle slot : ℕ) → aisle ≤ 64 → slot < 256 → IsTrue (is_marked words aisle slot) → IsSlot layout (record { aisle = aisle; slot = slot })
+
+-- the words mark slots of the layout, and a further word the aisles that are needed for them
+pub record KeepsSlots (layout : Layout) (words : List ℕ) (needed : ℕ) : Type 0 where
+  pub marks : MarksSlots layout words
+  pub aisles : MarksNeeded layout (points_where layout (is_marked words)) needed
+
+-- a word has the bits of two others
+abbrev pub HasBitsOfBoth : ℕ → ℕ → ℕ → Type 0
+HasBitsOfBoth left right word = (k : ℕ) → k < 64 → bit_at word k ≡ max (bit_at left k) (bit_at right k)
+
+-- no bit is set in the words of an aisle that is not needed
+abbrev pub AreBareElsewhere : ℕ → List ℕ → Type 0
+AreBareElsewhere needed words = (at : ℕ) → at < 260 → bit_at needed (most_aisles - at / 4) ≡ 0 → (k : ℕ) → k < 64 → bit_at (slice_index words at) k ≡ 0

@@ -1,13 +1,15 @@
-ghost use Rattle.std.specs.Prelude.{◌≡◌, ◌+◌, ◌*◌, ◌/◌, ◌<◌, ◌≤◌, ◌==◌, ◌↔◌, ◌⊎◌, ℕ, [], IsTrue, Contains, length, replicate, slice_index, bit_or};
+ghost use Rattle.std.specs.Prelude.{◌≡◌, ◌+◌, ◌-◌, ◌*◌, ◌/◌, ◌^◌, ◌<◌, ◌≤◌, ◌==◌, ◌↔◌, ◌⊎◌, ℕ, [], IsTrue, Contains, length, replicate, slice_index, bit_or};
 ghost use Rattle.wp_model.specs.declared.point.Point.{Point as PointData};
 ghost use Rattle.std.specs.Int.{bit_at};
+ghost use Rattle.wp_model.specs.Limits.{most_aisles};
 ghost use Rattle.wp_model.specs.Warehouse.{IsLayout, IsSlot, IsUpTo};
-ghost use Rattle.wp_graph.specs.PickSets.{AreSlots};
+ghost use Rattle.wp_graph.specs.NeededAisles.{IsLastNeededBefore};
+ghost use Rattle.wp_graph.specs.PickSets.{AreBareElsewhere, AreSlots, HasBitsOfBoth};
 ghost use Rattle.wp_graph.specs.Required.{has_point};
 
 use crate::layout::Layout;
 use std::marker::Model;
-use wp_model::Point;
+use wp_model::{MOST_AISLES, Point};
 
 /// How many words of bits an aisle has.
 pub const AISLE_WORDS: usize = 4;
@@ -15,21 +17,23 @@ pub const AISLE_WORDS: usize = 4;
 /// How many words all aisles have. The first ones stand for no aisle.
 const WORDS: usize = 260;
 
-/// A set of slots of one layout. A slot that is picked on both sides counts once.
+/// A set of slots of one layout. A slot that is picked on both sides counts once. Beside the bits of the slots it keeps a
+/// word with those of the needed aisles: the depot's, and those in which it has a slot.
 #[derive(Drop)]
 pub struct Picks {
     layout: Layout,
+    needed: u64,
     words: [u64; 260],
 }
 
 impl Model for Picks {
-    ghost use Rattle.wp_graph.specs.PickSets.{PickSet, MarksSlots, is_marked, points_where};
+    ghost use Rattle.wp_graph.specs.PickSets.{KeepsSlots, PickSet, is_marked, points_where};
 
     ghost Value = { PickSet };
 
     ghost view = { λ p. record { layout = p.layout; points = points_where p.layout (is_marked p.words) } };
 
-    ghost invariant = { λ p. MarksSlots p.layout p.words };
+    ghost invariant = { λ p. KeepsSlots p.layout p.words p.needed };
 }
 
 // Whether a point is a slot of the layout.
@@ -60,6 +64,27 @@ fn has_bit(word: u64, at: u32) -> bool
     (word >> at) & 1 == 1
 }
 
+// The bit of an aisle in the word of the needed aisles. The last aisle that a layout may have has the lowest one.
+fn bit_of(aisle: u32) -> u64
+    requires { IsUpTo most_aisles aisle }
+    ensures { result ≡ 2 ^ (most_aisles - aisle) }
+{
+    1 << (MOST_AISLES - aisle)
+}
+
+// The bits of the needed aisles before an aisle: that of the one next to it is the lowest.
+fn bits_before(needed: u64, aisle: u32) -> u64
+    requires some { 1 ≤ aisle }
+    requires last { aisle ≤ most_aisles + 1 }
+    ensures { result ≡ needed / 2 ^ (most_aisles + 1 - aisle) }
+{
+    if aisle == 1 {
+        0
+    } else {
+        needed >> (MOST_AISLES + 1 - aisle)
+    }
+}
+
 // Words without a bit, enough for all aisles of the layout.
 fn no_words(layout: &Layout) -> [u64; 260]
     ensures valid { IsLayout layout.now }
@@ -79,6 +104,7 @@ impl Picks {
     {
         Picks {
             layout: *layout,
+            needed: bit_of(layout.depot()),
             words: no_words(layout),
         }
     }
@@ -91,6 +117,7 @@ impl Picks {
     {
         let word = word_of(&self.layout, point);
         self.words[word] |= 1 << (point.slot % 64);
+        self.needed |= bit_of(point.aisle);
     }
 
     /// Adds all slots of the other set, which is of the same layout.
@@ -99,7 +126,8 @@ impl Picks {
         ensures layout { self.new.layout ≡ self.old.layout }
         ensures points { (p : PointData) → Contains self.new.points p ↔ (Contains self.old.points p ⊎ Contains other.now.points p) }
     {
-        join_words(&mut self.words, &other.words);
+        join_words(&mut self.words, &other.words, other.needed);
+        self.needed |= other.needed;
     }
 
     /// Whether a slot is in the set. A point that is no slot of the layout is in none.
@@ -109,6 +137,21 @@ impl Picks {
     {
         is_slot(&self.layout, point)
             && has_bit(self.words[word_of(&self.layout, point)], point.slot % 64)
+    }
+
+    /// The last needed aisle before an aisle, where there is one. An aisle is needed if the depot lies in it or a slot of
+    /// the set.
+    pub fn needed_below(&self, aisle: u32) -> Option<u32>
+        requires some { 1 ≤ aisle }
+        requires last { aisle ≤ self.now.layout.aisles + 1 }
+        ensures last { IsLastNeededBefore self.now.layout self.now.points aisle result }
+        ensures slots { AreSlots self.now.layout self.now.points }
+    {
+        let before = bits_before(self.needed, aisle);
+        if before == 0 {
+            return None;
+        }
+        Some(aisle - 1 - before.trailing_zeros())
     }
 }
 
@@ -127,12 +170,30 @@ impl Picks {
     }
 }
 
-// Each word with the bits of the other's too.
-fn join_words(words: &mut [u64; 260], other: &[u64; 260])
+// The words of an aisle with the bits of the other's too.
+fn join_aisle(words: &mut [u64; 260], other: &[u64; 260], aisle: u32)
+    requires { aisle ≤ most_aisles }
     ensures whole { length words.new ≡ 260 }
-    ensures each { (at : ℕ) → at < 260 → slice_index words.new at ≡ bit_or (slice_index words.old at) (slice_index other.now at) }
+    ensures here { (at : ℕ) → 4 * aisle ≤ at → at < 4 * aisle + 4 → slice_index words.new at ≡ bit_or (slice_index words.old at) (slice_index other.now at) }
+    ensures before { (at : ℕ) → at < 4 * aisle → slice_index words.new at ≡ slice_index words.old at }
+    ensures behind { (at : ℕ) → 4 * aisle + 4 ≤ at → slice_index words.new at ≡ slice_index words.old at }
 {
-    for at in 0..WORDS {
+    let first = AISLE_WORDS * aisle as usize;
+    for at in first..first + AISLE_WORDS {
         words[at] |= other[at];
+    }
+}
+
+// Each word with the bits of the other's too, which has some in its needed aisles alone.
+fn join_words(words: &mut [u64; 260], other: &[u64; 260], needed: u64)
+    requires { AreBareElsewhere needed other.now }
+    ensures whole { length words.new ≡ 260 }
+    ensures each { (at : ℕ) → at < 260 → HasBitsOfBoth (slice_index words.old at) (slice_index other.now at) (slice_index words.new at) }
+{
+    let mut rest = needed;
+    while rest != 0 {
+        let low = rest.trailing_zeros();
+        join_aisle(words, other, MOST_AISLES - low);
+        rest &= !(1 << low);
     }
 }

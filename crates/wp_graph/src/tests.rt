@@ -28,6 +28,11 @@ fn great() -> Layout {
     Layout::new(64, 200, 1, 1, 1, 1).unwrap()
 }
 
+/// The great layout with its depot at an aisle between others.
+fn wide() -> Layout {
+    Layout::new(64, 200, 1, 1, 1, 30).unwrap()
+}
+
 const LAYOUTS: &[Numbers] = &[
     SMALL,
     [1, 1, 1, 1, 1, 1],
@@ -176,6 +181,95 @@ fn misfound_slot(layout: &Layout) -> Option<At> {
 #[test]
 fn picks_are_sets(rt: HostRuntime) {
     assert_eq!(rt; misfound_slot(&great()), None);
+}
+
+/// A set with the slots of two.
+fn joined(layout: &Layout, left: &[At], right: &[At]) -> Picks
+    ensures { result.layout ≡ layout.now }
+{
+    let mut picks = picked(layout, left);
+    picks.join(&picked(layout, right));
+    picks
+}
+
+/// Slots at the edges of words, in the first aisle, the depot's and the last one.
+const LEFT: &[At] = &[(1, 63), (1, 128), (30, 64), (64, 128), (64, 200)];
+
+const RIGHT: &[At] = &[(1, 64), (1, 127), (30, 1), (31, 200), (64, 200)];
+
+/// Slots beside them.
+const BESIDE: &[At] = &[
+    (1, 62),
+    (1, 65),
+    (1, 126),
+    (1, 129),
+    (2, 63),
+    (29, 200),
+    (30, 2),
+    (30, 63),
+    (30, 65),
+    (31, 1),
+    (63, 200),
+    (64, 64),
+    (64, 127),
+    (64, 199),
+];
+
+/// The first of the slots that a set has or hasn't.
+fn first_slot(picks: &Picks, slots: &[At], had: bool) -> Option<At> {
+    for at in slots {
+        if picks.has(point(*at)) == had {
+            return Some(*at);
+        }
+    }
+    None
+}
+
+#[test]
+fn joined_sets_have_the_slots_of_both(rt: HostRuntime) {
+    let picks = joined(&wide(), LEFT, RIGHT);
+    assert_eq!(rt; first_slot(&picks, LEFT, false), None);
+    assert_eq!(rt; first_slot(&picks, RIGHT, false), None);
+    assert_eq!(rt; first_slot(&picks, BESIDE, true), None);
+}
+
+/// Picks of two sets, an aisle, and the last aisle before it that is needed for both.
+const NEEDED: &[(&[At], &[At], u32, Option<u32>)] = &[
+    (&[], &[], 65, Some(30)),
+    (&[], &[], 31, Some(30)),
+    (&[], &[], 30, None),
+    (&[], &[], 1, None),
+    (&[(64, 1)], &[], 65, Some(64)),
+    (&[(64, 1)], &[], 64, Some(30)),
+    (&[], &[(1, 200)], 30, Some(1)),
+    (&[], &[(1, 200)], 2, Some(1)),
+    (&[], &[(1, 200)], 1, None),
+    (&[(29, 7)], &[(31, 7)], 65, Some(31)),
+    (&[(29, 7)], &[(31, 7)], 31, Some(30)),
+    (&[(29, 7)], &[(31, 7)], 30, Some(29)),
+    (&[(29, 7)], &[(31, 7)], 29, None),
+];
+
+fn needed_below(layout: &Layout, left: &[At], right: &[At], aisle: u32) -> Option<u32> {
+    if aisle < 1 || layout.aisles() + 1 < aisle {
+        return None;
+    }
+    joined(layout, left, right).needed_below(aisle)
+}
+
+/// The place of the first row with another needed aisle.
+fn misfound_aisle(layout: &Layout) -> Option<usize> {
+    for (place, (left, right, aisle, expected)) in NEEDED.iter().enumerate() {
+        if needed_below(layout, left, right, *aisle) != *expected {
+            return Some(place);
+        }
+    }
+    None
+}
+
+#[test]
+fn needed_aisles_are_found(rt: HostRuntime) {
+    assert_eq!(rt; misfound_aisle(&wide()), None);
 }
 
 /// The six ways of an aisle, in the order of their fields.

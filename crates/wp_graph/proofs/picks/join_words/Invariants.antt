@@ -1,9 +1,12 @@
-use Rattle.std.proofs.Common.{◌≡◌, ◌<◌, ◌≤◌, ℕ, length, slice_index, bit_or}
+use Rattle.std.proofs.Common.{◌≡◌, length}
+use Rattle.wp_graph.proofs.JoinedWords.{JoinedBut}
 use Rattle.wp_graph.proofs.picks.join_words.Given as goal
 
-abbrev pub invariant-loop-at : goal.invariant-loop-at
-invariant-loop-at l = record {
+abbrev pub invariant-loop-rest : goal.invariant-loop-rest
+invariant-loop-rest l = record {
   whole : length l.words ≡ 260;
-  joined : (at : ℕ) → at < l.at → slice_index l.words at ≡ bit_or (slice_index l.fn.words at) (slice_index l.other at);
-  same : (at : ℕ) → l.at ≤ at → slice_index l.words at ≡ slice_index l.fn.words at;
+  but : JoinedBut l.rest l.words l.fn.words l.other;
 }
+
+abbrev pub decreases-loop-rest : goal.decreases-loop-rest
+decreases-loop-rest l = l.rest

@@ -2,7 +2,7 @@ use Rattle.std.proofs.Common.{◌≡◌, ◌==◌, ◌∙◌, ap, slice_index, �
 use Rattle.std.specs.Int.{bit_at}
 use Rattle.std.proofs.lemmas.Bool.{both_ways}
 use Rattle.wp_graph.specs.PickSets.{is_marked}
-use Rattle.wp_graph.proofs.PickSets.{contained_marked, marked_contained}
+use Rattle.wp_graph.proofs.PickSets.{contained_marked, marked_contained, points_slots}
 use Rattle.wp_graph.proofs.picks.Picks.has.Goals as goal
 
 pub returns-then-is_slot-clause-exact : goal.returns-then-is_slot-clause-exact
@@ -17,7 +17,7 @@ returns-else-is_slot-clause-exact c =
     rw (← c.self.view_is) (λ slot. absurd (both_ways c.is_slot.result c.if-is_slot.false slot), λ has. c.is_slot.ensures.1 (contained_marked _ _ _ has).0)
 
 pub returns-then-is_slot-clause-slots : goal.returns-then-is_slot-clause-slots
-returns-then-is_slot-clause-slots c = rw (← c.self.view_is) (record { ranges = c.self.invariant.ranges; slots = λ p has. (contained_marked _ _ p has).0 })
+returns-then-is_slot-clause-slots c = rw (← c.self.view_is) (points_slots c.self.invariant.marks)
 
 pub returns-else-is_slot-clause-slots : goal.returns-else-is_slot-clause-slots
-returns-else-is_slot-clause-slots c = rw (← c.self.view_is) (record { ranges = c.self.invariant.ranges; slots = λ p has. (contained_marked _ _ p has).0 })
+returns-else-is_slot-clause-slots c = rw (← c.self.view_is) (points_slots c.self.invariant.marks)
