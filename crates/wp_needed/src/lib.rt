@@ -4,7 +4,6 @@
 #![tactic(auto)]
 
 mod lengths;
-mod needed;
 mod tour;
 
 pub use tour::tour_length;

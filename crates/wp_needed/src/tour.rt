@@ -7,7 +7,6 @@ ghost use Rattle.wp_needed.specs.Lengths.{AreGoing};
 ghost use Rattle.wp_needed.specs.Runs.{IsFirstLeast, NoneBetween};
 
 use crate::lengths::{Lengths, before_last, before_way, first_length, only_length};
-use crate::needed::needed_below;
 use wp_graph::{Layout, Picks, aisle_ways};
 
 // How long the crossings from an aisle to a later one are together.
@@ -61,7 +60,7 @@ fn length_from(layout: &Layout, picks: &Picks, aisle: u32, after: Lengths) -> u6
 {
     let mut first = aisle;
     let mut onward = after;
-    while let Some(next) = needed_below(layout, picks, first) {
+    while let Some(next) = picks.needed_below(first) {
         onward = after_next(layout, picks, next, first, &onward);
         first = next;
     }
@@ -77,7 +76,7 @@ fn length_to(layout: &Layout, picks: &Picks, last: u32) -> u64
     ensures least { IsFirstLeast (block_of layout.now picks.now.points) (layout.now.aisles - 1) result }
     ensures slots { AreSlots layout.now picks.now.points }
 {
-    match needed_below(layout, picks, last) {
+    match picks.needed_below(last) {
         Some(next) => {
             length_from(
                 layout,
@@ -97,6 +96,6 @@ pub fn tour_length(layout: &Layout, picks: &Picks) -> u64
     ensures shortest { IsShortest layout.now picks.now.points result }
     ensures small { result < 2 ^ 28 }
 {
-    let last = needed_below(layout, picks, layout.aisles() + 1).unwrap();
+    let last = picks.needed_below(layout.aisles() + 1).unwrap();
     length_to(layout, picks, last)
 }
