@@ -1,24 +1,33 @@
 -- What the jobs come to.
-use Rattle.std.proofs.Common.{◌≡◌, refl, sym, subst, ℕ, inl, inr, List, [], ◌∷◌, ◌++◌, Ok}
+use Rattle.std.proofs.Common.{◌≡◌, refl, sym, subst, ℕ, inl, inr, List, [], ◌∷◌, ◌++◌, Option, Ok}
+use Rattle.wp_desk.specs.declared.day_run.DayRun.{DayRun}
+use Rattle.std.proofs.lemmas.List.Elements.{All-nil}
 use Rattle.wp_floor.proofs.Floors.{is_opening}
+use Rattle.wp_machine.specs.declared.outcome.WaveHolds.{WaveHolds}
+use Rattle.wp_make.specs.Accepted.{Day, Say}
+use Rattle.wp_make.specs.Texts.{made_texts}
 use Rattle.wp_model.proofs.Coverage.{allotted_where_covered, released_where_covered}
 use Rattle.wp_model.specs.History.{History}
 use Rattle.wp_model.specs.Opening.{IsOpening, Opening}
 use Rattle.wp_model.specs.Tables.{IsReadOpening}
 use Rattle.wp_model.specs.Warehouse.{Layout}
 use Rattle.wp_outside.specs.Outside.{NoneFalls, SameBytes}
+use Rattle.wp_planner.specs.declared.planner.WavePlan.{WavePlan}
 use Rattle.wp_top.proofs.FilesRead.{Counts, Holding, held_before, have_next, none_fell, say_there, stops_among_more, stops_there}
+use Rattle.wp_top.proofs.MadeDays.{good_plans}
 use Rattle.wp_top.specs.Ends.{HaveSaid, IsOutput}
-use Rattle.wp_top.specs.Runs.{StockGoesWhereItCovers, audit_line, state_at}
+use Rattle.wp_top.specs.Planned.{IsToldOf}
+use Rattle.wp_top.specs.Runs.{IsSummary, StockGoesWhereItCovers, audit_line, state_at}
 use Rattle.wp_top.specs.Sheets.{terms_of}
-use Rattle.wp_top.specs.Stops.{IsDay, IsRead, IsRightJournal, IsStop, IsUnsaid, StopsAmong, StopsAudit, StopsFinding, opening_files, opening_said}
-use Rattle.wp_top.specs.Texts.{File, Said, files_of, scripts_in, text_in}
+use Rattle.wp_top.specs.Stops.{IsDay, IsHistoryOf, IsRead, IsRightJournal, IsStop, IsUnsaid, StopsAmong, StopsAudit, StopsFinding, opening_files, opening_said}
+use Rattle.wp_top.specs.Summaries.{AreGoodPlans, made_terms, plans_of, size_of, summary_of}
+use Rattle.wp_top.specs.Texts.{File, IsHeld, Said, files_of, nothing_said, scripts_in, text_in}
 use Rattle.wp_top.specs.declared.complaint.Complaint.TheVariants as complaint
 use Rattle.wp_top.specs.declared.complaint.Finding.TheVariants as finding
 use Rattle.wp_top.specs.declared.complaint.Stop.{Stop}
 use Rattle.wp_top.specs.declared.complaint.Stop.TheVariants as stop
 use Rattle.wp_top.specs.declared.input.Input.TheVariants as input
-use Rattle.wp_words.specs.Words.{AuditNames, JobNames, PlanNames, audit, plan}
+use Rattle.wp_words.specs.Words.{AuditNames, JobNames, MakeNumbers, PlanNames, audit, make, plan}
 
 -- a stop among a job's files is one of the job
 pub stop_of : (holds : Holding) (job : JobNames) (before after : Counts) (s : Stop) → StopsAmong holds (files_of job) before after s
@@ -128,6 +137,36 @@ plan_is holds held names layout opening output same said read day =
         planned = text.planned;
         is = text.is;
       };
+    }
+
+-- the files that a make reads, which are none, say nothing
+nothing_read : (holds : Holding) → HaveSaid holds [] nothing_said
+nothing_read holds = record { read = []; are = refl; held = All-nil (λ read. IsHeld holds read.file.name read.text); say = refl }
+
+-- the output of a make is a summary, whatever the files hold
+pub make_is : (holds : Holding) (numbers : MakeNumbers) (output : List ℕ) → IsSummary numbers output → IsOutput holds (Ok (make numbers)) output
+make_is holds numbers output summary =
+    record { job = make numbers; asked_for = refl; said = nothing_said; accepted = nothing_read holds; comes = summary }
+
+-- the summary of a made day
+pub summary_is : (numbers : MakeNumbers) (day : Day) (run : DayRun (Option WavePlan)) (output : List ℕ) → Say (made_texts numbers.number (size_of numbers)) day
+    → IsReadOpening day.opening → IsHistoryOf day.opening day.scripts run.machine → IsToldOf day.layout (made_terms numbers) run
+    → output ≡ summary_of numbers run.machine (plans_of run.plans.items) → IsSummary numbers output
+summary_is numbers day run output says read answers told is =
+    let history = run.machine in
+    record {
+      day = day;
+      says = says;
+      history = history;
+      starts = answers.starts;
+      legal = answers.legal;
+      parts = answers.parts;
+      sound = answers.sound;
+      stock = covered_stock history (is_opening history.opening (subst IsReadOpening (sym answers.starts) read));
+      plans = plans_of run.plans.items;
+      planned = subst (λ (sent : List WaveHolds). AreGoodPlans day.layout history.opening.stock (made_terms numbers) sent (plans_of run.plans.items)) told.waves
+          (good_plans day.layout history.opening.stock (made_terms numbers) run.plans.items told.planned);
+      is = is;
     }
 
 -- the output of an audit

@@ -20,7 +20,7 @@ use Rattle.wp_top.specs.declared.ending.Ending.{Ending}
 use Rattle.wp_top.specs.declared.ending.Ending.TheVariants as ending
 use Rattle.wp_top.specs.declared.status.Status.{Status}
 use Rattle.wp_top.specs.declared.status.Status.TheVariants as status
-use Rattle.wp_words.specs.Words.{JobNames, audit, check, plan}
+use Rattle.wp_words.specs.Words.{JobNames, audit, check, make, plan}
 use Rattle.wp_words.specs.declared.fault.WordsFault.{WordsFault}
 use Rattle.wp_top.proofs.Checks.{bound_no_fault}
 use Rattle.wp_top.proofs.RisenCounts.{bad_before_rise, none_rose}
@@ -68,6 +68,7 @@ right_no_wrong (plan names) said found right wrong = wrong
 right_no_wrong (check names) said (finding.Journal fault) right wrong = wrong
 right_no_wrong (check names) said (finding.Certificate fault) (bound, right) wrong =
     bound_no_fault said.layout said.certificate bound fault right wrong
+right_no_wrong (make numbers) said found right wrong = wrong
 right_no_wrong (audit names) said (finding.Certificate fault) right wrong = wrong
 right_no_wrong (audit names) said (finding.Journal fault) (entries, right) wrong =
     ok_no_err (record { entries = entries }) fault (shows_one said.opening said.journal (Ok (record { entries = entries })) (Err fault) right wrong)
@@ -77,6 +78,7 @@ right_output : (job : JobNames) (said : Said) (output : List ℕ) → ComesTo jo
 right_output (plan names) said output comes = tt
 right_output (check names) said output comes = (comes.bound, comes.shows.tree)
 right_output (audit names) said output comes = (comes.entries, comes.shows)
+right_output (make numbers) said output comes = tt
 
 -- what the files of the job say is what they are told to say
 said_is : (asked : Asked) (run : Course) (job other : JobNames) (said more : Said) → AreGoodFiles asked run job said → asked ≡ Ok other

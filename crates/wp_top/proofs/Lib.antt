@@ -7,6 +7,7 @@ pub mod Waves
 pub mod SheetsGrow
 pub mod DayTexts
 pub mod Output
+pub mod MadeDays
 pub mod Jobs
 pub mod Checks
 pub mod Statuses

@@ -12,10 +12,11 @@ use Rattle.wp_top.specs.declared.complaint.Finding.{Finding}
 use Rattle.wp_top.specs.declared.complaint.Finding.TheVariants as finding
 use Rattle.wp_top.specs.declared.input.Input.{Input}
 use Rattle.wp_top.specs.declared.input.Refusal.{Refusal}
-use Rattle.wp_words.specs.Reading.{audit_names, check_names, fault_text, plan_names, texts_of}
-use Rattle.wp_words.specs.Words.{JobNames, audit, check, job_said, plan}
+use Rattle.wp_words.specs.Reading.{audit_names, check_names, fault_text, make_numbers, plan_names, texts_of}
+use Rattle.wp_words.specs.Words.{JobNames, audit, check, job_said, make, plan}
 use Rattle.wp_words.specs.declared.job.AuditWords.{AuditWords}
 use Rattle.wp_words.specs.declared.job.CheckWords.{CheckWords}
+use Rattle.wp_words.specs.declared.job.MakeWords.{MakeWords}
 use Rattle.wp_words.specs.declared.job.PlanWords.{PlanWords}
 use Rattle.wp_words.specs.declared.fault.WordsFault.{WordsFault}
 
@@ -34,6 +35,10 @@ check_job words = check (check_names words)
 -- the job that the words of a plan ask for
 abbrev pub plan_job : PlanWords → JobNames
 plan_job words = plan (plan_names words)
+
+-- the job that the words of a make ask for
+abbrev pub make_job : MakeWords → JobNames
+make_job words = make (make_numbers words)
 
 -- what the words of the command line ask for
 abbrev pub asked_by : List (String Global) → Asked

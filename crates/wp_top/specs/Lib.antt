@@ -5,4 +5,5 @@ pub mod Sections
 pub mod Sheets
 pub mod Planned
 pub mod Stops
+pub mod Summaries
 pub mod Texts

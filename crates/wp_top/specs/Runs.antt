@@ -10,6 +10,8 @@ use Rattle.wp_cert.specs.declared.tree.CertFault.{CertFault}
 use Rattle.wp_cert.specs.declared.tree.Node.{Node}
 use Rattle.wp_journal.specs.Journals.{IsJournalOf, Shows}
 use Rattle.wp_machine.specs.Machine.{EachStateIsSound}
+use Rattle.wp_make.specs.Accepted.{Day, Say}
+use Rattle.wp_make.specs.Texts.{made_texts}
 use Rattle.wp_model.specs.Demand.{IsCovered}
 use Rattle.wp_model.specs.History.{History, IsLegal, Script, part_of, script_of, state_after}
 use Rattle.wp_model.specs.Journal.{line, number_after_space}
@@ -22,10 +24,12 @@ use Rattle.wp_model.specs.declared.reply.WaveState.TheVariants as wave
 use Rattle.wp_top.specs.Sections.{output_of}
 use Rattle.wp_top.specs.Sheets.{AreSheets, terms_of}
 use Rattle.wp_machine.specs.Outcome.{released_of}
+use Rattle.wp_top.specs.Summaries.{AreGoodPlans, made_terms, size_of, summary_of}
 use Rattle.wp_top.specs.Texts.{Said}
 use Rattle.wp_top.specs.declared.complaint.Finding.{Finding}
 use Rattle.wp_top.specs.declared.complaint.Finding.TheVariants as finding
-use Rattle.wp_words.specs.Words.{JobNames, PlanNames, audit, check, plan}
+use Rattle.wp_planner.specs.declared.planner.WavePlan.{WavePlan}
+use Rattle.wp_words.specs.Words.{JobNames, MakeNumbers, PlanNames, audit, check, make, plan}
 
 -- the state after the first entries of a history
 abbrev pub state_at : History → ℕ → State
@@ -58,6 +62,27 @@ pub record IsPlan (names : PlanNames) (said : Said) (output : List ℕ) : Type 0
   pub planned : AreSheets said.layout history.opening.stock (terms_of names) history (released_of history) sheets
   -- this is the text: its journal, the sheets, its refills, the stock after it
   pub is : output ≡ output_of history sheets
+
+-- What a make promises where it ends with status 0, in the words in which it is promised.
+pub record IsSummary (numbers : MakeNumbers) (output : List ℕ) : Type 0 where
+  -- the made input says a day,
+  pub day : Day
+  pub says : Say (made_texts numbers.number (size_of numbers)) day
+  -- and this is one history of a single thread, from the opening of that day,
+  pub history : History
+  pub starts : history.opening ≡ day.opening
+  pub legal : IsLegal history
+  -- holding every desk's commands once and in order;
+  pub parts : (desk : ℕ) → part_of desk history.entries ≡ script_of day.scripts desk
+  -- on hand is always free plus held;
+  pub sound : EachStateIsSound history
+  -- a wave gets stock exactly when free stock covers it;
+  pub stock : StockGoesWhereItCovers history
+  -- each released wave has a good plan
+  pub plans : List WavePlan
+  pub planned : AreGoodPlans day.layout history.opening.stock (made_terms numbers) (released_of history) plans
+  -- the output is the summary of this history and of these plans
+  pub is : output ≡ summary_of numbers history plans
 
 -- how many commands scripts have together
 abbrev pub command_count : List Script → ℕ
@@ -118,6 +143,7 @@ abbrev pub ComesTo : JobNames → Said → List ℕ → Type 0
 ComesTo (plan names) said output = IsPlan names said output
 ComesTo (check names) said output = IsBound said output
 ComesTo (audit names) said output = IsAudit said output
+ComesTo (make numbers) said output = IsSummary numbers output
 
 -- what a job holds against its files isn't right, and this is found
 abbrev pub IsWrong : JobNames → Said → Finding → Type 0
@@ -126,9 +152,11 @@ IsWrong (check names) said (finding.Journal fault) = ⊥
 IsWrong (check names) said (finding.Certificate fault) = IsRefusedCertificate said.layout said.certificate fault
 IsWrong (audit names) said (finding.Certificate fault) = ⊥
 IsWrong (audit names) said (finding.Journal fault) = Shows said.opening said.journal (Err fault)
+IsWrong (make numbers) said found = ⊥
 
 -- it is right
 abbrev pub IsRight : JobNames → Said → Type 0
 IsRight (plan names) said = ⊤
 IsRight (check names) said = (bound : ℕ) × TellsBound said.layout said.certificate bound
 IsRight (audit names) said = (entries : ℕ) × IsJournalOf said.opening said.journal entries
+IsRight (make numbers) said = ⊤

@@ -15,7 +15,7 @@ use Rattle.wp_top.specs.declared.input.Input.{Input}
 use Rattle.wp_top.specs.declared.input.Input.TheVariants as input
 use Rattle.wp_top.specs.declared.input.Refusal.{Refusal}
 use Rattle.wp_top.specs.declared.input.Refusal.TheVariants as refusal
-use Rattle.wp_words.specs.Words.{JobNames, audit, check, plan}
+use Rattle.wp_words.specs.Words.{JobNames, audit, check, make, plan}
 use Rattle.wp_model.specs.Outcomes.{and_then}
 
 -- a file that a job reads: which it is, and its name
@@ -26,13 +26,14 @@ pub record File : Type 0 where
 abbrev pub file_of : Input → List ℕ → File
 file_of kind name = record { kind = kind; name = name }
 
--- the files that a job reads, one after the other
+-- the files that a job reads, one after the other. A make reads none
 abbrev pub files_of : JobNames → List File
 files_of (plan names) =
     file_of input.Layout names.layout ∷ file_of input.Stock names.stock ∷ file_of input.Orders names.orders ∷ file_of input.Desks names.desks ∷ []
 files_of (check names) = file_of input.Layout names.layout ∷ file_of input.Certificate names.certificate ∷ []
 files_of (audit names) =
     file_of input.Layout names.layout ∷ file_of input.Stock names.stock ∷ file_of input.Orders names.orders ∷ file_of input.Journal names.journal ∷ []
+files_of (make numbers) = []
 
 -- a file and its text
 pub record ReadFile : Type 0 where

@@ -24,8 +24,8 @@ use wp_outside::Gate;
 use wp_planner::{DayPlanner, Terms, WavePlan};
 use wp_tables::{Scripts, Stock};
 
-// Runs the scripts of all desks, from the opening on. Each wave that goes out is planned.
-fn run_day<'a, R: Threads + Wait + Sync, G: Gate>(
+/// Runs the scripts of all desks, from the opening on. Each wave that goes out is planned.
+pub fn run_day<'a, R: Threads + Wait + Sync, G: Gate>(
     rt: &R,
     alloc: Global,
     layout: &Layout,

@@ -1,4 +1,4 @@
-ghost use Rattle.std.specs.Prelude.{◌≡◌, ◌<◌, ◌≤◌, Ok, IfOk, IfErr, OnOk, OnErr, IsErrOf, map, string_bytes};
+ghost use Rattle.std.specs.Prelude.{◌≡◌, ◌<◌, ◌≤◌, Ok, IfOk, IfErr, OnOk, OnErr, IsErrOf, string_bytes};
 ghost use Rattle.wp_outside.specs.Outside.{Grows, NoneFalls, SameBytes, TookPrefix};
 ghost use Rattle.wp_outside.specs.declared.sink.SinkFault.TheVariants as sink_fault;
 ghost use Rattle.wp_top.specs.Ends.{IsOutput, asked_by, audit_job, check_job, complaint_line};
@@ -8,6 +8,7 @@ ghost use Rattle.wp_top.specs.Stops.{Finishes, IsEndOf, IsEnding, IsStop, status
 use crate::audit::audit_output;
 use crate::check::check_output;
 use crate::complaint::{Complaint, Stop};
+use crate::make::make_output;
 use crate::plan::plan_output;
 use crate::status::Status;
 use std::alloc::Global;
@@ -69,6 +70,7 @@ fn job_output<R: Threads + Wait + Sync, F: Files, G: Gate>(
         Job::Plan(words) => plan_output(rt, alloc, files, words, gate),
         Job::Check(words) => check_output(alloc, files, words),
         Job::Audit(words) => audit_output(alloc, files, words),
+        Job::Make(words) => make_output(rt, alloc, words, gate),
     }
 }
 

@@ -1,7 +1,8 @@
 //! The whole run: from the words of the command line and the files to the text that goes out.
 //!
-//! The words ask for a job, and each job has a file of its own: planning a day, checking a certificate, and auditing a
-//! journal. A job reads its files one after the other, and gives its output or stops; then the text of its ending goes out. The
+//! The words ask for a job, and each job has a file of its own: planning a day, checking a certificate, auditing a
+//! journal, and planning a day that is made. A job reads its files one after the other, and gives its output or stops; then
+//! the text of its ending goes out. The
 //! desks of a day run beside each other, so a day's output is that of one legal history of theirs, and another run may give another.
 #![tactic(auto)]
 
@@ -12,11 +13,13 @@ mod day;
 mod ending;
 mod input;
 mod laws;
+mod make;
 mod plan;
 mod print;
 mod reading;
 mod sheets;
 mod status;
+mod summary;
 
 ghost use Rattle.std.specs.Prelude.{Ok};
 ghost use Rattle.wp_top.specs.Ends.{asked_by, audit_job, check_job};

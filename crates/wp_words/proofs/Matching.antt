@@ -4,7 +4,7 @@ use Rattle.clap.specs.Words.{App, HasKind, Kinds, ReadsOne, Row, Text, is_simple
 use Rattle.clap.specs.declared.error.Error.{Error}
 use Rattle.clap.specs.declared.error.kind.ErrorKind.TheVariants as kind
 use Rattle.clap.proofs.OnLiterals.{clap_on_literals}
-use Rattle.wp_words.specs.Options.{audit_command, check_command, plan_command}
+use Rattle.wp_words.specs.Options.{audit_command, check_command, make_command, plan_command}
 use Rattle.wp_words.specs.Reading.{IsFaultOf}
 use Rattle.wp_words.specs.Words.{made_into, unless_faulty}
 use Rattle.wp_words.specs.declared.fault.WordsFault.{WordsFault}
@@ -24,6 +24,11 @@ check_is_simple = refl
 pub audit_is_simple : is_simple_and_free audit_command ≡ true
 unfolding audit_command clap_on_literals
 audit_is_simple = refl
+
+-- and for that of `make`
+pub make_is_simple : is_simple_and_free make_command ≡ true
+unfolding make_command clap_on_literals
+make_is_simple = refl
 
 left : (x y : Bool) → (x && y) ≡ true → x ≡ true
 left true y is = refl

@@ -1,4 +1,4 @@
--- The ranges of the numbers that the options of `plan` give, and what stands for those that aren't given.
+-- The ranges of the numbers that the options give which limit no file, and what stands for those that aren't given.
 use Rattle.std.specs.Prelude.{ℕ, codes}
 use Rattle.clap.specs.Walk.{Text}
 
@@ -13,6 +13,10 @@ most_budget = 1000000000000000000
 -- the most threads that may search at once
 abbrev pub most_workers : ℕ
 most_workers = 16
+
+-- the greatest number from which an input is made: any word of 64 bits is one
+abbrev pub most_number : ℕ
+most_number = 18446744073709551615
 
 -- the budget where none is given
 abbrev pub usual_budget : Text

@@ -5,7 +5,8 @@ use Rattle.clap.specs.Walk.{Rule, Text}
 use Rattle.clap.specs.declared.builder.action.ArgAction.TheVariants.{Set}
 use Rattle.clap.specs.declared.builder.value_parser.ValueParser.{ValueParser}
 use Rattle.clap.specs.declared.builder.value_parser.ValueParser.TheVariants as vp
-use Rattle.wp_words.specs.Limits.{most_budget, most_capacity, most_workers, usual_budget, usual_workers}
+use Rattle.wp_model.specs.Limits.{greatest_desk, most_aisles, most_file_orders, most_wave_orders}
+use Rattle.wp_words.specs.Limits.{most_budget, most_capacity, most_number, most_workers, usual_budget, usual_workers}
 
 -- an option `--name VALUE` or `--name=VALUE` that may be given, and at most once
 abbrev pub named_rule : Text → Rule
@@ -36,6 +37,14 @@ abbrev pub command_with : Text → List Rule → App
 command_with mode options =
     record { top = record (new_shape mode) { rules = options; no_binary_name = true; disable_help_flag = true }; subs = [] }
 
+-- `--number` has to be given, a number of 64 bits
+abbrev pub number_rule : Rule
+number_rule = record (required_rule (codes "number")) { parser = Some (vp.Unsigned 0 most_number) }
+
+-- an option that has to be given, a number from 1 to this one
+abbrev pub count_rule : Text → ℕ → Rule
+count_rule name most = record (required_rule name) { parser = Some (count_up_to most) }
+
 -- `plan` takes the names of a layout, a stock file, an order file and a desk file, and three numbers
 unfoldable pub plan_command : App
 plan_command =
@@ -50,3 +59,10 @@ check_command = command_with (codes "check") (map required_rule (codes "layout" 
 unfoldable pub audit_command : App
 audit_command =
     command_with (codes "audit") (map required_rule (codes "layout" ∷ codes "stock" ∷ codes "orders" ∷ codes "journal" ∷ []))
+
+-- `make` takes a number to draw from, the numbers of aisles, orders, desks and orders of a wave, and the three numbers of a plan
+unfoldable pub make_command : App
+make_command =
+    let size = count_rule (codes "aisles") most_aisles ∷ count_rule (codes "orders") most_file_orders ∷ count_rule (codes "desks") greatest_desk
+    ∷ count_rule (codes "wave") most_wave_orders ∷ [] in
+    command_with (codes "make") (number_rule ∷ (size ++ capacity_rule ∷ budget_rule ∷ workers_rule ∷ []))

@@ -1,14 +1,16 @@
 -- What the reader of words answers.
-use Rattle.std.specs.Prelude.{◌≡◌, Bool, true, false, List, map, codes, String, string_bytes, Result, Err}
+use Rattle.std.specs.Prelude.{◌≡◌, Bool, true, false, List, ◌++◌, map, codes, String, string_bytes, Result, Err}
+use Rattle.std.specs.Fmt.{decimal}
 use Rattle.std.specs.declared.alloc.Global.{Global}
 use Rattle.clap.specs.Walk.{Text}
-use Rattle.wp_words.specs.Words.{AuditNames, CheckNames, JobNames, PlanNames, audit, check, plan}
+use Rattle.wp_words.specs.Words.{AuditNames, CheckNames, JobNames, MakeNumbers, PlanNames, audit, check, make, plan}
 use Rattle.wp_words.specs.declared.fault.WordsFault.{WordsFault}
 use Rattle.wp_words.specs.declared.fault.WordsFault.TheVariants as fault
 use Rattle.wp_words.specs.declared.job.AuditWords.{AuditWords}
 use Rattle.wp_words.specs.declared.job.CheckWords.{CheckWords}
 use Rattle.wp_words.specs.declared.job.Job.{Job}
 use Rattle.wp_words.specs.declared.job.Job.TheVariants as job
+use Rattle.wp_words.specs.declared.job.MakeWords.{MakeWords}
 use Rattle.wp_words.specs.declared.job.PlanWords.{PlanWords}
 
 -- the texts of words
@@ -40,17 +42,32 @@ audit_names words = record {
   journal = string_bytes words.journal;
 }
 
--- the names that a job holds
+-- the numbers that the words of `make` hold
+abbrev pub make_numbers : MakeWords → MakeNumbers
+make_numbers words = record {
+  number = words.number;
+  aisles = words.aisles;
+  orders = words.orders;
+  desks = words.desks;
+  wave = words.wave;
+  capacity = words.capacity;
+  budget = words.budget;
+  workers = words.workers;
+}
+
+-- the names and the numbers that a job holds
 abbrev pub job_names : Job → JobNames
 job_names (job.Plan words) = plan (plan_names words)
 job_names (job.Check words) = check (check_names words)
 job_names (job.Audit words) = audit (audit_names words)
+job_names (job.Make words) = make (make_numbers words)
 
 -- there was no memory
 abbrev pub wants_memory : WordsFault → Bool
 wants_memory fault.NoMode = false
 wants_memory fault.UnknownMode = false
 wants_memory fault.BadWords = false
+wants_memory (fault.TooManyWaves waves) = false
 wants_memory fault.Memory = true
 
 -- a fault is the one that the words say; but memory may have run out
@@ -62,4 +79,5 @@ abbrev pub fault_text : WordsFault → Text
 fault_text fault.NoMode = codes "no-mode"
 fault_text fault.UnknownMode = codes "unknown-mode"
 fault_text fault.BadWords = codes "bad-words"
+fault_text (fault.TooManyWaves waves) = codes "too-many-waves " ++ decimal waves
 fault_text fault.Memory = codes "memory"

@@ -1,10 +1,13 @@
 -- What the words of a command line say.
-use Rattle.std.specs.Prelude.{◌≡◌, ◌≤◌, ℕ, ⊤, List, [], ◌∷◌, codes, Option, Some, unwrap_or, option_map, if◌then◌else◌, Result, Ok, Err}
+use Rattle.std.specs.Prelude.{◌≡◌, ◌≤◌, nat_le, ℕ, ⊤, List, [], ◌∷◌, codes, Option, Some, unwrap_or, option_map, if◌then◌else◌, Result, Ok, Err}
+use Rattle.std.specs.Int.{div_ceil}
 use Rattle.std.specs.Str.{bytes_eq}
 use Rattle.std.specs.Str.Parse.{digits_value, without_leading_plus}
 use Rattle.clap.specs.Words.{App, Kinds, Row, Text, fault_of, first_of, matches_of, one_of}
+use Rattle.wp_model.specs.Limits.{greatest_desk, most_aisles, most_file_orders, most_submissions, most_wave_orders}
+use Rattle.wp_model.specs.Outcomes.{and_then}
 use Rattle.wp_words.specs.Limits.{most_budget, most_capacity, most_workers}
-use Rattle.wp_words.specs.Options.{audit_command, check_command, plan_command}
+use Rattle.wp_words.specs.Options.{audit_command, check_command, make_command, plan_command}
 use Rattle.wp_words.specs.declared.fault.WordsFault.{WordsFault}
 use Rattle.wp_words.specs.declared.fault.WordsFault.TheVariants as fault
 
@@ -38,17 +41,55 @@ pub record AuditNames : Type 0 where
   pub orders : Text
   pub journal : Text
 
--- a job, by the names that its words give
+-- the numbers that the options of `make` give
+pub record MakeNumbers : Type 0 where
+  pub number : ℕ
+  pub aisles : ℕ
+  pub orders : ℕ
+  pub desks : ℕ
+  pub wave : ℕ
+  pub capacity : ℕ
+  pub budget : ℕ
+  pub workers : ℕ
+
+-- how many waves the orders are cut into
+abbrev pub waves_of : MakeNumbers → ℕ
+waves_of numbers = div_ceil numbers.orders numbers.wave
+
+-- each number of `make` lies in its range
+pub record HasMakeRanges (numbers : MakeNumbers) : Type 0 where
+  pub some_aisles : 1 ≤ numbers.aisles
+  pub aisles : numbers.aisles ≤ most_aisles
+  pub some_orders : 1 ≤ numbers.orders
+  pub orders : numbers.orders ≤ most_file_orders
+  pub some_desks : 1 ≤ numbers.desks
+  pub desks : numbers.desks ≤ greatest_desk
+  pub some_wave : 1 ≤ numbers.wave
+  pub wave : numbers.wave ≤ most_wave_orders
+  pub some_capacity : 1 ≤ numbers.capacity
+  pub capacity : numbers.capacity ≤ most_capacity
+  pub budget : numbers.budget ≤ most_budget
+  pub some_workers : 1 ≤ numbers.workers
+  pub workers : numbers.workers ≤ most_workers
+
+-- and the waves aren't too many
+pub record IsMakeable (numbers : MakeNumbers) : Type 0 where
+  pub ranges : HasMakeRanges numbers
+  pub waves : waves_of numbers ≤ most_submissions
+
+-- a job, by the names and the numbers that its words give
 pub data JobNames : Type 0 where
   plan : PlanNames → JobNames
   check : CheckNames → JobNames
   audit : AuditNames → JobNames
+  make : MakeNumbers → JobNames
 
--- the numbers of a job lie in their ranges. A check and an audit have none
+-- the numbers of a job lie in their ranges, and its waves aren't too many. A check and an audit have none
 abbrev pub AreInRange : JobNames → Type 0
 AreInRange (plan names) = HasRanges names
 AreInRange (check names) = ⊤
 AreInRange (audit names) = ⊤
+AreInRange (make numbers) = IsMakeable numbers
 
 -- what was matched, where no kind of error comes of the words
 abbrev pub unless_faulty : Kinds → List Row → Result (List Row) WordsFault
@@ -101,10 +142,23 @@ audit_names_of rows = record {
   journal = value_of rows (codes "journal");
 }
 
+-- the numbers that were matched for `make`
+abbrev pub make_numbers_of : List Row → MakeNumbers
+make_numbers_of rows = record {
+  number = number_of rows (codes "number");
+  aisles = number_of rows (codes "aisles");
+  orders = number_of rows (codes "orders");
+  desks = number_of rows (codes "desks");
+  wave = number_of rows (codes "wave");
+  capacity = number_of rows (codes "capacity");
+  budget = number_of rows (codes "budget");
+  workers = number_of rows (codes "workers");
+}
+
 -- a value that was found is made into something else, and a fault is the answer
 abbrev pub made_into : {A B : Type 0} → (A → B) → Result A WordsFault → Result B WordsFault
-made_into make (Ok value) = Ok (make value)
-made_into make (Err why) = Err why
+made_into change (Ok value) = Ok (change value)
+made_into change (Err why) = Err why
 
 -- what words say after `plan`
 abbrev pub plan_said : List Text → Result PlanNames WordsFault
@@ -118,6 +172,18 @@ check_said words = made_into check_names_of (matched check_command words)
 abbrev pub audit_said : List Text → Result AuditNames WordsFault
 audit_said words = made_into audit_names_of (matched audit_command words)
 
+-- what the options of `make` give
+abbrev pub make_given : List Text → Result MakeNumbers WordsFault
+make_given words = made_into make_numbers_of (matched make_command words)
+
+-- numbers whose waves aren't too many
+abbrev pub few_waves : MakeNumbers → Result MakeNumbers WordsFault
+few_waves numbers = if nat_le (waves_of numbers) most_submissions then Ok numbers else Err (fault.TooManyWaves (waves_of numbers))
+
+-- what words say after `make`
+abbrev pub make_said : List Text → Result MakeNumbers WordsFault
+make_said words = and_then (make_given words) few_waves
+
 -- the job that words say: the first is the mode, and the others are the words of its command
 unfoldable pub job_said : List Text → Result JobNames WordsFault
 job_said [] = Err fault.NoMode
@@ -125,6 +191,7 @@ job_said (mode ∷ words) =
     if bytes_eq mode (codes "plan") then made_into plan (plan_said words)
     else if bytes_eq mode (codes "check") then made_into check (check_said words)
     else if bytes_eq mode (codes "audit") then made_into audit (audit_said words)
+    else if bytes_eq mode (codes "make") then made_into make (make_said words)
     else Err fault.UnknownMode
 
 -- clap states these values for the options of `plan`
@@ -149,9 +216,21 @@ pub record AreAuditValues (rows : List Row) (names : AuditNames) : Type 0 where
   pub orders : first_of (codes "orders") rows ≡ Some names.orders
   pub journal : first_of (codes "journal") rows ≡ Some names.journal
 
+-- clap states these values for the options of `make`
+pub record AreMakeValues (rows : List Row) (numbers : MakeNumbers) : Type 0 where
+  pub number : number_read (codes "number") rows ≡ Some numbers.number
+  pub aisles : number_read (codes "aisles") rows ≡ Some numbers.aisles
+  pub orders : number_read (codes "orders") rows ≡ Some numbers.orders
+  pub desks : number_read (codes "desks") rows ≡ Some numbers.desks
+  pub wave : number_read (codes "wave") rows ≡ Some numbers.wave
+  pub capacity : number_read (codes "capacity") rows ≡ Some numbers.capacity
+  pub budget : number_read (codes "budget") rows ≡ Some numbers.budget
+  pub workers : number_read (codes "workers") rows ≡ Some numbers.workers
+
 -- clap states the values of a job for the words after its mode
 abbrev pub AreStated : List Text → JobNames → Type 0
 AreStated [] names = ⊥
 AreStated (mode ∷ words) (plan names) = ArePlanValues (matches_of plan_command words) names
 AreStated (mode ∷ words) (check names) = AreCheckValues (matches_of check_command words) names
 AreStated (mode ∷ words) (audit names) = AreAuditValues (matches_of audit_command words) names
+AreStated (mode ∷ words) (make numbers) = AreMakeValues (matches_of make_command words) numbers

@@ -17,6 +17,8 @@ pub enum WordsFault {
     /// The words after the mode aren't its options: one is left out, given twice or unknown, has no value, a number is
     /// none or isn't in its range, or a word belongs to no option.
     BadWords,
+    /// The words are a good `make`, but its orders are cut into this many waves, which are more than 500.
+    TooManyWaves(u32),
     /// There was no memory to read the words.
     Memory,
 }
@@ -25,12 +27,13 @@ impl fmt::Display for WordsFault {
     ghost output = { λ w. Some (fault_text w) };
 
     fn fmt<W: fmt::Write>(&self, f: &mut fmt::Formatter<W>) -> fmt::Result {
-        f.write_str(match self {
-            WordsFault::NoMode => "no-mode",
-            WordsFault::UnknownMode => "unknown-mode",
-            WordsFault::BadWords => "bad-words",
-            WordsFault::Memory => "memory",
-        })
+        match self {
+            WordsFault::NoMode => f.write_str("no-mode"),
+            WordsFault::UnknownMode => f.write_str("unknown-mode"),
+            WordsFault::BadWords => f.write_str("bad-words"),
+            WordsFault::TooManyWaves(waves) => write!(f, "too-many-waves {waves}"),
+            WordsFault::Memory => f.write_str("memory"),
+        }
     }
 }
 

@@ -7,6 +7,8 @@ pub enum Job {
     Check(CheckWords),
     /// Holds a journal against the files that it came from.
     Audit(AuditWords),
+    /// Plans the waves of a day that is made.
+    Make(MakeWords),
 }
 
 /// The names of the files of a day, and the numbers that its plans go by.
@@ -38,4 +40,25 @@ pub struct AuditWords {
     pub stock: String,
     pub orders: String,
     pub journal: String,
+}
+
+/// The numbers from which a day is made and planned.
+#[derive(Debug, Drop)]
+pub struct MakeWords {
+    /// What the day is drawn from.
+    pub number: u64,
+    /// How many aisles the warehouse has, 1 to 64.
+    pub aisles: u32,
+    /// How many orders there are, 1 to 10,000.
+    pub orders: u32,
+    /// How many desks take turns, 1 to 8.
+    pub desks: u32,
+    /// How many orders a wave has, 1 to 64; the waves are at most 500.
+    pub wave: u32,
+    /// The most orders that a batch may have, 1 to 8.
+    pub capacity: u32,
+    /// The work that the search for better batches may do, 0 to 1,000,000,000,000,000,000.
+    pub budget: u64,
+    /// The most threads that may search at once, 1 to 16.
+    pub workers: u32,
 }

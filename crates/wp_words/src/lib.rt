@@ -1,8 +1,8 @@
 //! The words of a command line, read into the job that they ask for.
 //!
 //! The first word is the mode. Each mode has options of its own, which the kit's `clap` reads: `--option VALUE` or
-//! `--option=VALUE`, in any order, each once. None is left out but the budget and the workers of a plan, which then
-//! are 2,000,000 and 1.
+//! `--option=VALUE`, in any order, each once. None is left out but the budget and the workers of a plan or of a made day,
+//! which then are 2,000,000 and 1.
 #![tactic(auto)]
 
 mod fault;
@@ -11,7 +11,7 @@ mod options;
 mod reading;
 
 pub use fault::WordsFault;
-pub use job::{AuditWords, CheckWords, Job, PlanWords};
+pub use job::{AuditWords, CheckWords, Job, MakeWords, PlanWords};
 pub use reading::read_words;
 
 #[cfg(test)]

@@ -1,7 +1,7 @@
 ghost use Rattle.std.specs.Prelude.{◌≡◌, List, ℕ, [], IfOk, IfErr, Some, Ok, string_bytes, true, false};
 ghost use Rattle.clap.specs.Words.{IsParsedFrom, app_of, rule_of, first_of, found_of, is_simple_and_free, one_of, rows_of};
-ghost use Rattle.wp_words.specs.Options.{audit_command, budget_rule, capacity_rule, check_command, command_with, named_rule, required_rule};
-ghost use Rattle.wp_words.specs.Options.{plan_command, workers_rule};
+ghost use Rattle.wp_words.specs.Options.{audit_command, budget_rule, capacity_rule, check_command, command_with, count_rule, make_command, named_rule};
+ghost use Rattle.wp_words.specs.Options.{number_rule, plan_command, required_rule, workers_rule};
 ghost use Rattle.wp_words.specs.Reading.{IsFaultOf, texts_of};
 ghost use Rattle.wp_words.specs.Words.{matched};
 
@@ -10,7 +10,7 @@ use clap::error::ErrorKind;
 use clap::{Arg, ArgAction, ArgMatches, Command, value_parser};
 use std::alloc::{AllocError, Global};
 use std::str::FromStr;
-use wp_model::Memory;
+use wp_model::{GREATEST_DESK, MOST_AISLES, MOST_FILE_ORDERS, MOST_WAVE_ORDERS, Memory};
 
 /// The most orders that a batch may have.
 const MOST_CAPACITY: i64 = 8;
@@ -65,6 +65,22 @@ fn workers_option<'a>(alloc: Global) -> Arg<'a>
         .default_value("1")
 }
 
+/// The option of the number that a day is drawn from.
+fn number_option<'a>(alloc: Global) -> Arg<'a>
+    ensures rule { rule_of result ≡ number_rule }
+    ensures local { result.global ≡ false }
+{
+    required_option(alloc, "number").value_parser(value_parser!(u64))
+}
+
+/// An option that has to be given, a number from 1 to this one.
+fn count_option<'a>(alloc: Global, name: &'a str, most: u32) -> Arg<'a>
+    ensures rule { rule_of result ≡ count_rule name.entry.now most }
+    ensures local { result.global ≡ false }
+{
+    required_option(alloc, name).value_parser(value_parser!(u32).range(1..=i64::from(most)))
+}
+
 /// A command with no options yet.
 fn bare_command<'a>(alloc: Global, mode: &'a str) -> Command<'a>
     ensures { app_of result ≡ command_with mode.entry.now [] }
@@ -108,6 +124,22 @@ pub fn audit_command<'a>(alloc: Global) -> Result<Command<'a>, AllocError>
         .arg(required_option(alloc, "stock"))?
         .arg(required_option(alloc, "orders"))?
         .arg(required_option(alloc, "journal"))?;
+    Ok(command)
+}
+
+/// The options of `make`.
+pub fn make_command<'a>(alloc: Global) -> Result<Command<'a>, AllocError>
+    ensures { IfOk result (λ command. app_of command ≡ make_command) }
+{
+    let command = bare_command(alloc, "make")
+        .arg(number_option(alloc))?
+        .arg(count_option(alloc, "aisles", MOST_AISLES))?
+        .arg(count_option(alloc, "orders", MOST_FILE_ORDERS))?
+        .arg(count_option(alloc, "desks", GREATEST_DESK))?
+        .arg(count_option(alloc, "wave", MOST_WAVE_ORDERS))?
+        .arg(capacity_option(alloc))?
+        .arg(budget_option(alloc))?
+        .arg(workers_option(alloc))?;
     Ok(command)
 }
 

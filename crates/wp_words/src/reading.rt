@@ -1,16 +1,18 @@
 ghost use Rattle.std.specs.Prelude.{◌≡◌, IfOk, IfErr, Ok};
 ghost use Rattle.clap.specs.Words.{found_of, matches_of, rows_of};
-ghost use Rattle.wp_words.specs.Options.{audit_command, check_command, plan_command};
-ghost use Rattle.wp_words.specs.Reading.{IsFaultOf, audit_names, check_names, job_names, plan_names, texts_of};
-ghost use Rattle.wp_words.specs.Words.{AreAuditValues, AreCheckValues, AreInRange, ArePlanValues, AreStated, HasRanges, audit_said, check_said, job_said};
-ghost use Rattle.wp_words.specs.Words.{plan_said};
+ghost use Rattle.wp_words.specs.Options.{audit_command, check_command, make_command, plan_command};
+ghost use Rattle.wp_words.specs.Reading.{IsFaultOf, audit_names, check_names, job_names, make_numbers, plan_names, texts_of};
+ghost use Rattle.wp_words.specs.Words.{AreAuditValues, AreCheckValues, AreInRange, AreMakeValues, ArePlanValues, AreStated, HasMakeRanges, HasRanges};
+ghost use Rattle.wp_words.specs.Words.{IsMakeable, audit_said, check_said, job_said, make_given, make_said, plan_said};
 
 use crate::fault::WordsFault;
-use crate::job::{AuditWords, CheckWords, Job, PlanWords};
-use crate::options::{audit_command, check_command, matched, number_of, plan_command, value_of};
+use crate::job::{AuditWords, CheckWords, Job, MakeWords, PlanWords};
+use crate::options::{
+    audit_command, check_command, make_command, matched, number_of, plan_command, value_of,
+};
 use clap::ArgMatches;
 use std::alloc::Global;
-use wp_model::Memory;
+use wp_model::{MOST_SUBMISSIONS, Memory};
 
 fn plan_words(alloc: Global, matches: &ArgMatches<'_>) -> Result<PlanWords, Memory>
     ensures { IfOk result (λ words. ArePlanValues (rows_of (found_of matches.now)) (plan_names words)) }
@@ -59,6 +61,21 @@ fn audit_words(alloc: Global, matches: &ArgMatches<'_>) -> Result<AuditWords, Me
     })
 }
 
+fn make_words(matches: &ArgMatches<'_>) -> Result<MakeWords, Memory>
+    ensures { IfOk result (λ words. AreMakeValues (rows_of (found_of matches.now)) (make_numbers words)) }
+{
+    Ok(MakeWords {
+        number: number_of(matches, "number")?,
+        aisles: number_of(matches, "aisles")?,
+        orders: number_of(matches, "orders")?,
+        desks: number_of(matches, "desks")?,
+        wave: number_of(matches, "wave")?,
+        capacity: number_of(matches, "capacity")?,
+        budget: number_of(matches, "budget")?,
+        workers: number_of(matches, "workers")?,
+    })
+}
+
 /// The words after `plan`.
 fn read_plan(alloc: Global, words: &[String]) -> Result<PlanWords, WordsFault>
     ensures said { IfOk result (λ plan. plan_said (texts_of words.now) ≡ Ok (plan_names plan)) }
@@ -96,10 +113,40 @@ fn read_audit(alloc: Global, words: &[String]) -> Result<AuditWords, WordsFault>
     Ok(audit)
 }
 
-/// Reads the words of a command line, without the program's name: a mode, `plan`, `check` or `audit`, and its
-/// options. NoMode comes exactly where there is no word, UnknownMode exactly where the first word is no mode, and
-/// BadWords exactly where the words after it aren't accepted for the mode's command. Of a plan the capacity is 1 to 8,
-/// the budget 0 to 1,000,000,000,000,000,000 and the workers 1 to 16.
+/// What the options of `make` give.
+fn read_given(alloc: Global, words: &[String]) -> Result<MakeWords, WordsFault>
+    ensures said { IfOk result (λ make. make_given (texts_of words.now) ≡ Ok (make_numbers make)) }
+    ensures stated { IfOk result (λ make. AreMakeValues (matches_of make_command (texts_of words.now)) (make_numbers make)) }
+    ensures fault { IfErr result (IsFaultOf (make_given (texts_of words.now))) }
+    ensures ranges { IfOk result (λ make. HasMakeRanges (make_numbers make)) }
+{
+    let command = make_command(alloc)?;
+    let matches = matched(command, words)?;
+    let make = make_words(&matches)?;
+    Ok(make)
+}
+
+/// The words after `make`.
+fn read_make(alloc: Global, words: &[String]) -> Result<MakeWords, WordsFault>
+    ensures said { IfOk result (λ make. make_said (texts_of words.now) ≡ Ok (make_numbers make)) }
+    ensures stated { IfOk result (λ make. AreMakeValues (matches_of make_command (texts_of words.now)) (make_numbers make)) }
+    ensures fault { IfErr result (IsFaultOf (make_said (texts_of words.now))) }
+    ensures makeable { IfOk result (λ make. IsMakeable (make_numbers make)) }
+{
+    let make = read_given(alloc, words)?;
+    let waves = make.orders.div_ceil(make.wave);
+    if waves <= MOST_SUBMISSIONS {
+        Ok(make)
+    } else {
+        Err(WordsFault::TooManyWaves(waves))
+    }
+}
+
+/// Reads the words of a command line, without the program's name: a mode, `plan`, `check`, `audit` or `make`, and its
+/// options. NoMode comes exactly where there is no word, UnknownMode exactly where the first word is no mode, BadWords
+/// exactly where the words after it aren't accepted for the mode's command, and TooManyWaves exactly where they are a good
+/// `make` whose orders are cut into more than 500 waves, with their number. Of a plan and of a made day the capacity is 1
+/// to 8, the budget 0 to 1,000,000,000,000,000,000 and the workers 1 to 16.
 #[tactic(auto, unfolding(crate::specs::Words::job_said))]
 pub fn read_words(alloc: Global, words: &Vec<String>) -> Result<Job, WordsFault>
     ensures job { IfOk result (λ job. job_said (texts_of words.now.items) ≡ Ok (job_names job)) }
@@ -114,6 +161,7 @@ pub fn read_words(alloc: Global, words: &Vec<String>) -> Result<Job, WordsFault>
         "plan" => Ok(Job::Plan(read_plan(alloc, words)?)),
         "check" => Ok(Job::Check(read_check(alloc, words)?)),
         "audit" => Ok(Job::Audit(read_audit(alloc, words)?)),
+        "make" => Ok(Job::Make(read_make(alloc, words)?)),
         _ => Err(WordsFault::UnknownMode),
     }
 }

@@ -41,12 +41,29 @@ fn audit_text(alloc: Global, words: &AuditWords) -> Result<String, AllocError> {
     format!(in alloc; "audit {layout}, {stock}, {orders}, {journal}")
 }
 
+fn make_text(alloc: Global, words: &MakeWords) -> Result<String, AllocError> {
+    let MakeWords {
+        number,
+        aisles,
+        orders,
+        desks,
+        wave,
+        capacity,
+        budget,
+        workers,
+    } = words;
+    format!(in alloc;
+        "make {number}, {aisles}, {orders}, {desks}, {wave}, {capacity}, {budget}, {workers}"
+    )
+}
+
 /// The mode of a job and the names and numbers that it gives, or what the fault is told as.
 fn told(alloc: Global, read: &Result<Job, WordsFault>) -> Result<String, AllocError> {
     match read {
         Ok(Job::Plan(words)) => plan_text(alloc, words),
         Ok(Job::Check(words)) => check_text(alloc, words),
         Ok(Job::Audit(words)) => audit_text(alloc, words),
+        Ok(Job::Make(words)) => make_text(alloc, words),
         Err(fault) => fault.to_string(alloc),
     }
 }
@@ -140,6 +157,30 @@ const JOBS: &[(&str, &str)] = &[
         "audit --journal j --orders=o --layout l --stock=s",
         "audit l, s, o, j",
     ),
+    (
+        "make --number 1 --aisles 60 --orders 200 --desks 4 --wave 20 --capacity 3 --budget 120000 --workers 16",
+        "make 1, 60, 200, 4, 20, 3, 120000, 16",
+    ),
+    (
+        "make --number=18446744073709551615 --aisles=64 --orders=10000 --desks=8 --wave=64 --capacity=8",
+        "make 18446744073709551615, 64, 10000, 8, 64, 8, 2000000, 1",
+    ),
+    (
+        "make --wave 1 --number 0 --desks 1 --capacity 1 --orders 1 --aisles 1",
+        "make 0, 1, 1, 1, 1, 1, 2000000, 1",
+    ),
+    (
+        "make --number 2 --aisles 3 --orders 10000 --desks 5 --wave 20 --capacity 7",
+        "make 2, 3, 10000, 5, 20, 7, 2000000, 1",
+    ),
+    (
+        "make --number 2 --aisles 3 --orders 500 --desks 5 --wave 1 --capacity 7",
+        "make 2, 3, 500, 5, 1, 7, 2000000, 1",
+    ),
+    (
+        "make --number 2 --aisles 3 --orders 4500 --desks 5 --wave 9 --capacity 7",
+        "make 2, 3, 4500, 5, 9, 7, 2000000, 1",
+    ),
 ];
 
 /// The first line that is read otherwise.
@@ -196,6 +237,8 @@ const NO_MODES: &[&str] = &[
     "--layout l plan",
     " plan --layout l --stock s --orders o --desks d",
     "fly --layout l --stock s --orders o --desks d",
+    "makes --number 1 --aisles 2 --orders 3 --desks 4 --wave 5 --capacity 6",
+    "Make --number 1 --aisles 2 --orders 3 --desks 4 --wave 5 --capacity 6",
 ];
 
 #[test]
@@ -427,4 +470,75 @@ fn words_of_audit_are_refused(rt: HostRuntime) {
         misrefused_words(rt.alloc(), "audit", BAD_AUDITS, "bad-words"),
         Ok(None)
     );
+}
+
+/// What may not stand after the word `make`.
+const BAD_MAKES: &[&str] = &[
+    "",
+    " --number 1 --aisles 2 --orders 3 --desks 4 --wave 5",
+    " --number 1 --aisles 2 --orders 3 --desks 4 --capacity 6",
+    " --number 1 --aisles 2 --orders 3 --wave 5 --capacity 6",
+    " --number 1 --aisles 2 --desks 4 --wave 5 --capacity 6",
+    " --number 1 --orders 3 --desks 4 --wave 5 --capacity 6",
+    " --aisles 2 --orders 3 --desks 4 --wave 5 --capacity 6",
+    " --number 18446744073709551616 --aisles 2 --orders 3 --desks 4 --wave 5 --capacity 6",
+    " --number=-1 --aisles 2 --orders 3 --desks 4 --wave 5 --capacity 6",
+    " --number x --aisles 2 --orders 3 --desks 4 --wave 5 --capacity 6",
+    " --number 1 --aisles 0 --orders 3 --desks 4 --wave 5 --capacity 6",
+    " --number 1 --aisles 65 --orders 3 --desks 4 --wave 5 --capacity 6",
+    " --number 1 --aisles 2 --orders 0 --desks 4 --wave 5 --capacity 6",
+    " --number 1 --aisles 2 --orders 10001 --desks 4 --wave 64 --capacity 6",
+    " --number 1 --aisles 2 --orders 3 --desks 0 --wave 5 --capacity 6",
+    " --number 1 --aisles 2 --orders 3 --desks 9 --wave 5 --capacity 6",
+    " --number 1 --aisles 2 --orders 3 --desks 4 --wave 0 --capacity 6",
+    " --number 1 --aisles 2 --orders 3 --desks 4 --wave 65 --capacity 6",
+    " --number 1 --aisles 2 --orders 3 --desks 4 --wave 5 --capacity 9",
+    " --number 1 --aisles 2 --orders 3 --desks 4 --wave 5 --capacity 6 --budget 1000000000000000001",
+    " --number 1 --aisles 2 --orders 3 --desks 4 --wave 5 --capacity 6 --workers 17",
+    " --number 1 --aisles 2 --orders 3 --desks 4 --wave 5 --capacity 6 --number 1",
+    " --number 1 --aisles 2 --orders 3 --desks 4 --wave 5 --capacity 6 --layout l",
+    " --number 1 --aisles 2 --orders 3 --desks 4 --wave 5 --capacity 6 now",
+    " --number 1 --aisles 2 --orders 10000 --desks 4 --wave 10 --capacity 9",
+    " 1 2 3 4 5 6",
+    " --help",
+];
+
+#[test]
+fn words_of_make_are_refused(rt: HostRuntime) {
+    assert_eq!(rt;
+        misrefused_words(rt.alloc(), "make", BAD_MAKES, "bad-words"),
+        Ok(None)
+    );
+}
+
+/// The words of a make but for its orders and its waves.
+const MAKE: &str = "make --number 1 --aisles 2 --desks 4 --capacity 6";
+
+/// Orders that are cut into too many waves, and what they are told as.
+const TOO_MANY_WAVES: &[(&str, &str)] = &[
+    (" --orders 10000 --wave 10", "too-many-waves 1000"),
+    (" --orders 5001 --wave 10", "too-many-waves 501"),
+    (" --orders 501 --wave 1", "too-many-waves 501"),
+    (" --orders 10000 --wave 19", "too-many-waves 527"),
+    (" --wave=1 --orders=10000", "too-many-waves 10000"),
+];
+
+fn is_too_many(alloc: Global, words: &str, said: &str) -> Result<bool, AllocError> {
+    let line = format!(in alloc; "{MAKE}{words}")?;
+    is_read(alloc, line.as_str(), said)
+}
+
+/// The first orders and waves that are told otherwise.
+fn mistold_waves(alloc: Global) -> Result<Option<&'static str>, AllocError> {
+    for (words, said) in TOO_MANY_WAVES {
+        if !is_too_many(alloc, words, said)? {
+            return Ok(Some(*words));
+        }
+    }
+    Ok(None)
+}
+
+#[test]
+fn too_many_waves_are_told(rt: HostRuntime) {
+    assert_eq!(rt; mistold_waves(rt.alloc()), Ok(None));
 }

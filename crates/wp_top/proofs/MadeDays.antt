@@ -1,0 +1,124 @@
+-- What a made day comes to.
+use Rattle.std.proofs.Common.{◌≡◌, ◌∙◌, refl, sym, ap, ap₂, subst, ℕ, ◌+◌, Bool, true, false, List, [], ◌∷◌, ◌++◌, length, length-append, Some, Result, Ok, Err, true≢false}
+use Rattle.std.specs.Prelude.{◌≢◌, if◌then◌else◌, count_by, take, slice_get}
+use Rattle.std.specs.List.{flat_map}
+use Rattle.std.proofs.lemmas.List.Concat.{flat_map-cons}
+use Rattle.std.proofs.lemmas.List.Elements.{All-head, All-tail, filter_map-append}
+use Rattle.std.proofs.lemmas.List.Sums.{sum_by-append, sum_by-cons}
+use Rattle.wp_layout.specs.LayoutFile.{layout_said}
+use Rattle.wp_layout.specs.declared.fault.LayoutFault.{LayoutFault}
+use Rattle.wp_layout.specs.declared.fault.LayoutFault.TheVariants as layout_fault
+use Rattle.wp_machine.proofs.Outcomes.{holds_come_with_released}
+use Rattle.wp_machine.specs.Outcome.{outcome_of, outcomes_from, released_in, released_of, says_released, tells_holds}
+use Rattle.wp_machine.specs.declared.outcome.Outcome.{Outcome}
+use Rattle.wp_machine.specs.declared.outcome.Outcome.TheVariants as outcome
+use Rattle.wp_make.specs.Accepted.{AreAccepted}
+use Rattle.wp_make.specs.Texts.{Texts}
+use Rattle.wp_model.specs.History.{History, IsLegal, IsLegalFrom}
+use Rattle.wp_model.specs.Opening.{Opening, Order, Stock}
+use Rattle.wp_model.specs.State.{State, opening_state}
+use Rattle.wp_model.specs.Step.{step}
+use Rattle.wp_model.specs.Warehouse.{Layout}
+use Rattle.wp_model.specs.declared.entry.Entry.{Entry}
+use Rattle.wp_planner.specs.declared.planner.Terms.{Terms}
+use Rattle.wp_tables.specs.OrderFile.{orders_said}
+use Rattle.wp_tables.specs.StockFile.{stock_said}
+use Rattle.wp_top.specs.Planned.{ArePlanned, IsPlanned, Sent, waves_of}
+use Rattle.wp_top.specs.Stops.{lacks_memory}
+use Rattle.wp_top.specs.Summaries.{AreGoodPlans, is_proven, plans_of, proven_plans, releases, total_bound, total_cost}
+use Rattle.wp_top.proofs.Writing.{take_more}
+
+-- a fault of a text that is accepted is want of memory
+pub layout_lacks_memory : (fault : LayoutFault) (given said : Result Layout LayoutFault) (layout : Layout) → given ≡ Err fault → said ≡ Ok layout
+    → (given ≢ Err layout_fault.Memory → given ≡ said) → lacks_memory fault ≡ true
+layout_lacks_memory fault given said layout is accepted exact = cases (lacks_memory fault) refl
+  where
+    is_memory : given ≡ Err layout_fault.Memory → fault ≡ layout_fault.Memory
+    is_memory same = let faults : Err fault ≡ Err layout_fault.Memory = sym is ∙ same in cc faults
+
+    cases : (b : Bool) → lacks_memory fault ≡ b → b ≡ true
+    cases true wants = refl
+    cases false wants =
+        let refused : given ≡ said = exact (λ same. true≢false (sym (ap lacks_memory (is_memory same)) ∙ wants)) in
+        let both : Err fault ≡ Ok layout = sym is ∙ (refused ∙ accepted) in absurd (cc both)
+
+pub wanting : {A F : Type 0} (b : Bool) (fault : F) (said : Result A F) (value : A) → said ≡ Ok value → (b ≡ false → said ≡ Err fault) → b ≡ true
+wanting true fault said value accepted exact = refl
+wanting false fault said value accepted exact = absurd (cc (sym accepted ∙ exact refl))
+
+-- in the layout that was read, accepted texts have the stock of their day,
+stock_of_day : (texts : Texts) (layout : Layout) (accepted : AreAccepted texts) → layout_said texts.layout ≡ Ok layout
+    → stock_said layout texts.stock ≡ Ok accepted.0.opening.stock
+stock_of_day texts layout (day, says) read =
+    let both : Ok day.layout ≡ Ok layout = sym says.layout ∙ read in
+    let same : day.layout ≡ layout = cc both in subst (λ (l : Layout). stock_said l texts.stock ≡ Ok day.opening.stock) same says.stock
+
+-- so the readers accept it,
+pub stock_accepted : (texts : Texts) (layout : Layout) → AreAccepted texts → layout_said texts.layout ≡ Ok layout
+    → (stock : Stock) × (stock_said layout texts.stock ≡ Ok stock)
+stock_accepted texts layout accepted read = (accepted.0.opening.stock, stock_of_day texts layout accepted read)
+
+-- and the orders for the stock that was read
+pub orders_accepted : (texts : Texts) (layout : Layout) (stock : Stock) → AreAccepted texts → layout_said texts.layout ≡ Ok layout
+    → stock_said layout texts.stock ≡ Ok stock → (orders : List Order) × (orders_said stock texts.orders ≡ Ok orders)
+orders_accepted texts layout stock (day, says) read stocked =
+    let both : Ok day.opening.stock ≡ Ok stock = sym (stock_of_day texts layout (day, says) read) ∙ stocked in
+    let same : day.opening.stock ≡ stock = cc both in
+    (day.opening.orders, subst (λ (s : Stock). orders_said s texts.orders ≡ Ok day.opening.orders) same says.orders)
+
+-- a step tells one wave that goes out, or none
+one_or_none : (told : Outcome) → length (released_in told) ≡ (if tells_holds told then 1 else 0)
+one_or_none outcome.Plain = refl
+one_or_none (outcome.Released released) = refl
+one_or_none (outcome.Refilled refill) = refl
+
+one_more : {A : Type 0} (p : A → Bool) (x : A) (xs : List A) → count_by p (x ∷ xs) ≡ (if p x then 1 else 0) + count_by p xs
+one_more p x xs = sum_by-cons (λ y. if p y then 1 else 0) x xs
+
+released_from : (opening : Opening) (number : ℕ) (state : State) (entries : List Entry) → IsLegalFrom opening number state entries
+    → length (flat_map released_in (outcomes_from opening number state entries)) ≡ releases entries
+released_from opening number state [] legal = refl
+released_from opening number state (entry ∷ entries) legal =
+    let stepped = step opening state entry.command in
+    let told = outcome_of number state entry.command stepped in
+    let later = outcomes_from opening (number + 1) stepped.state entries in
+    let says : tells_holds told ≡ says_released entry.reply =
+    holds_come_with_released opening number state entry.command ∙ ap says_released (sym legal.1) in
+    let here : length (released_in told) ≡ (if says_released entry.reply then 1 else 0) =
+    one_or_none told ∙ ap (λ (b : Bool). if b then 1 else 0) says in
+    ap length (flat_map-cons released_in told later) ∙ (length-append (released_in told) (flat_map released_in later)
+    ∙ (ap₂ (λ (a b : ℕ). a + b) here (released_from opening (number + 1) stepped.state entries legal.2)
+    ∙ sym (one_more (λ (e : Entry). says_released e.reply) entry entries)))
+
+-- as many waves go out in a legal history as it has releases
+pub released_count : (history : History) → IsLegal history → length (released_of history) ≡ releases history.entries
+released_count history legal = released_from history.opening 0 (opening_state history.opening) history.entries legal
+
+-- the plans of waves that went out, each with a good one
+pub good_plans : (layout : Layout) (stock : Stock) (terms : Terms) (sent : List Sent) → ArePlanned layout stock terms sent
+    → AreGoodPlans layout stock terms (waves_of sent) (plans_of sent)
+good_plans layout stock terms [] planned = tt
+good_plans layout stock terms (one ∷ sent) planned =
+    let P : Sent → Type 0 = IsPlanned layout stock terms in
+    let first = All-head P one sent planned in
+    rw first.there (first.good, good_plans layout stock terms sent (All-tail P one sent planned))
+
+-- the plans up to the next wave
+pub plans_more : (sent : List Sent) (i : ℕ) (one : Sent) → slice_get sent i ≡ Some one
+    → plans_of (take (i + 1) sent) ≡ plans_of (take i sent) ++ plans_of (one ∷ [])
+plans_more sent i one is = ap plans_of (take_more sent i one is) ∙ filter_map-append (λ (s : Sent). s.plan) (take i sent) (one ∷ [])
+
+-- and what they come to
+pub total_cost_more : (sent : List Sent) (i : ℕ) (one : Sent) → slice_get sent i ≡ Some one
+    → total_cost (plans_of (take (i + 1) sent)) ≡ total_cost (plans_of (take i sent)) + total_cost (plans_of (one ∷ []))
+total_cost_more sent i one is = ap total_cost (plans_more sent i one is) ∙ sum_by-append (λ p. p.planned.cost) (plans_of (take i sent)) (plans_of (one ∷ []))
+
+pub total_bound_more : (sent : List Sent) (i : ℕ) (one : Sent) → slice_get sent i ≡ Some one
+    → total_bound (plans_of (take (i + 1) sent)) ≡ total_bound (plans_of (take i sent)) + total_bound (plans_of (one ∷ []))
+total_bound_more sent i one is = ap total_bound (plans_more sent i one is) ∙ sum_by-append (λ p. p.planned.bound) (plans_of (take i sent)) (plans_of (one ∷ []))
+
+pub proven_more : (sent : List Sent) (i : ℕ) (one : Sent) → slice_get sent i ≡ Some one
+    → proven_plans (plans_of (take (i + 1) sent)) ≡ proven_plans (plans_of (take i sent)) + proven_plans (plans_of (one ∷ []))
+proven_more sent i one is =
+    ap proven_plans (plans_more sent i one is)
+    ∙ sum_by-append (λ p. if is_proven p.planned.state then 1 else 0) (plans_of (take i sent)) (plans_of (one ∷ []))

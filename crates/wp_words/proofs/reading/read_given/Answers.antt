@@ -1,0 +1,27 @@
+use Rattle.std.proofs.Common.{◌∙◌, ap, sym, subst, List}
+use Rattle.std.proofs.lemmas.Result.{err_from_is_err_and}
+use Rattle.clap.specs.Words.{App, Row, is_simple_and_free}
+use Rattle.wp_words.specs.Reading.{IsFaultOf, make_numbers, texts_of}
+use Rattle.wp_words.specs.Words.{AreMakeValues, matched, make_numbers_of}
+use Rattle.wp_words.proofs.Matching.{fault_after, make_is_simple, rows_matched}
+use Rattle.wp_words.proofs.Ranges.{in_make_ranges}
+use Rattle.wp_words.proofs.reading.read_given.Goals as goal
+
+pub matched-requires : goal.matched-requires
+matched-requires c = record { simple = ap is_simple_and_free c.in_ok-command.ensures ∙ make_is_simple }
+
+pub returns-in_err-matches-clause-fault : goal.returns-in_err-matches-clause-fault
+returns-in_err-matches-clause-fault c =
+    let p = err_from_is_err_and c.from_residual-in_err-matches.result c.from_residual-in_err-matches.ensures.1 in
+    let why = c.in_err-matches.field-0.0 in
+    let of_command = subst (λ (a : App). IsFaultOf (matched a (texts_of c.args.words.now)) why) c.in_ok-command.ensures c.in_err-matches.ensures.fault in
+    rw (p.1, p.2) (fault_after make_numbers_of _ why of_command)
+
+pub returns-clause-stated : goal.returns-clause-stated
+returns-clause-stated c =
+    let command = ap (λ (a : App). matched a (texts_of c.args.words.now)) c.in_ok-command.ensures in
+    let rows = rows_matched _ _ _ (sym command ∙ c.in_ok-matches.ensures.rows) in
+    subst (λ (rows : List Row). AreMakeValues rows (make_numbers c.in_ok-make.make)) (sym rows) c.in_ok-make.ensures
+
+pub returns-clause-ranges : goal.returns-clause-ranges
+returns-clause-ranges c = in_make_ranges _ _ _ c.in_ok-matches.ensures.parsed c.in_ok-command.ensures c.in_ok-make.ensures
