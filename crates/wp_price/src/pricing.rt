@@ -71,9 +71,9 @@ fn price<R: Threads + Sync, G: Gate>(
 /// the one whose list of orders comes first. None comes exactly where there is no such batch. Where no order is given and
 /// the slack isn't below 0 the duals are feasible, and their short marks come with it.
 ///
-/// Up to so many workers, 1 to 16, search the subtrees of the first items, at least two beside each other where there are two
-/// workers and two first items. A worker passes the gate by its own number, 1 at first, before it searches the subtree of a
-/// first item. The answer doesn't depend on the workers.
+/// Up to so many workers, 1 to 16, search the subtrees of the first items. No more take part than there are batches for; but where no
+/// order is given and there are two workers and two first items, at least two search beside each other. A worker passes the gate
+/// by its own number, 1 at first, before it searches the subtree of a first item. The answer doesn't depend on the workers.
 pub fn least_slack<R: Threads + Sync, G: Gate>(
     rt: &R,
     alloc: Global,

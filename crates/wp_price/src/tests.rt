@@ -3,6 +3,7 @@ ghost use Rattle.wp_duals.specs.Duals.{greatest_dual};
 ghost use Rattle.wp_model.specs.Warehouse.{IsSlot};
 
 mod gates;
+mod many;
 mod slow;
 mod workers;
 

@@ -15,6 +15,20 @@ use wp_model::Memory;
 use wp_outside::{Gate, Moment};
 use wp_pairs::Batch;
 
+/// How many batches a worker is worth: to begin a thread takes as long as to search some thousand batches.
+const BATCHES_FOR_ONE: u64 = 4_000;
+
+// How many batches so many items make at most, where there is room for so many of them.
+fn batches_of(items: u32, room: u32) -> u64 {
+    let mut sets = 1u64;
+    let mut batches = 0u64;
+    for size in 0..room.min(items) {
+        sets = sets.saturating_mul(u64::from(items - size)) / u64::from(size + 1);
+        batches = batches.saturating_add(sets);
+    }
+    batches
+}
+
 impl Search<'_> {
     // The orders that name first items of a place: those with which it makes a permitted batch.
     fn first_items(&self, place: &Place) -> Batch
@@ -81,13 +95,18 @@ impl Search<'_> {
         Ok(found)
     }
 
-    // How many workers take part where there are so many first items.
-    fn workers_for(&self, firsts: Batch, workers: u32) -> u32
-        requires { workers ≤ 16 }
+    // How many workers take part in a search below a place that has these first items: no more than the batches are worth that there
+    // may be, but at the root two where there are two first items.
+    fn workers_for(&self, place: &Place, firsts: Batch, workers: u32) -> u32
+        requires workers { workers ≤ 16 }
+        requires place { IsAt self.now place.now }
         ensures some { 0 < result }
         ensures most { result ≤ 16 }
     {
-        workers.min(firsts.len()).max(1)
+        let batches = batches_of(firsts.len(), self.room_at(place));
+        let least = if place.size == 0 { 2 } else { 1 };
+        let worth = (batches / BATCHES_FOR_ONE).clamp(least, 16) as u32;
+        workers.min(firsts.len()).min(worth).max(1)
     }
 
     /// The first items of a place, dealt out to the workers of a crew.
@@ -103,7 +122,7 @@ impl Search<'_> {
         ensures all { IfOk result (λ shares. AreSharesOf self.now place.now.batch shares.items) }
     {
         let firsts = self.first_items(place);
-        let workers = self.workers_for(firsts, crew.workers);
+        let workers = self.workers_for(place, firsts, crew.workers);
         deal(alloc, self.orders(), firsts, workers)
     }
 

@@ -3,6 +3,7 @@ ghost use Rattle.wp_model.specs.Warehouse.{IsSlot};
 
 mod batchings;
 mod made;
+mod workers;
 
 use super::*;
 use std::alloc::Global;

@@ -48,7 +48,7 @@ const GIVEN: &[(&[u64], &[(u32, u32, bool)])] = &[
 ];
 
 /// The batch whose orders are the ones of a number.
-fn batch_at(wave: &Wave, bits: u32) -> Batch
+pub(super) fn batch_at(wave: &Wave, bits: u32) -> Batch
     ensures { All (λ order. order < length wave.now.orders) result }
 {
     let mut batch = Batch::empty();

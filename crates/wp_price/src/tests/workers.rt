@@ -1,6 +1,7 @@
 //! Workers pass the gate before each first item, and price beside each other.
 
 use super::gates::{Counting, Counts, Meeting};
+use super::many::MANY;
 use super::slow::SIX;
 use super::{FREE, Given, ONE_BY_ONE, TOGETHER, asked, duals_of, pairs_of, wave_of};
 use std::alloc::Global;
@@ -11,17 +12,19 @@ use wp_outside::Gate;
 const PASSES: &[(Given, Option<u32>, u32, Counts)] = &[
     (FREE, None, 1, [3, 0, 0, 0]),
     (FREE, None, 2, [1, 2, 0, 0]),
-    (FREE, None, 3, [1, 1, 1, 0]),
-    (FREE, None, 16, [1, 1, 1, 0]),
-    (FREE, Some(1), 3, [1, 1, 0, 0]),
+    (FREE, None, 16, [1, 2, 0, 0]),
+    (FREE, Some(1), 3, [2, 0, 0, 0]),
     (TOGETHER, None, 3, [1, 1, 0, 0]),
     (TOGETHER, Some(0), 3, [0, 0, 0, 0]),
     (ONE_BY_ONE, None, 2, [1, 2, 0, 0]),
     (ONE_BY_ONE, Some(2), 16, [0, 0, 0, 0]),
     (SIX, None, 1, [6, 0, 0, 0]),
-    (SIX, None, 3, [2, 2, 2, 0]),
-    (SIX, None, 16, [1, 1, 1, 3]),
-    (SIX, Some(5), 2, [3, 2, 0, 0]),
+    (SIX, None, 16, [3, 3, 0, 0]),
+    (SIX, Some(5), 2, [5, 0, 0, 0]),
+    (MANY, None, 2, [12, 12, 0, 0]),
+    (MANY, None, 3, [8, 8, 8, 0]),
+    (MANY, None, 16, [1, 1, 2, 20]),
+    (MANY, Some(7), 2, [12, 11, 0, 0]),
 ];
 
 /// Whether something is found by so many workers who pass this gate.
@@ -76,10 +79,10 @@ fn have_met<R: Threads + Sync>(
 /// What is priced by several workers who meet, through which order, and by how many.
 const MEETINGS: &[(Given, Option<u32>, u32)] = &[
     (FREE, None, 2),
-    (FREE, Some(1), 2),
     (TOGETHER, None, 16),
     (SIX, None, 2),
-    (SIX, Some(5), 3),
+    (MANY, None, 16),
+    (MANY, Some(7), 2),
 ];
 
 fn wrong_meeting<R: Threads + Sync>(rt: &R, alloc: Global) -> Option<usize> {
