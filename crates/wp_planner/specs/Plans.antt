@@ -25,9 +25,3 @@ pub record IsPlanOf (layout : Layout) (stock : Stock) (released : WaveHolds) (te
 pub record IsPlanFor (layout : Layout) (stock : Stock) (terms : Terms) (wave : WaveHolds) (plan : Option WavePlan) : Type 0 where
   pub there : IsSome plan ↔ IsReleased stock wave
   pub good : IfSome plan (IsPlanOf layout stock wave terms)
-
--- what the waves of a day are planned with
-pub record DayTerms : Type 0 where
-  pub layout : Layout
-  pub stock : Stock
-  pub terms : Terms

@@ -1,74 +1,69 @@
-ghost use Rattle.std.specs.Prelude.{◌≡◌};
-ghost use Rattle.wp_planner.specs.Plans.{AreTerms, IsPlanFor};
-ghost use Rattle.wp_planner.specs.Released.{LiesIn};
+ghost use Rattle.std.specs.Prelude.{◌≡◌, Ok, Option, IfOk};
+ghost use Rattle.wp_machine.specs.declared.outcome.WaveHolds.{WaveHolds as Holds};
+ghost use Rattle.wp_planner.specs.declared.planner.WavePlan.{WavePlan as Plan};
 
-use crate::leave::Leave;
-use crate::planner::{Terms, WavePlan, plan_of};
-use crate::released::is_released;
+use crate::planner::WavePlan;
 use std::alloc::Global;
 use std::marker::Model;
-use std::thread::Threads;
 use wp_desk::Planner;
-use wp_graph::Layout;
 use wp_machine::WaveHolds;
 use wp_model::Memory;
-use wp_tables::Stock;
 
-/// What plans the waves of a day: a layout, the stock that lies in it, the terms, and the leave to start threads. Contracts see the
-/// first three.
-#[derive(Drop)]
-pub struct DayPlanner<'a, R> {
-    leave: Leave<'a, R>,
-    layout: &'a Layout,
-    stock: &'a Stock,
-    terms: Terms,
+/// What a day's planner calls for each wave: a closure, which holds all that a plan is made with.
+pub trait PlansWaves: Drop + Send + Sync {
+    /// It may be called for any wave.
+    ghost takes_any: { Self → Type 0 };
+
+    /// What a call for a wave may make of it.
+    ghost makes: { Self → Holds → Option Plan → Type 0 };
+
+    /// The plan of a wave.
+    fn plan_wave(&self, alloc: Global, wave: &WaveHolds) -> Result<Option<WavePlan>, Memory>
+        requires { takes_any self.now }
+        ensures { IfOk result (makes self.now wave.now) };
 }
 
-impl<'a, R> Model for DayPlanner<'a, R> {
-    ghost use Rattle.wp_planner.specs.Plans.{AreTerms, DayTerms};
-    ghost use Rattle.wp_planner.specs.Released.{LiesIn};
+impl<F: Fn(Global, &WaveHolds) -> Result<Option<WavePlan>, Memory> + Drop + Send + Sync> PlansWaves
+    for F {
+    ghost takes_any = { λ f. F.IsAlwaysCallable f };
 
-    ghost Value = { DayTerms };
+    ghost makes = { λ f wave plan. (alloc : _) × (shown : _) × F.post f alloc shown (Ok plan) × (shown.now ≡ wave) };
 
-    ghost view = { λ p. record { layout = p.layout.now; stock = p.stock.now; terms = p.terms } };
-
-    ghost invariant = { λ p. AreTerms p.terms × LiesIn p.layout.now p.stock.now };
-}
-
-impl<'a, R> DayPlanner<'a, R> {
-    /// The planner of a layout, a stock and terms, with the leave to start threads that a handle brings.
-    pub fn of(rt: &'a R, layout: &'a Layout, stock: &'a Stock, terms: Terms) -> DayPlanner<'a, R>
-        requires terms { AreTerms terms }
-        requires lies { LiesIn layout.now stock.now }
-        ensures { result ≡ record { layout = layout.now; stock = stock.now; terms = terms } }
-    {
-        DayPlanner {
-            leave: Leave::of(rt),
-            layout,
-            stock,
-            terms,
-        }
+    fn plan_wave(&self, alloc: Global, wave: &WaveHolds) -> Result<Option<WavePlan>, Memory> {
+        self(alloc, wave)
     }
 }
 
-impl<'a, R: Threads + Sync> Planner for DayPlanner<'a, R> {
+/// What plans the waves of a day, each by a call of the same closure.
+#[derive(Drop)]
+pub struct DayPlanner<C: PlansWaves> {
+    calls: C,
+}
+
+impl<C: PlansWaves> Model for DayPlanner<C> {
+    ghost Value = { C };
+
+    ghost view = { λ p. p.calls };
+
+    ghost invariant = { λ p. C.takes_any p.calls };
+}
+
+impl<C: PlansWaves> DayPlanner<C> {
+    /// The planner that calls this for each wave.
+    pub fn by(calls: C) -> DayPlanner<C>
+        requires { C.takes_any calls }
+        ensures { result ≡ calls }
+    {
+        DayPlanner { calls }
+    }
+}
+
+impl<C: PlansWaves> Planner for DayPlanner<C> {
     type Plan = Option<WavePlan>;
 
-    ghost plans = { λ planner wave plan. IsPlanFor planner.layout planner.stock planner.terms wave plan };
+    ghost plans = { C.makes };
 
-    /// The plan of a wave that goes out. None comes exactly where a wave isn't one that does.
     fn plan(&self, alloc: Global, wave: &WaveHolds) -> Result<Option<WavePlan>, Memory> {
-        if !is_released(self.stock, wave) {
-            return Ok(None);
-        }
-        let plan = plan_of(
-            &self.leave,
-            alloc,
-            self.layout,
-            self.stock,
-            wave,
-            &self.terms,
-        )?;
-        Ok(Some(plan))
+        self.calls.plan_wave(alloc, wave)
     }
 }

@@ -3,7 +3,6 @@
 
 mod day_planner;
 mod laws;
-mod leave;
 mod planner;
 mod released;
 mod sheet;
@@ -11,9 +10,9 @@ mod slots;
 mod tours;
 mod waves;
 
-pub use day_planner::DayPlanner;
+pub use day_planner::{DayPlanner, PlansWaves};
 pub use laws::waves_that_go_out_are_filled;
-pub use planner::{Terms, WavePlan, plan_of};
+pub use planner::{Terms, WavePlan, plan_for, plan_of};
 pub use released::is_released;
 pub use sheet::print_sheet;
 pub use waves::wave_of;

@@ -1,7 +1,8 @@
 ghost use Rattle.std.specs.Prelude.{◌≤◌, IfOk};
-ghost use Rattle.wp_planner.specs.Plans.{AreTerms, IsPlanOf};
+ghost use Rattle.wp_planner.specs.Plans.{AreTerms, IsPlanFor, IsPlanOf};
 ghost use Rattle.wp_planner.specs.Released.{IsReleased, LiesIn};
 
+use crate::released::is_released;
 use crate::waves::wave_of;
 use std::alloc::Global;
 use std::thread::Threads;
@@ -9,7 +10,7 @@ use wp_batch::Wave;
 use wp_graph::Layout;
 use wp_machine::WaveHolds;
 use wp_model::Memory;
-use wp_outside::OpenGate;
+use wp_outside::Gate;
 use wp_search::{Planned, pays, plan_wave};
 use wp_tables::Stock;
 
@@ -62,14 +63,15 @@ fn kept_orders(wave: &Wave, terms: &Terms) -> u32
 }
 
 /// The plan of a wave that went out: a good plan, for the terms' capacity and budget, of the wave whose orders pick at the slots
-/// of the layout at which they hold units.
-pub fn plan_of<R: Threads + Sync>(
+/// of the layout at which they hold units. The workers that price it pass the gate.
+pub fn plan_of<R: Threads + Sync, G: Gate>(
     rt: &R,
     alloc: Global,
     layout: &Layout,
     stock: &Stock,
     released: &WaveHolds,
     terms: &Terms,
+    gate: &G,
 ) -> Result<WavePlan, Memory>
     requires terms { AreTerms terms.now }
     requires released { IsReleased stock.now released.now }
@@ -86,8 +88,29 @@ pub fn plan_of<R: Threads + Sync>(
         terms.capacity,
         terms.budget,
         terms.workers,
-        &OpenGate,
+        gate,
     )?;
     wave.keep_lengths(alloc, 0)?;
     Ok(WavePlan { wave, planned })
+}
+
+/// The plan of a wave that goes out. None comes exactly where a wave isn't one that does. The workers that price it pass the gate.
+pub fn plan_for<R: Threads + Sync, G: Gate>(
+    rt: &R,
+    alloc: Global,
+    layout: &Layout,
+    stock: &Stock,
+    wave: &WaveHolds,
+    terms: &Terms,
+    gate: &G,
+) -> Result<Option<WavePlan>, Memory>
+    requires terms { AreTerms terms.now }
+    requires lies { LiesIn layout.now stock.now }
+    ensures { IfOk result (IsPlanFor layout.now stock.now terms.now wave.now) }
+{
+    if !is_released(stock, wave) {
+        return Ok(None);
+    }
+    let plan = plan_of(rt, alloc, layout, stock, wave, terms, gate)?;
+    Ok(Some(plan))
 }

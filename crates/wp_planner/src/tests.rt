@@ -4,7 +4,7 @@ ghost use Rattle.wp_model.specs.Warehouse.{IsSlot};
 ghost use Rattle.wp_planner.specs.Released.{IsReleased, LiesIn};
 ghost use Rattle.wp_planner.specs.Slots.{slot_at};
 
-use crate::{DayPlanner, Terms, plan_of, print_sheet, wave_of};
+use crate::{DayPlanner, PlansWaves, Terms, plan_for, plan_of, print_sheet, wave_of};
 use std::alloc::Global;
 use std::test::Fail;
 use std::thread::{Threads, join};
@@ -13,6 +13,7 @@ use wp_desk::Planner;
 use wp_graph::{Layout, Point};
 use wp_machine::WaveHolds;
 use wp_model::{Hold, Holds, Name, Names, StockRow};
+use wp_outside::OpenGate;
 use wp_tables::{Stock, read_stock};
 
 const STOCK: &str = "location,article,on_hand
@@ -125,7 +126,7 @@ fn printed<R: Threads + Sync>(
     requires released { IsReleased stock.now released.now }
     requires lies { LiesIn layout.now stock.now }
 {
-    let plan = plan_of(rt, alloc, layout, stock, released, &TERMS)?;
+    let plan = plan_of(rt, alloc, layout, stock, released, &TERMS, &OpenGate)?;
     let mut text = Vec::new(alloc);
     print_sheet(alloc, &mut text, stock, released, &TERMS, &plan, false)?;
     Ok(text)
@@ -163,8 +164,35 @@ fn empty(alloc: Global) -> Result<WaveHolds, Fail> {
     })
 }
 
+/// Whether two threads that share a planner have plans of a wave.
+fn have_plans<R: Threads + Sync, C: PlansWaves>(
+    rt: &R,
+    alloc: Global,
+    planner: &DayPlanner<C>,
+    wave: &WaveHolds,
+) -> Result<(bool, bool), Fail> {
+    let (one, other) = join(
+        rt,
+        || planner.plan(alloc, wave),
+        || planner.plan(alloc, wave),
+    );
+    Ok((one?.is_some(), other?.is_some()))
+}
+
+/// Whether two threads have plans of a wave by what makes them.
+fn have_plans_by<R: Threads + Sync, C: PlansWaves>(
+    rt: &R,
+    alloc: Global,
+    plans: C,
+    wave: &WaveHolds,
+) -> Result<(bool, bool), Fail>
+    requires { C.takes_any plans }
+{
+    have_plans(rt, alloc, &DayPlanner::by(plans), wave)
+}
+
 /// Whether two threads that share the planner of a day, in a layout, have plans of a wave.
-fn have_plans<R: Threads + Sync>(
+fn have_day_plans<R: Threads + Sync>(
     rt: &R,
     alloc: Global,
     layout: &Layout,
@@ -174,20 +202,17 @@ fn have_plans<R: Threads + Sync>(
     if !lie_in(layout, stock.as_rows()) {
         return Err("no stock".into());
     }
-    let planner = DayPlanner::of(rt, layout, &stock, TERMS);
-    let (one, other) = join(
-        rt,
-        || planner.plan(alloc, wave),
-        || planner.plan(alloc, wave),
-    );
-    Ok((one?.is_some(), other?.is_some()))
+    let plan = |alloc: Global, wave: &WaveHolds|
+        requires { LiesIn layout.now stock }
+    { plan_for(rt, alloc, layout, &stock, wave, &TERMS, &OpenGate) };
+    have_plans_by(rt, alloc, plan, wave)
 }
 
 #[test]
 fn a_wave_has_a_plan_exactly_where_it_goes_out(rt: HostRuntime) -> Result<(), Fail> {
     let alloc = rt.alloc();
     let layout = Layout::new(3, 4, 2, 1, 5, 1).ok_or("no layout")?;
-    assert!(rt; have_plans(&rt, alloc, &layout, &smallest(alloc)?)? == (true, true));
-    assert!(rt; have_plans(&rt, alloc, &layout, &empty(alloc)?)? == (false, false));
+    assert!(rt; have_day_plans(&rt, alloc, &layout, &smallest(alloc)?)? == (true, true));
+    assert!(rt; have_day_plans(&rt, alloc, &layout, &empty(alloc)?)? == (false, false));
     Ok(())
 }

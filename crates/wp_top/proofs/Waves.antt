@@ -1,5 +1,5 @@
 -- The waves that went out in a day, and their plans.
-use Rattle.std.proofs.Common.{◌≡◌, ◌∙◌, refl, sym, ap, subst, List, [], ◌∷◌, ◌++◌, Option, Some, None, Result, Ok, Err, Contains}
+use Rattle.std.proofs.Common.{◌≡◌, refl, sym, ap, subst, List, [], ◌∷◌, ◌++◌, Option, Some, None, Result, Ok, Err, Contains}
 use Rattle.std.proofs.lemmas.List.Concat.{flat_map-cons}
 use Rattle.std.proofs.lemmas.List.Elements.{All-append, All-cons, All-contains_itself, All-head, All-nil, All-tail, All-weaker}
 use Rattle.std.specs.List.{All, flat_map}
@@ -9,18 +9,19 @@ use Rattle.wp_machine.specs.Outcome.{outcomes_from, refills_of, released_in, rel
 use Rattle.wp_machine.specs.declared.outcome.Outcome.{Outcome}
 use Rattle.wp_machine.specs.declared.outcome.Outcome.TheVariants as outcome
 use Rattle.wp_machine.specs.declared.outcome.WaveHolds.{WaveHolds}
-use Rattle.wp_model.specs.History.{History}
+use Rattle.wp_model.specs.History.{History, Script}
 use Rattle.wp_model.specs.Opening.{Opening, Stock}
 use Rattle.wp_model.specs.State.{opening_state}
 use Rattle.wp_model.specs.Tables.{IsReadOpening}
 use Rattle.wp_model.specs.Warehouse.{Layout}
 use Rattle.wp_model.specs.declared.memory.Memory.{Memory}
 use Rattle.wp_planner.proofs.Outgoing.{each_wave_out_is_filled}
-use Rattle.wp_planner.specs.Plans.{DayTerms, IsPlanFor}
+use Rattle.wp_planner.specs.Plans.{IsPlanFor}
 use Rattle.wp_planner.specs.Released.{IsReleased}
 use Rattle.wp_planner.specs.declared.planner.Terms.{Terms}
 use Rattle.wp_planner.specs.declared.planner.WavePlan.{WavePlan}
-use Rattle.wp_top.specs.Planned.{ArePlanned, IsPlanned, IsToldOf, Sent, waves_of}
+use Rattle.wp_top.specs.Planned.{AreMadeBy, ArePlanned, IsPlanned, IsToldOf, Sent, waves_of}
+use Rattle.wp_top.specs.Stops.{IsHistoryOf}
 
 -- one more
 pub one_wave_more : (sent : List Sent) (one : Sent) → waves_of (sent ++ one ∷ []) ≡ waves_of sent ++ one.wave ∷ []
@@ -70,29 +71,22 @@ each_planned layout stock terms (one ∷ sent) plans released =
     (one_planned layout stock terms one one.plan refl (All-head P one sent plans) (All-head R one.wave (waves_of sent) released))
     (each_planned layout stock terms sent (All-tail P one sent plans) (All-tail R one.wave (waves_of sent) released))
 
--- plans that are made with this are made with that
-planned_with : (old new : DayTerms) (sent : List Sent) → old ≡ new → All (λ s. IsPlanFor old.layout old.stock old.terms s.wave s.plan) sent
-    → All (λ s. IsPlanFor new.layout new.stock new.terms s.wave s.plan) sent
-planned_with old new sent same plans = subst (λ (d : DayTerms). All (λ s. IsPlanFor d.layout d.stock d.terms s.wave s.plan) sent) same plans
-
--- what the waves of a day are planned with
-abbrev with_terms : Layout → Terms → Stock → DayTerms
-with_terms layout terms stock = record { layout = layout; stock = stock; terms = terms }
-
--- a day of an opening that was read, whose waves are planned, tells what the steps of its history tell
-pub told_of : (layout : Layout) (terms : Terms) (stock : Stock) (opening : Opening) (day_terms : DayTerms)
-    (result : Result (DayRun (Option WavePlan)) Memory) → IsReadOpening opening → day_terms ≡ with_terms layout terms stock → stock ≡ opening.stock
-    → IfOk result (λ day. day.machine.opening ≡ opening) → IfOk result (λ day. waves_of day.plans.items ≡ released_of day.machine)
-    → IfOk result (λ day. All (λ s. IsPlanFor day_terms.layout day_terms.stock day_terms.terms s.wave s.plan) day.plans.items)
-    → IfOk result (λ day. day.refills.items ≡ refills_of day.machine) → IfOk result (IsToldOf layout terms)
-told_of layout terms stock opening day_terms (Err lack) read made own starts waves plans refills = tt
-told_of layout terms stock opening day_terms (Ok day) read made own starts waves plans refills =
+-- a day of an opening that was read tells what the steps of its history tell, where whatever may be made of a wave is a plan for it
+pub told_of : (layout : Layout) (terms : Terms) (opening : Opening) (scripts : List Script) (makes : WaveHolds → Option WavePlan → Type 0)
+    (result : Result (DayRun (Option WavePlan)) Memory) → IsReadOpening opening → IfOk result (λ day. IsHistoryOf opening scripts day.machine)
+    → IfOk result (λ day. waves_of day.plans.items ≡ released_of day.machine) → IfOk result (λ day. day.refills.items ≡ refills_of day.machine)
+    → IfOk result (λ day. AreMadeBy makes day.plans.items)
+    → ((wave : WaveHolds) (plan : Option WavePlan) → makes wave plan → IsPlanFor layout opening.stock terms wave plan)
+    → IfOk result (IsToldOf layout terms)
+told_of layout terms opening scripts makes (Err lack) read history waves refills plans good = tt
+told_of layout terms opening scripts makes (Ok day) read history waves refills plans good =
     let begun = day.machine.opening.stock in
-    let same : stock ≡ begun = own ∙ ap (λ (o : Opening). o.stock) (sym starts) in
+    let P : Stock → Sent → Type 0 = λ stock sent. IsPlanFor layout stock terms sent.wave sent.plan in
+    let plans_for : All (P opening.stock) day.plans.items
+    = All-weaker (λ sent. makes sent.wave sent.plan) (P opening.stock) (λ sent. good sent.wave sent.plan) day.plans.items plans.each in
     record {
       waves = waves;
-      planned = each_planned layout begun terms day.plans.items
-          (planned_with day_terms (with_terms layout terms begun) day.plans.items (made ∙ ap (with_terms layout terms) same) plans)
-          (subst (All (IsReleased begun)) (sym waves) (released_each day.machine (subst IsReadOpening (sym starts) read)));
+      planned = each_planned layout begun terms day.plans.items (subst (λ (o : Opening). All (P o.stock) day.plans.items) (sym history.starts) plans_for)
+          (subst (All (IsReleased begun)) (sym waves) (released_each day.machine (subst IsReadOpening (sym history.starts) read)));
       refills = refills;
     }

@@ -27,6 +27,10 @@ pub record IsPlanned (layout : Layout) (stock : Stock) (terms : Terms) (sent : S
 abbrev pub ArePlanned : Layout → Stock → Terms → List Sent → Type 0
 ArePlanned layout stock terms sent = All (IsPlanned layout stock terms) sent
 
+-- each has what may be made of its wave
+pub record AreMadeBy (makes : WaveHolds → Option WavePlan → Type 0) (sent : List Sent) : Type 0 where
+  pub each : All (λ s. makes s.wave s.plan) sent
+
 -- the waves that went out
 abbrev pub waves_of : List Sent → List WaveHolds
 waves_of sent = map (λ s. s.wave) sent

@@ -3,12 +3,12 @@ ghost use Rattle.std.specs.Prelude.{◌≡◌, ◌++◌, IfOk, string_bytes};
 ghost use Rattle.wp_model.specs.Journal.{journal};
 ghost use Rattle.wp_model.specs.Tables.{IsReadOpening};
 ghost use Rattle.wp_model.specs.Warehouse.{Layout as Block};
-ghost use Rattle.wp_planner.specs.Plans.{AreTerms};
+ghost use Rattle.wp_planner.specs.Plans.{AreTerms, IsPlanFor};
 ghost use Rattle.wp_planner.specs.Released.{LiesIn};
 ghost use Rattle.wp_planner.specs.Sheets.{GrowsBy};
-ghost use Rattle.wp_top.specs.Planned.{IsToldOf};
+ghost use Rattle.wp_top.specs.Planned.{AreMadeBy, IsToldOf, waves_of};
 ghost use Rattle.wp_top.specs.Sheets.{AreSheets};
-ghost use Rattle.wp_machine.specs.Outcome.{released_of};
+ghost use Rattle.wp_machine.specs.Outcome.{refills_of, released_of};
 ghost use Rattle.wp_top.specs.Stops.{IsDayOf, IsHistoryOf, IsTextOf};
 
 use crate::print::{print_journal, print_refills, print_stock};
@@ -18,13 +18,34 @@ use std::sync::Wait;
 use std::thread::Threads;
 use wp_desk::{DayRun, run_desks};
 use wp_graph::Layout;
-use wp_machine::{Machine, Opening};
+use wp_machine::{Machine, Opening, WaveHolds};
 use wp_model::Memory;
 use wp_outside::Gate;
-use wp_planner::{DayPlanner, Terms, WavePlan};
+use wp_planner::{DayPlanner, PlansWaves, Terms, WavePlan, plan_for};
 use wp_tables::{Scripts, Stock};
 
-/// Runs the scripts of all desks, from the opening on. Each wave that goes out is planned.
+// Runs the scripts of all desks, from the opening on. Each wave that goes out is planned by these calls.
+fn run_planned<'a, R: Threads + Wait + Sync, C: PlansWaves, G: Gate>(
+    rt: &R,
+    alloc: Global,
+    opening: &'a Opening,
+    scripts: &Scripts,
+    calls: C,
+    gate: &G,
+) -> Result<DayRun<'a, Option<WavePlan>>, Memory>
+    requires { C.takes_any calls }
+    ensures history { IfOk result (λ day. IsHistoryOf opening.now scripts.now day.machine) }
+    ensures waves { IfOk result (λ day. waves_of day.plans.items ≡ released_of day.machine) }
+    ensures plans { IfOk result (λ day. AreMadeBy (C.makes calls) day.plans.items) }
+    ensures refills { IfOk result (λ day. day.refills.items ≡ refills_of day.machine) }
+{
+    let machine = Machine::open(alloc, opening)?;
+    let planner = DayPlanner::by(calls);
+    run_desks(rt, alloc, opening, machine, scripts, &planner, gate)
+}
+
+/// Runs the scripts of all desks, from the opening on. Each wave that goes out is planned. All desks, and the workers that price
+/// their waves, pass the gate.
 pub fn run_day<'a, R: Threads + Wait + Sync, G: Gate>(
     rt: &R,
     alloc: Global,
@@ -40,9 +61,13 @@ pub fn run_day<'a, R: Threads + Wait + Sync, G: Gate>(
     ensures history { IfOk result (λ day. IsHistoryOf opening.now scripts.now day.machine) }
     ensures told { IfOk result (IsToldOf layout.now terms.now) }
 {
-    let machine = Machine::open(alloc, opening)?;
-    let planner = DayPlanner::of(rt, layout, opening.stock(), *terms);
-    run_desks(rt, alloc, opening, machine, scripts, &planner, gate)
+    let stock = opening.stock();
+    let plan = |alloc: Global, wave: &WaveHolds|
+        requires terms { AreTerms terms.now }
+        requires lies { LiesIn layout.now stock.now }
+        ensures { IfOk result (IsPlanFor layout.entry.now stock.entry.now terms.entry.now wave.entry.now) }
+    { plan_for(rt, alloc, layout, stock, wave, terms, gate) };
+    run_planned(rt, alloc, opening, scripts, plan, gate)
 }
 
 fn print_entries(alloc: Global, text: &mut String, machine: &Machine<'_>) -> Result<(), Memory>

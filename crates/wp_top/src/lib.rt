@@ -36,7 +36,8 @@ pub use wp_words::{AuditWords, CheckWords};
 /// Runs the job that the words ask for, and gives its status: 0 the whole output was taken; 1 the words ask for no job;
 /// 2 a file is refused; 3 a file could not be read; 4 the output could not be written; 5 memory ran out; 6 the
 /// certificate or the journal isn't right. With 1, 2, 3 and 6 one line was written; with 4 and 5 a beginning of the text, or nothing.
-/// The desks of a plan pass the gate, and what is promised doesn't hang on when it lets them.
+/// The desks of a plan and the workers that price its waves pass the gate, and what is promised doesn't hang on when it lets
+/// them.
 pub fn run<R: Threads + Wait + Sync, F: Files, K: Sink, G: Gate>(
     rt: &R,
     alloc: Global,
