@@ -4,5 +4,7 @@ mod judging;
 mod meeting;
 mod moments;
 mod planning;
+mod pricing;
 mod scripts;
 mod stock;
+mod workers;

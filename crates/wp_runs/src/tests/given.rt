@@ -81,18 +81,30 @@ fn end_of(alloc: Global, status: u8, out: &MemSink) -> Result<Ended, Fail> {
 fn plan_into<R: Threads + Wait + Sync, G: Gate>(
     rt: &R,
     alloc: Global,
+    line: &str,
     files: &mut NeverFails,
     out: &mut MemSink,
     gate: &G,
 ) -> Result<u8, Fail> {
-    let words = words_of(alloc, PLAN)?;
+    let words = words_of(alloc, line)?;
     Ok(run(rt, alloc, &words, files, out, gate))
 }
 
-/// The whole run that plans a day.
+/// The whole run that plans a day, with one worker.
 pub fn plan<R: Threads + Wait + Sync, G: Gate>(
     rt: &R,
     alloc: Global,
+    day: &DayFiles,
+    gate: &G,
+) -> Result<Ended, Fail> {
+    plan_as(rt, alloc, PLAN, day, gate)
+}
+
+/// The whole run that a line of words asks for.
+pub fn plan_as<R: Threads + Wait + Sync, G: Gate>(
+    rt: &R,
+    alloc: Global,
+    line: &str,
     day: &DayFiles,
     gate: &G,
 ) -> Result<Ended, Fail> {
@@ -106,7 +118,7 @@ pub fn plan<R: Threads + Wait + Sync, G: Gate>(
         ],
     )?;
     let mut out = MemSink::of(alloc, Vec::new(alloc));
-    let status = plan_into(rt, alloc, &mut files, &mut out, gate)?;
+    let status = plan_into(rt, alloc, line, &mut files, &mut out, gate)?;
     end_of(alloc, status, &out)
 }
 
