@@ -24,7 +24,7 @@ const PASSES: &[(Given, Option<u32>, u32, Counts)] = &[
     (MANY, None, 2, [12, 12, 0, 0]),
     (MANY, None, 3, [8, 8, 8, 0]),
     (MANY, None, 16, [1, 1, 2, 20]),
-    (MANY, Some(7), 2, [12, 11, 0, 0]),
+    (MANY, Some(7), 2, [11, 12, 0, 0]),
 ];
 
 /// Whether something is found by so many workers who pass this gate.
