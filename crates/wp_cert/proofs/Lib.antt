@@ -3,6 +3,8 @@ pub mod BoundsHold
 pub mod MarkSteps
 pub mod Nodes
 pub mod TreeSteps
+pub mod PathSteps
+pub mod Ways
 pub mod Alive
 pub mod WholeTrees
 mod TextBatches

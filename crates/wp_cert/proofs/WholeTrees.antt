@@ -2,54 +2,42 @@
 use Rattle.std.proofs.Common.{◌≡◌, ℕ, ◌<◌, ◌≤◌, List, [], length, drop, arith, refl, subst, length-drop}
 use Rattle.std.specs.Prelude.{IsSome, Option, Some, None}
 use Rattle.std.proofs.lemmas.List.{drop_all}
-use Rattle.wp_pairs.specs.declared.pair.Pair.{Pair}
-use Rattle.wp_batch.specs.Batchings.{no_pairs}
 use Rattle.wp_batch.specs.Waves.{WavePicks}
 use Rattle.wp_cert.specs.declared.tree.CertFault.{CertFault}
 use Rattle.wp_cert.specs.declared.tree.CertWhy.TheVariants as why
 use Rattle.wp_cert.specs.declared.tree.Node.{Node}
 use Rattle.wp_duals.specs.Duals.{IsSumOfShares}
 use Rattle.wp_cert.specs.Paths.{IsRefusedFrom, pairing_of}
-use Rattle.wp_cert.specs.Refusals.{IsBroken, IsFirstBroken, in_tree, nodes_left}
+use Rattle.wp_cert.specs.Refusals.{IsFirstBroken, in_tree, nodes_left}
 use Rattle.wp_cert.specs.Trees.{IsBoundOf, IsRight}
 use Rattle.wp_cert.proofs.Alive.{right_has_bound}
 
-module _ (wave : WavePicks) (capacity shares : ℕ) (nodes : List Node) (path : List Pair) (none : path ≡ []) (are : IsSumOfShares wave capacity shares) where
+module _ (wave : WavePicks) (capacity shares : ℕ) (nodes : List Node) (are : IsSumOfShares wave capacity shares) where
   -- a broken rule of the tree at the root is the first one
-  pub first_broken : (fault : CertFault) → IsRefusedFrom wave (pairing_of (length wave.orders) capacity path) shares nodes 0 fault
+  pub first_broken : (fault : CertFault) → IsRefusedFrom wave (pairing_of (length wave.orders) capacity []) shares nodes 0 fault
       → (fault.why ≡ why.Memory → ⊥) → IsFirstBroken wave capacity nodes fault
-  first_broken fault refused named =
-      let r = refused named in
-      in_tree {left = r.0} are
-      (subst (λ (ps : List Pair). IsBroken wave (pairing_of (length wave.orders) capacity ps) shares nodes r.0 fault.why) none r.1) r.2
+  first_broken fault refused named = let r = refused named in in_tree {left = r.0} are r.1 r.2
 
-  -- the tree at the root is right
-  pub root_right : (rest : List Node) (bound : Option ℕ) → IsRight wave (pairing_of (length wave.orders) capacity path) shares nodes rest bound
-      → IsRight wave (no_pairs (length wave.orders) capacity) shares nodes rest bound
-  root_right rest bound right = subst (λ (ps : List Pair). IsRight wave (pairing_of (length wave.orders) capacity ps) shares nodes rest bound) none right
-
-  -- nodes that are left after it are the first broken rule
+  -- nodes that are left after the tree are the first broken rule
   pub left_broken : (next : ℕ) (bound : Option ℕ) (fault : CertFault) → next < length nodes
-      → IsRight wave (pairing_of (length wave.orders) capacity path) shares nodes (drop next nodes) bound → fault.node ≡ next → fault.why ≡ why.Cut
+      → IsRight wave (pairing_of (length wave.orders) capacity []) shares nodes (drop next nodes) bound → fault.node ≡ next → fault.why ≡ why.Cut
       → IsFirstBroken wave capacity nodes fault
   left_broken next bound fault within right numbered because =
       let left = length-drop next nodes in
-      nodes_left {left = drop next nodes} are (root_right (drop next nodes) bound right) (omega (arith, left, within)) (omega (arith, left, within, numbered))
-      because
+      nodes_left {left = drop next nodes} are right (omega (arith, left, within)) (omega (arith, left, within, numbered)) because
 
-  -- it has a bound
+  -- a right tree has a bound
   pub root_bound : (rest : List Node) (bound : Option ℕ) → 1 ≤ capacity
-      → IsRight wave (pairing_of (length wave.orders) capacity path) shares nodes rest bound → IsSome bound
-  root_bound rest None some right = absurd (right_has_bound wave (length wave.orders) capacity shares nodes rest None some (root_right rest None right))
+      → IsRight wave (pairing_of (length wave.orders) capacity []) shares nodes rest bound → IsSome bound
+  root_bound rest None some right = absurd (right_has_bound wave (length wave.orders) capacity shares nodes rest None some right)
   root_bound rest (Some bound) some right = refl
 
   -- where no node is left, this is the bound of the whole tree
   pub whole_bound : (next bound : ℕ) (shown : Option ℕ) → length nodes ≤ next → shown ≡ Some bound
-      → IsRight wave (pairing_of (length wave.orders) capacity path) shares nodes (drop next nodes) shown → IsBoundOf wave capacity nodes bound
+      → IsRight wave (pairing_of (length wave.orders) capacity []) shares nodes (drop next nodes) shown → IsBoundOf wave capacity nodes bound
   whole_bound next bound shown end is right = (
     shares,
     are,
-    subst (λ (b : Option ℕ). IsRight wave (no_pairs (length wave.orders) capacity) shares nodes [] b) is
-        (subst (λ (ns : List Node). IsRight wave (no_pairs (length wave.orders) capacity) shares nodes ns shown) (drop_all next nodes end)
-        (root_right (drop next nodes) shown right)),
+    subst (λ (b : Option ℕ). IsRight wave (pairing_of (length wave.orders) capacity []) shares nodes [] b) is
+        (subst (λ (ns : List Node). IsRight wave (pairing_of (length wave.orders) capacity []) shares nodes ns shown) (drop_all next nodes end) right),
   )

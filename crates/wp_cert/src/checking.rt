@@ -1,36 +1,24 @@
-ghost use Rattle.std.specs.Prelude.{◌≡◌, ◌+◌, ◌<◌, ◌≤◌, ◌∷◌, ◌++◌, [], IfErr, IfOk, OnOk, drop, length};
-ghost use Rattle.wp_pairs.specs.Permitted.{AreUndecided};
+ghost use Rattle.std.specs.Prelude.{◌≡◌, ◌+◌, ◌<◌, ◌≤◌, [], ℕ, IfErr, IfOk, drop, length};
 ghost use Rattle.wp_cert.specs.declared.tree.CertWhy.TheVariants as why;
 ghost use Rattle.wp_cert.specs.Bounds.{NoBatchingCostsLess};
-ghost use Rattle.wp_cert.specs.Paths.{IsPath, IsRefusedFrom, pairing_of};
+ghost use Rattle.wp_cert.specs.Paths.{IsBrokenHere, IsPath, IsRefusedFrom, pairing_of};
 ghost use Rattle.wp_cert.specs.Refusals.{IsFirstBroken};
-ghost use Rattle.wp_cert.specs.Trees.{IsBoundOf, IsRight, lower_of};
+ghost use Rattle.wp_cert.specs.Trees.{IsBoundOf, IsRight};
+ghost use Rattle.wp_cert.specs.Ways.{IsMet, IsStep, IsWay};
 
 use crate::node::{test_dead, test_leaf, test_split};
 use crate::tree::{CertFault, CertWhy, Node, Nodes, Tree};
+use crate::way::{Met, Step, Way};
 use std::alloc::Global;
 use wp_batch::Wave;
 use wp_duals::shares_of;
 use wp_pairs::Pair;
 
-/// What a subtree shows: its bound, which it has not where all of its leaves are dead; and the place of the node after it.
+/// What a tree shows: its bound, which it has not where all of its leaves are dead; and the place of the node after it.
 #[derive(Clone, Copy)]
 struct Shown {
     bound: Option<u128>,
     next: u32,
-}
-
-// The lower of the bounds of two subtrees.
-fn lower_bound(left: Option<u128>, right: Option<u128>) -> Option<u128>
-    ensures { result ≡ lower_of left right }
-{
-    match left {
-        None => right,
-        Some(left) => match right {
-            None => Some(left),
-            Some(right) => Some(left.min(right)),
-        },
-    }
 }
 
 // A fault at a node.
@@ -44,100 +32,86 @@ fn fault_at(at: u32, why: CertWhy) -> CertFault
     }
 }
 
-// Checks the tree that begins at a place of the nodes, under the pairs of a path. Above it stand duals of this sum.
-#[cycle(subtrees)]
-fn check_from(
-    wave: &Wave,
-    capacity: u32,
-    nodes: &Nodes,
-    path: &mut Vec<Pair>,
-    above: u128,
-    at: u32,
-) -> Result<Shown, CertFault>
+// Tests a node, whose subtrees aren't looked at, and tells what it leads to.
+fn test_node(wave: &Wave, capacity: u32, way: &Way, node: &Node) -> Result<Step, CertWhy>
     requires some { 1 ≤ capacity }
     requires most { capacity ≤ 8 }
-    requires path { IsPath (length wave.now.orders) capacity path.old.items }
-    requires at { at ≤ length nodes.now }
-    ensures ok { IfOk result (λ shown. IsRight wave.now (pairing_of (length wave.now.orders) capacity path.old.items) above
-        (drop at nodes.now) (drop shown.next nodes.now) shown.bound) }
-    ensures onward { IfOk result (λ shown. at < shown.next) }
-    ensures within { IfOk result (λ shown. shown.next ≤ length nodes.now) }
-    ensures path { OnOk result (path.new.items ≡ path.old.items) }
-    ensures err { IfErr result (IsRefusedFrom wave.now (pairing_of (length wave.now.orders) capacity path.old.items) above nodes.now at) }
+    requires path { IsPath (length wave.now.orders) capacity way.now.path.items }
+    ensures ok { IfOk result (IsStep wave.now (pairing_of (length wave.now.orders) capacity way.now.path.items) way.now.above node.now) }
+    ensures err { IfErr result (IsBrokenHere wave.now (pairing_of (length wave.now.orders) capacity way.now.path.items) way.now.above node.now) }
 {
-    if at == nodes.len() {
-        return Err(fault_at(at, CertWhy::Cut));
-    }
-    match nodes.at(at) {
-        Node::Leaf(own) => match test_leaf(wave, capacity, path, above, own) {
-            Ok(bound) => Ok(Shown {
-                bound: Some(bound),
-                next: at + 1,
-            }),
-            Err(why) => Err(fault_at(at, why)),
-        },
-        Node::Dead(order) => match test_dead(wave, capacity, path, above, *order) {
-            Ok(()) => Ok(Shown {
-                bound: None,
-                next: at + 1,
-            }),
-            Err(why) => Err(fault_at(at, why)),
-        },
+    match node {
+        Node::Leaf(own) => {
+            let bound = test_leaf(wave, capacity, &way.path, way.above, own)?;
+            Ok(Step::Out(Some(bound)))
+        }
+        Node::Dead(order) => {
+            test_dead(wave, capacity, &way.path, way.above, *order)?;
+            Ok(Step::Out(None))
+        }
         Node::Split { first, second, own } => {
-            match test_split(wave, capacity, path, above, *first, *second, own) {
-                Ok(total) => {
-                    let pair = Pair {
-                        first: *first as u8,
-                        second: *second as u8,
-                        together: true,
-                    };
-                    let left = check_below(wave, capacity, nodes, path, pair, total, at + 1)?;
-                    let pair = Pair {
-                        first: *first as u8,
-                        second: *second as u8,
-                        together: false,
-                    };
-                    let right = check_below(wave, capacity, nodes, path, pair, total, left.next)?;
-                    Ok(Shown {
-                        bound: lower_bound(left.bound, right.bound),
-                        next: right.next,
-                    })
-                }
-                Err(why) => Err(fault_at(at, why)),
-            }
+            let total = test_split(wave, capacity, &way.path, way.above, *first, *second, own)?;
+            let pair = Pair {
+                first: *first as u8,
+                second: *second as u8,
+                together: true,
+            };
+            Ok(Step::Into(pair, total))
         }
     }
 }
 
-// Checks the tree that begins at a place of the nodes, under the pairs of a path and one more.
-#[cycle(subtrees)]
-fn check_below(
+// Tests the node that is due, and goes on from it. After an error nothing is said of the way.
+fn check_node(
     wave: &Wave,
     capacity: u32,
     nodes: &Nodes,
-    path: &mut Vec<Pair>,
-    pair: Pair,
-    above: u128,
+    way: &mut Way,
     at: u32,
+) -> Result<Met, CertFault>
+    requires some { 1 ≤ capacity }
+    requires most { capacity ≤ 8 }
+    requires at { at < length nodes.now }
+    requires path { IsPath (length wave.now.orders) capacity way.old.path.items }
+    requires even { length way.old.path.items ≡ length way.old.notes.items }
+    ensures ok { IfOk result (λ met. (shares : ℕ) → IsWay wave.now capacity nodes.now shares way.old.path.items way.old.notes.items way.old.above at
+        → IsMet wave.now capacity nodes.now shares (at + 1) way.new met) }
+    ensures err { IfErr result (IsRefusedFrom wave.now (pairing_of (length wave.now.orders) capacity way.old.path.items) way.old.above nodes.now at) }
+{
+    let gone = match test_node(wave, capacity, way, nodes.at(at)) {
+        Ok(step) => way.go_on(step),
+        Err(why) => return Err(fault_at(at, why)),
+    };
+    match gone {
+        Ok(met) => Ok(met),
+        Err(_) => Err(fault_at(at, CertWhy::Memory)),
+    }
+}
+
+// Checks the tree at the root, above which stand duals that come to this, node by node.
+fn check_root(
+    alloc: Global,
+    wave: &Wave,
+    capacity: u32,
+    nodes: &Nodes,
+    above: u128,
 ) -> Result<Shown, CertFault>
     requires some { 1 ≤ capacity }
     requires most { capacity ≤ 8 }
-    requires path { IsPath (length wave.now.orders) capacity path.old.items }
-    requires pair { AreUndecided (pairing_of (length wave.now.orders) capacity path.old.items) pair.first pair.second }
-    requires at { at ≤ length nodes.now }
-    ensures ok { IfOk result (λ shown. IsRight wave.now (pairing_of (length wave.now.orders) capacity (path.old.items ++ pair ∷ [])) above
-        (drop at nodes.now) (drop shown.next nodes.now) shown.bound) }
-    ensures onward { IfOk result (λ shown. at < shown.next) }
-    ensures within { IfOk result (λ shown. shown.next ≤ length nodes.now) }
-    ensures path { OnOk result (path.new.items ≡ path.old.items) }
-    ensures err { IfErr result (IsRefusedFrom wave.now (pairing_of (length wave.now.orders) capacity (path.old.items ++ pair ∷ [])) above nodes.now at) }
+    ensures ok { IfOk result (λ shown. IsRight wave.now (pairing_of (length wave.now.orders) capacity []) above nodes.now
+        (drop shown.next nodes.now) shown.bound) }
+    ensures err { IfErr result (IsRefusedFrom wave.now (pairing_of (length wave.now.orders) capacity []) above nodes.now 0) }
 {
-    if path.push(pair).is_err() {
-        return Err(fault_at(at, CertWhy::Memory));
+    let mut way = Way::to_root(alloc, above);
+    for at in 0..nodes.len() {
+        if let Met::Whole(bound) = check_node(wave, capacity, nodes, &mut way, at)? {
+            return Ok(Shown {
+                bound,
+                next: at + 1,
+            });
+        }
     }
-    let shown = check_from(wave, capacity, nodes, path, above, at)?;
-    path.pop();
-    Ok(shown)
+    Err(fault_at(nodes.len(), CertWhy::Cut))
 }
 
 /// Checks a tree for a wave and a capacity, 1 to 8, and tells its bound, the least over its leaves that aren't dead: no
@@ -152,9 +126,8 @@ pub fn check(alloc: Global, wave: &Wave, capacity: u32, tree: &Tree) -> Result<u
     ensures bound { IfOk result (NoBatchingCostsLess wave.now capacity) }
     ensures refused { IfErr result (λ fault. (fault.why ≡ why.Memory → ⊥) → IsFirstBroken wave.now capacity tree.now.nodes fault) }
 {
-    let mut path = Vec::new(alloc);
     let above = shares_of(wave, capacity);
-    let shown = check_from(wave, capacity, &tree.nodes, &mut path, above, 0)?;
+    let shown = check_root(alloc, wave, capacity, &tree.nodes, above)?;
     if shown.next < tree.nodes.len() {
         return Err(fault_at(shown.next, CertWhy::Cut));
     }

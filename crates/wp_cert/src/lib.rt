@@ -11,6 +11,7 @@ mod path;
 mod text;
 mod tree;
 mod visit;
+mod way;
 
 pub use checking::check;
 pub use laws::{no_batching_costs_less, right_trees_are_told_exactly};

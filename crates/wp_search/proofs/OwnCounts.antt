@@ -15,7 +15,8 @@ use Rattle.wp_cert.specs.declared.tree.Node.{Node}
 use Rattle.wp_cert.specs.declared.tree.Node.TheVariants as node
 use Rattle.wp_search.specs.Counts.{has_own, own_nodes}
 use Rattle.wp_search.specs.Prices.{full, price}
-use Rattle.wp_search.proofs.PathLengths.{empty_path, longer_path, paths_are_short}
+use Rattle.wp_cert.proofs.PathSteps.{empty_path, longer_path}
+use Rattle.wp_search.proofs.PathLengths.{paths_are_short}
 
 -- one node and those that follow
 pub own_first : (here : Node) (rest : List Node) → own_nodes (here ∷ rest) ≡ cond (has_own here) 1 0 + own_nodes rest

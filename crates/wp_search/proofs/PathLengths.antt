@@ -1,19 +1,18 @@
 -- A path has no more pairs than there are pairs of orders.
-use Rattle.std.proofs.Common.{◌≡◌, ℕ, zero, suc, ◌+◌, ◌-◌, ◌*◌, ◌/◌, ◌<◌, ◌≤◌, Bool, true, List, [], ◌∷◌, ◌++◌, length, map, get_or, take, arith, refl, ap, sym, ◌∙◌, subst}
+use Rattle.std.proofs.Common.{◌≡◌, ℕ, zero, suc, ◌+◌, ◌-◌, ◌*◌, ◌/◌, ◌<◌, ◌≤◌, true, List, length, map, get_or, take, arith, refl, ap, sym, ◌∙◌, subst}
 use Rattle.std.proofs.Common.{⊎_elim, Contains, eqb, eqb-true}
 use Rattle.std.specs.List.{IsDistinct}
 use Rattle.std.proofs.Math.Nat.{mul-div_cancel_left}
 use Rattle.std.proofs.lemmas.Bool.{cases_lt, ne_eqb}
-use Rattle.std.proofs.lemmas.List.{get_or-map, get_or-take, get_or_default, get_or_append_left, get_or_push, length-append, length-map, length-take-le, take-append-le, take_all}
+use Rattle.std.proofs.lemmas.List.{get_or-map, get_or-take, get_or_default, length-map, length-take-le}
 use Rattle.std.proofs.lemmas.Map.Keys.{IsDistinct-from_apart}
 use Rattle.std.proofs.lemmas.Map.Steps.{length-le_from_distinct_below}
 use Rattle.std.proofs.lemmas.Map.Views.{Contains-from_any}
 use Rattle.wp_pairs.specs.declared.pair.Pair.{Pair}
 use Rattle.wp_pairs.specs.Kept.{number_of, pairs_of}
-use Rattle.wp_pairs.specs.Permitted.{AreDecided, AreUndecided, Pairing}
+use Rattle.wp_pairs.specs.Permitted.{AreDecided}
 use Rattle.wp_pairs.proofs.PairNumbers.{added_decided}
-use Rattle.wp_cert.specs.Paths.{IsPath, pairing_of}
-use Rattle.wp_cert.specs.Trees.{with_pair}
+use Rattle.wp_cert.specs.Paths.{IsPath}
 
 -- the pairs with a lower second order come before
 pairs_below : (a b : ℕ) → a < b → pairs_of a + a ≤ pairs_of b
@@ -86,31 +85,3 @@ module _ (orders capacity : ℕ) (pairs : List Pair) (path : IsPath orders capac
       let most = length-le_from_distinct_below (map number_of pairs) (pairs_of orders) distinct
       (λ q found. number_below q (Contains-from_any {eq = eqb} (λ x y same. eqb-true x y same) q (map number_of pairs) found)) in
       omega (arith, most, length-map pairs number_of, pairs_are orders)
-
--- no pair is a path
-pub empty_path : (orders capacity : ℕ) → IsPath orders capacity []
-empty_path orders capacity = record { each = λ k d within. absurd (omega arith) }
-
--- an undecided pair makes a path longer
-pub longer_path : (pairing : Pairing) (first second : ℕ) (together : Bool) → IsPath pairing.orders pairing.capacity pairing.pairs
-    → AreUndecided pairing first second
-    → IsPath pairing.orders pairing.capacity (with_pair pairing first second together).pairs
-longer_path pairing first second together path undecided =
-    let new : Pair = record { first = first; second = second; together = together } in
-    let pairs = pairing.pairs in record {
-      each = λ k d within. ⊎_elim
-          (λ (low : k < length pairs).
-          let same = get_or_append_left pairs (new ∷ []) d k low in
-          let before = take-append-le k pairs (new ∷ []) (omega arith) in
-          subst (λ (ps : List Pair). AreUndecided (pairing_of pairing.orders pairing.capacity ps) (get_or (pairs ++ new ∷ []) k d).first
-          (get_or (pairs ++ new ∷ []) k d).second) (sym before)
-          (subst (λ (p : Pair). AreUndecided (pairing_of pairing.orders pairing.capacity (take k pairs)) p.first p.second) (sym same) (path.each k d low)))
-          (λ (high : length pairs ≤ k).
-          let last : k ≡ length pairs = omega (arith, within, length-append pairs (new ∷ [])) in
-          let same = get_or_push pairs new d k (sym last) in
-          let before = take-append-le k pairs (new ∷ []) (omega (arith, last)) ∙ take_all k pairs high in
-          subst (λ (ps : List Pair). AreUndecided (pairing_of pairing.orders pairing.capacity ps) (get_or (pairs ++ new ∷ []) k d).first
-          (get_or (pairs ++ new ∷ []) k d).second) (sym before)
-          (subst (λ (p : Pair). AreUndecided pairing p.first p.second) (sym same) undecided))
-          (cases_lt k (length pairs));
-    }

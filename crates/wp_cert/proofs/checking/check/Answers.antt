@@ -8,23 +8,23 @@ use Rattle.wp_cert.proofs.checking.check.Goals as goal
 pub returns-in_err-shown-clause-refused : goal.returns-in_err-shown-clause-refused
 returns-in_err-shown-clause-refused c =
     let p = err_from_is_err_and c.from_residual.result c.from_residual.ensures.1 in
-    rw (p.1, p.2) (first_broken c.args.wave.now c.args.capacity c.shares_of-above.result c.args.tree.now.nodes c.new-path.result.items c.new-path.ensures.items
+    rw (p.1, p.2) (first_broken c.args.wave.now c.args.capacity c.shares_of-above.result c.args.tree.now.nodes
     c.shares_of-above.ensures c.in_err-shown.field-0.0 c.in_err-shown.ensures.err)
 
 pub returns-then-shown-len-clause-refused : goal.returns-then-shown-len-clause-refused
 returns-then-shown-len-clause-refused c = λ named.
-    left_broken c.args.wave.now c.args.capacity c.shares_of-above.result c.args.tree.now.nodes c.new-path.result.items c.new-path.ensures.items
+    left_broken c.args.wave.now c.args.capacity c.shares_of-above.result c.args.tree.now.nodes
     c.shares_of-above.ensures c.in_ok-shown.shown.next c.in_ok-shown.shown.bound c.fault_at.result (omega (arith, c.if-shown-len.true, c.len.ensures))
     c.in_ok-shown.ensures.ok c.fault_at.ensures.node c.fault_at.ensures.why
 
 pub unwrap-requires : goal.unwrap-requires
 unwrap-requires c =
-    root_bound c.args.wave.now c.args.capacity c.shares_of-above.result c.args.tree.now.nodes c.new-path.result.items c.new-path.ensures.items
+    root_bound c.args.wave.now c.args.capacity c.shares_of-above.result c.args.tree.now.nodes
     c.shares_of-above.ensures _ c.in_ok-shown.shown.bound c.requires.some c.in_ok-shown.ensures.ok
 
 pub returns-in-Ok-clause-right : goal.returns-in-Ok-clause-right
 returns-in-Ok-clause-right c =
-    whole_bound c.args.wave.now c.args.capacity c.shares_of-above.result c.args.tree.now.nodes c.new-path.result.items c.new-path.ensures.items
+    whole_bound c.args.wave.now c.args.capacity c.shares_of-above.result c.args.tree.now.nodes
     c.shares_of-above.ensures c.in_ok-shown.shown.next c.in-Ok.bound c.in_ok-shown.shown.bound (omega (arith, c.if-shown-len.false, c.len.ensures))
     (c.unwrap.ensures ∙ ap (λ (b : ℕ). Some b) (sym c.in-Ok.ensures.1)) c.in_ok-shown.ensures.ok
 
