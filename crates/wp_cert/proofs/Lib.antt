@@ -20,3 +20,4 @@ mod TextTold
 pub mod OneOutcome
 pub mod OneVerdict
 mod OrdersBelow
+mod HaveLengths

@@ -6,3 +6,4 @@ pub mod Ways
 pub mod Text
 pub mod TextData
 pub mod FaultTexts
+pub mod Visited

@@ -2,6 +2,7 @@ ghost use Rattle.std.specs.Prelude.{◌≡◌, ◌<◌, ◌≤◌, ◌↔◌, []
 ghost use Rattle.wp_duals.specs.Duals.{IsTightFor};
 ghost use Rattle.wp_cert.specs.Refusals.{AreRefused, IsBrokenOwn, IsFirstSlack};
 ghost use Rattle.wp_cert.specs.Trees.{HasAll, IsRightOwn, IsTightAt};
+ghost use Rattle.wp_cert.specs.Visited.{HasEachLength};
 ghost use Rattle.wp_duals.specs.Visits.{IsVisitOfAll, Passed};
 
 use crate::tree::{CertWhy, Own};
@@ -17,6 +18,15 @@ fn has_all(pairs: &Pairs, own: &Own) -> bool
     own.duals.len() == pairs.orders() && own.tight.len() == pairs.orders()
 }
 
+// Each batch of a wave has a length, since its orders pick at slots of the layout alone: the set of picks of each tells it.
+fn each_batch_has_a_length(wave: &Wave)
+    ensures { HasEachLength wave.now }
+{
+    for order in 0..wave.orders() {
+        wave.picks(order).needed_below(1);
+    }
+}
+
 // Tests the marks of a node: all places that are visited pass, and no mark is left.
 fn test_marks(wave: &Wave, pairs: &Pairs, own: &Own) -> Result<(), CertWhy>
     requires orders { pairs.now.orders ≡ length wave.now.orders }
@@ -24,7 +34,8 @@ fn test_marks(wave: &Wave, pairs: &Pairs, own: &Own) -> Result<(), CertWhy>
     ensures ok { OnOk result (IsVisitOfAll wave.now pairs.now own.now.duals own.now.marks (Passed [])) }
     ensures err { IfErr result (AreRefused wave.now pairs.now own.now) }
 {
-    let end = visit(wave, pairs, own, Batch::empty(), 0, 0)?;
+    each_batch_has_a_length(wave);
+    let end = visit(wave, pairs, own, Batch::empty(), 0, 0, 0)?;
     if end < own.marks.len() {
         return Err(CertWhy::BadMarks);
     }

@@ -1,6 +1,9 @@
-ghost use Rattle.std.specs.Prelude.{◌≡◌, ◌<◌, ◌≤◌, ◌⊎◌, List, ℕ, All, IfErr, IfNone, IfOk, IfSome, drop, length};
+ghost use Rattle.std.specs.Prelude.{◌≡◌, ◌<◌, ◌≤◌, ◌+◌, ◌*◌, ◌⊎◌, List, ℕ, All, IfErr, IfNone, IfOk, IfSome, IsTrue, drop, false, length};
 ghost use Rattle.wp_pairs.specs.Permitted.{IsPermitted};
+ghost use Rattle.wp_batch.specs.Lengths.{IsLengthOf};
 ghost use Rattle.wp_cert.specs.Refusals.{IsRefusedVisit};
+ghost use Rattle.wp_cert.specs.Visited.{HasEachLength, IsNoLess, ReachesTooMuch, StandsForMore};
+ghost use Rattle.wp_duals.specs.Duals.{duals_of};
 ghost use Rattle.wp_duals.specs.Visits.{AddsItem, IsItem, IsVisit, Passed, Place};
 
 use crate::tree::{CertWhy, Own};
@@ -27,8 +30,57 @@ fn child_of(pairs: &Pairs, place: Batch, item: u32) -> Option<Batch>
     }
 }
 
+// Whether sixty times a length is no less than a sum of duals and what is added to it.
+fn covers(length: u64, sum: u128, more: u128) -> bool
+    ensures yes { IsTrue result → sum + more ≤ 60 * length }
+    ensures no { result ≡ false → 60 * length < sum + more }
+{
+    let most = 60 * u128::from(length);
+    sum <= most && more <= most - sum
+}
+
+// A number that the length of a place is no less than: the known one where it covers a sum of duals and what is added to it,
+// else the length itself. Only there the place is measured.
+fn length_for(wave: &Wave, place: Batch, known: u64, sum: u128, more: u128) -> u64
+    requires orders { All (λ order. order < length wave.now.orders) place }
+    requires least { IsNoLess wave.now place known }
+    ensures least { IsNoLess wave.now place result }
+    ensures enough { sum + more ≤ 60 * known → result ≡ known }
+    ensures exact { 60 * result < sum + more → IsLengthOf wave.now place result }
+{
+    if covers(known, sum, more) {
+        known
+    } else {
+        wave.batch_length(place)
+    }
+}
+
+// Whether a place of this sum of duals, which isn't entered, stands for all batches that have more orders after it.
+fn stands_for_more(
+    wave: &Wave,
+    pairs: &Pairs,
+    duals: &[u64],
+    place: Batch,
+    from: u32,
+    sum: u128,
+    known: u64,
+) -> bool
+    requires lengths { HasEachLength wave.now }
+    requires orders { All (λ order. order < length wave.now.orders) place }
+    requires count { length duals.now ≡ pairs.now.orders }
+    requires fits { length place ≤ pairs.now.capacity }
+    requires sum { sum ≡ duals_of duals.now place }
+    requires least { IsNoLess wave.now place known }
+    ensures yes { IsTrue result → StandsForMore wave.now pairs.now duals.now place from }
+    ensures no { result ≡ false → ReachesTooMuch wave.now pairs.now duals.now place from }
+{
+    let reach = reach_of(pairs, duals, place, from);
+    covers(length_for(wave, place, known, sum, reach), sum, reach)
+}
+
 /// Visits a place whose later items begin from an order on, with the marks from this place of them on. The answer is where
-/// the marks go on; or the first refusal, `NotFeasible` with a batch that has too much in duals, or `BadMarks`.
+/// the marks go on; or the first refusal, `NotFeasible` with a batch that has too much in duals, or `BadMarks`. The
+/// length of the place is no less than a known number, and the place is measured only where that number isn't enough.
 pub fn visit(
     wave: &Wave,
     pairs: &Pairs,
@@ -36,27 +88,31 @@ pub fn visit(
     place: Batch,
     from: u32,
     next: u64,
+    known: u64,
 ) -> Result<u64, CertWhy>
+    requires lengths { HasEachLength wave.now }
     requires orders { pairs.now.orders ≡ length wave.now.orders }
     requires count { length own.now.duals ≡ pairs.now.orders }
     requires known { All (λ order. order < pairs.now.orders) place }
     requires fits { length place ≤ pairs.now.capacity }
     requires from { from ≤ pairs.now.orders }
     requires next { next ≤ length own.now.marks }
+    requires least { IsNoLess wave.now place known }
     ensures ok { IfOk result (λ end. IsVisit wave.now pairs.now own.now.duals (Place place from) (drop next own.now.marks) (Passed (drop end own.now.marks))) }
     ensures within { IfOk result (λ end. end ≤ length own.now.marks) }
     ensures err { IfErr result (IsRefusedVisit wave.now pairs.now own.now.duals (Place place from) (drop next own.now.marks)) }
 {
-    let most = 60 * u128::from(wave.batch_length(place));
-    let sum = sum_of(own.duals.as_slice(), place);
-    if most < sum {
+    let duals = own.duals.as_slice();
+    let sum = sum_of(duals, place);
+    let length = length_for(wave, place, known, sum, 0);
+    if !covers(length, sum, 0) {
         return Err(CertWhy::NotFeasible(place));
     }
     if next == own.marks.len() {
         return Err(CertWhy::BadMarks);
     }
     if !own.marks.at(next) {
-        if most - sum < reach_of(pairs, own.duals.as_slice(), place, from) {
+        if !stands_for_more(wave, pairs, duals, place, from, sum, length) {
             return Err(CertWhy::BadMarks);
         }
         return Ok(next + 1);
@@ -64,7 +120,7 @@ pub fn visit(
     let mut after = next + 1;
     for item in from..pairs.orders() {
         if let Some(batch) = child_of(pairs, place, item) {
-            after = visit(wave, pairs, own, batch, item + 1, after)?;
+            after = visit(wave, pairs, own, batch, item + 1, after, length)?;
         }
     }
     Ok(after)
