@@ -1,5 +1,6 @@
 -- Subtrees of the search: their nodes, their bounds, and what holds of them.
-use Rattle.std.specs.Prelude.{◌≡◌, ℕ, ◌+◌, ◌≤◌, ⊤, true, false, List, [], ◌∷◌, ◌++◌, Option, Some, None, length, sum}
+use Rattle.std.specs.Prelude.{◌≡◌, ℕ, ◌+◌, ◌≤◌, ⊤, true, false, List, [], ◌∷◌, ◌++◌, Option, Some, None, length, reverse, sum}
+use Rattle.std.specs.List.{flat_map}
 use Rattle.wp_pairs.specs.Permitted.{AreUndecided, IsDead, Pairing}
 use Rattle.wp_batch.specs.Waves.{WavePicks}
 use Rattle.wp_cert.specs.Trees.{IsRightOwn, lower_of, with_pair}
@@ -22,6 +23,16 @@ nodes_of (Leaf None) = node.Leaf None ∷ []
 nodes_of (Leaf (Some worked)) = node.Leaf (Some worked.own) ∷ []
 nodes_of (Dead order) = node.Dead order ∷ []
 nodes_of (Split' cut p together q apart) = node.Split cut.first cut.second (Some cut.worked.own) ∷ (nodes_of together ++ nodes_of apart)
+
+-- a leaf that isn't dead
+abbrev pub IsLeaf : Branch → Type 0
+IsLeaf (Leaf own) = ⊤
+IsLeaf (Dead order) = ⊥
+IsLeaf (Split' cut p together q apart) = ⊥
+
+-- the nodes of a stack of subtrees, from its top down: its top is the list's end
+abbrev pub stacked_nodes : List Branch → List Node
+stacked_nodes stack = flat_map nodes_of (reverse stack)
 
 -- the least bound of the leaves that aren't dead, below a node whose duals give this bound
 abbrev pub bound_of : ℕ → Branch → Option ℕ

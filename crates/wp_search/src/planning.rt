@@ -32,7 +32,7 @@ fn tree_of(alloc: Global, branch: Branch) -> Result<Tree, Memory>
     ensures { IfOk result (λ tree. tree.nodes ≡ nodes_of branch) }
 {
     let mut nodes = Vec::new(alloc);
-    list_nodes(branch, &mut nodes)?;
+    list_nodes(alloc, branch, &mut nodes)?;
     if nodes.len() > u32::MAX as usize {
         return Err(Memory);
     }

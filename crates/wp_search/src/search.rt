@@ -11,7 +11,7 @@ use crate::best::{Best, best_of, cheaper_of};
 use crate::branch::Branch;
 use crate::price::{pays, price_of};
 use crate::shares::bound_of;
-use crate::turn::{Turn, take_turn};
+use crate::turn::{Turn, Turner, take_turn};
 use std::alloc::Global;
 use std::thread::Threads;
 use wp_batch::{Batching, Wave};
@@ -36,36 +36,27 @@ pub struct Step {
 
 // A turn at the first leaf of the tree with the least bound.
 fn turn_at_root<R: Threads + Sync, G: Gate>(
-    rt: &R,
-    alloc: Global,
-    wave: &Wave,
-    capacity: u32,
+    turner: &Turner<'_, R, G>,
     shares: &[u64],
     search: &mut Search,
-    bound: u64,
-    pays: bool,
-    workers: u32,
-    gate: &G,
 ) -> Result<Turn, Memory>
-    requires some { 1 ≤ capacity }
-    requires most { capacity ≤ 8 }
-    requires shares { AreShares wave.now capacity shares.now }
-    requires duals { AreDuals (length wave.now.orders) shares.now }
-    requires tree { IsBranch wave.now (no_pairs (length wave.now.orders) capacity) (sum shares.now) search.old.tree }
-    requires bound { least_of (units_of (sum shares.now)) search.old.tree ≡ Some bound }
-    requires some_workers { 1 ≤ workers }
-    requires most_workers { workers ≤ 16 }
-    ensures turned { IfOk result (IsTurned wave.now (no_pairs (length wave.now.orders) capacity) (sum shares.now) pays bound search.old.tree search.new.tree) }
+    requires some { 1 ≤ turner.now.capacity }
+    requires most { turner.now.capacity ≤ 8 }
+    requires shares { AreShares turner.now.wave.now turner.now.capacity shares.now }
+    requires duals { AreDuals (length turner.now.wave.now.orders) shares.now }
+    requires tree { IsBranch turner.now.wave.now (no_pairs (length turner.now.wave.now.orders) turner.now.capacity) (sum shares.now) search.old.tree }
+    requires bound { least_of (units_of (sum shares.now)) search.old.tree ≡ Some turner.now.least }
+    requires some_workers { 1 ≤ turner.now.workers }
+    requires most_workers { turner.now.workers ≤ 16 }
+    ensures turned { IfOk result (IsTurned turner.now.wave.now (no_pairs (length turner.now.wave.now.orders) turner.now.capacity) (sum shares.now)
+        turner.now.pays turner.now.least search.old.tree search.new.tree) }
     ensures best { OnOk result (search.new.best ≡ search.old.best) }
     ensures budget { OnOk result (search.new.budget ≡ search.old.budget) }
     ensures spent { OnOk result (search.new.spent ≡ search.old.spent) }
 {
-    let mut path = Vec::new(alloc);
+    let mut path = Vec::new(turner.alloc);
     let columns = search.best.batching.as_slice();
-    let tree = &mut search.tree;
-    take_turn(
-        rt, alloc, wave, capacity, &mut path, shares, columns, tree, bound, pays, workers, gate,
-    )
+    take_turn(turner, &mut path, shares, columns, &mut search.tree)
 }
 
 // A search after a node was paid for, at which a batching was found, or none.
@@ -129,18 +120,17 @@ fn take_step<R: Threads + Sync, G: Gate>(
     ensures { IfOk result (λ step. IsOnward wave.now capacity (sum shares.now) search step.search step.goes_on) }
 {
     let pays = pays(wave.orders(), capacity, search.budget - search.spent);
-    let turn = turn_at_root(
+    let turner = Turner {
         rt,
         alloc,
         wave,
         capacity,
-        shares,
-        &mut search,
-        bound,
+        least: bound,
         pays,
         workers,
         gate,
-    )?;
+    };
+    let turn = turn_at_root(&turner, shares, &mut search)?;
     Ok(match turn {
         Turn::Worked(found) => Step {
             search: paid(wave, capacity, search, found),

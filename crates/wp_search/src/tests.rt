@@ -2,6 +2,7 @@ ghost use Rattle.std.specs.Prelude.{◌≡◌, ◌<◌, All, IfSome, length};
 ghost use Rattle.wp_model.specs.Warehouse.{IsSlot};
 
 mod batchings;
+mod deep;
 mod made;
 mod workers;
 

@@ -3,7 +3,7 @@ ghost use Rattle.wp_cert.specs.Paths.{IsPath, pairing_of};
 ghost use Rattle.wp_cert.specs.Trees.{lower_of, with_pair};
 ghost use Rattle.wp_duals.specs.Duals.{AreFeasible, units_of};
 ghost use Rattle.wp_pairs.specs.Permitted.{AreUndecided};
-ghost use Rattle.wp_search.specs.Branches.{HasBound, IsBranch, IsCut, IsFreshSplit, IsWorked, bound_of as least_of, own_bound};
+ghost use Rattle.wp_search.specs.Branches.{HasBound, IsBranch, IsCut, IsFreshSplit, IsLeaf, IsWorked, bound_of as least_of, own_bound};
 ghost use Rattle.wp_search.specs.Raises.{AreDuals};
 ghost use Rattle.wp_search.specs.Turns.{IsTurned};
 ghost use Rattle.wp_search.specs.declared.branch.Branch.TheVariants as branches;
@@ -21,6 +21,21 @@ use wp_cert::pairs_of;
 use wp_model::Memory;
 use wp_outside::Gate;
 use wp_pairs::{Batch, Pair, Pairs};
+
+/// What stays the same in a turn: the wave and the capacity, 1 to 8; the bound of the leaf that takes
+/// it, which is the least; whether the budget pays for a node; and the workers, 1 to 16, with the
+/// gate that they pass.
+#[derive(Clone, Copy)]
+pub struct Turner<'a, R, G> {
+    pub rt: &'a R,
+    pub alloc: Global,
+    pub wave: &'a Wave,
+    pub capacity: u32,
+    pub least: u64,
+    pub pays: bool,
+    pub workers: u32,
+    pub gate: &'a G,
+}
 
 /// What a turn did at a leaf.
 #[derive(Drop)]
@@ -44,23 +59,19 @@ pub struct Turned {
 
 // A turn at a leaf that keeps the duals of the node above.
 fn turn_kept<R: Threads + Sync, G: Gate>(
-    rt: &R,
-    alloc: Global,
-    wave: &Wave,
+    turner: &Turner<'_, R, G>,
     pairs: &Pairs,
     above: &[u64],
     columns: &[Batch],
-    pays: bool,
-    workers: u32,
-    gate: &G,
 ) -> Result<Turned, Memory>
     requires some { 1 ≤ pairs.now.capacity }
-    requires pairs { pairs.now.orders ≡ length wave.now.orders }
-    requires duals { AreDuals (length wave.now.orders) above.now }
-    requires feasible { AreFeasible wave.now pairs.now above.now }
-    requires some_workers { 1 ≤ workers }
-    requires most_workers { workers ≤ 16 }
-    ensures { IfOk result (λ turned. IsTurned wave.now pairs.now (sum above.now) pays (units_of (sum above.now)) (branches.Leaf None) turned.branch turned.turn) }
+    requires pairs { pairs.now.orders ≡ length turner.now.wave.now.orders }
+    requires duals { AreDuals (length turner.now.wave.now.orders) above.now }
+    requires feasible { AreFeasible turner.now.wave.now pairs.now above.now }
+    requires some_workers { 1 ≤ turner.now.workers }
+    requires most_workers { turner.now.workers ≤ 16 }
+    ensures { IfOk result (λ turned. IsTurned turner.now.wave.now pairs.now (sum above.now) turner.now.pays (units_of (sum above.now))
+        (branches.Leaf None) turned.branch turned.turn) }
 {
     if let Some(order) = pairs.dead() {
         return Ok(Turned {
@@ -68,14 +79,28 @@ fn turn_kept<R: Threads + Sync, G: Gate>(
             turn: Turn::Onward,
         });
     }
-    if !pays {
+    if !turner.pays {
         return Ok(Turned {
             branch: Branch::Leaf(None),
             turn: Turn::Spent,
         });
     }
-    let worked = work_node(rt, alloc, wave, pairs, above, columns, workers, gate)?;
-    let found = better_batching(alloc, wave, pairs.capacity(), worked.whole.as_slice())?;
+    let worked = work_node(
+        turner.rt,
+        turner.alloc,
+        turner.wave,
+        pairs,
+        above,
+        columns,
+        turner.workers,
+        turner.gate,
+    )?;
+    let found = better_batching(
+        turner.alloc,
+        turner.wave,
+        pairs.capacity(),
+        worked.whole.as_slice(),
+    )?;
     Ok(Turned {
         branch: Branch::Leaf(Some(worked)),
         turn: Turn::Worked(found),
@@ -107,30 +132,26 @@ fn split_on(
 }
 
 // A turn at a leaf with duals of its own.
-fn turn_worked<R: Threads + Sync>(
-    rt: &R,
-    alloc: Global,
-    wave: &Wave,
+fn turn_worked<R: Threads + Sync, G: Gate>(
+    turner: &Turner<'_, R, G>,
     pairs: &Pairs,
     worked: Worked,
-    pays: bool,
-    workers: u32,
 ) -> Result<Turned, Memory>
     requires some { 1 ≤ pairs.now.capacity }
-    requires pairs { pairs.now.orders ≡ length wave.now.orders }
-    requires worked { IsWorked wave.now pairs.now 0 worked }
-    requires some_workers { 1 ≤ workers }
-    requires most_workers { workers ≤ 16 }
+    requires pairs { pairs.now.orders ≡ length turner.now.wave.now.orders }
+    requires worked { IsWorked turner.now.wave.now pairs.now 0 worked }
+    requires some_workers { 1 ≤ turner.now.workers }
+    requires most_workers { turner.now.workers ≤ 16 }
     ensures { IfOk result (λ turned. (above : ℕ) → above ≤ sum worked.own.duals
-        → IsTurned wave.now pairs.now above pays (own_bound worked) (branches.Leaf (Some worked)) turned.branch turned.turn) }
+        → IsTurned turner.now.wave.now pairs.now above turner.now.pays (own_bound worked) (branches.Leaf (Some worked)) turned.branch turned.turn) }
 {
-    match choose_pair(alloc, pairs, &worked)? {
+    match choose_pair(turner.alloc, pairs, &worked)? {
         Some((first, second)) => Ok(Turned {
-            branch: split_on(alloc, wave.orders(), first, second, worked)?,
+            branch: split_on(turner.alloc, turner.wave.orders(), first, second, worked)?,
             turn: Turn::Onward,
         }),
         None => {
-            let batching = class_batching(alloc, wave, pairs, &worked.own)?;
+            let batching = class_batching(turner.alloc, turner.wave, pairs, &worked.own)?;
             Ok(Turned {
                 branch: Branch::Leaf(Some(worked)),
                 turn: Turn::Settled(batching),
@@ -139,36 +160,66 @@ fn turn_worked<R: Threads + Sync>(
     }
 }
 
-// A turn at a leaf, at the end of a path of pairs.
+// A turn at a leaf that was taken out of its place, at the end of a path of pairs.
 fn turn_leaf<R: Threads + Sync, G: Gate>(
-    rt: &R,
-    alloc: Global,
-    wave: &Wave,
-    capacity: u32,
+    turner: &Turner<'_, R, G>,
     path: &Vec<Pair>,
     above: &[u64],
     columns: &[Batch],
     leaf: Option<Worked>,
-    pays: bool,
-    workers: u32,
-    gate: &G,
 ) -> Result<Turned, Memory>
-    requires some { 1 ≤ capacity }
-    requires most { capacity ≤ 8 }
-    requires path { IsPath (length wave.now.orders) capacity path.now.items }
-    requires duals { AreDuals (length wave.now.orders) above.now }
-    requires feasible { AreFeasible wave.now (pairing_of (length wave.now.orders) capacity path.now.items) above.now }
-    requires leaf { IsBranch wave.now (pairing_of (length wave.now.orders) capacity path.now.items) (sum above.now) (branches.Leaf leaf) }
-    requires some_workers { 1 ≤ workers }
-    requires most_workers { workers ≤ 16 }
+    requires some { 1 ≤ turner.now.capacity }
+    requires most { turner.now.capacity ≤ 8 }
+    requires path { IsPath (length turner.now.wave.now.orders) turner.now.capacity path.now.items }
+    requires duals { AreDuals (length turner.now.wave.now.orders) above.now }
+    requires feasible { AreFeasible turner.now.wave.now (pairing_of (length turner.now.wave.now.orders) turner.now.capacity path.now.items) above.now }
+    requires leaf { IsBranch turner.now.wave.now (pairing_of (length turner.now.wave.now.orders) turner.now.capacity path.now.items) (sum above.now)
+        (branches.Leaf leaf) }
+    requires some_workers { 1 ≤ turner.now.workers }
+    requires most_workers { turner.now.workers ≤ 16 }
     ensures { IfOk result (λ turned. (least : ℕ) → least_of (units_of (sum above.now)) (branches.Leaf leaf) ≡ Some least
-        → IsTurned wave.now (pairing_of (length wave.now.orders) capacity path.now.items) (sum above.now) pays least (branches.Leaf leaf)
-        turned.branch turned.turn) }
+        → IsTurned turner.now.wave.now (pairing_of (length turner.now.wave.now.orders) turner.now.capacity path.now.items) (sum above.now)
+        turner.now.pays least (branches.Leaf leaf) turned.branch turned.turn) }
 {
-    let pairs = pairs_of(wave.orders(), capacity, path);
+    let pairs = pairs_of(turner.wave.orders(), turner.capacity, path);
     match leaf {
-        None => turn_kept(rt, alloc, wave, &pairs, above, columns, pays, workers, gate),
-        Some(worked) => turn_worked(rt, alloc, wave, &pairs, worked, pays, workers),
+        None => turn_kept(turner, &pairs, above, columns),
+        Some(worked) => turn_worked(turner, &pairs, worked),
+    }
+}
+
+// A turn at a leaf, at the end of a path of pairs. It is never inlined: what it keeps on the stack
+// is there once, and not at each level of the tree.
+#[inline(never)]
+fn turn_in_place<R: Threads + Sync, G: Gate>(
+    turner: &Turner<'_, R, G>,
+    path: &Vec<Pair>,
+    above: &[u64],
+    columns: &[Batch],
+    branch: &mut Branch,
+) -> Result<Turn, Memory>
+    requires some { 1 ≤ turner.now.capacity }
+    requires most { turner.now.capacity ≤ 8 }
+    requires path { IsPath (length turner.now.wave.now.orders) turner.now.capacity path.now.items }
+    requires duals { AreDuals (length turner.now.wave.now.orders) above.now }
+    requires feasible { AreFeasible turner.now.wave.now (pairing_of (length turner.now.wave.now.orders) turner.now.capacity path.now.items) above.now }
+    requires leaf { IsLeaf branch.old }
+    requires branch { IsBranch turner.now.wave.now (pairing_of (length turner.now.wave.now.orders) turner.now.capacity path.now.items) (sum above.now)
+        branch.old }
+    requires least { least_of (units_of (sum above.now)) branch.old ≡ Some turner.now.least }
+    requires some_workers { 1 ≤ turner.now.workers }
+    requires most_workers { turner.now.workers ≤ 16 }
+    ensures { IfOk result (IsTurned turner.now.wave.now (pairing_of (length turner.now.wave.now.orders) turner.now.capacity path.now.items)
+        (sum above.now) turner.now.pays turner.now.least branch.old branch.new) }
+{
+    match branch {
+        Branch::Leaf(leaf) => {
+            let leaf = leaf.take();
+            let turned = turn_leaf(turner, path, above, columns, leaf)?;
+            *branch = turned.branch;
+            Ok(turned.turn)
+        }
+        Branch::Dead(_) | Branch::Split(..) => unreachable!(),
     }
 }
 
@@ -218,80 +269,41 @@ fn is_together(orders: u32, cut: &Cut, together: &Branch, least: u64) -> bool
 /// which comes only where memory is wanting, nothing is said of the subtree.
 #[cycle(turns)]
 pub fn take_turn<R: Threads + Sync, G: Gate>(
-    rt: &R,
-    alloc: Global,
-    wave: &Wave,
-    capacity: u32,
+    turner: &Turner<'_, R, G>,
     path: &mut Vec<Pair>,
     above: &[u64],
     columns: &[Batch],
     branch: &mut Branch,
-    least: u64,
-    pays: bool,
-    workers: u32,
-    gate: &G,
 ) -> Result<Turn, Memory>
-    requires some { 1 ≤ capacity }
-    requires most { capacity ≤ 8 }
-    requires path { IsPath (length wave.now.orders) capacity path.old.items }
-    requires duals { AreDuals (length wave.now.orders) above.now }
-    requires feasible { AreFeasible wave.now (pairing_of (length wave.now.orders) capacity path.old.items) above.now }
-    requires branch { IsBranch wave.now (pairing_of (length wave.now.orders) capacity path.old.items) (sum above.now) branch.old }
-    requires least { least_of (units_of (sum above.now)) branch.old ≡ Some least }
-    requires some_workers { 1 ≤ workers }
-    requires most_workers { workers ≤ 16 }
-    ensures turned { IfOk result (IsTurned wave.now (pairing_of (length wave.now.orders) capacity path.old.items) (sum above.now) pays least branch.old
-        branch.new) }
+    requires some { 1 ≤ turner.now.capacity }
+    requires most { turner.now.capacity ≤ 8 }
+    requires path { IsPath (length turner.now.wave.now.orders) turner.now.capacity path.old.items }
+    requires duals { AreDuals (length turner.now.wave.now.orders) above.now }
+    requires feasible { AreFeasible turner.now.wave.now (pairing_of (length turner.now.wave.now.orders) turner.now.capacity path.old.items) above.now }
+    requires branch { IsBranch turner.now.wave.now (pairing_of (length turner.now.wave.now.orders) turner.now.capacity path.old.items) (sum above.now)
+        branch.old }
+    requires least { least_of (units_of (sum above.now)) branch.old ≡ Some turner.now.least }
+    requires some_workers { 1 ≤ turner.now.workers }
+    requires most_workers { turner.now.workers ≤ 16 }
+    ensures turned { IfOk result (IsTurned turner.now.wave.now (pairing_of (length turner.now.wave.now.orders) turner.now.capacity path.old.items)
+        (sum above.now) turner.now.pays turner.now.least branch.old branch.new) }
     ensures path { OnOk result (path.new.items ≡ path.old.items) }
 {
     match branch {
         Branch::Split(cut, together, apart) => {
-            let orders = wave.orders();
-            if is_together(orders, cut, together, least) {
+            let orders = turner.wave.orders();
+            if is_together(orders, cut, together, turner.least) {
                 let pair = pair_of(cut, true);
-                let turn = take_turn_below(
-                    rt,
-                    alloc,
-                    wave,
-                    capacity,
-                    path,
-                    pair,
-                    &cut.worked,
-                    together,
-                    least,
-                    pays,
-                    workers,
-                    gate,
-                )?;
+                let turn = take_turn_below(turner, path, pair, &cut.worked, together)?;
                 keep_least(orders, cut, together, apart);
                 return Ok(turn);
             }
             let pair = pair_of(cut, false);
-            let turn = take_turn_below(
-                rt,
-                alloc,
-                wave,
-                capacity,
-                path,
-                pair,
-                &cut.worked,
-                apart,
-                least,
-                pays,
-                workers,
-                gate,
-            )?;
+            let turn = take_turn_below(turner, path, pair, &cut.worked, apart)?;
             keep_least(orders, cut, together, apart);
             Ok(turn)
         }
-        Branch::Leaf(leaf) => {
-            let leaf = leaf.take();
-            let turned = turn_leaf(
-                rt, alloc, wave, capacity, path, above, columns, leaf, pays, workers, gate,
-            )?;
-            *branch = turned.branch;
-            Ok(turned.turn)
-        }
+        Branch::Leaf(_) => turn_in_place(turner, path, above, columns, branch),
         Branch::Dead(_) => unreachable!(),
     }
 }
@@ -299,39 +311,31 @@ pub fn take_turn<R: Threads + Sync, G: Gate>(
 // A turn in the subtree that is at the end of a path of pairs and one more, below a node with duals of its own.
 #[cycle(turns)]
 fn take_turn_below<R: Threads + Sync, G: Gate>(
-    rt: &R,
-    alloc: Global,
-    wave: &Wave,
-    capacity: u32,
+    turner: &Turner<'_, R, G>,
     path: &mut Vec<Pair>,
     pair: Pair,
     worked: &Worked,
     branch: &mut Branch,
-    least: u64,
-    pays: bool,
-    workers: u32,
-    gate: &G,
 ) -> Result<Turn, Memory>
-    requires some { 1 ≤ capacity }
-    requires most { capacity ≤ 8 }
-    requires path { IsPath (length wave.now.orders) capacity path.old.items }
-    requires pair { AreUndecided (pairing_of (length wave.now.orders) capacity path.old.items) pair.first pair.second }
-    requires worked { IsWorked wave.now (pairing_of (length wave.now.orders) capacity path.old.items) 0 worked.now }
-    requires branch { IsBranch wave.now (pairing_of (length wave.now.orders) capacity (path.old.items ++ pair ∷ [])) (sum worked.now.own.duals)
-        branch.old }
-    requires least { least_of (own_bound worked.now) branch.old ≡ Some least }
-    requires some_workers { 1 ≤ workers }
-    requires most_workers { workers ≤ 16 }
-    ensures turned { IfOk result (IsTurned wave.now (pairing_of (length wave.now.orders) capacity (path.old.items ++ pair ∷ []))
-        (sum worked.now.own.duals) pays least branch.old branch.new) }
+    requires some { 1 ≤ turner.now.capacity }
+    requires most { turner.now.capacity ≤ 8 }
+    requires path { IsPath (length turner.now.wave.now.orders) turner.now.capacity path.old.items }
+    requires pair { AreUndecided (pairing_of (length turner.now.wave.now.orders) turner.now.capacity path.old.items) pair.first pair.second }
+    requires worked { IsWorked turner.now.wave.now (pairing_of (length turner.now.wave.now.orders) turner.now.capacity path.old.items) 0 worked.now }
+    requires branch { IsBranch turner.now.wave.now
+        (pairing_of (length turner.now.wave.now.orders) turner.now.capacity (path.old.items ++ pair ∷ [])) (sum worked.now.own.duals) branch.old }
+    requires least { least_of (own_bound worked.now) branch.old ≡ Some turner.now.least }
+    requires some_workers { 1 ≤ turner.now.workers }
+    requires most_workers { turner.now.workers ≤ 16 }
+    ensures turned { IfOk result (IsTurned turner.now.wave.now
+        (pairing_of (length turner.now.wave.now.orders) turner.now.capacity (path.old.items ++ pair ∷ [])) (sum worked.now.own.duals)
+        turner.now.pays turner.now.least branch.old branch.new) }
     ensures path { OnOk result (path.new.items ≡ path.old.items) }
 {
     path.push(pair)?;
     let above = worked.own.duals.as_slice();
     let columns = worked.columns.as_slice();
-    let turn = take_turn(
-        rt, alloc, wave, capacity, path, above, columns, branch, least, pays, workers, gate,
-    )?;
+    let turn = take_turn(turner, path, above, columns, branch)?;
     path.pop();
     Ok(turn)
 }

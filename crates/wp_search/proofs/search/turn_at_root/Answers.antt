@@ -7,5 +7,7 @@ use Rattle.wp_search.proofs.search.turn_at_root.Goals as goal
 
 pub take_turn-requires-clause-feasible : goal.take_turn-requires-clause-feasible
 take_turn-requires-clause-feasible g c κs within =
-    subst (λ (pairs : List Pair). AreFeasible c.args.wave.now (pairing_of (length c.args.wave.now.orders) c.args.capacity pairs) c.args.shares.now)
-    (sym c.new-path.ensures.items) (shares_feasible c.args.wave.now c.args.capacity c.args.shares.now c.requires.some c.requires.shares)
+    let turner = c.args.turner.now in
+    let wave = turner.wave.now in
+    subst (λ (pairs : List Pair). AreFeasible wave (pairing_of (length wave.orders) turner.capacity pairs) c.args.shares.now)
+    (sym c.new-path.ensures.items) (shares_feasible wave turner.capacity c.args.shares.now c.requires.some c.requires.shares)

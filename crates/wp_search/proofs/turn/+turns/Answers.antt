@@ -8,28 +8,32 @@ use Rattle.wp_search.proofs.turn.+turns.Goals as goal
 
 pub take_turn-returns-then-is_together-clause-turned : goal.take_turn-returns-then-is_together-clause-turned
 take_turn-returns-then-is_together-clause-turned g t c =
-    rw c.in-Split.is (turned_together c.args.wave.now (pairing_of (length c.args.wave.now.orders) c.args.capacity c.args.path.now.items)
-    (sum c.args.above.now) c.args.pays c.args.least c.in-Split.cut c.keep_least.new.cut c.in-Split.together.value c.in-Split.apart.value
-    c.take_turn_below.new.branch c.in_ok-turn-in-Split.turn
-    (subst (λ (b : Branch). IsBranch c.args.wave.now (pairing_of (length c.args.wave.now.orders) c.args.capacity c.args.path.now.items)
-    (sum c.args.above.now) b) c.in-Split.is c.requires.branch)
+    let turner = c.args.turner.now in
+    let wave = turner.wave.now in
+    let pairing = pairing_of (length wave.orders) turner.capacity c.args.path.now.items in
+    rw c.in-Split.is (turned_together wave pairing (sum c.args.above.now) turner.pays turner.least c.in-Split.cut c.keep_least.new.cut
+    c.in-Split.together.value c.in-Split.apart.value c.take_turn_below.new.branch c.in_ok-turn-in-Split.turn
+    (subst (λ (b : Branch). IsBranch wave pairing (sum c.args.above.now) b) c.in-Split.is c.requires.branch)
     (rw (c.deref-then-is_together.ensures, c.deref-then-is_together-2.ensures) at c.keep_least.ensures)
     (rw c.deref.ensures at (c.is_together.ensures.0 c.if-is_together.true))
     (rw (c.pair_of-pair.ensures, c.deref_mut.ensures.value) at c.in_ok-turn-in-Split.ensures.turned))
 
 pub take_turn-returns-in_ok-turn-in-Split-2-clause-turned : goal.take_turn-returns-in_ok-turn-in-Split-2-clause-turned
 take_turn-returns-in_ok-turn-in-Split-2-clause-turned g t c =
-    rw c.in-Split.is (turned_apart c.args.wave.now (pairing_of (length c.args.wave.now.orders) c.args.capacity c.args.path.now.items)
-    (sum c.args.above.now) c.args.pays c.args.least c.in-Split.cut c.keep_least-in-Split.new.cut c.in-Split.together.value c.in-Split.apart.value
-    c.take_turn_below-in-Split.new.branch c.in_ok-turn-in-Split-2.turn
-    (subst (λ (b : Branch). IsBranch c.args.wave.now (pairing_of (length c.args.wave.now.orders) c.args.capacity c.args.path.now.items)
-    (sum c.args.above.now) b) c.in-Split.is c.requires.branch)
+    let turner = c.args.turner.now in
+    let wave = turner.wave.now in
+    let pairing = pairing_of (length wave.orders) turner.capacity c.args.path.now.items in
+    rw c.in-Split.is (turned_apart wave pairing (sum c.args.above.now) turner.pays turner.least c.in-Split.cut c.keep_least-in-Split.new.cut
+    c.in-Split.together.value c.in-Split.apart.value c.take_turn_below-in-Split.new.branch c.in_ok-turn-in-Split-2.turn
+    (subst (λ (b : Branch). IsBranch wave pairing (sum c.args.above.now) b) c.in-Split.is c.requires.branch)
     (rw (c.deref-in-Split.ensures, c.deref-in-Split-2.ensures) at c.keep_least-in-Split.ensures)
     (λ low. false≢true (sym c.if-is_together.false ∙ c.is_together.ensures.1 (rw c.deref.ensures low)))
     (rw (c.pair_of-pair-in-Split.ensures, c.deref_mut-in-Split.ensures.value) at c.in_ok-turn-in-Split-2.ensures.turned))
 
 pub take_turn_below-take_turn-requires-clause-feasible : goal.take_turn_below-take_turn-requires-clause-feasible
 take_turn_below-take_turn-requires-clause-feasible g t c κs within =
-    rw (c.in_ok-push.ensures.items, c.as_slice-above.ensures) (feasible_below c.args.wave.now
-    (pairing_of (length c.args.wave.now.orders) c.args.capacity c.args.path.now.items) c.args.pair c.args.worked.now.own.duals
+    let turner = c.args.turner.now in
+    let wave = turner.wave.now in
+    let pairing = pairing_of (length wave.orders) turner.capacity c.args.path.now.items in
+    rw (c.in_ok-push.ensures.items, c.as_slice-above.ensures) (feasible_below wave pairing c.args.pair c.args.worked.now.own.duals
     c.requires.worked.right.feasible)
