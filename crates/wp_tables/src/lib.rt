@@ -6,6 +6,7 @@
 
 mod fault;
 mod fields;
+mod hashing;
 mod laws;
 mod orders;
 mod records;

@@ -11,11 +11,14 @@ ghost use Rattle.wp_tables.specs.RecordsLeft.{IsReading, kept_left};
 
 use crate::fault::{RowFault, Why};
 use crate::fields::{read_name, read_quantity, three_texts};
+use crate::hashing::FileKey;
 use crate::records::Records;
 use crate::stock::Stock;
 use csv::ByteRecord;
 use indexmap::IndexSet;
 use std::alloc::Global;
+#[cfg(test)]
+use std::hash::BuildHasher;
 use std::marker::Model;
 use wp_model::{Line, MOST_FILE_ORDERS, MOST_LINES, Memory, Name, OrderLine};
 
@@ -23,7 +26,7 @@ use wp_model::{Line, MOST_FILE_ORDERS, MOST_LINES, Memory, Name, OrderLine};
 /// see the list of the orders, each with its name and its lines.
 #[derive(Drop)]
 pub struct Orders {
-    names: IndexSet<Name>,
+    names: IndexSet<Name, FileKey>,
     lines: Vec<Vec<Line>>,
 }
 
@@ -50,11 +53,11 @@ fn read_article(stock: &Stock, field: &[u8]) -> Result<u32, Why>
 }
 
 impl Orders {
-    fn new(alloc: Global) -> Orders
+    fn new(alloc: Global, key: FileKey) -> Orders
         ensures { result ≡ [] }
     {
         Orders {
-            names: IndexSet::new(alloc),
+            names: IndexSet::with_hasher(alloc, key),
             lines: Vec::new(alloc),
         }
     }
@@ -197,13 +200,26 @@ impl Orders {
     }
 }
 
-fn read_lines(alloc: Global, stock: &Stock, records: &mut Records) -> Result<Orders, RowFault>
+#[cfg(test)]
+impl Orders {
+    /// The hash of a name among those of the orders.
+    pub fn hash_of(&self, name: Name) -> u64 {
+        self.names.hasher().hash_one(name)
+    }
+}
+
+fn read_lines(
+    alloc: Global,
+    key: FileKey,
+    stock: &Stock,
+    records: &mut Records,
+) -> Result<Orders, RowFault>
     requires { IsReading records.old }
     ensures exact { Reads result (made_by (orders_after stock.now.articles) [] (kept_left records.old)) }
     ensures read { IfOk result (AreReadOrders stock.now.articles) }
 {
     let mut fields = ByteRecord::new(alloc);
-    let mut orders = Orders::new(alloc);
+    let mut orders = Orders::new(alloc, key);
     while let Some(row) = records.next(&mut fields)? {
         orders.take(alloc, stock, row, &fields)?;
     }
@@ -222,5 +238,5 @@ pub fn read_orders(alloc: Global, text: &Vec<u8>, stock: &Stock) -> Result<Order
     ensures read { IfOk result (AreReadOrders stock.now.articles) }
 {
     let mut records = Records::under(alloc, text, b"order", b"article", b"quantity")?;
-    read_lines(alloc, stock, &mut records)
+    read_lines(alloc, FileKey::of(text), stock, &mut records)
 }

@@ -10,11 +10,14 @@ ghost use Rattle.wp_tables.specs.StockFile.{article_with_room, free_location, is
 
 use crate::fault::{RowFault, Why};
 use crate::fields::{read_location, read_name, read_number_in, three_texts};
+use crate::hashing::FileKey;
 use crate::records::Records;
 use csv::ByteRecord;
 use indexmap::IndexSet;
 use std::alloc::Global;
 use std::collections::BTreeMap;
+#[cfg(test)]
+use std::hash::BuildHasher;
 use std::marker::Model;
 use wp_graph::Layout;
 use wp_model::{Location, MOST_ON_HAND, MOST_PLACES, MOST_ROWS, Memory, Name, StockLine, StockRow};
@@ -29,7 +32,7 @@ fn is_inside(layout: &Layout, location: &Location) -> bool
 #[derive(Drop)]
 struct StockSoFar {
     rows: BTreeMap<Location, StockRow>,
-    articles: IndexSet<Name>,
+    articles: IndexSet<Name, FileKey>,
     places: Vec<u32>,
 }
 
@@ -62,12 +65,12 @@ fn count_at(counts: &mut Vec<u32>, place: usize) -> Result<(), Memory>
 }
 
 impl StockSoFar {
-    fn new(alloc: Global) -> StockSoFar
+    fn new(alloc: Global, key: FileKey) -> StockSoFar
         ensures { result ≡ empty_stock }
     {
         StockSoFar {
             rows: BTreeMap::new(alloc),
-            articles: IndexSet::new(alloc),
+            articles: IndexSet::with_hasher(alloc, key),
             places: Vec::new(alloc),
         }
     }
@@ -201,7 +204,7 @@ impl StockSoFar {
 #[derive(Drop)]
 pub struct Stock {
     rows: Vec<StockRow>,
-    articles: IndexSet<Name>,
+    articles: IndexSet<Name, FileKey>,
     places: Vec<u32>,
 }
 
@@ -289,12 +292,25 @@ impl Stock {
     }
 }
 
-fn read_rows(alloc: Global, layout: &Layout, records: &mut Records) -> Result<StockSoFar, RowFault>
+#[cfg(test)]
+impl Stock {
+    /// The hash of a name among those of the articles.
+    pub fn hash_of(&self, name: Name) -> u64 {
+        self.articles.hasher().hash_one(name)
+    }
+}
+
+fn read_rows(
+    alloc: Global,
+    key: FileKey,
+    layout: &Layout,
+    records: &mut Records,
+) -> Result<StockSoFar, RowFault>
     requires { IsReading records.old }
     ensures { Reads result (made_by (stock_after layout.now) empty_stock (kept_left records.old)) }
 {
     let mut fields = ByteRecord::new(alloc);
-    let mut stock = StockSoFar::new(alloc);
+    let mut stock = StockSoFar::new(alloc, key);
     while let Some(row) = records.next(&mut fields)? {
         stock = stock.with(layout, row, &fields)?;
     }
@@ -313,6 +329,6 @@ pub fn read_stock(alloc: Global, text: &Vec<u8>, layout: &Layout) -> Result<Stoc
     ensures read { IfOk result IsReadStock }
 {
     let mut records = Records::under(alloc, text, b"location", b"article", b"on_hand")?;
-    let stock = read_rows(alloc, layout, &mut records)?;
+    let stock = read_rows(alloc, FileKey::of(text), layout, &mut records)?;
     Ok(stock.finish(alloc)?)
 }

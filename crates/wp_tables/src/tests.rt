@@ -1,3 +1,4 @@
+mod hashing;
 mod limits;
 
 use super::*;
