@@ -1,16 +1,19 @@
-ghost use Rattle.std.specs.Prelude.{◌≡◌, ◌≤◌, length, replicate, IsTrue, Some};
+ghost use Rattle.std.specs.Prelude.{◌≡◌, ◌≤◌, ◌∷◌, ℕ, List, [], length, replicate, IsTrue, Some};
 ghost use Rattle.std.specs.List.{list_all};
 ghost use Rattle.wp_model.specs.Limits.{most_name_bytes};
 ghost use Rattle.wp_model.specs.Name.{is_name, is_name_byte, name_in, padded_out};
+ghost use Rattle.std.specs.Hash.{first_alike, on_Alike, same_Alike};
+ghost use Rattle.std.specs.Cmp.Lexicographic.{bytes_decides};
 
 use crate::limits::MOST_NAME_BYTES;
 use crate::listing::Listing;
 use std::fmt;
+use std::hash::{Hash, Hasher};
 use std::marker::Model;
 
 /// A name of a wave, an order or an article: 1 to 40 bytes, each an ASCII letter, an ASCII digit, `-`, `_`
 /// or `.`. Contracts see the list of its bytes.
-#[derive(Clone, Copy, Debug, PartialEq, Eq, Hash)]
+#[derive(Clone, Copy, Debug, PartialEq, Eq)]
 pub struct Name {
     bytes: [u8; MOST_NAME_BYTES],
     len: u8,
@@ -99,6 +102,16 @@ impl Name {
         ensures { result.now ≡ self.now }
     {
         str::from_utf8(self.as_bytes()).unwrap()
+    }
+}
+
+impl Hash for Name {
+    ghost hash_input = { λ name. padded_out name ∷ [] };
+
+    ghost respects_eq = { (first_alike _ (on_Alike padded_out (same_Alike (λ (bytes : List ℕ). bytes ∷ []) bytes_decides))).fed };
+
+    fn hash<H: Hasher>(&self, state: &mut H) {
+        state.write(&self.bytes);
     }
 }
 
