@@ -28,7 +28,7 @@ pub fn gather(wants: &mut [Want])
 }
 
 /// What is wanted of an article: so many units, by the wants up to an end.
-#[derive(Clone, Copy, Debug)]
+#[derive(Clone, Copy)]
 pub struct ArticleWants {
     pub article: u32,
     pub units: u64,

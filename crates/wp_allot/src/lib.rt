@@ -13,6 +13,3 @@ mod want;
 pub use cover::short_article;
 pub use deal::allot;
 pub use want::{Short, Want};
-
-#[cfg(test)]
-mod tests;

@@ -2,7 +2,7 @@ ghost use Rattle.std.specs.Prelude.{◌≡◌, ◌+◌, ◌<◌, ◌≤◌, ◌^
 
 /// How far the free units of an article have been dealt: which of its rows comes next, by its place among them, and how
 /// many units of that row are gone.
-#[derive(Clone, Copy, Debug)]
+#[derive(Clone, Copy)]
 pub struct Mark {
     pub place: u32,
     pub taken: u32,

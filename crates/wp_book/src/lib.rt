@@ -10,6 +10,3 @@ mod rows;
 pub use book::StockBook;
 pub use room::Room;
 pub use wp_model::{Hold, Row};
-
-#[cfg(test)]
-mod tests;

@@ -6,7 +6,7 @@ use std::marker::Model;
 use wp_model::{Cell, Hold, Holds, Memory};
 
 /// What one call held for a wave.
-#[derive(Debug, Drop)]
+#[derive(Drop)]
 pub struct KeptHolds {
     pub wave: u32,
     pub holds: Vec<Hold>,

@@ -165,3 +165,67 @@ pub fn files_of<F: Files>(
     let contents = contents_of(alloc, own, common, names.as_slice(), source)?;
     Ok(MemFiles::of(names, contents, fails))
 }
+
+/// The bytes of a file, where its name isn't that of another text.
+fn copy_of<F: Files>(
+    alloc: Global,
+    files: &mut F,
+    name: &str,
+    (other, text): (&str, &str),
+) -> Result<Vec<u8>, CaseFault> {
+    if name == other {
+        Ok(bytes_of(alloc, text.as_bytes())?)
+    } else {
+        Ok(files.read(alloc, name)?)
+    }
+}
+
+/// A copy of bytes.
+pub fn bytes_of(alloc: Global, bytes: &[u8]) -> Result<Vec<u8>, Memory> {
+    let copy = bytes.to_vec(alloc)?;
+    Ok(copy)
+}
+
+fn copies_of<F: Files>(
+    alloc: Global,
+    files: &mut F,
+    names: &[String],
+    other: (&str, &str),
+) -> Result<Vec<Vec<u8>>, CaseFault>
+    ensures { IfOk result (λ contents. vec_len contents ≡ length names.now) }
+{
+    let mut contents = Vec::new(alloc);
+    for name in names {
+        add_content(&mut contents, copy_of(alloc, files, name.as_str(), other)?)?;
+    }
+    Ok(contents)
+}
+
+fn names_with(alloc: Global, names: &[&str], other: &str) -> Result<Vec<String>, Memory> {
+    let mut all = Vec::new(alloc);
+    for name in names {
+        all.push(String::from_str(alloc, name)?)?;
+    }
+    all.push(String::from_str(alloc, other)?)?;
+    Ok(all)
+}
+
+/// Copies of the files of these names, and another of this name and text.
+pub fn files_with<F: Files>(
+    alloc: Global,
+    files: &mut F,
+    names: &[&str],
+    other: (&str, &str),
+) -> Result<MemFiles, CaseFault> {
+    let names = names_with(alloc, names, other.0)?;
+    let contents = copies_of(alloc, files, names.as_slice(), other)?;
+    Ok(MemFiles::of(names, contents, Vec::new(alloc)))
+}
+
+/// The text that bytes are.
+pub fn text_of(bytes: Vec<u8>) -> Result<String, CaseFault> {
+    match String::from_utf8(bytes) {
+        Ok(text) => Ok(text),
+        Err(_) => Err(CaseFault::File),
+    }
+}

@@ -6,7 +6,7 @@ use std::alloc::Global;
 use wp_model::Memory;
 
 /// How each line of a case begins, where it isn't empty.
-const BEGINNINGS: [&str; 10] = [
+const BEGINNINGS: [&str; 19] = [
     "#",
     "words ",
     "file ",
@@ -17,6 +17,15 @@ const BEGINNINGS: [&str; 10] = [
     "each write fails in turn",
     "one byte a write",
     "by itself",
+    "desks meet",
+    "workers meet",
+    "passes are counted",
+    "plans meet",
+    "no memory for the plan of W1",
+    "runs ",
+    "audit ",
+    "certificates",
+    "output ",
 ];
 
 fn is_known(line: &str) -> bool {
@@ -91,4 +100,20 @@ pub fn sink_of(alloc: Global, lines: &str, number: Option<u64>) -> Result<Narrow
 fn add_fail(fails: &mut Vec<u64>, number: u64) -> Result<(), Memory> {
     fails.push(number)?;
     Ok(())
+}
+
+/// What stands in the first line that begins so, behind that.
+pub fn rest_of<'a>(lines: &'a str, beginning: &str) -> Option<&'a str> {
+    for line in lines.lines() {
+        if let Some(rest) = line.strip_prefix(beginning) {
+            return Some(rest);
+        }
+    }
+    None
+}
+
+/// A line of a word and a text.
+pub fn line_of(alloc: Global, word: &str, text: &str) -> Result<String, Memory> {
+    let line = format!(in alloc; "{word} {text}\n")?;
+    Ok(line)
 }

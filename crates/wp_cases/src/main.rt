@@ -1,24 +1,37 @@
-//! `wp_cases` runs the cases of the file `cases.txt`, and prints the status and the output of each.
+//! `wp_cases` runs the cases of the files that its arguments name, and prints the status and the output of each, or how its
+//! runs are judged.
 #![tactic(auto)]
 
+mod counting;
 mod fault;
+mod gates;
 mod given;
+mod judged;
+mod judging;
 mod lines;
+mod meeting;
 mod narrow;
+mod planners;
+mod scripts;
+mod sheets;
 
 use crate::fault::CaseFault;
-use crate::given::files_of;
-use crate::lines::{has_line, sink_of, test_lines, words_of};
+use crate::gates::CaseGate;
+use crate::given::{files_of, text_of};
+use crate::judged::judge_runs;
+use crate::judging::own_status;
+use crate::lines::{has_line, rest_of, sink_of, test_lines, words_of};
 use crate::narrow::NarrowSink;
+use crate::planners::CasePlanner;
+use crate::scripts::run_planner;
 use std::alloc::Global;
 use std::process::ExitCode;
 use std::sync::Wait;
 use std::thread::Threads;
-use std::{fs, io};
+use std::{env, io};
 use wp_model::Memory;
-use wp_outside::{Files, MemFiles, OpenGate, RealFiles, Sink, StdSink, SystemFiles, write_text};
-use wp_top::{run, run_audit, run_check};
-use wp_words::{Job, read_words};
+use wp_outside::{Files, MemFiles, RealFiles, Sink, StdSink, SystemFiles, write_text};
+use wp_top::run;
 
 /// How many writes of a case may fail in turn.
 const MOST_WRITES: u64 = 10_000;
@@ -34,7 +47,7 @@ fn heading_of_write(alloc: Global, name: &str, number: u64) -> Result<String, Me
 }
 
 /// Prints how the case of this name has ended, and an empty line.
-fn print_end<K: Sink>(
+pub fn print_end<K: Sink>(
     alloc: Global,
     name: &str,
     status: u8,
@@ -48,18 +61,19 @@ fn print_end<K: Sink>(
     Ok(())
 }
 
-/// The status of a check or an audit that is asked for by itself.
-fn own_status<F: Files, K: Sink>(
+/// The status of a run whose desks and workers pass a gate. What the gate tells follows the output.
+fn run_at_gate<R: Threads + Wait + Sync, F: Files, K: Sink>(
+    rt: &R,
     alloc: Global,
     words: &Vec<String>,
     files: &mut F,
     out: &mut K,
+    gate: &CaseGate,
 ) -> Result<u8, CaseFault> {
-    match read_words(alloc, words) {
-        Ok(Job::Check(words)) => Ok(run_check(alloc, &words, files, out)),
-        Ok(Job::Audit(words)) => Ok(run_audit(alloc, &words, files, out)),
-        _ => Err(CaseFault::Line),
-    }
+    let status = run(rt, alloc, words, files, out, gate);
+    let told = gate.told(alloc)?;
+    write_text(out, told.as_bytes())?;
+    Ok(status)
 }
 
 /// The status of the run that the lines of a case ask for.
@@ -74,7 +88,7 @@ fn status_of<R: Threads + Wait + Sync, F: Files, K: Sink>(
     if has_line(lines, "by itself") {
         own_status(alloc, &words, files, out)
     } else {
-        Ok(run(rt, alloc, &words, files, out, &OpenGate))
+        run_at_gate(rt, alloc, &words, files, out, &CaseGate::of(lines))
     }
 }
 
@@ -139,6 +153,20 @@ fn run_over<R: Threads + Wait + Sync, K: Sink>(
     }
 }
 
+/// Runs a case over its files, by the program's planner or by one of its own.
+fn run_by<R: Threads + Wait + Sync, K: Sink>(
+    rt: &R,
+    alloc: Global,
+    case: (&str, &str),
+    files: &mut MemFiles,
+    out: &mut K,
+) -> Result<(), CaseFault> {
+    match CasePlanner::of(case.1) {
+        Some(planner) => run_planner(rt, alloc, case, files, &planner, out),
+        None => run_over(rt, alloc, case, files, out),
+    }
+}
+
 fn run_case<R: Threads + Wait + Sync, F: Files, K: Sink>(
     rt: &R,
     alloc: Global,
@@ -152,7 +180,10 @@ fn run_case<R: Threads + Wait + Sync, F: Files, K: Sink>(
     };
     test_lines(lines)?;
     let mut files = files_of(alloc, lines, common, source)?;
-    run_over(rt, alloc, (name, lines), &mut files, out)
+    match rest_of(lines, "runs ") {
+        Some(runs) => judge_runs(rt, alloc, (name, lines), &mut files, runs, out),
+        None => run_by(rt, alloc, (name, lines), &mut files, out),
+    }
 }
 
 /// Runs the cases of a text one after the other. What stands before the first holds for every case.
@@ -171,18 +202,35 @@ fn run_cases<R: Threads + Wait + Sync, F: Files, K: Sink>(
     Ok(())
 }
 
-/// Runs the cases of the file `cases.txt`. The handle for threads and for waiting is that of `main`, which alone has it.
-fn run_file<R: Threads + Wait + Sync>(rt: &HostRuntime, threads: &R) -> Result<(), CaseFault> {
-    let Ok(text) = fs::read_to_string(rt, "cases.txt") else {
-        return Err(CaseFault::File);
+/// Runs the cases of the file of this name.
+fn run_file<R: Threads + Wait + Sync, F: Files, K: Sink>(
+    rt: &R,
+    alloc: Global,
+    name: &str,
+    source: &mut F,
+    out: &mut K,
+) -> Result<(), CaseFault> {
+    let text = text_of(source.read(alloc, name)?)?;
+    run_cases(rt, alloc, text.as_str(), source, out)
+}
+
+/// Runs the cases of each file that the arguments name. The handle for threads and for waiting is that of `main`, which alone
+/// has it.
+fn run_files<R: Threads + Wait + Sync>(rt: &HostRuntime, threads: &R) -> Result<(), CaseFault> {
+    let Ok(mut names) = env::args(rt) else {
+        return Err(CaseFault::Memory);
     };
+    let _program = names.next();
     let mut source = RealFiles::new(SystemFiles::of(rt));
     let mut out = StdSink::new(io::writer(rt));
-    run_cases(threads, rt.alloc(), text.as_str(), &mut source, &mut out)
+    for name in names {
+        run_file(threads, rt.alloc(), name.as_str(), &mut source, &mut out)?;
+    }
+    Ok(())
 }
 
 fn main(rt: HostRuntime) -> ExitCode {
-    match run_file(&rt, &rt) {
+    match run_files(&rt, &rt) {
         Ok(()) => ExitCode::from(0),
         Err(fault) => {
             let _told = eprintln!(rt; "the cases stop at {fault}");

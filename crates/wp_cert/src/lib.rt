@@ -18,6 +18,3 @@ pub use laws::{no_batching_costs_less, right_trees_are_told_exactly};
 pub use path::pairs_of;
 pub use text::{print_certificate, read_certificate};
 pub use tree::{CertFault, CertWhy, Certificate, Duals, Node, Nodes, Own, Tree};
-
-#[cfg(test)]
-mod tests;

@@ -11,6 +11,3 @@ mod wave;
 
 pub use printing::print_certificate;
 pub use reading::read_certificate;
-
-#[cfg(test)]
-mod tests;

@@ -46,14 +46,14 @@ pub struct Certificate {
 }
 
 /// Why a certificate is refused, and at which node, numbered from 0 in preorder.
-#[derive(Clone, Copy, Debug)]
+#[derive(Clone, Copy)]
 pub struct CertFault {
     pub node: u64,
     pub why: CertWhy,
 }
 
 /// Why a certificate is refused.
-#[derive(Clone, Copy, Debug)]
+#[derive(Clone, Copy)]
 pub enum CertWhy {
     NotJson,
     BadShape,

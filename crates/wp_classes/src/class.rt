@@ -6,7 +6,7 @@ use wp_graph::AisleWays;
 /// What the part of a tour left of and with an aisle is, seen from the aisle's ends: the degree at the back end, the
 /// degree at the front end and the number of parts that hang together. U is odd, E is even and touched, Z stands for 0,
 /// untouched. These are the seven classes of Ratliff and Rosenthal, 1983.
-#[derive(Clone, Copy, Debug, PartialEq, Eq)]
+#[derive(Clone, Copy, PartialEq, Eq)]
 pub enum Class {
     UU1,
     E01,
@@ -18,7 +18,7 @@ pub enum Class {
 }
 
 /// The six ways through an aisle, in the order of `AisleWays`.
-#[derive(Clone, Copy, Debug, PartialEq, Eq)]
+#[derive(Clone, Copy, PartialEq, Eq)]
 pub enum Way {
     Pass,
     Back,
@@ -29,7 +29,7 @@ pub enum Way {
 }
 
 /// The five crossings to the next aisle, by their copies of the back cross aisle and of the front cross aisle.
-#[derive(Clone, Copy, Debug, PartialEq, Eq)]
+#[derive(Clone, Copy, PartialEq, Eq)]
 pub enum Cross {
     C00,
     C11,

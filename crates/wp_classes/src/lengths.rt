@@ -11,7 +11,7 @@ use wp_graph::AisleWays;
 use wp_model::MOST_AISLES;
 
 /// For each class the least length from it to the end of a whole tour. None where there is none.
-#[derive(Clone, Copy, Debug)]
+#[derive(Clone, Copy)]
 pub(crate) struct Lengths {
     uu1: Option<u64>,
     e01: Option<u64>,

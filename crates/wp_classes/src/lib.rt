@@ -10,6 +10,3 @@ mod tour;
 pub use choice::Choice;
 pub use class::{Class, Cross, Way, after_cross, after_way};
 pub use tour::{tour_choice, tour_length};
-
-#[cfg(test)]
-mod tests;

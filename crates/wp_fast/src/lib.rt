@@ -13,6 +13,3 @@ mod tree;
 pub use laws::composing_is_associative;
 pub use runs::Runs;
 pub use summary::Summary;
-
-#[cfg(test)]
-mod tests;

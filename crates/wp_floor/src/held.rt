@@ -8,7 +8,7 @@ use wp_book::StockBook;
 use wp_model::{Location, Name, Names, Reply, WaveState};
 
 /// Units that are held: for the order at a place of a wave, at a row of an article.
-#[derive(Clone, Copy, Debug, PartialEq, Eq)]
+#[derive(Clone, Copy, PartialEq, Eq)]
 pub struct HeldUnits {
     pub order: u32,
     pub row: u32,
@@ -47,7 +47,7 @@ fn held_at_row(book: &StockBook, number: u32, order: u32, row: u32) -> Option<He
 }
 
 /// What a desk says of units that are held: for an order at a location, whose row in the opening this is.
-#[derive(Clone, Copy, Debug, PartialEq, Eq)]
+#[derive(Clone, Copy, PartialEq, Eq)]
 pub struct Claim {
     pub order: Name,
     pub location: Location,

@@ -6,7 +6,7 @@ use wp_model::{GREATEST_LENGTH, MOST_AISLES, MOST_SLOTS, Point};
 
 /// A warehouse of one block: 1 to 64 parallel aisles of 1 to 200 slots, joined by a front and a back cross aisle. The
 /// depot is the front end of one of the aisles.
-#[derive(Clone, Copy, Debug, PartialEq, Eq)]
+#[derive(Clone, Copy, PartialEq, Eq)]
 pub struct Layout {
     aisles: u32,
     slots: u32,

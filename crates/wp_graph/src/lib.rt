@@ -14,6 +14,3 @@ pub use picks::Picks;
 pub use walks::walk_length;
 pub use ways::{AisleWays, aisle_ways};
 pub use wp_model::Point;
-
-#[cfg(test)]
-mod tests;

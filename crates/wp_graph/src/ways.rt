@@ -10,7 +10,7 @@ use crate::layout::Layout;
 use crate::picks::{AISLE_WORDS, Picks};
 
 /// The lengths of the six ways through an aisle (Ratliff and Rosenthal, 1983). None where a way doesn't apply.
-#[derive(Clone, Copy, Debug, PartialEq, Eq)]
+#[derive(Clone, Copy, PartialEq, Eq)]
 pub struct AisleWays {
     /// One pass.
     pub pass: u64,
@@ -27,7 +27,7 @@ pub struct AisleWays {
 }
 
 /// The first and the last of the required distances of an aisle, and the largest gap between neighbours.
-#[derive(Clone, Copy, Debug)]
+#[derive(Clone, Copy)]
 struct Stretch {
     first: u64,
     last: u64,

@@ -20,6 +20,3 @@ pub use print::print_entry;
 pub use read::read_entry;
 pub use replay::audit;
 pub use verdict::{Audit, AuditFault};
-
-#[cfg(test)]
-mod tests;

@@ -8,7 +8,7 @@ use std::fmt;
 use wp_model::{Memory, Reply};
 
 /// What an audit finds right: how many entries stand between the line `journal` and the line `end journal`.
-#[derive(Clone, Copy, Debug, PartialEq, Eq)]
+#[derive(Clone, Copy, PartialEq, Eq)]
 pub struct Audit {
     pub entries: u64,
 }

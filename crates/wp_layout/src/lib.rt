@@ -15,6 +15,3 @@ pub use printing::print_layout;
 pub use reading::read_layout;
 pub use wp_graph::Layout;
 pub use wp_model::Memory;
-
-#[cfg(test)]
-mod tests;

@@ -11,7 +11,7 @@ use wp_floor::Opening;
 use wp_model::{Command, Entries, Memory};
 
 /// A desk, 1 to 8, and what it asks for.
-#[derive(Debug, Drop)]
+#[derive(Drop)]
 pub struct Asking {
     pub desk: u32,
     pub command: Command,

@@ -14,6 +14,3 @@ pub use machine::{Machine, Ready, prepare};
 pub use outcome::{Answer, Outcome, Refill, WaveHolds};
 pub use wp_floor::Opening;
 pub use wp_model::{Entries, Entry, Reply, Row, WaveState};
-
-#[cfg(test)]
-mod tests;

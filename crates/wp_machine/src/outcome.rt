@@ -2,7 +2,7 @@ use wp_model::{Holds, Name, Names, Reply};
 
 /// All that a wave holds just after its release: the number of the release's entry, the wave, its orders in order,
 /// and its holds by order and then by row. A hold's order is a place in the wave, and its row a number.
-#[derive(Debug, Drop)]
+#[derive(Drop)]
 pub struct WaveHolds {
     pub number: u64,
     pub wave: Name,
@@ -12,7 +12,7 @@ pub struct WaveHolds {
 
 /// What was held in place of units that were lost: the number of the loss's entry, the wave, the order, and the holds
 /// by row.
-#[derive(Debug, Drop)]
+#[derive(Drop)]
 pub struct Refill {
     pub number: u64,
     pub wave: Name,
@@ -21,7 +21,7 @@ pub struct Refill {
 }
 
 /// What a step tells beside its reply.
-#[derive(Debug, Drop)]
+#[derive(Drop)]
 pub enum Outcome {
     Plain,
     Released(WaveHolds),
@@ -29,7 +29,7 @@ pub enum Outcome {
 }
 
 /// What a step answers: the number of its entry, counted from 0, the reply, and what it tells beside it.
-#[derive(Debug, Drop)]
+#[derive(Drop)]
 pub struct Answer {
     pub number: u64,
     pub reply: Reply,

@@ -17,7 +17,7 @@ const MOST_UNITS: u32 = 5;
 
 /// A generator of numbers that follow from its first state alone: the linear congruential one of 64 bits with the
 /// factor and the increment of MMIX (Knuth, The Art of Computer Programming, volume 2). Contracts see its state.
-#[derive(Debug, Drop)]
+#[derive(Drop)]
 pub struct Generator {
     state: u64,
 }
@@ -31,7 +31,7 @@ impl Model for Generator {
 }
 
 /// A line of a made order: the aisle and the slot where its article lies, counted from 1, and 1 to 5 units of it.
-#[derive(Clone, Copy, Debug, PartialEq, Eq)]
+#[derive(Clone, Copy, PartialEq, Eq)]
 pub struct MadeLine {
     pub aisle: u32,
     pub slot: u32,

@@ -12,7 +12,7 @@ use wp_model::Memory;
 
 /// How large a made input is: 1 to 64 aisles of 40 slots each, 1 to 10,000 orders, 1 to 8 desks, and 1 to 64 orders in a
 /// wave; at most 500 waves.
-#[derive(Clone, Copy, Debug, PartialEq, Eq)]
+#[derive(Clone, Copy, PartialEq, Eq)]
 pub struct Size {
     pub aisles: u32,
     pub orders: u32,
@@ -21,7 +21,7 @@ pub struct Size {
 }
 
 /// The texts of the four files of a day.
-#[derive(Debug, Drop)]
+#[derive(Drop)]
 pub struct Input {
     pub layout: Vec<u8>,
     pub stock: Vec<u8>,

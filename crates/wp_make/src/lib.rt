@@ -14,6 +14,3 @@ pub use generator::{Generator, MadeLine};
 pub use input::{Input, Size, make};
 pub use layout::made_layout;
 pub use wp_model::Memory;
-
-#[cfg(test)]
-mod tests;

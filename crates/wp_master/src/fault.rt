@@ -5,7 +5,7 @@ use crate::wide::TooWide;
 use wp_model::Memory;
 
 /// Why a pool isn't solved.
-#[derive(Clone, Copy, Debug, PartialEq, Eq)]
+#[derive(Clone, Copy, PartialEq, Eq)]
 pub enum MasterFault {
     /// The least order that no column holds.
     NoCover(u32),

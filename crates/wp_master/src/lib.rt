@@ -19,6 +19,3 @@ pub use pair::Pair;
 pub use pool::Pool;
 pub use table::Table;
 pub use wide::TooWide;
-
-#[cfg(test)]
-mod tests;

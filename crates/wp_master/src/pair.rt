@@ -1,5 +1,5 @@
 /// Weights, one per column in the order of adding, and duals, one per order: whole numbers over the denominator.
-#[derive(Debug, Drop)]
+#[derive(Drop)]
 pub struct Pair {
     pub weights: Vec<i128>,
     pub duals: Vec<i128>,

@@ -3,7 +3,7 @@ ghost use Rattle.std.specs.Int.{w128};
 ghost use Rattle.wp_master.specs.Pivots.{IsTwofoldOf, IsWideFor};
 
 /// Two factors whose product leaves an `i128`.
-#[derive(Clone, Copy, Debug)]
+#[derive(Clone, Copy)]
 pub struct TooWide {
     pub left: i128,
     pub right: i128,

@@ -10,7 +10,7 @@ use std::alloc::Global;
 use std::fmt;
 
 /// What a desk asks for. Orders, articles and waves are named; quantities are units.
-#[derive(Debug, Drop)]
+#[derive(Drop)]
 pub enum Command {
     /// Makes a wave of these orders, in this order.
     Submit {

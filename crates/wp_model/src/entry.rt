@@ -9,7 +9,7 @@ use std::alloc::Global;
 use std::fmt;
 
 /// An entry of the journal: its number, counted from 0, the desk, 1 to 8, the command and its reply.
-#[derive(Debug, Drop)]
+#[derive(Drop)]
 pub struct Entry {
     pub number: u64,
     pub desk: u32,

@@ -39,6 +39,3 @@ pub use number::read_number;
 pub use point::Point;
 pub use reply::{Reply, WaveState};
 pub use row::{Hold, Holds, Line, Row, StockRow};
-
-#[cfg(test)]
-mod tests;

@@ -3,7 +3,7 @@ use crate::location::Location;
 
 /// A row of the stock file: so many units of an article, 0 to 1,000,000, at a location. Articles are numbered
 /// from 0 in the order of their first appearance in the file.
-#[derive(Clone, Copy, Debug, PartialEq, Eq)]
+#[derive(Clone, Copy, PartialEq, Eq)]
 pub struct StockRow {
     pub location: Location,
     pub article: u32,
@@ -11,7 +11,7 @@ pub struct StockRow {
 }
 
 /// A row of the stock as it stands: the units on hand are those that are free and those that are held for waves.
-#[derive(Clone, Copy, Debug, PartialEq, Eq)]
+#[derive(Clone, Copy, PartialEq, Eq)]
 pub struct Row {
     pub location: Location,
     pub article: u32,
@@ -21,7 +21,7 @@ pub struct Row {
 }
 
 /// A line of an order: so many units, 1 to 100,000, of an article.
-#[derive(Clone, Copy, Debug, PartialEq, Eq)]
+#[derive(Clone, Copy, PartialEq, Eq)]
 pub struct Line {
     pub article: u32,
     pub quantity: u32,
@@ -29,7 +29,7 @@ pub struct Line {
 
 /// Units held for an order of a wave at a row: the order by its place in its wave, and the row by its number, both
 /// counted from 0.
-#[derive(Clone, Copy, Debug, PartialEq, Eq)]
+#[derive(Clone, Copy, PartialEq, Eq)]
 pub struct Hold {
     pub order: u32,
     pub row: u32,

@@ -6,7 +6,7 @@ ghost use Rattle.wp_needed.specs.Lengths.{AreShort, AreWays, HaveLeast, along_ru
 use wp_graph::AisleWays;
 
 /// For each class in which a tour can be between two needed aisles, a least length on from it to the end of a whole tour.
-#[derive(Clone, Copy, Debug)]
+#[derive(Clone, Copy)]
 pub(crate) struct Lengths {
     pub uu1: u64,
     pub e01: u64,
@@ -16,7 +16,7 @@ pub(crate) struct Lengths {
 }
 
 /// The least lengths on from the classes to which the five ways through a needed aisle lead.
-#[derive(Clone, Copy, Debug)]
+#[derive(Clone, Copy)]
 struct On {
     pass: u64,
     back: u64,

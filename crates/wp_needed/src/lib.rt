@@ -7,6 +7,3 @@ mod lengths;
 mod tour;
 
 pub use tour::tour_length;
-
-#[cfg(test)]
-mod tests;

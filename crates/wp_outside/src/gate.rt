@@ -1,5 +1,5 @@
 /// When a desk, or a worker that prices, passes the gate.
-#[derive(Clone, Copy, Debug, PartialEq, Eq)]
+#[derive(Clone, Copy, PartialEq, Eq)]
 pub enum Moment {
     /// A desk: before each of its commands.
     BeforeCommand,
@@ -18,7 +18,7 @@ pub trait Gate: Send + Sync {
 }
 
 /// The gate that holds nobody.
-#[derive(Clone, Copy, Debug)]
+#[derive(Clone, Copy)]
 pub struct OpenGate;
 
 impl Gate for OpenGate {

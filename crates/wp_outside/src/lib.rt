@@ -34,6 +34,3 @@ pub use sink::{Sink, SinkFault};
 pub use std_sink::StdSink;
 pub use wp_model::{MOST_FILE_BYTES, Memory};
 pub use writing::write_text;
-
-#[cfg(test)]
-mod tests;

@@ -8,7 +8,7 @@ pub const MOST_ORDERS: u32 = 64;
 
 /// A set of orders of one wave. An order is named by its place in the wave, 0 to 63. Contracts see the ascending list of
 /// the places.
-#[derive(Clone, Copy, Debug, PartialEq, Eq)]
+#[derive(Clone, Copy, PartialEq, Eq)]
 pub struct Batch {
     word: u64,
 }

@@ -9,6 +9,3 @@ mod rows;
 pub use batch::Batch;
 pub use pair::Pair;
 pub use pairs::Pairs;
-
-#[cfg(test)]
-mod tests;

@@ -1,5 +1,5 @@
 /// Two orders that were added to go together, or else to go apart. The lower order stands first.
-#[derive(Clone, Copy, Debug)]
+#[derive(Clone, Copy)]
 pub struct Pair {
     pub first: u8,
     pub second: u8,

@@ -16,6 +16,3 @@ pub use planner::{Terms, WavePlan, plan_for, plan_of};
 pub use released::is_released;
 pub use sheet::print_sheet;
 pub use waves::wave_of;
-
-#[cfg(test)]
-mod tests;

@@ -19,7 +19,7 @@ const MOST_KEPT: u64 = 50_000;
 
 /// What waves are planned with: how many orders a batch may have, 1 to 8; what may be spent on a wave's bound, 0 to 10 ^ 18;
 /// and on how many threads, 1 to 16.
-#[derive(Clone, Copy, Debug)]
+#[derive(Clone, Copy)]
 pub struct Terms {
     pub capacity: u32,
     pub budget: u64,

@@ -16,6 +16,3 @@ mod workers;
 
 pub use priced::Priced;
 pub use pricing::least_slack;
-
-#[cfg(test)]
-mod tests;

@@ -2,7 +2,7 @@ use wp_batch::Batching;
 use wp_cert::Tree;
 
 /// Whether a plan is shown to be cheapest.
-#[derive(Clone, Copy, Debug, PartialEq, Eq)]
+#[derive(Clone, Copy, PartialEq, Eq)]
 pub enum State {
     /// Its bound is its cost: no batching costs less.
     Proven,

@@ -16,7 +16,7 @@ use wp_pairs::Batch;
 use wp_tables::Stock;
 
 /// One batch of a wave: its orders by their places in the wave, the length of its tour, and the tour point by point.
-#[derive(Debug, Drop)]
+#[derive(Drop)]
 pub struct BatchSheet {
     pub batch: Batch,
     pub length: u64,

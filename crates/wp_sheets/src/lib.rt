@@ -12,6 +12,3 @@ pub use batch::{BatchSheet, print_batch};
 pub use heading::print_heading;
 pub use laws::batches_have_one_text;
 pub use stock_lines::{print_refill, print_row};
-
-#[cfg(test)]
-mod tests;

@@ -15,11 +15,9 @@ mod stock;
 mod word;
 
 pub use fault::{RowFault, Why};
+pub use hashing::FileKey;
 pub use laws::first_faults_are_told;
 pub use orders::{Orders, read_orders};
 pub use scripts::{Scripts, read_desks};
 pub use stock::{Stock, read_stock};
 pub use wp_model::{Command, Line, Location, Memory, Name, Names, Side, StockRow};
-
-#[cfg(test)]
-mod tests;

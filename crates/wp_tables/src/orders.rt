@@ -17,7 +17,6 @@ use crate::stock::Stock;
 use csv::ByteRecord;
 use indexmap::IndexSet;
 use std::alloc::Global;
-#[cfg(test)]
 use std::hash::BuildHasher;
 use std::marker::Model;
 use wp_model::{Line, MOST_FILE_ORDERS, MOST_LINES, Memory, Name, OrderLine};
@@ -198,11 +197,8 @@ impl Orders {
             None => None,
         }
     }
-}
 
-#[cfg(test)]
-impl Orders {
-    /// The hash of a name among those of the orders.
+    /// The hash of a name under the key that comes from the bytes of the file.
     pub fn hash_of(&self, name: Name) -> u64 {
         self.names.hasher().hash_one(name)
     }

@@ -16,7 +16,6 @@ use csv::ByteRecord;
 use indexmap::IndexSet;
 use std::alloc::Global;
 use std::collections::BTreeMap;
-#[cfg(test)]
 use std::hash::BuildHasher;
 use std::marker::Model;
 use wp_graph::Layout;
@@ -290,11 +289,8 @@ impl Stock {
             None => None,
         }
     }
-}
 
-#[cfg(test)]
-impl Stock {
-    /// The hash of a name among those of the articles.
+    /// The hash of a name under the key that comes from the bytes of the file.
     pub fn hash_of(&self, name: Name) -> u64 {
         self.articles.hasher().hash_one(name)
     }

@@ -11,7 +11,7 @@ use wp_model::Memory;
 use wp_words::WordsFault;
 
 /// Why a run has no output.
-#[derive(Clone, Copy, Debug)]
+#[derive(Clone, Copy)]
 pub enum Complaint {
     /// The words ask for no job.
     Words(WordsFault),
@@ -24,14 +24,14 @@ pub enum Complaint {
 }
 
 /// What isn't right.
-#[derive(Clone, Copy, Debug)]
+#[derive(Clone, Copy)]
 pub enum Finding {
     Certificate(CertFault),
     Journal(AuditFault),
 }
 
 /// Why a job stops before its output.
-#[derive(Clone, Copy, Debug)]
+#[derive(Clone, Copy)]
 pub enum Stop {
     Complaint(Complaint),
     Memory,

@@ -20,7 +20,7 @@ use wp_outside::{Files, Gate, Sink, SinkFault, write_text};
 use wp_words::{AuditWords, CheckWords, Job, read_words};
 
 /// How a run ends, where its text is taken.
-#[derive(Debug, Drop)]
+#[derive(Drop)]
 pub enum Ending {
     /// With this output.
     Done(Vec<u8>),

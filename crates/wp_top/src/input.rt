@@ -6,7 +6,7 @@ use wp_layout::LayoutFault;
 use wp_tables::RowFault;
 
 /// A file that a job reads.
-#[derive(Clone, Copy, Debug, PartialEq, Eq)]
+#[derive(Clone, Copy, PartialEq, Eq)]
 pub enum Input {
     Layout,
     Stock,
@@ -17,7 +17,7 @@ pub enum Input {
 }
 
 /// Why a file is refused.
-#[derive(Clone, Copy, Debug, PartialEq, Eq)]
+#[derive(Clone, Copy, PartialEq, Eq)]
 pub enum Refusal {
     /// It has too many bytes.
     TooLong,

@@ -16,6 +16,3 @@ pub use passes::Passes;
 pub use receipt::Receipt;
 pub use turn::Turn;
 pub use turned::Turned;
-
-#[cfg(test)]
-mod tests;

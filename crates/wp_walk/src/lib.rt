@@ -5,8 +5,6 @@ mod aisle;
 mod ends;
 mod path;
 mod paths;
-#[cfg(test)]
-mod tests;
 mod turns;
 mod walk;
 

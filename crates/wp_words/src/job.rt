@@ -1,5 +1,5 @@
 /// What words ask for.
-#[derive(Debug, Drop)]
+#[derive(Drop)]
 pub enum Job {
     /// Plans the waves of a day.
     Plan(PlanWords),
@@ -12,7 +12,7 @@ pub enum Job {
 }
 
 /// The names of the files of a day, and the numbers that its plans go by.
-#[derive(Debug, Drop)]
+#[derive(Drop)]
 pub struct PlanWords {
     pub layout: String,
     pub stock: String,
@@ -27,14 +27,14 @@ pub struct PlanWords {
 }
 
 /// The names of a certificate, and of the layout that it is for.
-#[derive(Debug, Drop)]
+#[derive(Drop)]
 pub struct CheckWords {
     pub layout: String,
     pub certificate: String,
 }
 
 /// The names of a journal, and of the files that it came from.
-#[derive(Debug, Drop)]
+#[derive(Drop)]
 pub struct AuditWords {
     pub layout: String,
     pub stock: String,
@@ -43,7 +43,7 @@ pub struct AuditWords {
 }
 
 /// The numbers from which a day is made and planned.
-#[derive(Debug, Drop)]
+#[derive(Drop)]
 pub struct MakeWords {
     /// What the day is drawn from.
     pub number: u64,

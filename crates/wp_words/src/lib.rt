@@ -13,6 +13,3 @@ mod reading;
 pub use fault::WordsFault;
 pub use job::{AuditWords, CheckWords, Job, MakeWords, PlanWords};
 pub use reading::read_words;
-
-#[cfg(test)]
-mod tests;

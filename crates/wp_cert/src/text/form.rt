@@ -2,7 +2,7 @@ use crate::Nodes;
 use wp_model::Listing;
 
 /// A slot as it stands in the text: the number of an aisle and that of a slot in it, which the layout may not have.
-#[derive(Clone, Copy, Debug)]
+#[derive(Clone, Copy)]
 pub(crate) struct Place {
     pub(crate) aisle: u64,
     pub(crate) slot: u64,
@@ -18,7 +18,7 @@ pub(crate) struct Form {
 }
 
 /// Why a value isn't read as a part of a certificate.
-#[derive(Clone, Copy, Debug)]
+#[derive(Clone, Copy)]
 pub(crate) enum Unread {
     /// It isn't of the part's form.
     BadShape,

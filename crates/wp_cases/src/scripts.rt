@@ -1,0 +1,120 @@
+//! Days that desks run with a planner of a case's own.
+ghost use Rattle.std.specs.Prelude.{IfOk};
+ghost use Rattle.wp_model.specs.Tables.{AreReadOrders};
+
+use crate::fault::CaseFault;
+use crate::gates::CaseGate;
+use crate::planners::{CasePlanner, number_of};
+use crate::print_end;
+use std::alloc::Global;
+use std::sync::Wait;
+use std::thread::Threads;
+use wp_desk::{Planned, run_desks};
+use wp_graph::Layout;
+use wp_layout::read_layout;
+use wp_machine::{Machine, Opening};
+use wp_model::Memory;
+use wp_outside::{Files, Sink};
+use wp_tables::{Orders, Scripts, Stock, read_desks, read_orders, read_stock};
+
+fn layout_of<F: Files>(alloc: Global, files: &mut F) -> Result<Layout, CaseFault> {
+    match read_layout(alloc, &files.read(alloc, "layout.json")?) {
+        Ok(layout) => Ok(layout),
+        Err(_) => Err(CaseFault::File),
+    }
+}
+
+fn stock_of<F: Files>(alloc: Global, files: &mut F, layout: &Layout) -> Result<Stock, CaseFault> {
+    match read_stock(alloc, &files.read(alloc, "stock.csv")?, layout) {
+        Ok(stock) => Ok(stock),
+        Err(_) => Err(CaseFault::File),
+    }
+}
+
+fn orders_of<F: Files>(alloc: Global, files: &mut F, stock: &Stock) -> Result<Orders, CaseFault>
+    ensures { IfOk result (AreReadOrders stock.now.articles) }
+{
+    match read_orders(alloc, &files.read(alloc, "orders.csv")?, stock) {
+        Ok(orders) => Ok(orders),
+        Err(_) => Err(CaseFault::File),
+    }
+}
+
+fn opening_of<F: Files>(alloc: Global, files: &mut F) -> Result<Opening, CaseFault> {
+    let layout = layout_of(alloc, files)?;
+    let stock = stock_of(alloc, files, &layout)?;
+    let orders = orders_of(alloc, files, &stock)?;
+    Ok(Opening::of(stock, orders))
+}
+
+fn scripts_of<F: Files>(alloc: Global, files: &mut F) -> Result<Scripts, CaseFault> {
+    match read_desks(alloc, &files.read(alloc, "desks.csv")?) {
+        Ok(scripts) => Ok(scripts),
+        Err(_) => Err(CaseFault::File),
+    }
+}
+
+/// How many waves go out of a day, and how many of them have plans of their own, where there is memory for the day.
+fn run_day<R: Threads + Wait + Sync>(
+    rt: &R,
+    alloc: Global,
+    opening: &Opening,
+    scripts: &Scripts,
+    planner: &CasePlanner,
+    gate: &CaseGate,
+) -> Result<(usize, usize), Memory> {
+    let machine = Machine::open(alloc, opening)?;
+    let day = run_desks(rt, alloc, opening, machine, scripts, planner, gate)?;
+    Ok((day.plans.len(), own_plans(day.plans.as_slice())))
+}
+
+fn own_plans(planned: &[Planned<u32>]) -> usize {
+    planned
+        .iter()
+        .filter(|one| one.plan == number_of(&one.wave))
+        .count()
+}
+
+/// The status of a day, and the text that tells of its waves.
+fn told_of(alloc: Global, day: Result<(usize, usize), Memory>) -> Result<(u8, String), Memory> {
+    match day {
+        Ok((waves, plans)) => Ok((0, format!(in alloc; "waves {waves} with plans {plans}\n")?)),
+        Err(Memory) => Ok((5, String::new(alloc))),
+    }
+}
+
+/// The status of the day in the files of a case, and the text that tells of its waves.
+fn day_of<R: Threads + Wait + Sync, F: Files>(
+    rt: &R,
+    alloc: Global,
+    files: &mut F,
+    planner: &CasePlanner,
+    gate: &CaseGate,
+) -> Result<(u8, String), CaseFault> {
+    let opening = opening_of(alloc, files)?;
+    let scripts = scripts_of(alloc, files)?;
+    let told = told_of(alloc, run_day(rt, alloc, &opening, &scripts, planner, gate))?;
+    Ok(told)
+}
+
+fn joined(alloc: Global, waves: &str, plans: &str, gate: &CaseGate) -> Result<String, Memory> {
+    let passes = gate.told(alloc)?;
+    let passes = passes.as_str();
+    let text = format!(in alloc; "{waves}{plans}{passes}")?;
+    Ok(text)
+}
+
+/// Runs the day of a case by a planner, and prints what there is to tell of it.
+pub fn run_planner<R: Threads + Wait + Sync, F: Files, K: Sink>(
+    rt: &R,
+    alloc: Global,
+    (name, lines): (&str, &str),
+    files: &mut F,
+    planner: &CasePlanner,
+    out: &mut K,
+) -> Result<(), CaseFault> {
+    let gate = CaseGate::of(lines);
+    let (status, waves) = day_of(rt, alloc, files, planner, &gate)?;
+    let text = joined(alloc, waves.as_str(), planner.told(), &gate)?;
+    print_end(alloc, name, status, text.as_bytes(), out)
+}

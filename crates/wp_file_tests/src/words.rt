@@ -1,0 +1,246 @@
+//! The names and numbers that words give.
+use std::alloc::{AllocError, Global};
+use wp_words::{AuditWords, CheckWords, Job, MakeWords, PlanWords, WordsFault, read_words};
+
+/// Words, parted by single spaces.
+fn words_of(alloc: Global, line: &str) -> Result<Vec<String>, AllocError> {
+    let mut words = Vec::new(alloc);
+    for word in line.split(' ') {
+        words.push(String::from_str(alloc, word)?)?;
+    }
+    Ok(words)
+}
+
+fn plan_text(alloc: Global, words: &PlanWords) -> Result<String, AllocError> {
+    let PlanWords {
+        layout,
+        stock,
+        orders,
+        desks,
+        capacity,
+        budget,
+        workers,
+    } = words;
+    format!(in alloc; "plan {layout}, {stock}, {orders}, {desks}, {capacity}, {budget}, {workers}")
+}
+
+fn check_text(alloc: Global, words: &CheckWords) -> Result<String, AllocError> {
+    let CheckWords {
+        layout,
+        certificate,
+    } = words;
+    format!(in alloc; "check {layout}, {certificate}")
+}
+
+fn audit_text(alloc: Global, words: &AuditWords) -> Result<String, AllocError> {
+    let AuditWords {
+        layout,
+        stock,
+        orders,
+        journal,
+    } = words;
+    format!(in alloc; "audit {layout}, {stock}, {orders}, {journal}")
+}
+
+fn make_text(alloc: Global, words: &MakeWords) -> Result<String, AllocError> {
+    let MakeWords {
+        number,
+        aisles,
+        orders,
+        desks,
+        wave,
+        capacity,
+        budget,
+        workers,
+    } = words;
+    format!(in alloc;
+        "make {number}, {aisles}, {orders}, {desks}, {wave}, {capacity}, {budget}, {workers}"
+    )
+}
+
+/// The mode of a job and the names and numbers that it gives, or what the fault is told as.
+fn told(alloc: Global, read: &Result<Job, WordsFault>) -> Result<String, AllocError> {
+    match read {
+        Ok(Job::Plan(words)) => plan_text(alloc, words),
+        Ok(Job::Check(words)) => check_text(alloc, words),
+        Ok(Job::Audit(words)) => audit_text(alloc, words),
+        Ok(Job::Make(words)) => make_text(alloc, words),
+        Err(fault) => fault.to_string(alloc),
+    }
+}
+
+/// Whether a line of words is read so.
+fn is_read(alloc: Global, line: &str, said: &str) -> Result<bool, AllocError> {
+    let words = words_of(alloc, line)?;
+    let text = told(alloc, &read_words(alloc, &words))?;
+    Ok(text.as_str() == said)
+}
+
+/// Words that ask for a job, and what they are read as.
+const JOBS: &[(&str, &str)] = &[
+    (
+        "plan --layout l --stock s --orders o --desks d --capacity 3",
+        "plan l, s, o, d, 3, 2000000, 1",
+    ),
+    (
+        "plan --capacity=3 --layout=l --stock=s --orders=o --desks=d",
+        "plan l, s, o, d, 3, 2000000, 1",
+    ),
+    (
+        "plan --layout=l --stock s --orders o --desks d --capacity=3",
+        "plan l, s, o, d, 3, 2000000, 1",
+    ),
+    (
+        "plan --capacity 3 --layout l --stock=s --orders o --desks d",
+        "plan l, s, o, d, 3, 2000000, 1",
+    ),
+    (
+        "plan --layout l --stock s --orders=o --desks d --capacity 3",
+        "plan l, s, o, d, 3, 2000000, 1",
+    ),
+    (
+        "plan --capacity 3 --layout l --stock s --orders o --desks=d",
+        "plan l, s, o, d, 3, 2000000, 1",
+    ),
+    (
+        "plan --capacity 3 --desks d --orders o --stock s --layout l",
+        "plan l, s, o, d, 3, 2000000, 1",
+    ),
+    (
+        "plan --capacity=3 --stock=s --desks d --layout=l --orders o",
+        "plan l, s, o, d, 3, 2000000, 1",
+    ),
+    (
+        "plan --capacity 3 --layout a --stock a --orders a --desks a",
+        "plan a, a, a, a, 3, 2000000, 1",
+    ),
+    (
+        "plan --capacity 3 --layout plan --stock audit --orders layout --desks stock",
+        "plan plan, audit, layout, stock, 3, 2000000, 1",
+    ),
+    (
+        "plan --capacity=3 --layout=--stock --stock=-s --orders=o=d --desks=--",
+        "plan --stock, -s, o=d, --, 3, 2000000, 1",
+    ),
+    (
+        "plan --capacity=3 --layout= --stock=s --orders= --desks=d",
+        "plan , s, , d, 3, 2000000, 1",
+    ),
+    (
+        "plan --capacity 3 --layout a/b.json --stock ../s.csv --orders /o --desks größe.csv",
+        "plan a/b.json, ../s.csv, /o, größe.csv, 3, 2000000, 1",
+    ),
+    ("check --layout l --certificate c", "check l, c"),
+    ("check --layout=l --certificate=c", "check l, c"),
+    ("check --layout l --certificate=c", "check l, c"),
+    ("check --layout=l --certificate c", "check l, c"),
+    ("check --certificate c --layout l", "check l, c"),
+    ("check --certificate=c --layout=l", "check l, c"),
+    ("check --layout a --certificate a", "check a, a"),
+    (
+        "check --layout check --certificate layout",
+        "check check, layout",
+    ),
+    ("check --certificate=--layout --layout=", "check , --layout"),
+    (
+        "audit --layout l --stock s --orders o --journal j",
+        "audit l, s, o, j",
+    ),
+    (
+        "audit --layout=l --stock=s --orders=o --journal=j",
+        "audit l, s, o, j",
+    ),
+    (
+        "audit --layout l --stock s --orders o --journal=j",
+        "audit l, s, o, j",
+    ),
+    (
+        "audit --journal j --orders=o --layout l --stock=s",
+        "audit l, s, o, j",
+    ),
+    (
+        "make --number 1 --aisles 60 --orders 200 --desks 4 --wave 20 --capacity 3 --budget 120000 --workers 16",
+        "make 1, 60, 200, 4, 20, 3, 120000, 16",
+    ),
+    (
+        "make --number=18446744073709551615 --aisles=64 --orders=10000 --desks=8 --wave=64 --capacity=8",
+        "make 18446744073709551615, 64, 10000, 8, 64, 8, 2000000, 1",
+    ),
+    (
+        "make --wave 1 --number 0 --desks 1 --capacity 1 --orders 1 --aisles 1",
+        "make 0, 1, 1, 1, 1, 1, 2000000, 1",
+    ),
+    (
+        "make --number 2 --aisles 3 --orders 10000 --desks 5 --wave 20 --capacity 7",
+        "make 2, 3, 10000, 5, 20, 7, 2000000, 1",
+    ),
+    (
+        "make --number 2 --aisles 3 --orders 500 --desks 5 --wave 1 --capacity 7",
+        "make 2, 3, 500, 5, 1, 7, 2000000, 1",
+    ),
+    (
+        "make --number 2 --aisles 3 --orders 4500 --desks 5 --wave 9 --capacity 7",
+        "make 2, 3, 4500, 5, 9, 7, 2000000, 1",
+    ),
+];
+
+/// The first line that is read otherwise.
+fn misread_job(alloc: Global) -> Result<Option<&'static str>, AllocError> {
+    for (line, said) in JOBS {
+        if !is_read(alloc, line, said)? {
+            return Ok(Some(*line));
+        }
+    }
+    Ok(None)
+}
+
+#[test]
+fn jobs_are_read(rt: HostRuntime) {
+    assert_eq!(rt; misread_job(rt.alloc()), Ok(None));
+}
+
+/// The words of a plan but for its numbers.
+const FILES: &str = "plan --layout l --stock s --orders o --desks d";
+
+/// Numbers of a plan, and the capacity, the budget and the workers that they are read as.
+const NUMBERS: &[(&str, &str)] = &[
+    (" --capacity 1", "1, 2000000, 1"),
+    (" --capacity 8", "8, 2000000, 1"),
+    (" --capacity=3", "3, 2000000, 1"),
+    (" --capacity +3", "3, 2000000, 1"),
+    (" --capacity 03", "3, 2000000, 1"),
+    (" --capacity=+0000000000000000000000003", "3, 2000000, 1"),
+    (" --capacity 2 --budget 0", "2, 0, 1"),
+    (" --capacity 2 --budget +007", "2, 7, 1"),
+    (" --budget=2000001 --capacity 2", "2, 2000001, 1"),
+    (
+        " --capacity 2 --budget 1000000000000000000",
+        "2, 1000000000000000000, 1",
+    ),
+    (" --capacity 2 --workers 1", "2, 2000000, 1"),
+    (" --workers 16 --capacity 2", "2, 2000000, 16"),
+    (" --capacity 2 --workers=+02", "2, 2000000, 2"),
+    (" --workers=4 --budget=5 --capacity=6", "6, 5, 4"),
+    (" --capacity 6 --budget 5 --workers 4 --", "6, 5, 4"),
+];
+
+fn are_read(alloc: Global, words: &str, numbers: &str) -> Result<bool, AllocError> {
+    let line = format!(in alloc; "{FILES}{words}")?;
+    let said = format!(in alloc; "plan l, s, o, d, {numbers}")?;
+    is_read(alloc, line.as_str(), said.as_str())
+}
+
+/// The first numbers that are read otherwise.
+fn misread_numbers(alloc: Global) -> Result<Option<&'static str>, AllocError> {
+    for (words, numbers) in NUMBERS {
+        if !are_read(alloc, words, numbers)? {
+            return Ok(Some(*words));
+        }
+    }
+    Ok(None)
+}
+
+#[test]
+fn numbers_of_plan_are_read(rt: HostRuntime) {
+    assert_eq!(rt; misread_numbers(rt.alloc()), Ok(None));
+}

@@ -1,0 +1,6 @@
+use Rattle.std.proofs.Common.{◌<◌, ℕ, List}
+use Rattle.wp_duals.specs.Duals.{IsTightFor}
+use Rattle.wp_search.proofs.tests.classes.are_classes_tight.Given as goal
+
+abbrev pub invariant-loop-order : goal.invariant-loop-order
+invariant-loop-order l = (lower : ℕ) → lower < l.order → (batch : List ℕ) × IsTightFor l.wave l.pairs l.duals lower batch

@@ -1,0 +1,6 @@
+use Rattle.std.proofs.Common.{◌<◌, ℕ, get_or}
+use Rattle.wp_allot.specs.declared.want.Want.{Want}
+use Rattle.wp_stock_tests.proofs.allot.are_known.Given as goal
+
+abbrev pub invariant-loop-want : goal.invariant-loop-want
+invariant-loop-want l = (k : ℕ) (d : Want) → k < l.want-index → (get_or l.wants k d).article < l.articles

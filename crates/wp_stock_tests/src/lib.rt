@@ -1,0 +1,15 @@
+//! Tests of the stock book, of allotment and of the machine, by their public calls alone.
+//!
+//! That waves hold what the rules say is shown by cases of whole runs. Here stands what no run tells: calls that the program
+//! makes otherwise or not at all, as a hold of no units or wants beside an excepted row, and what the calls give back before it
+//! becomes text.
+#![tactic(auto)]
+
+#[cfg(test)]
+mod allot;
+#[cfg(test)]
+mod book;
+#[cfg(test)]
+mod given;
+#[cfg(test)]
+mod machine;
