@@ -3,11 +3,12 @@
 #![tactic(auto)]
 
 mod made;
+mod told;
 
 use std::alloc::AllocError;
 use std::process::ExitCode;
 use std::{env, io};
-use wp_model::read_number;
+use wp_outside::StdSink;
 
 fn main(rt: HostRuntime) -> ExitCode {
     let alloc = rt.alloc();
@@ -16,20 +17,6 @@ fn main(rt: HostRuntime) -> ExitCode {
         Err(fault) if fault.kind() == io::ErrorKind::InvalidData => Ok(Vec::new(alloc)),
         Err(_) => Err(AllocError),
     };
-    let Ok(words) = words else {
-        return ExitCode::from(5);
-    };
-    let Some(count) = words
-        .first()
-        .and_then(|word| read_number(word.as_bytes(), 9))
-    else {
-        return ExitCode::from(2);
-    };
-    let Some(sum) = made::sum_of_tours(count) else {
-        return ExitCode::from(1);
-    };
-    match println!(rt; "tours {count} sum {sum}") {
-        Ok(()) => ExitCode::from(0),
-        Err(_) => ExitCode::from(4),
-    }
+    let mut out = StdSink::new(io::writer(&rt));
+    told::run_given(alloc, words, &mut out)
 }
