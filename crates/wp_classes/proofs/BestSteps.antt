@@ -5,8 +5,8 @@ use Rattle.wp_graph.specs.declared.ways.AisleWays.{AisleWays}
 use Rattle.wp_classes.specs.declared.class.Class.{Class}
 use Rattle.wp_classes.specs.declared.class.Way.{Way}
 use Rattle.wp_classes.specs.declared.class.Cross.{Cross}
-use Rattle.wp_classes.specs.declared.lengths.Lengths.{Lengths}
-use Rattle.wp_classes.specs.declared.tour.Step.{Step}
+use Rattle.wp_classes.specs.declared.lengths.OnwardLengths.{OnwardLengths}
+use Rattle.wp_classes.specs.declared.tour.AisleStep.{AisleStep}
 use Rattle.wp_classes.specs.Choices.{Block, TakesWay}
 use Rattle.wp_classes.specs.Least.{by_cross, by_way, least_by_cross, least_by_way, length_at, sum_of}
 use Rattle.wp_classes.specs.Onward.{AreOnward, IsLeastOf, Onward, Through}
@@ -15,7 +15,7 @@ use Rattle.wp_classes.specs.Tables.{class_after_cross, class_after_way, copies, 
 use Rattle.wp_classes.proofs.LeastLengths.{least_crosses, least_ways}
 
 -- a crossing with a length leads to a class that has one
-pub record Crosses (spacing : ℕ) (after : Lengths) (class : Class) (cross : Cross) (total : ℕ) : Type 0 where
+pub record Crosses (spacing : ℕ) (after : OnwardLengths) (class : Class) (cross : Cross) (total : ℕ) : Type 0 where
   pub next : Class
   pub rest : ℕ
   pub allowed : class_after_cross class cross ≡ Some next
@@ -23,7 +23,7 @@ pub record Crosses (spacing : ℕ) (after : Lengths) (class : Class) (cross : Cr
   pub total_is : total ≡ copies cross * spacing + rest
 
 -- a crossing whose length is known leads to a class from which a length is known
-pub crosses_by : (spacing : ℕ) (after : Lengths) (class : Class) (cross : Cross) (total : ℕ) → by_cross spacing after class cross ≡ Some total
+pub crosses_by : (spacing : ℕ) (after : OnwardLengths) (class : Class) (cross : Cross) (total : ℕ) → by_cross spacing after class cross ≡ Some total
     → Crosses spacing after class cross total
 crosses_by spacing after class cross total is = go (class_after_cross class cross) refl is
   where
@@ -38,7 +38,7 @@ crosses_by spacing after class cross total is = go (class_after_cross class cros
     go (Some next) allowed e = at next (length_at after next) allowed refl e
 
 -- a way with a length leads to a class that has one
-pub record Leads (ways : AisleWays) (after : Lengths) (class : Class) (way : Way) (total : ℕ) : Type 0 where
+pub record Leads (ways : AisleWays) (after : OnwardLengths) (class : Class) (way : Way) (total : ℕ) : Type 0 where
   pub next : Class
   pub through : ℕ
   pub rest : ℕ
@@ -47,7 +47,7 @@ pub record Leads (ways : AisleWays) (after : Lengths) (class : Class) (way : Way
   pub total_is : total ≡ through + rest
 
 -- a way whose length is known leads to a class from which a length is known
-pub leads_by : (ways : AisleWays) (after : Lengths) (class : Class) (way : Way) (total : ℕ) → by_way ways after class way ≡ Some total
+pub leads_by : (ways : AisleWays) (after : OnwardLengths) (class : Class) (way : Way) (total : ℕ) → by_way ways after class way ≡ Some total
     → Leads ways after class way total
 leads_by ways after class way total is = go (class_after_way class way) refl is
   where
@@ -71,7 +71,7 @@ leads_by ways after class way total is = go (class_after_way class way) refl is
     go (Some next) allowed e = at next (way_length ways way) (length_at after next) allowed refl refl e
 
 -- the least lengths at hand where a step is chosen
-pub record IsChoosing (block : Block) (left aisle : ℕ) (ways : AisleWays) (spacing : ℕ) (after through : Lengths) (class : Class) : Type 0 where
+pub record IsChoosing (block : Block) (left aisle : ℕ) (ways : AisleWays) (spacing : ℕ) (after through : OnwardLengths) (class : Class) : Type 0 where
   pub are : AreOnward block left (suc aisle) after
   pub ways_are : ways ≡ block.ways (suc aisle)
   pub spacing_is : spacing ≡ block.spacing aisle
@@ -79,7 +79,7 @@ pub record IsChoosing (block : Block) (left aisle : ℕ) (ways : AisleWays) (spa
   pub goes_on : (rest : ℕ) × Onward block (suc left) aisle class rest
 
 -- the least length on from the class before the step
-choosing_least : {block : Block} {left aisle : ℕ} {ways : AisleWays} {spacing : ℕ} {after through : Lengths} {class : Class}
+choosing_least : {block : Block} {left aisle : ℕ} {ways : AisleWays} {spacing : ℕ} {after through : OnwardLengths} {class : Class}
     → IsChoosing block left aisle ways spacing after through class →
     IsLeastOf (λ t. Onward block (suc left) aisle class t) (least_by_cross spacing through class)
 choosing_least {block} {left} {aisle} {ways} {spacing} {after} {through} {class} h =
@@ -91,13 +91,13 @@ choosing_least {block} {left} {aisle} {ways} {spacing} {after} {through} {class}
     (least_crosses (λ c rest. Through on (block.ways (suc aisle)) c rest) (block.spacing aisle) through class between)
 
 -- a best crossing with what it comes to
-pub record IsCrossed (block : Block) (left aisle : ℕ) (spacing : ℕ) (through : Lengths) (class : Class) (cross : Cross) : Type 0 where
+pub record IsCrossed (block : Block) (left aisle : ℕ) (spacing : ℕ) (through : OnwardLengths) (class : Class) (cross : Cross) : Type 0 where
   pub total : ℕ
   pub crosses : Crosses spacing through class cross total
   pub least : IsLeastOf (λ t. Onward block (suc left) aisle class t) (Some total)
 
 -- a crossing of the least length comes to the least length on
-pub best_crosses : {block : Block} {left aisle : ℕ} {ways : AisleWays} {spacing : ℕ} {after through : Lengths} {class : Class}
+pub best_crosses : {block : Block} {left aisle : ℕ} {ways : AisleWays} {spacing : ℕ} {after through : OnwardLengths} {class : Class}
     → IsChoosing block left aisle ways spacing after through class → (cross : Cross) →
     by_cross spacing through class cross ≡ least_by_cross spacing through class → IsCrossed block left aisle spacing through class cross
 best_crosses {block} {left} {aisle} {ways} {spacing} {after} {through} {class} h cross best = go (least_by_cross spacing through class) refl (choosing_least h)
@@ -108,12 +108,12 @@ best_crosses {block} {left} {aisle} {ways} {spacing} {after} {through} {class} h
     go (Some total) e is = record { total = total; crosses = crosses_by spacing through class cross total (best ∙ e); least = is }
 
 -- the tables allow a best crossing
-pub cross_some : {block : Block} {left aisle : ℕ} {spacing : ℕ} {through : Lengths} {class : Class} {cross : Cross}
+pub cross_some : {block : Block} {left aisle : ℕ} {spacing : ℕ} {through : OnwardLengths} {class : Class} {cross : Cross}
     → IsCrossed block left aisle spacing through class cross → is_some (class_after_cross class cross) ≡ true
 cross_some h = ap (λ (o : Option Class). is_some o) h.crosses.allowed
 
 -- a way of the least length after a best crossing comes to the rest of its length
-pub best_leads : {block : Block} {left aisle : ℕ} {ways : AisleWays} {spacing : ℕ} {after through : Lengths} {class : Class}
+pub best_leads : {block : Block} {left aisle : ℕ} {ways : AisleWays} {spacing : ℕ} {after through : OnwardLengths} {class : Class}
     → IsChoosing block left aisle ways spacing after through class → {cross : Cross} →
     (crossed : IsCrossed block left aisle spacing through class cross) → (between : Class) (way : Way) → class_after_cross class cross ≡ Some between →
     by_way ways after between way ≡ least_by_way ways after between → Leads ways after between way crossed.crosses.rest
@@ -123,13 +123,13 @@ best_leads {block} {left} {aisle} {ways} {spacing} {after} {through} {class} h {
     ∙ subst (λ (c : Class). length_at through c ≡ Some crossed.crosses.rest) same crossed.crosses.known)
 
 -- the tables allow a way that leads on
-pub leads_some : {ways : AisleWays} {after : Lengths} {class : Class} {way : Way} {total : ℕ} → Leads ways after class way total
+pub leads_some : {ways : AisleWays} {after : OnwardLengths} {class : Class} {way : Way} {total : ℕ} → Leads ways after class way total
     → is_some (class_after_way class way) ≡ true
 leads_some h = ap (λ (o : Option Class). is_some o) h.takes.allowed
 
 -- both make a best step
-pub best_step_made : {block : Block} {left aisle : ℕ} {ways : AisleWays} {spacing : ℕ} {after through : Lengths} {class : Class}
-    → IsChoosing block left aisle ways spacing after through class → (step : Step) (between : Class) →
+pub best_step_made : {block : Block} {left aisle : ℕ} {ways : AisleWays} {spacing : ℕ} {after through : OnwardLengths} {class : Class}
+    → IsChoosing block left aisle ways spacing after through class → (step : AisleStep) (between : Class) →
     by_cross spacing through class step.cross ≡ least_by_cross spacing through class → class_after_cross class step.cross ≡ Some between →
     by_way ways after between step.way ≡ least_by_way ways after between → class_after_way between step.way ≡ Some step.class
     → IsBestStep block (suc left) (suc aisle) after class step

@@ -9,7 +9,7 @@ use Rattle.wp_classes.specs.declared.class.Way.{Way}
 use Rattle.wp_classes.specs.declared.class.Way.TheVariants.{Pass, Back, Front, Gap, Double, Skip}
 use Rattle.wp_classes.specs.declared.class.Cross.{Cross}
 use Rattle.wp_classes.specs.declared.class.Cross.TheVariants.{C00, C11, C20, C02, C22}
-use Rattle.wp_classes.specs.declared.lengths.Lengths.{Lengths}
+use Rattle.wp_classes.specs.declared.lengths.OnwardLengths.{OnwardLengths}
 use Rattle.wp_classes.specs.Choices.{Block}
 use Rattle.wp_classes.specs.Least.{by_cross, by_way, least_by_cross, least_by_way, length_at, sum_of}
 use Rattle.wp_classes.specs.Onward.{Across, AreOnward, ByCross, ByWay, IsLeastOf, Onward, Through}
@@ -17,7 +17,7 @@ use Rattle.wp_classes.specs.Tables.{class_after_cross, class_after_way, copies, 
 use Rattle.wp_classes.proofs.Leasts.{least_lesser, least_like, least_more}
 
 -- the least length by one way
-least_by : (onward : Class → ℕ → Type 0) (ways : AisleWays) (after : Lengths) (class : Class) (way : Way) →
+least_by : (onward : Class → ℕ → Type 0) (ways : AisleWays) (after : OnwardLengths) (class : Class) (way : Way) →
     ((next : Class) → IsLeastOf (onward next) (length_at after next)) → IsLeastOf (ByWay onward ways class way) (by_way ways after class way)
 least_by onward ways after class way is = go (class_after_way class way) (way_length ways way) refl refl
   where
@@ -43,7 +43,7 @@ least_by onward ways after class way is = go (class_after_way class way) (way_le
     go (Some next) (Some through) allowed applies = at next through allowed applies (length_at after next) refl
 
 -- the least length by some way
-pub least_ways : (onward : Class → ℕ → Type 0) (ways : AisleWays) (after : Lengths) (class : Class) →
+pub least_ways : (onward : Class → ℕ → Type 0) (ways : AisleWays) (after : OnwardLengths) (class : Class) →
     ((next : Class) → IsLeastOf (onward next) (length_at after next)) → IsLeastOf (Through onward ways class) (least_by_way ways after class)
 least_ways onward ways after class is =
     let by = λ (way : Way). least_by onward ways after class way is in
@@ -80,7 +80,7 @@ least_ways onward ways after class is =
     back t h = split t h.0 h.1
 
 -- the least length by one crossing
-least_over : (onward : Class → ℕ → Type 0) (spacing : ℕ) (after : Lengths) (class : Class) (cross : Cross) →
+least_over : (onward : Class → ℕ → Type 0) (spacing : ℕ) (after : OnwardLengths) (class : Class) (cross : Cross) →
     ((next : Class) → IsLeastOf (onward next) (length_at after next)) → IsLeastOf (ByCross onward spacing class cross) (by_cross spacing after class cross)
 least_over onward spacing after class cross is = go (class_after_cross class cross) refl
   where
@@ -94,7 +94,7 @@ least_over onward spacing after class cross is = go (class_after_cross class cro
         (least_more (onward next) (copies cross * spacing) (length_at after next) (is next))
 
 -- the least length by some crossing
-pub least_crosses : (onward : Class → ℕ → Type 0) (spacing : ℕ) (after : Lengths) (class : Class) →
+pub least_crosses : (onward : Class → ℕ → Type 0) (spacing : ℕ) (after : OnwardLengths) (class : Class) →
     ((next : Class) → IsLeastOf (onward next) (length_at after next)) → IsLeastOf (Across onward spacing class) (least_by_cross spacing after class)
 least_crosses onward spacing after class is =
     let by = λ (cross : Cross). least_over onward spacing after class cross is in
@@ -124,7 +124,7 @@ least_crosses onward spacing after class is =
     back t h = split t h.0 h.1
 
 -- the least lengths at the end
-pub onward_at_end : (block : Block) (aisle : ℕ) (lengths : Lengths) → ((class : Class) → length_at lengths class ≡ (if is_whole class then Some 0 else None))
+pub onward_at_end : (block : Block) (aisle : ℕ) (lengths : OnwardLengths) → ((class : Class) → length_at lengths class ≡ (if is_whole class then Some 0 else None))
     → AreOnward block 0 aisle lengths
 onward_at_end block aisle lengths are = record {
   least = λ class. subst (λ o. IsLeastOf (λ t. Onward block 0 aisle class t) o) (sym (are class))
@@ -136,7 +136,7 @@ onward_at_end block aisle lengths are = record {
     go class false not_whole = λ t h. absurd (both_ways _ not_whole h.0)
 
 -- the least lengths one aisle further left
-pub onward_left : (block : Block) (left aisle : ℕ) (after through before : Lengths) → AreOnward block left (suc aisle) after →
+pub onward_left : (block : Block) (left aisle : ℕ) (after through before : OnwardLengths) → AreOnward block left (suc aisle) after →
     ((class : Class) → length_at through class ≡ least_by_way (block.ways (suc aisle)) after class) →
     ((class : Class) → length_at before class ≡ least_by_cross (block.spacing aisle) through class) → AreOnward block (suc left) aisle before
 onward_left block left aisle after through before are by_ways by_crosses = record {

@@ -13,8 +13,8 @@ use Rattle.wp_classes.specs.declared.class.Way.{Way}
 use Rattle.wp_classes.specs.declared.class.Way.TheVariants.{Skip}
 use Rattle.wp_classes.specs.declared.class.Cross.{Cross}
 use Rattle.wp_classes.specs.declared.class.Cross.TheVariants.{C00}
-use Rattle.wp_classes.specs.declared.lengths.Lengths.{Lengths}
-use Rattle.wp_classes.specs.declared.tour.Step.{Step}
+use Rattle.wp_classes.specs.declared.lengths.OnwardLengths.{OnwardLengths}
+use Rattle.wp_classes.specs.declared.tour.AisleStep.{AisleStep}
 use Rattle.wp_classes.specs.Choices.{Block, Choices, ComesTo, IsChoiceOf, IsLeastRoute, Route, TakesWay, block_of, route_of}
 use Rattle.wp_classes.specs.Least.{by_way, least_by_way, length_at}
 use Rattle.wp_classes.specs.Onward.{AreOnward, IsLeastOf, Onward}
@@ -34,7 +34,7 @@ pub record Progress (block : Block) (all aisle : ℕ) (route : Route) (class : C
   pub least : IsLeastFirst block (all - 1) (Some (so_far + rest))
 
 -- a best step keeps it so
-pub progress_on : (block : Block) (all aisle : ℕ) (route next : Route) (class : Class) (after : Lengths) (step : Step) → 1 ≤ aisle → aisle < all
+pub progress_on : (block : Block) (all aisle : ℕ) (route next : Route) (class : Class) (after : OnwardLengths) (step : AisleStep) → 1 ≤ aisle → aisle < all
     → Progress block all aisle route class →
     AreOnward block (all - suc aisle) (suc aisle) after → IsBestStep block (all - aisle) (suc aisle) after class step
     → AreAlike (then_takes route aisle step.cross step.way) next aisle →
@@ -127,7 +127,7 @@ progress_done layout picks (suc more) ways crosses class choices some all room r
     )
 
 -- a best first way begins so
-pub progress_first : (block : Block) (all : ℕ) (after : Lengths) (ways : AisleWays) (first : Way) (class : Class) (blank : List Way) (crosses : List Cross)
+pub progress_first : (block : Block) (all : ℕ) (after : OnwardLengths) (ways : AisleWays) (first : Way) (class : Class) (blank : List Way) (crosses : List Cross)
     → AreOnward block (all - 1) 1 after → ways ≡ block.ways 1 →
     by_way ways after Z00 first ≡ least_by_way ways after Z00 → class_after_way Z00 first ≡ Some class → 0 < length blank
     → Progress block all 1 (route_of (record { ways = set blank 0 first; crosses = crosses })) class

@@ -15,7 +15,7 @@ use Rattle.wp_classes.specs.declared.class.Cross.TheVariants.{C00, C22}
 use Rattle.wp_classes.specs.Choices.{Block, ComesOn, ComesTo, IsAllowed, IsLeastRoute, Route, TakesCross, TakesWay, block_of}
 use Rattle.wp_classes.specs.Onward.{AreOnward, IsLeastOf, Onward, Through}
 use Rattle.wp_classes.specs.Least.{least_by_way}
-use Rattle.wp_classes.specs.declared.lengths.Lengths.{Lengths}
+use Rattle.wp_classes.specs.declared.lengths.OnwardLengths.{OnwardLengths}
 use Rattle.wp_classes.specs.Tables.{class_after_cross, class_after_way, copies, is_whole}
 use Rattle.wp_classes.proofs.LeastLengths.{least_ways}
 
@@ -154,7 +154,7 @@ some_way_on block left least is =
     no_one ((block.ways 1).double + rest.0) (Double, (EE1, (block.ways 1).double, rest.0, record { allowed = refl; applies = refl }, rest.1, refl)))
 
 -- the least length by the first way is that of all ways to go on
-pub least_first : (block : Block) (left : ℕ) (ways : AisleWays) (lengths : Lengths) (least : Option ℕ) → AreOnward block left 1 lengths → ways ≡ block.ways 1
+pub least_first : (block : Block) (left : ℕ) (ways : AisleWays) (lengths : OnwardLengths) (least : Option ℕ) → AreOnward block left 1 lengths → ways ≡ block.ways 1
     → least ≡ least_by_way ways lengths Z00 → IsLeastFirst block left least
 least_first block left ways lengths least are is by =
     let on : Class → ℕ → Type 0 = λ next rest. Onward block left 1 next rest in
@@ -164,7 +164,7 @@ least_first block left ways lengths least are is by =
     }
 
 -- after as many aisles as there are but one, the first is left
-pub at_first : (block : Block) (all done : ℕ) (lengths : Lengths) → 1 ≤ all → all ≤ done → done ≤ all
+pub at_first : (block : Block) (all done : ℕ) (lengths : OnwardLengths) → 1 ≤ all → all ≤ done → done ≤ all
     → AreOnward block (all - (all + 1 - done)) (all + 1 - done) lengths → AreOnward block (all - 1) 1 lengths
 at_first block all done lengths some low high are =
     let first : all + 1 - done ≡ 1 = omega arith in subst (λ (a : ℕ). AreOnward block (all - a) a lengths) first are

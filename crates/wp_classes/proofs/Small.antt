@@ -13,7 +13,7 @@ use Rattle.wp_classes.specs.declared.class.Way.{Way}
 use Rattle.wp_classes.specs.declared.class.Way.TheVariants.{Pass, Back, Front, Gap, Double, Skip}
 use Rattle.wp_classes.specs.declared.class.Cross.{Cross}
 use Rattle.wp_classes.specs.declared.class.Cross.TheVariants.{C00, C11, C20, C02, C22}
-use Rattle.wp_classes.specs.declared.lengths.Lengths.{Lengths}
+use Rattle.wp_classes.specs.declared.lengths.OnwardLengths.{OnwardLengths}
 use Rattle.wp_classes.specs.Choices.{Block, block_of}
 use Rattle.wp_classes.specs.Least.{least_by_cross, least_by_way, length_at}
 use Rattle.wp_classes.specs.Onward.{Across, AreOnward, IsLeastOf, Onward, Through}
@@ -94,7 +94,7 @@ least_small P None most is bound = tt
 least_small P (Some m) most is bound = bound m is.0
 
 -- with at most 64 aisles left, the least lengths on are at most 300000000
-pub onward_fits : (block : Block) (left aisle : ℕ) (lengths : Lengths) → IsSmall block → left ≤ 64 → AreOnward block left aisle lengths → (class : Class)
+pub onward_fits : (block : Block) (left aisle : ℕ) (lengths : OnwardLengths) → IsSmall block → left ≤ 64 → AreOnward block left aisle lengths → (class : Class)
     → IfSome (length_at lengths class) (λ t. t ≤ 300000000)
 onward_fits block left aisle lengths small near are class =
     least_small (λ t. Onward block left aisle class t) (length_at lengths class) 300000000 (are.least class)
@@ -106,7 +106,7 @@ fits_wider None most more le fits = tt
 fits_wider (Some t) most more le fits = omega (arith, le, fits)
 
 -- the lengths on from an aisle of a layout fit
-pub lengths_within : (layout : Layout) (picks : List Point) (left aisle : ℕ) (lengths : Lengths) → IsLayout layout → left ≤ 64
+pub lengths_within : (layout : Layout) (picks : List Point) (left aisle : ℕ) (lengths : OnwardLengths) → IsLayout layout → left ≤ 64
     → AreOnward (block_of layout picks) left aisle lengths →
     (class : Class) → IfSome (length_at lengths class) (λ t. t ≤ 2 ^ 40)
 lengths_within layout picks left aisle lengths valid near are class =
@@ -122,7 +122,7 @@ ways_within layout picks aisle ways valid is way =
     (ways_fit 4020000 (ways_of layout picks aisle) (ways_small layout picks aisle valid) way))
 
 -- and the least lengths before the way
-pub through_within : (layout : Layout) (picks : List Point) (left aisle : ℕ) (ways : AisleWays) (after through : Lengths) → IsLayout layout → left ≤ 64
+pub through_within : (layout : Layout) (picks : List Point) (left aisle : ℕ) (ways : AisleWays) (after through : OnwardLengths) → IsLayout layout → left ≤ 64
     → AreOnward (block_of layout picks) left aisle after →
     ways ≡ ways_of layout picks aisle → ((class : Class) → length_at through class ≡ least_by_way ways after class) → (class : Class)
     → IfSome (length_at through class) (λ t. t ≤ 2 ^ 40)
@@ -136,7 +136,7 @@ through_within layout picks left aisle ways after through valid near are is by_w
     (λ t h. let b = through_small on ways (left * 4060000) fits (λ c r o. onward_small block small left aisle c r o) class t h in omega (arith, b, near)))
 
 -- the least lengths on from an aisle, one aisle further left
-pub onward_one_left : (block : Block) (all aisle : ℕ) (ways : AisleWays) (spacing : ℕ) (after through before : Lengths) → 2 ≤ aisle → aisle ≤ all
+pub onward_one_left : (block : Block) (all aisle : ℕ) (ways : AisleWays) (spacing : ℕ) (after through before : OnwardLengths) → 2 ≤ aisle → aisle ≤ all
     → AreOnward block (all - aisle) aisle after →
     ways ≡ block.ways aisle → spacing ≡ block.spacing (aisle - 1) → ((class : Class) → length_at through class ≡ least_by_way ways after class) →
     ((class : Class) → length_at before class ≡ least_by_cross spacing through class) → AreOnward block (all - (aisle - 1)) (aisle - 1) before

@@ -7,11 +7,11 @@ use Rattle.wp_classes.specs.declared.class.Way.{Way}
 use Rattle.wp_classes.specs.declared.class.Way.TheVariants.{Pass, Back, Front, Gap, Double, Skip}
 use Rattle.wp_classes.specs.declared.class.Cross.{Cross}
 use Rattle.wp_classes.specs.declared.class.Cross.TheVariants.{C00, C11, C20, C02, C22}
-use Rattle.wp_classes.specs.declared.lengths.Lengths.{Lengths}
+use Rattle.wp_classes.specs.declared.lengths.OnwardLengths.{OnwardLengths}
 use Rattle.wp_classes.specs.Tables.{class_after_cross, class_after_way, copies, way_length}
 
 -- the length from a class
-abbrev pub length_at : Lengths → Class → Option ℕ
+abbrev pub length_at : OnwardLengths → Class → Option ℕ
 length_at lengths UU1 = lengths.uu1
 length_at lengths E01 = lengths.e01
 length_at lengths ZE1 = lengths.ze1
@@ -33,22 +33,22 @@ lesser (Some left) None = Some left
 lesser (Some left) (Some right) = Some (min left right)
 
 -- the length by a way, and on from the class to which it leads
-abbrev pub by_way : AisleWays → Lengths → Class → Way → Option ℕ
+abbrev pub by_way : AisleWays → OnwardLengths → Class → Way → Option ℕ
 by_way ways after class way = option_and_then (λ next. sum_of (way_length ways way) (length_at after next)) (class_after_way class way)
 
 -- the least length by some way
-abbrev pub least_by_way : AisleWays → Lengths → Class → Option ℕ
+abbrev pub least_by_way : AisleWays → OnwardLengths → Class → Option ℕ
 least_by_way ways after class =
     lesser (by_way ways after class Pass) (lesser (by_way ways after class Back) (lesser (by_way ways after class Front)
     (lesser (by_way ways after class Gap) (lesser (by_way ways after class Double) (by_way ways after class Skip)))))
 
 -- the length by a crossing, and on from the class to which it leads
-abbrev pub by_cross : ℕ → Lengths → Class → Cross → Option ℕ
+abbrev pub by_cross : ℕ → OnwardLengths → Class → Cross → Option ℕ
 by_cross spacing after class cross = option_and_then (λ next. option_map (λ rest. copies cross * spacing + rest) (length_at after next))
     (class_after_cross class cross)
 
 -- the least length by some crossing
-abbrev pub least_by_cross : ℕ → Lengths → Class → Option ℕ
+abbrev pub least_by_cross : ℕ → OnwardLengths → Class → Option ℕ
 least_by_cross spacing after class =
     lesser (by_cross spacing after class C00) (lesser (by_cross spacing after class C11) (lesser (by_cross spacing after class C20)
     (lesser (by_cross spacing after class C02) (by_cross spacing after class C22))))

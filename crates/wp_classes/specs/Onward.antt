@@ -4,7 +4,7 @@ use Rattle.wp_graph.specs.declared.ways.AisleWays.{AisleWays}
 use Rattle.wp_classes.specs.declared.class.Class.{Class}
 use Rattle.wp_classes.specs.declared.class.Way.{Way}
 use Rattle.wp_classes.specs.declared.class.Cross.{Cross}
-use Rattle.wp_classes.specs.declared.lengths.Lengths.{Lengths}
+use Rattle.wp_classes.specs.declared.lengths.OnwardLengths.{OnwardLengths}
 use Rattle.wp_classes.specs.Choices.{Block, TakesCross, TakesWay}
 use Rattle.wp_classes.specs.Least.{length_at}
 use Rattle.wp_classes.specs.Tables.{is_whole}
@@ -40,5 +40,5 @@ abbrev pub IsLeastOf : (ℕ → Type 0) → Option ℕ → Type 0
 IsLeastOf Holds least = MatchOption least ((t : ℕ) → Holds t → ⊥) (λ m. Holds m × ((t : ℕ) → Holds t → m ≤ t))
 
 -- the least lengths on from each class after the way through an aisle, with so many more aisles
-pub record AreOnward (block : Block) (left aisle : ℕ) (lengths : Lengths) : Type 0 where
+pub record AreOnward (block : Block) (left aisle : ℕ) (lengths : OnwardLengths) : Type 0 where
   pub least : (class : Class) → IsLeastOf (λ t. Onward block left aisle class t) (length_at lengths class)

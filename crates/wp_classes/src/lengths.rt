@@ -4,7 +4,7 @@ ghost use Rattle.wp_classes.specs.Least.{by_cross, by_way, least_by_cross, least
 ghost use Rattle.wp_classes.specs.Tables.{is_whole, way_length};
 ghost use Rattle.wp_classes.specs.declared.class.Class.{Class as ClassData};
 ghost use Rattle.wp_classes.specs.declared.class.Way.{Way as WayData};
-ghost use Rattle.wp_classes.specs.declared.lengths.Lengths.{Lengths as LengthsData};
+ghost use Rattle.wp_classes.specs.declared.lengths.OnwardLengths.{OnwardLengths as LengthsData};
 
 use crate::class::{Class, Cross, Way, after_cross, after_way, copies_of, length_of_way};
 use wp_graph::AisleWays;
@@ -12,7 +12,7 @@ use wp_model::MOST_AISLES;
 
 /// For each class the least length from it to the end of a whole tour. None where there is none.
 #[derive(Clone, Copy)]
-pub(crate) struct Lengths {
+pub(crate) struct OnwardLengths {
     uu1: Option<u64>,
     e01: Option<u64>,
     ze1: Option<u64>,
@@ -47,12 +47,12 @@ fn lesser(left: Option<u64>, right: Option<u64>) -> Option<u64>
     }
 }
 
-impl Lengths {
+impl OnwardLengths {
     /// No length from any class but the whole ones.
-    pub(crate) fn at_the_end() -> Lengths
+    pub(crate) fn at_the_end() -> OnwardLengths
         ensures { (class : ClassData) → length_at result class ≡ (if is_whole class then Some 0 else None) }
     {
-        Lengths {
+        OnwardLengths {
             uu1: None,
             e01: Some(0),
             ze1: Some(0),
@@ -83,7 +83,7 @@ impl Lengths {
 #[inline(always)]
 pub(crate) fn length_by_way(
     ways: &AisleWays,
-    after: &Lengths,
+    after: &OnwardLengths,
     class: Class,
     way: Way,
 ) -> Option<u64>
@@ -99,7 +99,11 @@ pub(crate) fn length_by_way(
 
 // The least length by some way.
 #[inline(always)]
-pub(crate) fn least_length_by_way(ways: &AisleWays, after: &Lengths, class: Class) -> Option<u64>
+pub(crate) fn least_length_by_way(
+    ways: &AisleWays,
+    after: &OnwardLengths,
+    class: Class,
+) -> Option<u64>
     requires ways { (w : WayData) → IfSome (way_length ways.now w) (λ t. t ≤ 2 ^ 40) }
     requires after { (c : ClassData) → IfSome (length_at after.now c) (λ t. t ≤ 2 ^ 40) }
     ensures { result ≡ least_by_way ways.now after.now class }
@@ -117,12 +121,12 @@ pub(crate) fn least_length_by_way(ways: &AisleWays, after: &Lengths, class: Clas
 }
 
 /// The least lengths before the way through an aisle, from those after it.
-pub(crate) fn before_way(ways: &AisleWays, after: &Lengths) -> Lengths
+pub(crate) fn before_way(ways: &AisleWays, after: &OnwardLengths) -> OnwardLengths
     requires ways { (w : WayData) → IfSome (way_length ways.now w) (λ t. t ≤ 2 ^ 40) }
     requires after { (c : ClassData) → IfSome (length_at after.now c) (λ t. t ≤ 2 ^ 40) }
     ensures { (class : ClassData) → length_at result class ≡ least_by_way ways.now after.now class }
 {
-    Lengths {
+    OnwardLengths {
         uu1: least_length_by_way(ways, after, Class::UU1),
         e01: least_length_by_way(ways, after, Class::E01),
         ze1: least_length_by_way(ways, after, Class::ZE1),
@@ -137,7 +141,7 @@ pub(crate) fn before_way(ways: &AisleWays, after: &Lengths) -> Lengths
 #[inline(always)]
 pub(crate) fn length_by_cross(
     spacing: u64,
-    after: &Lengths,
+    after: &OnwardLengths,
     class: Class,
     cross: Cross,
 ) -> Option<u64>
@@ -153,7 +157,11 @@ pub(crate) fn length_by_cross(
 
 // The least length by some crossing.
 #[inline(always)]
-pub(crate) fn least_length_by_cross(spacing: u64, after: &Lengths, class: Class) -> Option<u64>
+pub(crate) fn least_length_by_cross(
+    spacing: u64,
+    after: &OnwardLengths,
+    class: Class,
+) -> Option<u64>
     requires spacing { spacing ≤ 2 ^ 38 }
     requires after { (c : ClassData) → IfSome (length_at after.now c) (λ t. t ≤ 2 ^ 40) }
     ensures { result ≡ least_by_cross spacing after.now class }
@@ -167,12 +175,12 @@ pub(crate) fn least_length_by_cross(spacing: u64, after: &Lengths, class: Class)
 }
 
 /// The least lengths before the crossing to the next aisle, from those after it.
-pub(crate) fn before_cross(spacing: u64, after: &Lengths) -> Lengths
+pub(crate) fn before_cross(spacing: u64, after: &OnwardLengths) -> OnwardLengths
     requires spacing { spacing ≤ 2 ^ 38 }
     requires after { (c : ClassData) → IfSome (length_at after.now c) (λ t. t ≤ 2 ^ 40) }
     ensures { (class : ClassData) → length_at result class ≡ least_by_cross spacing after.now class }
 {
-    Lengths {
+    OnwardLengths {
         uu1: least_length_by_cross(spacing, after, Class::UU1),
         e01: least_length_by_cross(spacing, after, Class::E01),
         ze1: least_length_by_cross(spacing, after, Class::ZE1),
@@ -184,7 +192,7 @@ pub(crate) fn before_cross(spacing: u64, after: &Lengths) -> Lengths
 }
 
 /// A way of the least length.
-pub(crate) fn best_way(ways: &AisleWays, after: &Lengths, class: Class) -> Way
+pub(crate) fn best_way(ways: &AisleWays, after: &OnwardLengths, class: Class) -> Way
     requires ways { (w : WayData) → IfSome (way_length ways.now w) (λ t. t ≤ 2 ^ 40) }
     requires after { (c : ClassData) → IfSome (length_at after.now c) (λ t. t ≤ 2 ^ 40) }
     ensures { by_way ways.now after.now class result ≡ least_by_way ways.now after.now class }
@@ -209,7 +217,7 @@ pub(crate) fn best_way(ways: &AisleWays, after: &Lengths, class: Class) -> Way
 }
 
 /// A crossing of the least length.
-pub(crate) fn best_cross(spacing: u64, after: &Lengths, class: Class) -> Cross
+pub(crate) fn best_cross(spacing: u64, after: &OnwardLengths, class: Class) -> Cross
     requires spacing { spacing ≤ 2 ^ 38 }
     requires after { (c : ClassData) → IfSome (length_at after.now c) (λ t. t ≤ 2 ^ 40) }
     ensures { by_cross spacing after.now class result ≡ least_by_cross spacing after.now class }
@@ -231,10 +239,10 @@ pub(crate) fn best_cross(spacing: u64, after: &Lengths, class: Class) -> Cross
 }
 
 /// The lengths at the end, for each aisle.
-pub(crate) fn all_at_the_end() -> [Lengths; MOST_AISLES as usize]
+pub(crate) fn all_at_the_end() -> [OnwardLengths; MOST_AISLES as usize]
     ensures whole { length result ≡ most_aisles }
     ensures each { (k : ℕ) (d : LengthsData) (class : ClassData) → k < most_aisles → length_at (slice_index_or result k d) class ≡
         (if is_whole class then Some 0 else None) }
 {
-    [Lengths::at_the_end(); MOST_AISLES as usize]
+    [OnwardLengths::at_the_end(); MOST_AISLES as usize]
 }

@@ -5,18 +5,19 @@ ghost use Rattle.wp_model.specs.Warehouse.{IsLayout, IsUpTo};
 ghost use Rattle.wp_classes.specs.Choices.{IsChoiceOf, IsLeastRoute, block_of};
 ghost use Rattle.wp_classes.specs.Onward.{AreOnward, Onward};
 ghost use Rattle.wp_classes.specs.Steps.{IsBestStep};
-ghost use Rattle.wp_classes.specs.declared.lengths.Lengths.{Lengths as LengthsData};
+ghost use Rattle.wp_classes.specs.declared.lengths.OnwardLengths.{OnwardLengths as LengthsData};
 
 use crate::choice::Choice;
 use crate::class::{Class, Cross, Way, after_cross, after_way};
 use crate::lengths::{
-    Lengths, all_at_the_end, before_cross, before_way, best_cross, best_way, least_length_by_way,
+    OnwardLengths, all_at_the_end, before_cross, before_way, best_cross, best_way,
+    least_length_by_way,
 };
 use wp_graph::{Layout, Picks, aisle_ways};
 use wp_model::MOST_AISLES;
 
 // The least lengths on from an aisle, from those on from the next.
-fn onward_before(layout: &Layout, picks: &Picks, aisle: u32, after: &Lengths) -> Lengths
+fn onward_before(layout: &Layout, picks: &Picks, aisle: u32, after: &OnwardLengths) -> OnwardLengths
     requires picks { picks.now.layout ≡ layout.now }
     requires first { 2 ≤ aisle }
     requires last { aisle ≤ layout.now.aisles }
@@ -30,14 +31,20 @@ fn onward_before(layout: &Layout, picks: &Picks, aisle: u32, after: &Lengths) ->
 
 /// A crossing, the way through the aisle behind it, and the class after both.
 #[derive(Clone, Copy)]
-struct Step {
+struct AisleStep {
     cross: Cross,
     way: Way,
     class: Class,
 }
 
 // The best step to an aisle, where some tour goes on from the class after the way through the aisle before it.
-fn best_step(layout: &Layout, picks: &Picks, aisle: u32, after: &Lengths, class: Class) -> Step
+fn best_step(
+    layout: &Layout,
+    picks: &Picks,
+    aisle: u32,
+    after: &OnwardLengths,
+    class: Class,
+) -> AisleStep
     requires picks { picks.now.layout ≡ layout.now }
     requires first { 2 ≤ aisle }
     requires last { aisle ≤ layout.now.aisles }
@@ -51,7 +58,7 @@ fn best_step(layout: &Layout, picks: &Picks, aisle: u32, after: &Lengths, class:
     let cross = best_cross(spacing, &through, class);
     let between = after_cross(class, cross).unwrap();
     let way = best_way(&ways, after, between);
-    Step {
+    AisleStep {
         cross,
         way,
         class: after_way(between, way).unwrap(),
@@ -66,7 +73,7 @@ pub fn tour_length(layout: &Layout, picks: &Picks) -> u64
     ensures shortest { IsShortest layout.now picks.now.points result }
     ensures small { result < 2 ^ 28 }
 {
-    let mut onward = Lengths::at_the_end();
+    let mut onward = OnwardLengths::at_the_end();
     for done in 1..layout.aisles() {
         onward = onward_before(layout, picks, layout.aisles() + 1 - done, &onward);
     }
@@ -74,7 +81,7 @@ pub fn tour_length(layout: &Layout, picks: &Picks) -> u64
 }
 
 // The least lengths on from each aisle, the first aisle's first.
-fn onward_table(layout: &Layout, picks: &Picks) -> [Lengths; MOST_AISLES as usize]
+fn onward_table(layout: &Layout, picks: &Picks) -> [OnwardLengths; MOST_AISLES as usize]
     requires { picks.now.layout ≡ layout.now }
     ensures valid { IsLayout layout.now }
     ensures whole { length result ≡ most_aisles }

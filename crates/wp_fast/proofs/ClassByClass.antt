@@ -3,15 +3,15 @@ use Rattle.std.proofs.Common.{◌≡◌, ℕ, Option, subst, sym}
 use Rattle.wp_classes.specs.declared.class.Class.{Class}
 use Rattle.wp_classes.specs.declared.class.Class.TheVariants.{UU1, E01, ZE1, EE1, EE2, Z00, Z01}
 use Rattle.wp_classes.specs.Onward.{IsLeastOf}
-use Rattle.wp_fast.specs.declared.row.Lengths.{Lengths}
-use Rattle.wp_fast.specs.declared.row.Row.{Row}
+use Rattle.wp_fast.specs.declared.row.LengthsAcross.{LengthsAcross}
+use Rattle.wp_fast.specs.declared.row.LengthRow.{LengthRow}
 use Rattle.wp_fast.specs.declared.summary.Summary.{Summary}
 use Rattle.wp_fast.specs.Passages.{AreLeast}
 use Rattle.wp_fast.specs.Rows.{length_at, length_to}
 use Rattle.wp_fast.specs.Summaries.{length_between}
 
 -- what holds of each length of a row
-pub row_each : (P : Class → Option ℕ → Type 0) (lengths : Lengths) (row : Row) → ((after : Class) → length_to row after ≡ length_at lengths after) →
+pub row_each : (P : Class → Option ℕ → Type 0) (lengths : LengthsAcross) (row : LengthRow) → ((after : Class) → length_to row after ≡ length_at lengths after) →
     P UU1 lengths.uu1 → P E01 lengths.e01 → P ZE1 lengths.ze1 → P EE1 lengths.ee1 → P EE2 lengths.ee2 → P Z00 lengths.z00 → P Z01 lengths.z01
     → (after : Class) → P after (length_to row after)
 row_each P lengths row are a b c d e f g after = subst (P after) (sym (are after)) (at after)

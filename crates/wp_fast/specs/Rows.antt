@@ -2,12 +2,12 @@
 use Rattle.std.specs.Prelude.{ℕ, ◌==◌, ◌&&◌, not, Bool, false, Option, Some, None, if◌then◌else◌}
 use Rattle.wp_classes.specs.declared.class.Class.{Class}
 use Rattle.wp_classes.specs.declared.class.Class.TheVariants.{UU1, E01, ZE1, EE1, EE2, Z00, Z01}
-use Rattle.wp_fast.specs.declared.row.Lengths.{Lengths}
-use Rattle.wp_fast.specs.declared.row.Row.{Row}
+use Rattle.wp_fast.specs.declared.row.LengthsAcross.{LengthsAcross}
+use Rattle.wp_fast.specs.declared.row.LengthRow.{LengthRow}
 use Rattle.wp_fast.specs.declared.row.TheConstants.{NO_LENGTH}
 
 -- the length to a class
-abbrev pub length_at : Lengths → Class → Option ℕ
+abbrev pub length_at : LengthsAcross → Class → Option ℕ
 length_at lengths UU1 = lengths.uu1
 length_at lengths E01 = lengths.e01
 length_at lengths ZE1 = lengths.ze1
@@ -26,7 +26,7 @@ is_greatest None = false
 is_greatest (Some number) = number == NO_LENGTH
 
 -- the length to a class for which a row has a number
-abbrev pub length_to : Row → Class → Option ℕ
+abbrev pub length_to : LengthRow → Class → Option ℕ
 length_to row UU1 = length_for row.uu1 row.greatest.uu1
 length_to row E01 = length_for row.e01 row.greatest.e01
 length_to row ZE1 = length_for row.ze1 row.greatest.ze1

@@ -3,12 +3,12 @@ use Rattle.std.specs.Prelude.{ℕ, ◌<◌, Option, IfSome}
 use Rattle.wp_classes.specs.declared.class.Class.{Class}
 use Rattle.wp_classes.specs.declared.class.Class.TheVariants.{UU1, E01, ZE1, EE1, EE2, Z00, Z01}
 use Rattle.wp_classes.specs.Least.{lesser, sum_of}
-use Rattle.wp_fast.specs.declared.row.Row.{Row}
+use Rattle.wp_fast.specs.declared.row.LengthRow.{LengthRow}
 use Rattle.wp_fast.specs.declared.summary.Summary.{Summary}
 use Rattle.wp_fast.specs.Rows.{length_to}
 
 -- the lengths from a class before the run
-abbrev pub row_from : Summary → Class → Row
+abbrev pub row_from : Summary → Class → LengthRow
 row_from summary UU1 = summary.uu1
 row_from summary E01 = summary.e01
 row_from summary ZE1 = summary.ze1

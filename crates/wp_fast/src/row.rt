@@ -9,7 +9,7 @@ pub(crate) const NO_LENGTH: u64 = u64::MAX;
 
 /// For each class after a run of aisles, the least length to it from one class before the run. None where there is none.
 #[derive(Clone, Copy)]
-pub(crate) struct Lengths {
+pub(crate) struct LengthsAcross {
     pub(crate) uu1: Option<u64>,
     pub(crate) e01: Option<u64>,
     pub(crate) ze1: Option<u64>,
@@ -34,7 +34,7 @@ struct Greatest {
 /// The same lengths, each as one number, so that sums and least ones need no test. The greatest number stands for no length,
 /// unless it is the length itself.
 #[derive(Clone, Copy)]
-pub(crate) struct Row {
+pub(crate) struct LengthRow {
     uu1: u64,
     e01: u64,
     ze1: u64,
@@ -71,13 +71,13 @@ fn length_of(number: u64, itself: bool) -> Option<u64>
     (number != NO_LENGTH || itself).then_some(number)
 }
 
-impl Row {
+impl LengthRow {
     /// The row of these lengths.
     #[inline(always)]
-    pub(crate) fn of(lengths: &Lengths) -> Row
+    pub(crate) fn of(lengths: &LengthsAcross) -> LengthRow
         ensures { (after : ClassData) → length_to result after ≡ length_at lengths.now after }
     {
-        Row {
+        LengthRow {
             uu1: number_of(lengths.uu1),
             e01: number_of(lengths.e01),
             ze1: number_of(lengths.ze1),

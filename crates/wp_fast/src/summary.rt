@@ -7,7 +7,7 @@ ghost use Rattle.wp_fast.specs.Passages.{AreLeast, ByCrossings, ByWays, IsCompos
 ghost use Rattle.wp_fast.specs.Numbers.{StandsFor};
 
 use crate::passages::{least_by_cross, least_by_way, length_staying, lesser};
-use crate::row::{Lengths, NO_LENGTH, Row};
+use crate::row::{LengthRow, LengthsAcross, NO_LENGTH};
 use wp_classes::Class;
 use wp_graph::AisleWays;
 
@@ -15,20 +15,20 @@ use wp_graph::AisleWays;
 /// none.
 #[derive(Clone, Copy)]
 pub struct Summary {
-    uu1: Row,
-    e01: Row,
-    ze1: Row,
-    ee1: Row,
-    ee2: Row,
-    z00: Row,
-    z01: Row,
+    uu1: LengthRow,
+    e01: LengthRow,
+    ze1: LengthRow,
+    ee1: LengthRow,
+    ee2: LengthRow,
+    z00: LengthRow,
+    z01: LengthRow,
 }
 
 // The lengths from a class by a way through an aisle.
-fn row_by_way(ways: &AisleWays, before: Class) -> Row
+fn row_by_way(ways: &AisleWays, before: Class) -> LengthRow
     ensures { (after : ClassData) → IsLeastOf (ByWays ways.now before after) (length_to result after) }
 {
-    Row::of(&Lengths {
+    LengthRow::of(&LengthsAcross {
         uu1: least_by_way(ways, before, Class::UU1),
         e01: least_by_way(ways, before, Class::E01),
         ze1: least_by_way(ways, before, Class::ZE1),
@@ -40,10 +40,10 @@ fn row_by_way(ways: &AisleWays, before: Class) -> Row
 }
 
 // The lengths from a class by a crossing.
-fn row_by_cross(spacing: u32, before: Class) -> Row
+fn row_by_cross(spacing: u32, before: Class) -> LengthRow
     ensures { (after : ClassData) → IsLeastOf (ByCrossings spacing before after) (length_to result after) }
 {
-    Row::of(&Lengths {
+    LengthRow::of(&LengthsAcross {
         uu1: least_by_cross(spacing, before, Class::UU1),
         e01: least_by_cross(spacing, before, Class::E01),
         ze1: least_by_cross(spacing, before, Class::ZE1),
@@ -55,10 +55,10 @@ fn row_by_cross(spacing: u32, before: Class) -> Row
 }
 
 // The lengths from a class past no aisle.
-fn row_staying(before: Class) -> Row
+fn row_staying(before: Class) -> LengthRow
     ensures { (after : ClassData) → IsLeastOf (Stays before after) (length_to result after) }
 {
-    Row::of(&Lengths {
+    LengthRow::of(&LengthsAcross {
         uu1: length_staying(before, Class::UU1),
         e01: length_staying(before, Class::E01),
         ze1: length_staying(before, Class::ZE1),
@@ -100,12 +100,12 @@ fn least_sum(first: &Summary, next: &Summary, before: Class, after: Class) -> Op
 }
 
 // The least lengths from a class past two runs.
-fn row_past_both(first: &Summary, next: &Summary, before: Class) -> Row
+fn row_past_both(first: &Summary, next: &Summary, before: Class) -> LengthRow
     requires first { AreBelow (2 ^ 62) first.now }
     requires next { AreBelow (2 ^ 62) next.now }
     ensures { (after : ClassData) → length_to result after ≡ least_by first.now next.now before after }
 {
-    Row::of(&Lengths {
+    LengthRow::of(&LengthsAcross {
         uu1: least_sum(first, next, before, Class::UU1),
         e01: least_sum(first, next, before, Class::E01),
         ze1: least_sum(first, next, before, Class::ZE1),
@@ -194,7 +194,7 @@ impl Summary {
 
     // The lengths from a class before the run.
     #[inline(always)]
-    fn row(&self, before: Class) -> &Row
+    fn row(&self, before: Class) -> &LengthRow
         ensures { result.now ≡ row_from self.now before }
     {
         match before {

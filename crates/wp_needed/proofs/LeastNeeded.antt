@@ -10,7 +10,7 @@ use Rattle.wp_classes.specs.Onward.{IsLeastOf, Through}
 use Rattle.wp_classes.proofs.LeastLengths.{least_ways}
 use Rattle.wp_classes.proofs.Leasts.{least_lesser, least_like, least_more}
 use Rattle.wp_classes.proofs.Small.{IsSmall, onward_small}
-use Rattle.wp_needed.specs.declared.lengths.Lengths.{Lengths}
+use Rattle.wp_needed.specs.declared.lengths.NeededLengths.{NeededLengths}
 use Rattle.wp_needed.specs.Lengths.{AreGoing, AreShort, HaveLeast, along_run, by_some_way, ends, on_from}
 use Rattle.wp_needed.specs.Needed.{Along, Begins, Going, is_closed}
 use Rattle.wp_needed.specs.Runs.{IsFirstLeast, NoneBetween}
@@ -36,14 +36,14 @@ least_by_some on ways least are class = least_ways on ways
     go Z01 = are Z01
 
 -- the least lengths on from before the way through a needed aisle
-pub record AreBefore (on : Class → ℕ → Type 0) (lengths : Lengths) : Type 0 where
+pub record AreBefore (on : Class → ℕ → Type 0) (lengths : NeededLengths) : Type 0 where
   pub uu1 : IsLeastOf (on UU1) (Some lengths.uu1)
   pub e01 : IsLeastOf (on E01) (Some lengths.e01)
   pub ze1 : IsLeastOf (on ZE1) (Some lengths.ze1)
   pub ee1 : IsLeastOf (on EE1) (Some lengths.ee1)
   pub ee2 : IsLeastOf (on EE2) (Some lengths.ee2)
 
-pub before_are : (on : Class → ℕ → Type 0) (ways : AisleWays) (least : Class → Option ℕ) (lengths : Lengths) → ((class : Class) → IsLeastOf (on class) (least class)) →
+pub before_are : (on : Class → ℕ → Type 0) (ways : AisleWays) (least : Class → Option ℕ) (lengths : NeededLengths) → ((class : Class) → IsLeastOf (on class) (least class)) →
     HaveLeast ways least lengths → AreBefore (λ class t. Through on ways class t) lengths
 before_are on ways least lengths are have = record {
   uu1 = subst (λ o. IsLeastOf (Through on ways UU1) o) (sym have.uu1) (least_by_some on ways least are UU1);
@@ -54,7 +54,7 @@ before_are on ways least lengths are have = record {
 }
 
 -- the least lengths from the other end of a run
-pub along_least : (on : Class → ℕ → Type 0) (span : ℕ) (lengths : Lengths) → AreBefore on lengths → (class : Class) →
+pub along_least : (on : Class → ℕ → Type 0) (span : ℕ) (lengths : NeededLengths) → AreBefore on lengths → (class : Class) →
     IsLeastOf (Along on span class) (on_from (along_run span lengths) class)
 along_least on span lengths are UU1 = least_more (on UU1) (2 * span) (Some lengths.uu1) are.uu1
 along_least on span lengths are E01 = least_more (on E01) (2 * span) (Some lengths.e01) are.e01
@@ -89,7 +89,7 @@ ends_least block left aisle none class = least_like (λ t. IsTrue (is_closed cla
 
 -- after the needed aisle before this one
 pub going_before : (block : Block) (spacing : ℕ) → ((aisle : ℕ) → block.spacing aisle ≡ spacing) → (all next aisle span : ℕ) → next < aisle → aisle ≤ all →
-    (block.ways aisle).skip ≡ None → NoneBetween block next aisle → span ≡ (aisle - next) * spacing → (lengths : Lengths) →
+    (block.ways aisle).skip ≡ None → NoneBetween block next aisle → span ≡ (aisle - next) * spacing → (lengths : NeededLengths) →
     AreBefore (λ class t. ByNeeded block (all - aisle) aisle class t) lengths → AreGoing block (all - next) next (along_run span lengths)
 going_before block spacing even all next aisle span order last needed none span_is lengths are = record {
   least = λ class.
@@ -124,7 +124,7 @@ first_is_least whole block even all first least some last none needed some_neede
     }
 
 -- they are short
-pub going_short : (whole : ℕ) (block : Block) → IsEven whole block → IsSmall block → (left aisle : ℕ) → left ≤ 64 → (lengths : Lengths) → AreGoing block left aisle lengths →
+pub going_short : (whole : ℕ) (block : Block) → IsEven whole block → IsSmall block → (left aisle : ℕ) → left ≤ 64 → (lengths : NeededLengths) → AreGoing block left aisle lengths →
     AreShort lengths
 going_short whole block even small left aisle near lengths are = record {
   uu1 = bound UU1 lengths.uu1 (are.least UU1).0;

@@ -15,7 +15,7 @@ use Rattle.wp_classes.specs.Onward.{IsLeastOf}
 use Rattle.wp_classes.proofs.Routes.{least_route}
 use Rattle.wp_classes.proofs.Shortest.{shortest}
 use Rattle.wp_classes.proofs.Small.{block_small, first_small, onward_small, through_small}
-use Rattle.wp_needed.specs.declared.lengths.Lengths.{Lengths}
+use Rattle.wp_needed.specs.declared.lengths.NeededLengths.{NeededLengths}
 use Rattle.wp_needed.specs.Lengths.{AreGoing, AreShort, AreWays, HaveLeast, along_run, by_some_way, ends}
 use Rattle.wp_needed.specs.Needed.{Going}
 use Rattle.wp_needed.specs.Runs.{IsFirstLeast, NoneBetween}
@@ -33,14 +33,14 @@ ways_needed layout picks aisle ways slots is none = record {
 }
 
 -- the least lengths on after an aisle of a layout are short
-pub after_short : (layout : Layout) (picks : List Point) (aisle : ℕ) (lengths : Lengths) → AreSlots layout picks → aisle ≤ layout.aisles →
+pub after_short : (layout : Layout) (picks : List Point) (aisle : ℕ) (lengths : NeededLengths) → AreSlots layout picks → aisle ≤ layout.aisles →
     AreGoing (block_of layout picks) (layout.aisles - aisle) aisle lengths → AreShort lengths
 after_short layout picks aisle lengths slots last are =
     going_short (aisle_length layout) (block_of layout picks) (layout_even layout picks) (block_small layout picks slots.ranges) (layout.aisles - aisle) aisle
     (omega (arith, slots.ranges.aisles)) lengths are
 
 -- those before the way through it
-are_before : (layout : Layout) (picks : List Point) (aisle : ℕ) (ways : AisleWays) (on : Class → Option ℕ) (lengths : Lengths) → ways ≡ ways_of layout picks aisle →
+are_before : (layout : Layout) (picks : List Point) (aisle : ℕ) (ways : AisleWays) (on : Class → Option ℕ) (lengths : NeededLengths) → ways ≡ ways_of layout picks aisle →
     ((class : Class) → IsLeastOf (λ t. Going (block_of layout picks) (layout.aisles - aisle) aisle 0 class t) (on class)) → HaveLeast ways on lengths →
     AreBefore (λ class t. ByNeeded (block_of layout picks) (layout.aisles - aisle) aisle class t) lengths
 are_before layout picks aisle ways on lengths is are have =
@@ -57,7 +57,7 @@ by_small layout picks aisle class t slots last h =
     (λ c r on. onward_small block small left aisle c r ((goes_on (aisle_length layout) block (layout_even layout picks) left).at aisle c r on)) class t h in
     omega (arith, bound, slots.ranges.aisles)
 
-pub before_short : (layout : Layout) (picks : List Point) (aisle : ℕ) (ways : AisleWays) (on : Class → Option ℕ) (lengths : Lengths) → AreSlots layout picks →
+pub before_short : (layout : Layout) (picks : List Point) (aisle : ℕ) (ways : AisleWays) (on : Class → Option ℕ) (lengths : NeededLengths) → AreSlots layout picks →
     aisle ≤ layout.aisles → ways ≡ ways_of layout picks aisle → (ways_of layout picks aisle).skip ≡ None →
     ((class : Class) → IsLeastOf (λ t. Going (block_of layout picks) (layout.aisles - aisle) aisle 0 class t) (on class)) → HaveLeast ways on lengths → AreShort lengths
 before_short layout picks aisle ways on lengths slots last is none are have =
@@ -71,7 +71,7 @@ before_short layout picks aisle ways on lengths slots last is none are have =
     }
 
 -- from one needed aisle of a layout to the needed aisle before it
-pub going_layout : (layout : Layout) (picks : List Point) (next aisle span : ℕ) (ways : AisleWays) (on : Class → Option ℕ) (lengths : Lengths) → AreSlots layout picks →
+pub going_layout : (layout : Layout) (picks : List Point) (next aisle span : ℕ) (ways : AisleWays) (on : Class → Option ℕ) (lengths : NeededLengths) → AreSlots layout picks →
     next < aisle → aisle ≤ layout.aisles → (ways_of layout picks aisle).skip ≡ None → NoneBetween (block_of layout picks) next aisle →
     ways ≡ ways_of layout picks aisle → span ≡ (aisle - next) * layout.spacing →
     ((class : Class) → IsLeastOf (λ t. Going (block_of layout picks) (layout.aisles - aisle) aisle 0 class t) (on class)) → HaveLeast ways on lengths →

@@ -7,11 +7,11 @@ use Rattle.wp_classes.specs.declared.class.Class.TheVariants.{UU1, E01, ZE1, EE1
 use Rattle.wp_classes.specs.Choices.{Block}
 use Rattle.wp_classes.specs.Least.{least_by_way}
 use Rattle.wp_classes.specs.Onward.{IsLeastOf}
-use Rattle.wp_needed.specs.declared.lengths.Lengths.{Lengths}
+use Rattle.wp_needed.specs.declared.lengths.NeededLengths.{NeededLengths}
 use Rattle.wp_needed.specs.Needed.{Going}
 
 -- the length on from a class; there is none on from 000 or 001
-abbrev pub on_from : Lengths → Class → Option ℕ
+abbrev pub on_from : NeededLengths → Class → Option ℕ
 on_from lengths UU1 = Some lengths.uu1
 on_from lengths E01 = Some lengths.e01
 on_from lengths ZE1 = Some lengths.ze1
@@ -36,7 +36,7 @@ by_some_way ways on class =
     least_by_way ways (record { uu1 = on UU1; e01 = on E01; ze1 = on ZE1; ee1 = on EE1; ee2 = on EE2; z00 = on Z00; z01 = on Z01 }) class
 
 -- they are short enough that sums of them don't wrap
-pub record AreShort (lengths : Lengths) : Type 0 where
+pub record AreShort (lengths : NeededLengths) : Type 0 where
   pub uu1 : lengths.uu1 ≤ 2 ^ 40
   pub e01 : lengths.e01 ≤ 2 ^ 40
   pub ze1 : lengths.ze1 ≤ 2 ^ 40
@@ -49,7 +49,7 @@ pub record AreWays (ways : AisleWays) : Type 0 where
   pub short : AreAtMost 4020000 ways
 
 -- these are the least lengths by some way, and on by those
-pub record HaveLeast (ways : AisleWays) (on : Class → Option ℕ) (before : Lengths) : Type 0 where
+pub record HaveLeast (ways : AisleWays) (on : Class → Option ℕ) (before : NeededLengths) : Type 0 where
   pub uu1 : Some before.uu1 ≡ by_some_way ways on UU1
   pub e01 : Some before.e01 ≡ by_some_way ways on E01
   pub ze1 : Some before.ze1 ≡ by_some_way ways on ZE1
@@ -57,7 +57,7 @@ pub record HaveLeast (ways : AisleWays) (on : Class → Option ℕ) (before : Le
   pub ee2 : Some before.ee2 ≡ by_some_way ways on EE2
 
 -- the least lengths from the other end of a run that is so long
-abbrev pub along_run : ℕ → Lengths → Lengths
+abbrev pub along_run : ℕ → NeededLengths → NeededLengths
 along_run span before = record {
   uu1 = 2 * span + before.uu1;
   e01 = 2 * span + before.e01;
@@ -67,5 +67,5 @@ along_run span before = record {
 }
 
 -- the least lengths on from each class after the way through a needed aisle, with so many more aisles
-pub record AreGoing (block : Block) (left aisle : ℕ) (lengths : Lengths) : Type 0 where
+pub record AreGoing (block : Block) (left aisle : ℕ) (lengths : NeededLengths) : Type 0 where
   pub least : (class : Class) → IsLeastOf (λ t. Going block left aisle 0 class t) (on_from lengths class)

@@ -7,7 +7,7 @@ use wp_graph::AisleWays;
 
 /// For each class in which a tour can be between two needed aisles, a least length on from it to the end of a whole tour.
 #[derive(Clone, Copy)]
-pub(crate) struct Lengths {
+pub(crate) struct NeededLengths {
     pub uu1: u64,
     pub e01: u64,
     pub ze1: u64,
@@ -59,11 +59,11 @@ fn least_through(ways: &AisleWays, on: On) -> u64
 }
 
 /// The least lengths on from before the way through the last needed aisle.
-pub(crate) fn before_last(ways: &AisleWays) -> Lengths
+pub(crate) fn before_last(ways: &AisleWays) -> NeededLengths
     requires { AreWays ways.now }
     ensures { HaveLeast ways.now ends result }
 {
-    Lengths {
+    NeededLengths {
         uu1: ways.pass,
         e01: or_by(ways.back, 0, ways.double),
         ze1: or_by(ways.front, 0, ways.double),
@@ -85,12 +85,12 @@ pub(crate) fn only_length(ways: &AisleWays) -> u64
 }
 
 /// The least lengths on from before the way through a needed aisle, from those on from after it.
-pub(crate) fn before_way(ways: &AisleWays, after: &Lengths) -> Lengths
+pub(crate) fn before_way(ways: &AisleWays, after: &NeededLengths) -> NeededLengths
     requires ways { AreWays ways.now }
     requires after { AreShort after.now }
     ensures { HaveLeast ways.now (on_from after.now) result }
 {
-    Lengths {
+    NeededLengths {
         uu1: least_through(ways, after.from_odd()),
         e01: least_through(ways, after.from_back()),
         ze1: least_through(ways, after.from_front()),
@@ -100,7 +100,7 @@ pub(crate) fn before_way(ways: &AisleWays, after: &Lengths) -> Lengths
 }
 
 /// The least length by the way through the first needed aisle, and on.
-pub(crate) fn first_length(ways: &AisleWays, after: &Lengths) -> u64
+pub(crate) fn first_length(ways: &AisleWays, after: &NeededLengths) -> u64
     requires ways { AreWays ways.now }
     requires after { AreShort after.now }
     ensures { Some result ≡ by_some_way ways.now (on_from after.now) Z00 }
@@ -108,7 +108,7 @@ pub(crate) fn first_length(ways: &AisleWays, after: &Lengths) -> u64
     least_through(ways, after.from_nothing())
 }
 
-impl Lengths {
+impl NeededLengths {
     // On after each way in class UU1.
     #[inline(always)]
     fn from_odd(&self) -> On
@@ -195,14 +195,14 @@ impl Lengths {
 
     /// The least lengths on from after the way through a needed aisle, from those on from before the way through the next one
     /// behind it, where the crossings between are so long together.
-    pub(crate) fn along(&self, span: u64) -> Lengths
+    pub(crate) fn along(&self, span: u64) -> NeededLengths
         requires lengths { AreShort self.now }
         requires span { span ≤ 2 ^ 30 }
         ensures { result ≡ along_run span self.now }
     {
         let behind = 2 * span + self.e01;
         let in_front = 2 * span + self.ze1;
-        Lengths {
+        NeededLengths {
             uu1: 2 * span + self.uu1,
             e01: behind,
             ze1: in_front,

@@ -6,7 +6,7 @@ ghost use Rattle.wp_classes.specs.Choices.{block_of};
 ghost use Rattle.wp_needed.specs.Lengths.{AreGoing};
 ghost use Rattle.wp_needed.specs.Runs.{IsFirstLeast, NoneBetween};
 
-use crate::lengths::{Lengths, before_last, before_way, first_length, only_length};
+use crate::lengths::{NeededLengths, before_last, before_way, first_length, only_length};
 use wp_graph::{Layout, Picks, aisle_ways};
 
 // How long the crossings from an aisle to a later one are together.
@@ -20,7 +20,13 @@ fn span_between(layout: &Layout, aisle: u32, later: u32) -> u64
 }
 
 // The least lengths on from after the way through a needed aisle, from those on from after the next one behind it.
-fn after_next(layout: &Layout, picks: &Picks, next: u32, aisle: u32, after: &Lengths) -> Lengths
+fn after_next(
+    layout: &Layout,
+    picks: &Picks,
+    next: u32,
+    aisle: u32,
+    after: &NeededLengths,
+) -> NeededLengths
     requires picks { picks.now.layout ≡ layout.now }
     requires first { 1 ≤ next }
     requires order { next < aisle }
@@ -35,7 +41,7 @@ fn after_next(layout: &Layout, picks: &Picks, next: u32, aisle: u32, after: &Len
 }
 
 // The least lengths on from after the way through the needed aisle before the last one.
-fn after_next_to_last(layout: &Layout, picks: &Picks, next: u32, last: u32) -> Lengths
+fn after_next_to_last(layout: &Layout, picks: &Picks, next: u32, last: u32) -> NeededLengths
     requires picks { picks.now.layout ≡ layout.now }
     requires first { 1 ≤ next }
     requires order { next < last }
@@ -50,7 +56,7 @@ fn after_next_to_last(layout: &Layout, picks: &Picks, next: u32, last: u32) -> L
 }
 
 // The length of a shortest tour, from the least lengths on from after the way through a needed aisle.
-fn length_from(layout: &Layout, picks: &Picks, aisle: u32, after: Lengths) -> u64
+fn length_from(layout: &Layout, picks: &Picks, aisle: u32, after: NeededLengths) -> u64
     requires picks { picks.now.layout ≡ layout.now }
     requires aisle { IsUpTo layout.now.aisles aisle }
     requires needed { ((block_of layout.now picks.now.points).ways aisle).skip ≡ None }

@@ -1,5 +1,5 @@
 use Rattle.std.proofs.Common.{◌≡◌, ℕ, suc, ◌-◌, ◌∙◌, ap, arith, subst, sym}
-use Rattle.wp_classes.specs.declared.tour.Step.{Step}
+use Rattle.wp_classes.specs.declared.tour.AisleStep.{AisleStep}
 use Rattle.wp_classes.specs.Choices.{block_of}
 use Rattle.wp_classes.specs.Onward.{AreOnward, Onward}
 use Rattle.wp_classes.specs.Steps.{IsBestStep}
@@ -61,7 +61,7 @@ returns c =
     let left = c.args.layout.now.aisles - c.args.aisle in
     let next : c.args.aisle ≡ suc (c.args.aisle - 1) = omega (arith, c.requires.first) in
     let more : c.args.layout.now.aisles - (c.args.aisle - 1) ≡ suc left = omega (arith, c.requires.first, c.requires.last) in
-    let step : Step = record { cross = c.best_cross-cross.result; way = c.best_way-way.result; class = c.unwrap.result } in
+    let step : AisleStep = record { cross = c.best_cross-cross.result; way = c.best_way-way.result; class = c.unwrap.result } in
     let made = best_step_made (choosing (goal.at.returns c).After-before_way-through) step c.unwrap-between.result c.best_cross-cross.ensures
     (sym c.after_cross.ensures ∙ c.unwrap-between.ensures) c.best_way-way.ensures (sym c.after_way.ensures ∙ c.unwrap.ensures) in
     subst (λ (n : ℕ). IsBestStep block n c.args.aisle c.args.after.now c.args.class step) (sym more)

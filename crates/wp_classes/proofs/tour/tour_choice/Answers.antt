@@ -1,5 +1,5 @@
 use Rattle.std.proofs.Common.{◌≡◌, ℕ, suc, ◌+◌, ◌-◌, ◌∙◌, arith, get_or, length-set, None, set, subst, sym}
-use Rattle.wp_classes.specs.declared.lengths.Lengths.{Lengths}
+use Rattle.wp_classes.specs.declared.lengths.OnwardLengths.{OnwardLengths}
 use Rattle.wp_classes.specs.Choices.{block_of, route_of}
 use Rattle.wp_classes.specs.Onward.{AreOnward, Onward}
 use Rattle.wp_classes.specs.Steps.{IsBestStep}
@@ -8,7 +8,7 @@ use Rattle.wp_classes.proofs.Small.{lengths_within, ways_within}
 use Rattle.wp_classes.proofs.Shortest.{shortest}
 use Rattle.wp_classes.proofs.tour.tour_choice.Goals as goal
 
-abbrev nothing : Lengths
+abbrev nothing : OnwardLengths
 nothing = record { uu1 = None; e01 = None; ze1 = None; ee1 = None; ee2 = None; z00 = None; z01 = None }
 
 pub best_way-first-requires-clause-ways : goal.best_way-first-requires-clause-ways
