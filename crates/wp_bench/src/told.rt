@@ -108,7 +108,11 @@ fn tell<K: Sink>(alloc: Global, words: &Vec<String>, out: &mut K) -> Result<(), 
 
 /// Writes the line of the sum of the tours that these words ask for, and gives the status: 0 where the sink took the line, and else that of the
 /// fault, which is 5 where there was no memory for the words.
-pub(crate) fn run_given<K: Sink>(alloc: Global, words: Result<Vec<String>, AllocError>, out: &mut K) -> ExitCode
+pub(crate) fn run_given<K: Sink>(
+    alloc: Global,
+    words: Result<Vec<String>, AllocError>,
+    out: &mut K,
+) -> ExitCode
     ensures told { IfOk words (λ words. exit_status result ≡ 0 → TookLine (map string_bytes words.items) (K.taken out.old) (K.taken out.new)) }
     ensures faults { IfOk words (λ words. (fault : Fault) → exit_status result ≡ status_of fault
         → IsCause (map string_bytes words.items) (K.faults out.old) (K.faults out.new) fault) }
