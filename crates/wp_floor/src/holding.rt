@@ -1,26 +1,20 @@
 //! Holding stock for a wave.
-ghost use Rattle.std.specs.Prelude.{◌≡◌, ◌<◌, ◌≤◌, List, None, length, IfOk, IfErr, IfSome, All};
-ghost use Rattle.wp_allot.specs.Wants.{AreGathered, IsShort, holds_at_most, wanted_places};
+ghost use Rattle.std.specs.Prelude.{◌≡◌, ◌<◌, ◌≤◌, None, length, IfOk, IfErr, IfSome, All};
+ghost use Rattle.wp_allot.specs.Wants.{AreGathered, holds_at_most, wanted_places};
 ghost use Rattle.wp_allot.specs.declared.want.Want.{Want as WantData};
-ghost use Rattle.wp_model.specs.State.{Wave};
-ghost use Rattle.wp_model.specs.Step.{allot, is_live};
 ghost use Rattle.wp_model.specs.Tables.{IsReadStock};
-ghost use Rattle.wp_model.specs.declared.command.Command.TheVariants as command;
-ghost use Rattle.wp_floor.specs.Floor.{AreNeedsOf, AreSameRows, HasAnswered, HasPapers, HasStepped, HaveSpace, IsAt, IsFloor, most_wants, state_at, state_in};
-ghost use Rattle.wp_floor.specs.Floor.{wave_of};
+ghost use Rattle.wp_floor.specs.Floor.{AreNeedsOf, AreSameRows, HaveSpace, most_wants};
 ghost use Rattle.wp_floor.specs.MissingUnits.{HaveSpaceAt, IsRefillSize};
 ghost use Rattle.wp_floor.specs.WaveStock.{IsHeld, IsRefusedShort, short_reply};
 
-use crate::floor::Floor;
 use crate::held::Claim;
 use crate::opening::Opening;
-use crate::waves::{KeptWave, Needs, Sheet, Stage};
+use crate::waves::{Needs, Sheet};
 use std::alloc::Global;
-use std::mem;
 use wp_allot::gathered::{self, most_holds};
 use wp_allot::{Short, Want};
 use wp_book::{Room, StockBook};
-use wp_model::{Memory, Name, Reply};
+use wp_model::{Memory, Reply};
 use wp_tables::Stock;
 
 /// Room for what is held for a wave, and for the list of it.
@@ -130,52 +124,4 @@ pub fn hold_stock(
         orders,
         room: sheet,
     })
-}
-
-/// Allot: stock is held for a wave that was submitted, where free stock covers it.
-pub fn allot_wave(
-    book: &mut StockBook,
-    opening: &Opening,
-    number: u32,
-    wave: &mut KeptWave,
-) -> Reply
-    requires papers { HasPapers opening.now wave.old.stage book.old number wave.old }
-    requires rows { AreSameRows opening.now book.old.rows }
-    ensures live { is_live (state_in wave.new.stage) ≡ is_live (state_in wave.old.stage) }
-    ensures answered { (waves : List Wave) → IsAt opening.now book.old waves number wave.old
-        → HasAnswered opening.now (allot opening.now (state_at book.old waves) number (wave_of wave.old) (state_in wave.old.stage)) book.old book.new waves
-        number wave.old wave.new result }
-{
-    match mem::replace(&mut wave.stage, Stage::Done) {
-        Stage::Submitted(needs) => match hold_stock(book, opening, number, needs) {
-            Ok(sheet) => {
-                wave.stage = Stage::Allotted(sheet);
-                Reply::Allotted
-            }
-            Err(Unmet { needs, why }) => {
-                wave.stage = Stage::Submitted(needs);
-                why
-            }
-        },
-        other => {
-            let state = other.state();
-            wave.stage = other;
-            Reply::WrongState(state)
-        }
-    }
-}
-
-impl Floor {
-    /// Allot: stock is held for a wave that was submitted, where free stock covers it.
-    pub fn allot(&mut self, opening: &Opening, name: &Name) -> Reply
-        requires { IsFloor opening.now self.old }
-        ensures { HasStepped opening.now (command.Allot name.now) self.old self.new result }
-    {
-        let Some(mut found) = self.waves.take_out(name) else {
-            return Reply::UnknownWave;
-        };
-        let reply = allot_wave(&mut self.book, opening, found.number, &mut found.wave);
-        self.waves.put_back(found);
-        reply
-    }
 }

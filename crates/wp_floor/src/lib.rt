@@ -2,16 +2,19 @@
 //! is one step of it, which takes no memory: what it needs was made before.
 #![tactic(auto)]
 
+mod allotting;
+mod cancelling;
 mod floor;
 mod held;
 mod holding;
 mod opening;
+mod picking;
+mod receiving;
 mod refilling;
 mod releasing;
 mod standing;
 mod submitting;
 mod wanting;
-mod wave_steps;
 mod waves;
 
 pub use floor::Floor;

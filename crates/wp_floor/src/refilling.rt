@@ -16,7 +16,7 @@ use crate::floor::Floor;
 use crate::held::{Claim, HeldUnits, claimed};
 use crate::holding::Rooms;
 use crate::opening::Opening;
-use crate::wave_steps::settle;
+use crate::picking::settle;
 use crate::waves::KeptWave;
 use wp_allot::{Want, gathered};
 use wp_book::{Room, StockBook};

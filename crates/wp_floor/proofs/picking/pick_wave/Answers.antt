@@ -4,7 +4,7 @@ use Rattle.wp_floor.specs.Floor.{HasAnswered, state_at, wave_of}
 use Rattle.wp_floor.specs.HeldUnits.{held_of}
 use Rattle.wp_floor.proofs.BookStates.{refused}
 use Rattle.wp_floor.proofs.ClaimedUnits.{enough_by, holder}
-use Rattle.wp_floor.proofs.wave_steps.pick_wave.Goals as goal
+use Rattle.wp_floor.proofs.picking.pick_wave.Goals as goal
 
 pub take_picked-requires : goal.take_picked-requires
 take_picked-requires c =

@@ -1,5 +1,5 @@
 use Rattle.wp_floor.proofs.TakenUnits.{picked}
-use Rattle.wp_floor.proofs.wave_steps.take_picked.Goals as goal
+use Rattle.wp_floor.proofs.picking.take_picked.Goals as goal
 
 pub returns-clause-answered : goal.returns-clause-answered
 returns-clause-answered c opening waves at released within =

@@ -5,7 +5,7 @@ use Rattle.wp_model.specs.declared.reply.Reply.TheVariants as reply
 use Rattle.wp_model.specs.declared.row.Row.{Row}
 use Rattle.wp_floor.specs.ReceivedUnits.{HasReceivedAt}
 use Rattle.wp_floor.proofs.ReceivedUnits.{has_received, other_article, owner_is, too_many}
-use Rattle.wp_floor.proofs.floor.receive_at.Goals as goal
+use Rattle.wp_floor.proofs.receiving.receive_at.Goals as goal
 
 flipped : (b c : Bool) → not b ≡ c → b ≡ not c
 flipped true c e = sym (ap not (sym e))

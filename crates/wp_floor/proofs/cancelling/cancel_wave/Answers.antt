@@ -4,7 +4,7 @@ use Rattle.wp_model.specs.declared.reply.Reply.TheVariants as reply
 use Rattle.wp_model.specs.declared.reply.WaveState.{WaveState}
 use Rattle.wp_floor.specs.Floor.{HasAnswered, state_at, state_in, wave_of}
 use Rattle.wp_floor.proofs.BookStates.{refused}
-use Rattle.wp_floor.proofs.wave_steps.cancel_wave.Goals as goal
+use Rattle.wp_floor.proofs.cancelling.cancel_wave.Goals as goal
 
 pub returns-then-wave-clause-answered : goal.returns-then-wave-clause-answered
 returns-then-wave-clause-answered c opening waves at =

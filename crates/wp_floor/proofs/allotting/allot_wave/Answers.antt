@@ -6,7 +6,7 @@ use Rattle.wp_model.specs.declared.reply.WaveState.TheVariants as wave
 use Rattle.wp_floor.specs.Floor.{state_at, state_in, wave_of}
 use Rattle.wp_floor.specs.declared.waves.Stage.{Stage}
 use Rattle.wp_floor.proofs.WaveStock.{allot_wrong, allotted, refused_at, short_at}
-use Rattle.wp_floor.proofs.holding.allot_wave.Goals as goal
+use Rattle.wp_floor.proofs.allotting.allot_wave.Goals as goal
 
 pub returns-in-Ok-clause-answered : goal.returns-in-Ok-clause-answered
 returns-in-Ok-clause-answered c waves at =
