@@ -3,7 +3,7 @@ ghost use Rattle.std.specs.Prelude.{◌≡◌, ℕ, IfOk, IsOk, map};
 ghost use Rattle.std.specs.List.{All};
 ghost use Rattle.std.specs.List.Sorted.{IsPermutation};
 ghost use Rattle.wp_desk.specs.Work.{AreOfDesks, ArePlanned, BeginsAt, EndsWith, desks_of, waves_of};
-ghost use Rattle.wp_machine.specs.Machine.{EachStateIsSound};
+ghost use Rattle.wp_model.specs.Sound.{EachStateIsSound};
 ghost use Rattle.wp_machine.specs.Outcome.{refills_of, released_of};
 ghost use Rattle.wp_model.specs.History.{History, IsLegal, opened, part_of, script_of};
 

@@ -18,7 +18,7 @@ use Rattle.wp_model.specs.Demand.{free_units}
 use Rattle.wp_model.specs.Opening.{Opening, article_name}
 use Rattle.wp_model.specs.State.{State, Wave}
 use Rattle.wp_model.specs.Step as step
-use Rattle.wp_model.specs.Step.{Stepped, at_released, is_live, one_demand, refill, refuse, write_off}
+use Rattle.wp_model.specs.Step.{Stepped, at_released, is_live, one_demand, refill, refuse, says_refilled, write_off}
 use Rattle.wp_model.specs.declared.command.Command.TheVariants as command
 use Rattle.wp_model.specs.declared.location.Location.{Location}
 use Rattle.wp_model.specs.declared.reply.Reply.{Reply}
@@ -27,7 +27,7 @@ use Rattle.wp_model.specs.declared.reply.WaveState.{WaveState}
 use Rattle.wp_model.specs.declared.reply.WaveState.TheVariants as wave
 use Rattle.wp_floor.specs.Floor.{HasAnswered, HasStepped, IsAt, IsFloor, state_at, state_in, state_of, wave_of}
 use Rattle.wp_floor.specs.HeldUnits.{IsClaimRefused, held_of}
-use Rattle.wp_floor.specs.MissingUnits.{HasRefilled, IfAnswered, IfRefilled, IsHeldElsewhere, ListsMore, TellsRefill, refills, share_elsewhere}
+use Rattle.wp_floor.specs.MissingUnits.{HasRefilled, IfAnswered, IfRefilled, IsHeldElsewhere, ListsMore, TellsRefill, share_elsewhere}
 use Rattle.wp_floor.specs.Waves.{IsFound, IsReturned, waves_of}
 use Rattle.wp_floor.specs.declared.floor.Floor.{Floor}
 use Rattle.wp_floor.specs.declared.held.HeldUnits.{HeldUnits}
@@ -151,13 +151,13 @@ lost opening old middle new waves number was left units quantity article takes f
 
 -- where a claim does nothing else, it is refused
 never_refills : (state : State) (number : ℕ) (w : Wave) (order : List ℕ) (location : Location) (quantity : ℕ) (s : WaveState)
-    → refills (at_released state number w order location quantity (λ held. refuse state reply.NoRow) s).reply ≡ false
+    → says_refilled (at_released state number w order location quantity (λ held. refuse state reply.NoRow) s).reply ≡ false
 never_refills state number w order location quantity wave.Released =
-    option_map_or-both (λ (stepped : Stepped). refills stepped.reply ≡ false)
+    option_map_or-both (λ (stepped : Stepped). says_refilled stepped.reply ≡ false)
     (λ (held : step.Held). if nat_lt held.units quantity then refuse state (reply.TooMuch held.units) else refuse state reply.NoRow)
     (step.held_for state number w order location) (refuse state (reply.NotHeld location))
     (λ held is. cond_both (nat_lt held.units quantity) (refuse state (reply.TooMuch held.units)) (refuse state reply.NoRow)
-    (λ (stepped : Stepped). refills stepped.reply ≡ false) (λ e. refl) (λ e. refl))
+    (λ (stepped : Stepped). says_refilled stepped.reply ≡ false) (λ e. refl) (λ e. refl))
     (λ none. refl)
 never_refills state number w order location quantity wave.Submitted = refl
 never_refills state number w order location quantity wave.Allotted = refl
@@ -166,9 +166,9 @@ never_refills state number w order location quantity wave.Done = refl
 
 -- the refusal of a claim is no refill
 pub refusal_stays : (book : Book) (number : ℕ) (kept : KeptWave) (order : List ℕ) (location : Location) (quantity : ℕ) (answer : Reply)
-    → IsClaimRefused book number kept order location quantity answer → refills answer ≡ false
+    → IsClaimRefused book number kept order location quantity answer → says_refilled answer ≡ false
 refusal_stays book number kept order location quantity answer is =
-    sym (ap (λ (s : Stepped). refills s.reply) (is [] (λ held. refuse (state_at book []) reply.NoRow)))
+    sym (ap (λ (s : Stepped). says_refilled s.reply) (is [] (λ held. refuse (state_at book []) reply.NoRow)))
     ∙ never_refills (state_at book []) number (wave_of kept) order location quantity (state_in kept.stage)
 
 -- what a command on missing units does to the wave with a number

@@ -1,10 +1,10 @@
 -- Units that are missing, and what is held in their place.
-use Rattle.std.specs.Prelude.{◌≡◌, ℕ, ◌+◌, ◌-◌, ◌<◌, ◌≤◌, ⊤, Bool, true, false, List, [], ◌∷◌, length, Option, Some, slice_get}
+use Rattle.std.specs.Prelude.{◌≡◌, ℕ, ◌+◌, ◌-◌, ◌<◌, ◌≤◌, ⊤, List, [], ◌∷◌, length, Option, Some, slice_get}
 use Rattle.wp_allot.specs.Wants.{holds_at_most, most_holds, wanted_places}
 use Rattle.wp_allot.specs.declared.want.Want.{Want}
 use Rattle.wp_book.specs.Calls.{KeepsOthers}
 use Rattle.wp_book.specs.Room.{Content}
-use Rattle.wp_model.specs.Book.{Book, held_for, held_list}
+use Rattle.wp_model.specs.Book.{Book, held_for, held_list, held_more}
 use Rattle.wp_model.specs.Change.{change_rows, hold_units, share}
 use Rattle.wp_model.specs.Demand.{free_units}
 use Rattle.wp_model.specs.Opening.{Opening}
@@ -44,11 +44,6 @@ IsRefillSize rows number quantity size = (r : StockRow) → slice_get rows numbe
 abbrev pub HaveSpaceAt : List StockRow → Option ℕ → ℕ → Rooms → Type 0
 HaveSpaceAt rows row quantity rooms = (number : ℕ) (r : StockRow) → row ≡ Some number → slice_get rows number ≡ Some r
     → HaveSpace (holds_at_most (wanted_places rows (want_of r.article quantity ∷ [])) (want_of r.article quantity ∷ [])) rooms
-
--- the reply by which missing units are held elsewhere
-abbrev pub refills : Reply → Bool
-refills (reply.Refilled units) = true
-refills other = false
 
 -- what holds of the list where a loss is refilled
 abbrev pub IfRefilled : Missed → (Content → Type 0) → Type 0
@@ -90,4 +85,4 @@ pub record HasRefilled (opening : Opening) (stepped : Stepped) (old new : Book) 
 -- room has all that the wave of a name holds in a state beyond what it held in one before
 abbrev pub TellsRefill : State → State → List ℕ → Content → Type 0
 TellsRefill before after name room = (f : ℕ × Wave) × (wave_from 0 after.waves name ≡ Some f)
-    × (room.holds ≡ held_list (length f.1.orders) (length after.rows) (λ order row. after.held f.0 order row - before.held f.0 order row))
+    × (room.holds ≡ held_more before after f.0 (length f.1.orders))

@@ -1,5 +1,5 @@
 -- Waves that go out.
-use Rattle.std.specs.Prelude.{◌≡◌, ℕ, ⊤, Bool, true, false, List, length, Some}
+use Rattle.std.specs.Prelude.{◌≡◌, ℕ, ⊤, List, length, Some}
 use Rattle.wp_book.specs.Room.{Content}
 use Rattle.wp_model.specs.Book.{Book, held_for, held_list}
 use Rattle.wp_model.specs.Opening.{Opening}
@@ -16,11 +16,6 @@ use Rattle.wp_floor.specs.declared.waves.KeptWave.{KeptWave}
 -- room has all that a wave of so many orders holds
 abbrev pub ListsHolds : Book → ℕ → ℕ → Content → Type 0
 ListsHolds book number orders room = room.holds ≡ held_list orders (length book.rows) (held_for book number)
-
--- the reply by which a wave goes out
-abbrev pub goes_out : Reply → Bool
-goes_out reply.Released = true
-goes_out other = false
 
 -- what holds of the sheet where a wave went out
 abbrev pub IfOut : Released → (Sheet → Type 0) → Type 0

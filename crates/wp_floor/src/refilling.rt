@@ -3,14 +3,14 @@ ghost use Rattle.std.specs.Prelude.{◌≡◌, ◌≤◌, ◌<◌, true, false, 
 ghost use Rattle.wp_model.specs.Book.{held_for};
 ghost use Rattle.wp_model.specs.Demand.{free_units};
 ghost use Rattle.wp_model.specs.State.{Wave};
-ghost use Rattle.wp_model.specs.Step.{at_released, is_live, write_off};
+ghost use Rattle.wp_model.specs.Step.{at_released, is_live, says_refilled, write_off};
 ghost use Rattle.wp_model.specs.declared.command.Command.TheVariants as command;
 ghost use Rattle.wp_model.specs.declared.reply.Reply.TheVariants as replies;
 ghost use Rattle.wp_model.specs.declared.reply.WaveState.TheVariants as states;
 ghost use Rattle.wp_floor.specs.Floor.{HasAnswered, HasStepped, IsAt, IsFloor, state_at, state_in, state_of, wave_of};
 ghost use Rattle.wp_floor.specs.HeldUnits.{IsRowAt, held_of};
 ghost use Rattle.wp_floor.specs.ReceivedUnits.{AllHaveArticles};
-ghost use Rattle.wp_floor.specs.MissingUnits.{HasRefilled, HaveRefillSpace, HaveRoomsAt, IfAnswered, IfRefilled, IsHeldElsewhere, TellsRefill, refills};
+ghost use Rattle.wp_floor.specs.MissingUnits.{HasRefilled, HaveRefillSpace, HaveRoomsAt, IfAnswered, IfRefilled, IsHeldElsewhere, TellsRefill};
 
 use crate::floor::Floor;
 use crate::held::{Claim, HeldUnits, claimed};
@@ -78,7 +78,7 @@ fn write_off(
         → state_in wave.old.stage ≡ states.Released → lost.order < length wave.old.orders
         → HasRefilled opening.now (write_off opening.now (state_at book.old waves) number (wave_of wave.old) quantity (held_of lost)) book.old book.new waves
         number wave.old wave.new quantity room) }
-    ensures stays { IfAnswered result (λ why. refills why ≡ false) }
+    ensures stays { IfAnswered result (λ why. says_refilled why ≡ false) }
     ensures lost { IfAnswered result (λ why. (waves : List Wave) → IsAt opening.now book.old waves number wave.old
         → state_in wave.old.stage ≡ states.Released → lost.order < length wave.old.orders
         → HasAnswered opening.now (write_off opening.now (state_at book.old waves) number (wave_of wave.old) quantity (held_of lost)) book.old book.new waves
@@ -115,7 +115,7 @@ pub fn missing_wave(
         → HasRefilled opening.now (at_released (state_at book.old waves) number (wave_of wave.old) claim.now.order claim.now.location claim.now.quantity
         (write_off opening.now (state_at book.old waves) number (wave_of wave.old) claim.now.quantity) (state_in wave.old.stage))
         book.old book.new waves number wave.old wave.new claim.now.quantity room) }
-    ensures stays { IfAnswered result (λ why. refills why ≡ false) }
+    ensures stays { IfAnswered result (λ why. says_refilled why ≡ false) }
     ensures answered { IfAnswered result (λ why. (waves : List Wave) → IsAt opening.now book.old waves number wave.old
         → HasAnswered opening.now (at_released (state_at book.old waves) number (wave_of wave.old) claim.now.order claim.now.location claim.now.quantity
         (write_off opening.now (state_at book.old waves) number (wave_of wave.old) claim.now.quantity) (state_in wave.old.stage))
@@ -138,7 +138,7 @@ impl Floor {
         ensures out { IfRefilled result (λ room. HasStepped opening.now
             (command.Missing name.now claim.now.order claim.now.location claim.now.quantity) self.old self.new (replies.Refilled claim.now.quantity)) }
         ensures told { IfRefilled result (λ room. TellsRefill (state_of self.old) (state_of self.new) name.now room) }
-        ensures stays { IfAnswered result (λ why. refills why ≡ false) }
+        ensures stays { IfAnswered result (λ why. says_refilled why ≡ false) }
         ensures refused { IfAnswered result (λ why. HasStepped opening.now
             (command.Missing name.now claim.now.order claim.now.location claim.now.quantity) self.old self.new why) }
     {

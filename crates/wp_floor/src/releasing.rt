@@ -1,11 +1,11 @@
 //! Waves that go out.
 ghost use Rattle.std.specs.Prelude.{◌≡◌, true, false, List};
 ghost use Rattle.wp_model.specs.State.{Wave};
-ghost use Rattle.wp_model.specs.Step.{is_live, release};
+ghost use Rattle.wp_model.specs.Step.{is_live, release, says_released};
 ghost use Rattle.wp_floor.specs.Floor.{AreSameRows, HasAnswered, HasPapers, HasStepped, IsAt, IsFloor, state_at, state_in, state_of, wave_of};
 ghost use Rattle.wp_model.specs.declared.command.Command.TheVariants as command;
 ghost use Rattle.wp_model.specs.declared.reply.Reply.TheVariants as replies;
-ghost use Rattle.wp_floor.specs.ReleasedWaves.{HasReleased, IfOut, IfRefused, TellsHolds, goes_out};
+ghost use Rattle.wp_floor.specs.ReleasedWaves.{HasReleased, IfOut, IfRefused, TellsHolds};
 
 use crate::floor::Floor;
 use crate::holding::{Unmet, hold_stock};
@@ -34,7 +34,7 @@ pub fn release_wave(
     ensures live { is_live (state_in wave.new.stage) ≡ is_live (state_in wave.old.stage) }
     ensures out { IfOut result (λ sheet. (waves : List Wave) → IsAt opening.now book.old waves number wave.old
         → HasReleased opening.now book.old book.new waves number wave.old wave.new sheet) }
-    ensures stays { IfRefused result (λ why. goes_out why ≡ false) }
+    ensures stays { IfRefused result (λ why. says_released why ≡ false) }
     ensures refused { IfRefused result (λ why. (waves : List Wave) → IsAt opening.now book.old waves number wave.old
         → HasAnswered opening.now (release opening.now (state_at book.old waves) number (wave_of wave.old) (state_in wave.old.stage)) book.old book.new waves
         number wave.old wave.new why) }
@@ -62,7 +62,7 @@ impl Floor {
         requires { IsFloor opening.now self.old }
         ensures out { IfOut result (λ sheet. HasStepped opening.now (command.Release name.now) self.old self.new replies.Released) }
         ensures told { IfOut result (λ sheet. TellsHolds (state_of self.new) name.now sheet) }
-        ensures stays { IfRefused result (λ why. goes_out why ≡ false) }
+        ensures stays { IfRefused result (λ why. says_released why ≡ false) }
         ensures refused { IfRefused result (λ why. HasStepped opening.now (command.Release name.now) self.old self.new why) }
     {
         let Some(mut found) = self.waves.take_out(name) else {

@@ -3,14 +3,14 @@ use Rattle.std.proofs.Common.{◌≡◌, ◌∙◌, refl, sym, ap, ℕ, zero, su
 use Rattle.std.proofs.Common.{Err, IfOk, subst, arith}
 use Rattle.std.proofs.lemmas.List.{append-nil, map-append}
 use Rattle.wp_model.proofs.Histories.{answered_is_legal}
-use Rattle.wp_model.proofs.Sound.{entries_keep_sound, opening_is_sound}
+use Rattle.wp_model.proofs.Served.{each_state_is_sound}
 use Rattle.wp_model.specs.History.{History, IsLegal, answered, next_entry, opened}
-use Rattle.wp_model.specs.Opening.{IsOpening, Opening}
-use Rattle.wp_model.specs.State.{opening_state}
+use Rattle.wp_model.specs.Opening.{Opening}
+use Rattle.wp_model.specs.Sound.{EachStateIsSound}
 use Rattle.wp_model.specs.Tables.{IsReadOpening}
 use Rattle.wp_model.specs.declared.entry.Entry.{Entry}
 use Rattle.wp_model.specs.declared.memory.Memory.{Memory}
-use Rattle.wp_machine.specs.Machine.{EachStateIsSound, asked_all, asking_of}
+use Rattle.wp_machine.specs.Machine.{asked_all, asking_of}
 use Rattle.wp_floor.proofs.Floors.{is_opening}
 use Rattle.wp_machine.specs.declared.asking.Asking.{Asking}
 
@@ -60,10 +60,6 @@ pub opening_stays : (history : History) (askings : List Asking) → (asked_all h
 opening_stays history [] = refl
 opening_stays history (asking ∷ askings) = opening_stays (answered history asking.desk asking.command) askings
 
--- the states of a history are sound
-pub states_sound : (history : History) → IsOpening history.opening → EachStateIsSound history
-states_sound history is n = entries_keep_sound history.opening (opening_state history.opening) (take n history.entries) is (opening_is_sound history.opening is)
-
 -- what is true of entries that a call may give
 told : (entries : Result (List Entry) Memory) (right : List Entry) (P : List Entry → Type 0) → P right → IfOk entries (λ es. es ≡ right) → IfOk entries P
 told (Ok es) right P is same = subst P (sym same) is
@@ -92,4 +88,4 @@ pub sound_told : (opening : Opening) (askings : List Asking) (entries : Result (
     → IfOk entries (λ es. EachStateIsSound (record { opening = opening; entries = es }))
 sound_told opening askings entries read same =
     told entries (asked_all (opened opening) askings).entries (λ es. EachStateIsSound (record { opening = opening; entries = es }))
-    (states_sound (record { opening = opening; entries = (asked_all (opened opening) askings).entries }) (is_opening opening read)) same
+    (each_state_is_sound (record { opening = opening; entries = (asked_all (opened opening) askings).entries }) (is_opening opening read)) same

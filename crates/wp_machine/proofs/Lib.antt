@@ -2,3 +2,4 @@ pub mod Stepping
 pub mod Askings
 pub mod Outcomes
 pub mod Sent
+pub mod Outgoing

@@ -5,12 +5,12 @@ use Rattle.wp_model.proofs.Replies.{done_or_refused}
 use Rattle.wp_model.proofs.WaveNames.{refilled_is_known, released_is_known}
 use Rattle.wp_model.specs.Opening.{Opening}
 use Rattle.wp_model.specs.State.{State, Wave}
-use Rattle.wp_model.specs.Step.{is_refusal, step, wave_from}
+use Rattle.wp_model.specs.Step.{is_refusal, says_refilled, says_released, step, wave_from}
 use Rattle.wp_model.specs.declared.command.Command.{Command}
 use Rattle.wp_model.specs.declared.command.Command.TheVariants as command
 use Rattle.wp_model.specs.declared.reply.Reply.{Reply}
 use Rattle.wp_model.specs.declared.reply.Reply.TheVariants as reply
-use Rattle.wp_machine.specs.Outcome.{missing_outcome, outcome_of, release_outcome, says_refilled, says_released, tells_holds, tells_refill}
+use Rattle.wp_machine.specs.Outcome.{missing_outcome, outcome_of, release_outcome, tells_holds, tells_refill}
 use Rattle.wp_machine.specs.declared.outcome.Outcome.{Outcome}
 use Rattle.wp_machine.specs.declared.outcome.Outcome.TheVariants as outcome
 

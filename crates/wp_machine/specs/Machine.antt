@@ -1,8 +1,7 @@
 -- What a machine is asked, and what its histories keep.
-use Rattle.std.specs.Prelude.{ℕ, List, [], ◌∷◌, take}
-use Rattle.wp_model.specs.History.{History, answered, state_after}
+use Rattle.std.specs.Prelude.{List, [], ◌∷◌}
+use Rattle.wp_model.specs.History.{History, answered}
 use Rattle.wp_model.specs.Opening.{Opening}
-use Rattle.wp_model.specs.Sound.{IsSound}
 use Rattle.wp_model.specs.declared.command.Command.{Command}
 use Rattle.wp_model.specs.declared.entry.Entry.{Entry}
 use Rattle.wp_machine.specs.declared.asking.Asking.{Asking}
@@ -20,7 +19,3 @@ asked_all history (asking ∷ more) = asked_all (answered history asking.desk as
 -- what was asked for by the desk of an entry
 abbrev pub asking_of : Entry → Asking
 asking_of entry = record { desk = entry.desk; command = entry.command }
-
--- every state of a history is sound, that before its first entry and that after each
-abbrev pub EachStateIsSound : History → Type 0
-EachStateIsSound history = (n : ℕ) → IsSound history.opening (state_after (record history { entries = take n history.entries }))

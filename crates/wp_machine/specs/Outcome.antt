@@ -1,9 +1,10 @@
 -- What a step tells beside its reply.
-use Rattle.std.specs.Prelude.{ℕ, ◌+◌, ◌-◌, Bool, true, false, List, [], ◌∷◌, length}
+use Rattle.std.specs.Prelude.{ℕ, ◌+◌, Bool, true, false, List, [], ◌∷◌, length}
 use Rattle.std.specs.List.{flat_map}
 use Rattle.std.specs.Option.{option_map_or}
-use Rattle.wp_model.specs.Book.{held_list}
-use Rattle.wp_model.specs.History.{History}
+use Rattle.wp_model.specs.Book.{held_list, held_more}
+use Rattle.wp_model.specs.Cancelled.{is_cancelled_in}
+use Rattle.wp_model.specs.History.{History, state_after}
 use Rattle.wp_model.specs.Opening.{Opening}
 use Rattle.wp_model.specs.State.{State, opening_state}
 use Rattle.wp_model.specs.Step.{Stepped, step, wave_from}
@@ -35,7 +36,7 @@ refilled_holds number before after name order =
       number = number;
       wave = name;
       order = order;
-      holds = held_list (length found.1.orders) (length after.rows) (λ o r. after.held found.0 o r - before.held found.0 o r);
+      holds = held_more before after found.0 (length found.1.orders);
     }))
     (wave_from 0 after.waves name) outcome.Plain
 
@@ -53,11 +54,7 @@ missing_outcome number before after name order other = outcome.Plain
 abbrev pub outcome_of : ℕ → State → Command → Stepped → Outcome
 outcome_of number before (command.Release name) stepped = release_outcome number stepped.state name stepped.reply
 outcome_of number before (command.Missing name order location quantity) stepped = missing_outcome number before stepped.state name order stepped.reply
-outcome_of number before (command.Submit name orders) stepped = outcome.Plain
-outcome_of number before (command.Allot name) stepped = outcome.Plain
-outcome_of number before (command.Cancel name) stepped = outcome.Plain
-outcome_of number before (command.Pick name order location quantity) stepped = outcome.Plain
-outcome_of number before (command.Receive location article quantity) stepped = outcome.Plain
+outcome_of number before other stepped = outcome.Plain
 
 -- what the steps of entries tell, one after the other, from a state on, where the first entry has this number
 abbrev pub outcomes_from : Opening → ℕ → State → List Entry → List Outcome
@@ -68,9 +65,8 @@ outcomes_from opening number state (entry ∷ entries) =
 
 -- the refill that a step tells, if it tells one
 abbrev pub refill_in : Outcome → List Refill
-refill_in outcome.Plain = []
-refill_in (outcome.Released holds) = []
 refill_in (outcome.Refilled refill) = refill ∷ []
+refill_in other = []
 
 -- the refills of a history, in the order of its entries
 abbrev pub refills_of : History → List Refill
@@ -78,32 +74,24 @@ refills_of history = flat_map refill_in (outcomes_from history.opening 0 (openin
 
 -- the wave that a step sends out, if it sends one out
 abbrev pub released_in : Outcome → List WaveHolds
-released_in outcome.Plain = []
 released_in (outcome.Released released) = released ∷ []
-released_in (outcome.Refilled refill) = []
+released_in other = []
 
 -- the waves that went out in a history, in the order of its entries
 abbrev pub released_of : History → List WaveHolds
 released_of history = flat_map released_in (outcomes_from history.opening 0 (opening_state history.opening) history.entries)
 
+-- a wave that went out is cancelled later: it is cancelled in the state after the history. That is so exactly where a later entry
+-- cancels it: the law `later_entries_cancel_waves`.
+abbrev pub is_cancelled_later : History → WaveHolds → Bool
+is_cancelled_later history released = is_cancelled_in (state_after history) released.wave
+
 -- an outcome tells the holds of a wave that went out
 abbrev pub tells_holds : Outcome → Bool
-tells_holds outcome.Plain = false
 tells_holds (outcome.Released holds) = true
-tells_holds (outcome.Refilled refill) = false
+tells_holds other = false
 
 -- an outcome tells a refill
 abbrev pub tells_refill : Outcome → Bool
-tells_refill outcome.Plain = false
-tells_refill (outcome.Released holds) = false
 tells_refill (outcome.Refilled refill) = true
-
--- a reply says that a wave went out
-abbrev pub says_released : Reply → Bool
-says_released reply.Released = true
-says_released other = false
-
--- a reply says that lost units are held elsewhere
-abbrev pub says_refilled : Reply → Bool
-says_refilled (reply.Refilled units) = true
-says_refilled other = false
+tells_refill other = false

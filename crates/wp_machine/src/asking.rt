@@ -3,7 +3,8 @@ ghost use Rattle.std.specs.Prelude.{◌≡◌, ◌+◌, ◌<◌, ◌^◌, length
 ghost use Rattle.std.specs.List.{All};
 ghost use Rattle.wp_model.specs.History.{IsLegal, opened};
 ghost use Rattle.wp_model.specs.Plain.{is_plain};
-ghost use Rattle.wp_machine.specs.Machine.{EachStateIsSound, asked_all, asking_of};
+ghost use Rattle.wp_model.specs.Sound.{EachStateIsSound};
+ghost use Rattle.wp_machine.specs.Machine.{asked_all, asking_of};
 
 use crate::machine::Machine;
 use std::alloc::Global;

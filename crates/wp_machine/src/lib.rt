@@ -9,7 +9,7 @@ mod outcome;
 mod prepared;
 
 pub use asking::{Asking, answer_all};
-pub use laws::outcomes_come_with_their_replies;
+pub use laws::{later_entries_cancel_waves, outcomes_come_with_their_replies};
 pub use machine::{Machine, Ready, prepare};
 pub use outcome::{Answer, Outcome, Refill, WaveHolds};
 pub use wp_floor::Opening;

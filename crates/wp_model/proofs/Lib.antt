@@ -21,6 +21,7 @@ pub mod Moves
 pub mod Waves
 pub mod Faults
 pub mod Found
+pub mod FoundWaves
 pub mod Submit
 pub mod Allotment
 pub mod Release
@@ -30,6 +31,7 @@ pub mod Picking
 pub mod Sound
 pub mod Replies
 pub mod WaveNames
-pub mod Coverage
+pub mod Served
+pub mod Cancelled
 pub mod LocationOrder
 pub mod Scripts

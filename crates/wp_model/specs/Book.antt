@@ -1,7 +1,8 @@
 -- The stock book: the rows as they stand, and the units that are held in them for the orders of waves.
-use Rattle.std.specs.Prelude.{◌≡◌, ℕ, zero, suc, ◌≤◌, ◌&&◌, ◌==◌, not, List, [], ◌∷◌, ◌++◌, length, if◌then◌else◌, slice_get, IfSome, Bool}
+use Rattle.std.specs.Prelude.{◌≡◌, ℕ, zero, suc, ◌-◌, ◌≤◌, ◌&&◌, ◌==◌, not, List, [], ◌∷◌, ◌++◌, length, if◌then◌else◌, slice_get, IfSome, Bool}
 use Rattle.std.specs.List.{All, sum_by}
 use Rattle.wp_model.specs.Sound.{IsBalanced}
+use Rattle.wp_model.specs.State.{State}
 use Rattle.wp_model.specs.declared.row.Hold.{Hold}
 use Rattle.wp_model.specs.declared.row.Row.{Row}
 
@@ -103,3 +104,7 @@ order_held_list order (suc row) units = order_held_list order row units ++ hold_
 abbrev pub held_list : ℕ → ℕ → (ℕ → ℕ → ℕ) → List Hold
 held_list zero rows held = []
 held_list (suc order) rows held = held_list order rows held ++ order_held_list order rows (held order)
+
+-- what a wave of so many orders holds in a state beyond what it held in one before
+abbrev pub held_more : State → State → ℕ → ℕ → List Hold
+held_more before after number orders = held_list orders (length after.rows) (λ order row. after.held number order row - before.held number order row)

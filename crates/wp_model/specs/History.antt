@@ -1,5 +1,5 @@
 -- Legal histories.
-use Rattle.std.specs.Prelude.{◌≡◌, ℕ, ◌+◌, ◌==◌, ⊤, List, [], ◌∷◌, ◌++◌, if◌then◌else◌, length}
+use Rattle.std.specs.Prelude.{◌≡◌, ℕ, ◌+◌, ◌==◌, ⊤, List, [], ◌∷◌, ◌++◌, if◌then◌else◌, length, take}
 use Rattle.wp_model.specs.Opening.{Opening}
 use Rattle.wp_model.specs.State.{State, opening_state}
 use Rattle.wp_model.specs.Step.{step}
@@ -19,6 +19,10 @@ state_from opening state (entry ∷ entries) = state_from opening (step opening 
 -- the state after a history
 abbrev pub state_after : History → State
 state_after history = state_from history.opening (opening_state history.opening) history.entries
+
+-- the state after its first entries
+abbrev pub state_at : History → ℕ → State
+state_at history entries = state_after (record history { entries = take entries history.entries })
 
 -- each entry has the next number and the reply that its command gets in the state before it
 abbrev pub IsLegalFrom : Opening → ℕ → State → List Entry → Type 0

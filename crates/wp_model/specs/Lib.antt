@@ -12,6 +12,8 @@ pub mod Change
 pub mod Step
 pub mod History
 pub mod Sound
+pub mod Served
+pub mod Cancelled
 pub mod StockMoves
 pub mod Book
 pub mod HoldLists

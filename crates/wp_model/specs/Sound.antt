@@ -3,6 +3,7 @@ use Rattle.std.specs.Prelude.{◌≡◌, ◌≢◌, ℕ, ◌+◌, ◌≤◌, ◌
 use Rattle.std.specs.List.{All}
 use Rattle.std.specs.Option.{option_map_or}
 use Rattle.wp_model.specs.Demand.{demand_at}
+use Rattle.wp_model.specs.History.{History, state_at}
 use Rattle.wp_model.specs.Opening.{Opening, is_known_order}
 use Rattle.wp_model.specs.Limits.{most_on_hand, most_wave_orders}
 use Rattle.wp_model.specs.State.{State, Wave, wave_held, wave_held_at}
@@ -33,22 +34,22 @@ units_of rows article units row = option_map_or (λ r. if r.article == article t
 abbrev pub order_held : State → ℕ → ℕ → ℕ → ℕ
 order_held state number article place = sum_below (length state.rows) (units_of state.rows article (state.held number place))
 
--- a wave holds what a wave in its state does: nothing before stock is held for it and after its end, just what its orders want
--- once it is allotted, and at least one unit while it is released
+-- each order of a wave holds just what its lines want, article by article
+abbrev pub HoldsItsDemand : Opening → State → ℕ → Wave → Type 0
+HoldsItsDemand opening state number w = (place article : ℕ) → order_held state number article place ≡ demand_at opening w.orders article place
+
+-- a wave holds what a wave in its state does: just what its orders want once it is allotted, at least one unit while it is released, and
+-- nothing before stock is held for it and after its end
 abbrev pub HoldsAs : WaveState → Opening → State → ℕ → Wave → Type 0
-HoldsAs wave.Submitted opening state number w = wave_held state number (length w.orders) ≡ 0
-HoldsAs wave.Allotted opening state number w = (place article : ℕ) → order_held state number article place ≡ demand_at opening w.orders article place
+HoldsAs wave.Allotted opening state number w = HoldsItsDemand opening state number w
 HoldsAs wave.Released opening state number w = 0 < wave_held state number (length w.orders)
-HoldsAs wave.Cancelled opening state number w = wave_held state number (length w.orders) ≡ 0
-HoldsAs wave.Done opening state number w = wave_held state number (length w.orders) ≡ 0
+HoldsAs other opening state number w = wave_held state number (length w.orders) ≡ 0
 
 -- no unit of a wave that isn't released yet was picked
 abbrev pub PickedAs : WaveState → Bool → Type 0
 PickedAs wave.Submitted picked = picked ≡ false
 PickedAs wave.Allotted picked = picked ≡ false
-PickedAs wave.Released picked = Unit {0}
-PickedAs wave.Cancelled picked = Unit {0}
-PickedAs wave.Done picked = Unit {0}
+PickedAs other picked = Unit {0}
 
 -- the places of a list have different values
 abbrev pub AreDifferent : {A : Type 0} → List A → Type 0
@@ -72,3 +73,7 @@ pub record IsSound (opening : Opening) (state : State) : Type 0 where
   pub names : (i j : ℕ) (v w : Wave) → slice_get state.waves i ≡ Some v → slice_get state.waves j ≡ Some w → v.name ≡ w.name → i ≡ j
   pub once : (i j : ℕ) (v w : Wave) (k l : ℕ) (order : List ℕ) → slice_get state.waves i ≡ Some v → slice_get state.waves j ≡ Some w
       → IsTrue (is_live v.state) → IsTrue (is_live w.state) → slice_get v.orders k ≡ Some order → slice_get w.orders l ≡ Some order → i ≡ j
+
+-- each state of a history is sound: that before its first entry, and that after each
+abbrev pub EachStateIsSound : History → Type 0
+EachStateIsSound history = (entries : ℕ) → IsSound history.opening (state_at history entries)

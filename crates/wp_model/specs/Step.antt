@@ -36,21 +36,17 @@ is_refusal reply.Picked = false
 is_refusal reply.Received = false
 is_refusal (reply.Refilled units) = false
 is_refusal (reply.Lost article units) = false
-is_refusal reply.NoOrders = true
-is_refusal (reply.WaveFull orders) = true
-is_refusal reply.KnownWave = true
-is_refusal (reply.UnknownOrder order) = true
-is_refusal (reply.OrderTwice order) = true
-is_refusal (reply.OrderTaken order w) = true
-is_refusal reply.UnknownWave = true
-is_refusal (reply.WrongState state) = true
-is_refusal (reply.Short article wanted free) = true
-is_refusal reply.Picking = true
-is_refusal (reply.NotHeld location) = true
-is_refusal (reply.TooMuch held) = true
-is_refusal reply.NoRow = true
-is_refusal (reply.OtherArticle article) = true
-is_refusal (reply.TooMany on_hand) = true
+is_refusal other = true
+
+-- a reply says that a wave went out
+abbrev pub says_released : Reply → Bool
+says_released reply.Released = true
+says_released other = false
+
+-- a reply says that lost units are held elsewhere
+abbrev pub says_refilled : Reply → Bool
+says_refilled (reply.Refilled units) = true
+says_refilled other = false
 
 -- a refusal leaves the state as it was
 abbrev pub refuse : State → Reply → Stepped
@@ -71,11 +67,8 @@ is_among names name = list_any (λ other. bytes_eq other name) names
 
 -- a wave that isn't cancelled
 abbrev pub is_live : WaveState → Bool
-is_live wave.Submitted = true
-is_live wave.Allotted = true
-is_live wave.Released = true
 is_live wave.Cancelled = false
-is_live wave.Done = true
+is_live other = true
 
 -- the name of the first wave that isn't cancelled and has the order
 abbrev pub taker_of : List Wave → List ℕ → Option (List ℕ)
@@ -127,18 +120,13 @@ hold_for opening state next done number w =
 -- Allot: stock is held for the wave
 abbrev pub allot : Opening → State → ℕ → Wave → WaveState → Stepped
 allot opening state number w wave.Submitted = hold_for opening state wave.Allotted reply.Allotted number w
-allot opening state number w wave.Allotted = refuse state (reply.WrongState wave.Allotted)
-allot opening state number w wave.Released = refuse state (reply.WrongState wave.Released)
-allot opening state number w wave.Cancelled = refuse state (reply.WrongState wave.Cancelled)
-allot opening state number w wave.Done = refuse state (reply.WrongState wave.Done)
+allot opening state number w other = refuse state (reply.WrongState other)
 
 -- Release: the wave goes out, with the stock that it holds or that is held for it now
 abbrev pub release : Opening → State → ℕ → Wave → WaveState → Stepped
 release opening state number w wave.Submitted = hold_for opening state wave.Released reply.Released number w
 release opening state number w wave.Allotted = record { reply = reply.Released; state = put_wave number (record w { state = wave.Released }) state }
-release opening state number w wave.Released = refuse state (reply.WrongState wave.Released)
-release opening state number w wave.Cancelled = refuse state (reply.WrongState wave.Cancelled)
-release opening state number w wave.Done = refuse state (reply.WrongState wave.Done)
+release opening state number w other = refuse state (reply.WrongState other)
 
 -- a wave is given up, and all that it holds goes back to free
 abbrev pub give_up : State → ℕ → Wave → Stepped
@@ -152,15 +140,13 @@ abbrev pub cancel : State → ℕ → Wave → WaveState → Stepped
 cancel state number w wave.Submitted = give_up state number w
 cancel state number w wave.Allotted = give_up state number w
 cancel state number w wave.Released = if w.picked then refuse state reply.Picking else give_up state number w
-cancel state number w wave.Cancelled = refuse state (reply.WrongState wave.Cancelled)
-cancel state number w wave.Done = refuse state (reply.WrongState wave.Done)
+cancel state number w other = refuse state (reply.WrongState other)
 
 -- the same side of an aisle
 abbrev pub same_side : Side → Side → Bool
 same_side side.L side.L = true
-same_side side.L side.R = false
-same_side side.R side.L = false
 same_side side.R side.R = true
+same_side one other = false
 
 -- the same location
 abbrev pub same_location : Location → Location → Bool
@@ -205,10 +191,7 @@ at_held state number w order location quantity change =
 -- the same, at a released wave
 abbrev pub at_released : State → ℕ → Wave → List ℕ → Location → ℕ → (Held → Stepped) → WaveState → Stepped
 at_released state number w order location quantity change wave.Released = at_held state number w order location quantity change
-at_released state number w order location quantity change wave.Submitted = refuse state (reply.WrongState wave.Submitted)
-at_released state number w order location quantity change wave.Allotted = refuse state (reply.WrongState wave.Allotted)
-at_released state number w order location quantity change wave.Cancelled = refuse state (reply.WrongState wave.Cancelled)
-at_released state number w order location quantity change wave.Done = refuse state (reply.WrongState wave.Done)
+at_released state number w order location quantity change other = refuse state (reply.WrongState other)
 
 -- Pick: the units are gone
 abbrev pub pick : State → ℕ → Wave → ℕ → Held → Stepped

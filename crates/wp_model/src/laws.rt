@@ -1,22 +1,21 @@
-ghost use Rattle.std.specs.Prelude.{◌≡◌, ◌⊎◌, ℕ, ◌<◌, ◌≤◌, ◌↔◌, IsTrue, List, Option, Some, None, length, take};
+ghost use Rattle.std.specs.Prelude.{◌≡◌, ◌⊎◌, ℕ, ◌<◌, ◌≤◌, ◌↔◌, IsTrue, List, Option, Some, None, length};
 ghost use Rattle.std.specs.Ordering.{is_lt};
+ghost use Rattle.wp_model.specs.Cancelled.{GoesOutAt, IsCancelledAfter, is_cancelled_in};
 ghost use Rattle.wp_model.specs.Demand.{IsCovered, free_units, short_article, wave_demand};
-ghost use Rattle.wp_model.specs.History.{History, state_after};
+ghost use Rattle.wp_model.specs.History.{History, IsLegal, state_after};
 ghost use Rattle.wp_model.specs.Location.{is_before, side_before};
 ghost use Rattle.wp_model.specs.Opening.{Opening, IsOpening};
 ghost use Rattle.wp_model.specs.Overlap.{overlap};
-ghost use Rattle.wp_model.specs.Sound.{IsSound};
-ghost use Rattle.wp_model.specs.State.{State, Wave, opening_state};
-ghost use Rattle.wp_model.specs.Step.{SaysDone, is_refusal, step, wave_from};
+ghost use Rattle.wp_model.specs.Served.{StockGoesWhereItCovers};
+ghost use Rattle.wp_model.specs.Sound.{EachStateIsSound, IsSound};
+ghost use Rattle.wp_model.specs.State.{State, opening_state};
+ghost use Rattle.wp_model.specs.Step.{SaysDone, is_refusal, step};
 ghost use Rattle.wp_model.specs.Sums.{sum_below};
 ghost use Rattle.wp_model.specs.contracts.location.LocationOrd.TheImpl as location_order;
 ghost use Rattle.wp_model.specs.contracts.location.SideOrd.TheImpl as side_order;
 ghost use Rattle.wp_model.specs.declared.command.Command.{Command};
-ghost use Rattle.wp_model.specs.declared.command.Command.TheVariants as command;
 ghost use Rattle.wp_model.specs.declared.location.Location.{Location};
 ghost use Rattle.wp_model.specs.declared.location.Side.{Side};
-ghost use Rattle.wp_model.specs.declared.reply.Reply.TheVariants as reply;
-ghost use Rattle.wp_model.specs.declared.reply.WaveState.TheVariants as wave;
 ghost use Rattle.wp_model.specs.declared.row.Row.{Row};
 
 /// A law: the opening state is sound, each command keeps a sound state sound, and so every state of a history is.
@@ -24,8 +23,7 @@ pub fn states_are_sound()
     ensures opening { (opening : Opening) → IsOpening opening → IsSound opening (opening_state opening) }
     ensures step { (opening : Opening) (state : State) (command : Command) → IsOpening opening → IsSound opening state → IsSound opening
         (step opening state command).state }
-    ensures history { (history : History) → IsOpening history.opening → (n : ℕ) → IsSound history.opening
-        (state_after (record history { entries = take n history.entries })) }
+    ensures history { (history : History) → IsOpening history.opening → EachStateIsSound history }
 {}
 
 /// A law: a command is answered by the reply that says it was done, or refused, and a refusal leaves the state as it
@@ -37,14 +35,17 @@ pub fn refusals_change_nothing()
         (step opening state command).state ≡ state }
 {}
 
-/// A law: a submitted wave gets stock, by its allotment or its release, exactly where free stock covers it.
+/// A law: in each state of a history a submitted wave gets stock, by its allotment or its release, exactly where free stock covers it, and then
+/// each of its orders holds just what its lines want. Else it gets nothing, and the reply names its first short article, with both numbers. An
+/// allotted wave is released with what it holds.
 pub fn stock_goes_where_it_covers()
-    ensures allot { (opening : Opening) (state : State) (name : List ℕ) (number : ℕ) (w : Wave) → IsOpening opening → wave_from 0 state.waves name ≡ Some
-        (number, w) → w.state ≡ wave.Submitted → ((step opening state (command.Allot name)).reply ≡ reply.Allotted) ↔ IsCovered opening state.rows w.orders
-        None }
-    ensures release { (opening : Opening) (state : State) (name : List ℕ) (number : ℕ) (w : Wave) → IsOpening opening → wave_from 0 state.waves name ≡ Some
-        (number, w) → w.state ≡ wave.Submitted → ((step opening state (command.Release name)).reply ≡ reply.Released) ↔ IsCovered opening state.rows w.orders
-        None }
+    ensures { (history : History) → IsOpening history.opening → StockGoesWhereItCovers history }
+{}
+
+/// A law: a wave that goes out in a legal history is cancelled after it exactly where a later entry cancels it.
+pub fn waves_are_cancelled_by_later_entries()
+    ensures { (history : History) (number : ℕ) (name : List ℕ) → IsLegal history → GoesOutAt history.entries number name
+        → IsTrue (is_cancelled_in (state_after history) name) ↔ IsCancelledAfter history.entries number name }
 {}
 
 /// A law: locations are in order of aisle, slot and side, and L comes before R.

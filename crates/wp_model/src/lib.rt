@@ -23,6 +23,7 @@ pub use entry::{Entries, Entry};
 pub use laws::{
     locations_are_in_order, overlaps_give_each_its_demand, refusals_change_nothing,
     short_articles_are_the_first, states_are_sound, stock_goes_where_it_covers,
+    waves_are_cancelled_by_later_entries,
 };
 pub use limits::{
     GREATEST_DESK, GREATEST_LENGTH, GREATEST_PLACE, MOST_AISLES, MOST_COMMANDS, MOST_ENTRIES,

@@ -2,14 +2,10 @@
 use Rattle.std.proofs.Common.{◌≡◌, refl, sym, subst, ℕ, inl, inr, List, [], ◌∷◌, ◌++◌, Option, Ok}
 use Rattle.wp_desk.specs.declared.day_run.DayRun.{DayRun}
 use Rattle.std.proofs.lemmas.List.Elements.{All-nil}
-use Rattle.wp_floor.proofs.Floors.{is_opening}
 use Rattle.wp_machine.specs.declared.outcome.WaveHolds.{WaveHolds}
 use Rattle.wp_make.specs.Accepted.{Day, Say}
 use Rattle.wp_make.specs.Texts.{made_texts}
-use Rattle.wp_model.proofs.Coverage.{allotted_where_covered, released_where_covered}
-use Rattle.wp_model.specs.History.{History}
-use Rattle.wp_model.specs.Opening.{IsOpening, Opening}
-use Rattle.wp_model.specs.Tables.{IsReadOpening}
+use Rattle.wp_model.specs.Opening.{Opening}
 use Rattle.wp_model.specs.Warehouse.{Layout}
 use Rattle.wp_outside.specs.Outside.{NoneFalls, SameBytes}
 use Rattle.wp_planner.specs.declared.planner.WavePlan.{WavePlan}
@@ -17,9 +13,9 @@ use Rattle.wp_top.proofs.FilesRead.{Counts, Holding, held_before, have_next, non
 use Rattle.wp_top.proofs.MadeDays.{good_plans}
 use Rattle.wp_top.specs.Ends.{HaveSaid, IsOutput}
 use Rattle.wp_top.specs.Planned.{IsToldOf}
-use Rattle.wp_top.specs.Runs.{IsSummary, StockGoesWhereItCovers, audit_line, state_at}
+use Rattle.wp_top.specs.Runs.{IsHistoryOf, IsSummary, audit_line}
 use Rattle.wp_top.specs.Sheets.{terms_of}
-use Rattle.wp_top.specs.Stops.{IsDay, IsHistoryOf, IsRead, IsRightJournal, IsStop, IsUnsaid, StopsAmong, StopsAudit, StopsFinding, opening_files, opening_said}
+use Rattle.wp_top.specs.Stops.{IsDay, IsRead, IsRightJournal, IsStop, IsUnsaid, StopsAmong, StopsAudit, StopsFinding, opening_files, opening_said}
 use Rattle.wp_top.specs.Summaries.{AreGoodPlans, made_terms, plans_of, size_of, summary_of}
 use Rattle.wp_top.specs.Texts.{File, IsHeld, Said, files_of, nothing_said, scripts_in, text_in}
 use Rattle.wp_top.specs.declared.complaint.Complaint.TheVariants as complaint
@@ -104,21 +100,13 @@ stop_at_finding holds held names before first after layout opening s same said s
 stop_at_finding holds held names before first after layout opening s same said so_far (inr (text, read, wrong)) =
     stop_at_fault holds held names before after layout opening text s same said read wrong
 
--- in each state a submitted wave gets stock exactly where it covers
-covered_stock : (history : History) → IsOpening history.opening → StockGoesWhereItCovers history
-covered_stock history is entries name number w found submitted = (
-  allotted_where_covered history.opening (state_at history entries) name number w is found submitted,
-  released_where_covered history.opening (state_at history entries) name number w is found submitted,
-)
-
 -- the output of a plan
 pub plan_is : (holds held : Holding) (names : PlanNames) (layout : Layout) (opening : Opening) (output : List ℕ)
     → SameBytes holds held → HaveSaid holds (opening_files names.layout names.stock names.orders) (opening_said layout opening)
-    → IsReadOpening opening → IsDay held layout opening (terms_of names) names.desks output
+    → IsDay held layout opening (terms_of names) names.desks output
     → IsOutput holds (Ok (plan names)) output
-plan_is holds held names layout opening output same said read day =
+plan_is holds held names layout opening output same said day =
     let all : Said = record (opening_said layout opening) { scripts = day.scripts } in
-    let answers = day.day.answers in
     let text = day.day.text in
     record {
       job = plan names;
@@ -128,11 +116,7 @@ plan_is holds held names layout opening output same said read day =
           (opening_said layout opening) all input.Desks names.desks day.scripts (λ text is. rw is refl) same said day.desk_file;
       comes = record {
         history = day.day.history;
-        starts = answers.starts;
-        legal = answers.legal;
-        parts = answers.parts;
-        sound = answers.sound;
-        stock = covered_stock day.day.history (is_opening day.day.history.opening (subst IsReadOpening (sym answers.starts) read));
+        answers = day.day.answers;
         sheets = text.sheets;
         planned = text.planned;
         is = text.is;
@@ -150,19 +134,15 @@ make_is holds numbers output summary =
 
 -- the summary of a made day
 pub summary_is : (numbers : MakeNumbers) (day : Day) (run : DayRun (Option WavePlan)) (output : List ℕ) → Say (made_texts numbers.number (size_of numbers)) day
-    → IsReadOpening day.opening → IsHistoryOf day.opening day.scripts run.machine → IsToldOf day.layout (made_terms numbers) run
+    → IsHistoryOf day.opening day.scripts run.machine → IsToldOf day.layout (made_terms numbers) run
     → output ≡ summary_of numbers run.machine (plans_of run.plans.items) → IsSummary numbers output
-summary_is numbers day run output says read answers told is =
+summary_is numbers day run output says answers told is =
     let history = run.machine in
     record {
       day = day;
       says = says;
       history = history;
-      starts = answers.starts;
-      legal = answers.legal;
-      parts = answers.parts;
-      sound = answers.sound;
-      stock = covered_stock history (is_opening history.opening (subst IsReadOpening (sym answers.starts) read));
+      answers = answers;
       plans = plans_of run.plans.items;
       planned = subst (λ (sent : List WaveHolds). AreGoodPlans day.layout history.opening.stock (made_terms numbers) sent (plans_of run.plans.items)) told.waves
           (good_plans day.layout history.opening.stock (made_terms numbers) run.plans.items told.planned);

@@ -207,13 +207,13 @@ plan_is_day names said output read are plan =
     let numbered : AreNumbered 0 scripts =
     numbered_on 0 scripts (λ i. IfSome_then (slice_get scripts i) (are.numbered i) (λ s is. omega (arith, is))) in
     let may : All (MayBe last) entries = each_may_be last entries (λ desk.
-    subst (All (MayAsk 0 last desk)) (sym (plan.parts desk)) (scripts_may 0 last scripts desk numbered (omega arith) are.plain are.named)) in
+    subst (All (MayAsk 0 last desk)) (sym (plan.answers.parts desk)) (scripts_may 0 last scripts desk numbered (omega arith) are.plain are.named)) in
     let count : length entries ≡ command_count scripts =
-    entries_count entries scripts numbered may ∙ commands_count 0 entries scripts numbered (λ desk after. plan.parts desk) in (
+    entries_count entries scripts numbered may ∙ commands_count 0 entries scripts numbered (λ desk after. plan.answers.parts desk) in (
       record {
-        opening = subst IsOpening (sym plan.starts) (is_opening said.opening read);
-        articles = subst (λ (o : Opening). All (λ article. IsTrue (is_name article)) o.stock.articles) (sym plan.starts) read.stock.named;
-        legal = plan.legal;
+        opening = subst IsOpening (sym plan.answers.starts) (is_opening said.opening read);
+        articles = subst (λ (o : Opening). All (λ article. IsTrue (is_name article)) o.stock.articles) (sym plan.answers.starts) read.stock.named;
+        legal = plan.answers.legal;
         few = omega (arith, count, are.most);
         asked = All-weaker (MayBe last) IsAsked (λ e is. record {
           desk = (omega (arith, is.after), omega (arith, is.within, are.few));
@@ -243,5 +243,5 @@ plan_journal names said output read are plan =
     let counted : IsJournalOf history.opening (first ++ more) (command_count said.scripts) =
     subst (λ n. IsJournalOf history.opening (first ++ more) n) day.1 right in
     let opened : IsJournalOf said.opening (first ++ more) (command_count said.scripts) =
-    subst (λ (o : Opening). IsJournalOf o (first ++ more) (command_count said.scripts)) plan.starts counted in
+    subst (λ (o : Opening). IsJournalOf o (first ++ more) (command_count said.scripts)) plan.answers.starts counted in
     subst (λ text. IsJournalOf said.opening text (command_count said.scripts)) (sym (plan.is ∙ parts)) opened

@@ -1,6 +1,7 @@
 -- The sheets of waves, one after the other.
 use Rattle.std.proofs.Common.{◌≡◌, ◌∙◌, refl, sym, ap, subst, ℕ, ◌+◌, Bool, List, [], ◌∷◌, ◌++◌, Some, append_assoc, slice_get, take}
 use Rattle.std.proofs.lemmas.List.{append-nil}
+use Rattle.wp_machine.specs.Outcome.{is_cancelled_later}
 use Rattle.wp_machine.specs.declared.outcome.WaveHolds.{WaveHolds}
 use Rattle.wp_model.specs.History.{History}
 use Rattle.wp_model.specs.Opening.{Stock}
@@ -12,7 +13,7 @@ use Rattle.wp_planner.specs.declared.planner.WavePlan.{WavePlan}
 use Rattle.wp_top.proofs.Waves.{one_wave_more}
 use Rattle.wp_top.proofs.Writing.{take_more}
 use Rattle.wp_top.specs.Planned.{IsPlanned, Sent, waves_of}
-use Rattle.wp_top.specs.Sheets.{AreSheets, IsSheetOf, is_cancelled_later}
+use Rattle.wp_top.specs.Sheets.{AreSheets, IsSheetOf}
 
 -- the sheets of waves and that of one more
 sheets_more : (layout : Layout) (stock : Stock) (terms : Terms) (history : History) (waves : List WaveHolds) (released : WaveHolds) (sheets sheet : List ℕ)

@@ -1,16 +1,19 @@
 -- The waves that went out in a day, and their plans.
-use Rattle.std.proofs.Common.{◌≡◌, refl, sym, ap, subst, List, [], ◌∷◌, ◌++◌, Option, Some, None, Result, Ok, Err, Contains}
+use Rattle.std.proofs.Common.{◌≡◌, ℕ, refl, sym, ap, subst, List, [], ◌∷◌, ◌++◌, Option, Some, None, Result, Ok, Err, Contains}
 use Rattle.std.proofs.lemmas.List.Concat.{flat_map-cons}
 use Rattle.std.proofs.lemmas.List.Elements.{All-append, All-cons, All-contains_itself, All-head, All-nil, All-tail, All-weaker}
 use Rattle.std.specs.List.{All, flat_map}
 use Rattle.std.specs.Prelude.{IfOk}
 use Rattle.wp_desk.specs.declared.day_run.DayRun.{DayRun}
+use Rattle.wp_floor.proofs.Floors.{is_opening}
 use Rattle.wp_machine.specs.Outcome.{outcomes_from, refills_of, released_in, released_of}
 use Rattle.wp_machine.specs.declared.outcome.Outcome.{Outcome}
 use Rattle.wp_machine.specs.declared.outcome.Outcome.TheVariants as outcome
 use Rattle.wp_machine.specs.declared.outcome.WaveHolds.{WaveHolds}
-use Rattle.wp_model.specs.History.{History, Script}
+use Rattle.wp_model.proofs.Served.{stock_goes_where_it_covers}
+use Rattle.wp_model.specs.History.{History, IsLegal, Script, part_of, script_of}
 use Rattle.wp_model.specs.Opening.{Opening, Stock}
+use Rattle.wp_model.specs.Sound.{EachStateIsSound}
 use Rattle.wp_model.specs.State.{opening_state}
 use Rattle.wp_model.specs.Tables.{IsReadOpening}
 use Rattle.wp_model.specs.Warehouse.{Layout}
@@ -21,7 +24,7 @@ use Rattle.wp_planner.specs.Released.{IsReleased}
 use Rattle.wp_planner.specs.declared.planner.Terms.{Terms}
 use Rattle.wp_planner.specs.declared.planner.WavePlan.{WavePlan}
 use Rattle.wp_top.specs.Planned.{AreMadeBy, ArePlanned, IsPlanned, IsToldOf, Sent, waves_of}
-use Rattle.wp_top.specs.Stops.{IsHistoryOf}
+use Rattle.wp_top.specs.Runs.{IsHistoryOf}
 
 -- one more
 pub one_wave_more : (sent : List Sent) (one : Sent) → waves_of (sent ++ one ∷ []) ≡ waves_of sent ++ one.wave ∷ []
@@ -70,6 +73,20 @@ each_planned layout stock terms (one ∷ sent) plans released =
     All-cons (IsPlanned layout stock terms) one sent
     (one_planned layout stock terms one one.plan refl (All-head P one sent plans) (All-head R one.wave (waves_of sent) released))
     (each_planned layout stock terms sent (All-tail P one sent plans) (All-tail R one.wave (waves_of sent) released))
+
+-- what the desks of an opening that was read answer is its day's history
+pub history_of : (opening : Opening) (scripts : List Script) (result : Result (DayRun (Option WavePlan)) Memory)
+    → IfOk result (λ day. day.machine.opening ≡ opening) → IfOk result (λ day. IsLegal day.machine)
+    → IfOk result (λ day. (desk : ℕ) → part_of desk day.machine.entries ≡ script_of scripts desk) → IfOk result (λ day. EachStateIsSound day.machine)
+    → IsReadOpening opening → IfOk result (λ day. IsHistoryOf opening scripts day.machine)
+history_of opening scripts (Err lack) starts legal parts sound read = tt
+history_of opening scripts (Ok day) starts legal parts sound read = record {
+  starts = starts;
+  legal = legal;
+  parts = parts;
+  sound = sound;
+  stock = stock_goes_where_it_covers day.machine (is_opening day.machine.opening (subst IsReadOpening (sym starts) read));
+}
 
 -- a day of an opening that was read tells what the steps of its history tell, where whatever may be made of a wave is a plan for it
 pub told_of : (layout : Layout) (terms : Terms) (opening : Opening) (scripts : List Script) (makes : WaveHolds → Option WavePlan → Type 0)

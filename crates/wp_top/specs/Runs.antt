@@ -1,5 +1,5 @@
 -- What a job comes to.
-use Rattle.std.specs.Prelude.{◌≡◌, ◌⊎◌, ◌++◌, ◌↔◌, ℕ, ⊤, List, Some, None, Err, codes, length, take}
+use Rattle.std.specs.Prelude.{◌≡◌, ◌⊎◌, ◌++◌, ℕ, ⊤, List, Err, codes, length}
 use Rattle.std.specs.List.{sum_by}
 use Rattle.wp_batch.specs.Waves.{WavePicks}
 use Rattle.wp_cert.specs.Bounds.{NoBatchingCostsLess}
@@ -9,18 +9,14 @@ use Rattle.wp_cert.specs.Trees.{IsBoundOf}
 use Rattle.wp_cert.specs.declared.tree.CertFault.{CertFault}
 use Rattle.wp_cert.specs.declared.tree.Node.{Node}
 use Rattle.wp_journal.specs.Journals.{IsJournalOf, Shows}
-use Rattle.wp_machine.specs.Machine.{EachStateIsSound}
 use Rattle.wp_make.specs.Accepted.{Day, Say}
 use Rattle.wp_make.specs.Texts.{made_texts}
-use Rattle.wp_model.specs.Demand.{IsCovered}
-use Rattle.wp_model.specs.History.{History, IsLegal, Script, part_of, script_of, state_after}
+use Rattle.wp_model.specs.History.{History, IsLegal, Script, part_of, script_of}
 use Rattle.wp_model.specs.Journal.{line, number_after_space}
-use Rattle.wp_model.specs.State.{State, Wave}
-use Rattle.wp_model.specs.Step.{step, wave_from}
+use Rattle.wp_model.specs.Opening.{Opening}
+use Rattle.wp_model.specs.Served.{StockGoesWhereItCovers}
+use Rattle.wp_model.specs.Sound.{EachStateIsSound}
 use Rattle.wp_model.specs.Warehouse.{Layout}
-use Rattle.wp_model.specs.declared.command.Command.TheVariants as command
-use Rattle.wp_model.specs.declared.reply.Reply.TheVariants as reply
-use Rattle.wp_model.specs.declared.reply.WaveState.TheVariants as wave
 use Rattle.wp_top.specs.Sections.{output_of}
 use Rattle.wp_top.specs.Sheets.{AreSheets, terms_of}
 use Rattle.wp_machine.specs.Outcome.{released_of}
@@ -31,31 +27,22 @@ use Rattle.wp_top.specs.declared.complaint.Finding.TheVariants as finding
 use Rattle.wp_planner.specs.declared.planner.WavePlan.{WavePlan}
 use Rattle.wp_words.specs.Words.{JobNames, MakeNumbers, PlanNames, audit, check, make, plan}
 
--- the state after the first entries of a history
-abbrev pub state_at : History → ℕ → State
-state_at history entries = state_after (record history { entries = take entries history.entries })
-
--- in each state of a history, a wave that is submitted gets stock, by its allotment or by its release, exactly where free stock covers its orders
-abbrev pub StockGoesWhereItCovers : History → Type 0
-StockGoesWhereItCovers history = (entries : ℕ) (name : List ℕ) (number : ℕ) (w : Wave) → wave_from 0 (state_at history entries).waves name ≡ Some (number, w)
-    → w.state ≡ wave.Submitted
-    → ((step history.opening (state_at history entries) (command.Allot name)).reply ≡ reply.Allotted
-    ↔ IsCovered history.opening (state_at history entries).rows w.orders None)
-    × ((step history.opening (state_at history entries) (command.Release name)).reply ≡ reply.Released
-    ↔ IsCovered history.opening (state_at history entries).rows w.orders None)
+-- What is promised of a day's history, in the words in which it is promised: it is one history of a single thread, from this opening,
+pub record IsHistoryOf (opening : Opening) (scripts : List Script) (history : History) : Type 0 where
+  pub starts : history.opening ≡ opening
+  pub legal : IsLegal history
+  -- holding every desk's commands once and in order;
+  pub parts : (desk : ℕ) → part_of desk history.entries ≡ script_of scripts desk
+  -- on hand is always free plus held;
+  pub sound : EachStateIsSound history
+  -- a wave gets stock exactly when free stock covers it
+  pub stock : StockGoesWhereItCovers history
 
 -- What a plan promises where it ends with status 0, in the words in which it is promised.
 pub record IsPlan (names : PlanNames) (said : Said) (output : List ℕ) : Type 0 where
-  -- its output is the text of one history of a single thread, from the opening that the files say,
+  -- its output is the text of one history of the opening and of the scripts that the files say;
   pub history : History
-  pub starts : history.opening ≡ said.opening
-  pub legal : IsLegal history
-  -- holding every desk's commands once and in order;
-  pub parts : (desk : ℕ) → part_of desk history.entries ≡ script_of said.scripts desk
-  -- on hand is always free plus held;
-  pub sound : EachStateIsSound history
-  -- a wave gets stock exactly when free stock covers it;
-  pub stock : StockGoesWhereItCovers history
+  pub answers : IsHistoryOf said.opening said.scripts history
   -- each released wave has a sheet with a good plan: every released order lies in one batch within capacity; every tour is a shortest closed walk; no
   -- batching costs less than the printed bound
   pub sheets : List ℕ
@@ -65,19 +52,11 @@ pub record IsPlan (names : PlanNames) (said : Said) (output : List ℕ) : Type 0
 
 -- What a make promises where it ends with status 0, in the words in which it is promised.
 pub record IsSummary (numbers : MakeNumbers) (output : List ℕ) : Type 0 where
-  -- the made input says a day,
+  -- the made input says a day, and this is one history of its opening and of its scripts;
   pub day : Day
   pub says : Say (made_texts numbers.number (size_of numbers)) day
-  -- and this is one history of a single thread, from the opening of that day,
   pub history : History
-  pub starts : history.opening ≡ day.opening
-  pub legal : IsLegal history
-  -- holding every desk's commands once and in order;
-  pub parts : (desk : ℕ) → part_of desk history.entries ≡ script_of day.scripts desk
-  -- on hand is always free plus held;
-  pub sound : EachStateIsSound history
-  -- a wave gets stock exactly when free stock covers it;
-  pub stock : StockGoesWhereItCovers history
+  pub answers : IsHistoryOf day.opening day.scripts history
   -- each released wave has a good plan
   pub plans : List WavePlan
   pub planned : AreGoodPlans day.layout history.opening.stock (made_terms numbers) (released_of history) plans

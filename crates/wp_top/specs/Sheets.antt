@@ -1,32 +1,15 @@
 -- The sheets of the waves that went out.
-use Rattle.std.specs.Prelude.{◌≡◌, ℕ, Bool, true, false, List, [], ◌∷◌, ◌++◌}
-use Rattle.std.specs.Option.{option_map_or}
+use Rattle.std.specs.Prelude.{◌≡◌, ℕ, List, [], ◌∷◌, ◌++◌}
+use Rattle.wp_machine.specs.Outcome.{is_cancelled_later}
 use Rattle.wp_machine.specs.declared.outcome.WaveHolds.{WaveHolds}
-use Rattle.wp_model.specs.History.{History, state_after}
+use Rattle.wp_model.specs.History.{History}
 use Rattle.wp_model.specs.Opening.{Stock}
-use Rattle.wp_model.specs.Step.{wave_from}
-use Rattle.wp_model.specs.declared.reply.WaveState.{WaveState}
-use Rattle.wp_model.specs.declared.reply.WaveState.TheVariants as wave
 use Rattle.wp_model.specs.Warehouse.{Layout}
 use Rattle.wp_planner.specs.Plans.{IsPlanOf}
 use Rattle.wp_planner.specs.Sheets.{IsSheet}
 use Rattle.wp_planner.specs.declared.planner.Terms.{Terms}
 use Rattle.wp_planner.specs.declared.planner.WavePlan.{WavePlan}
 use Rattle.wp_words.specs.Words.{PlanNames}
-
--- a wave in this state is cancelled
-abbrev pub is_cancelled : WaveState → Bool
-is_cancelled wave.Submitted = false
-is_cancelled wave.Allotted = false
-is_cancelled wave.Released = false
-is_cancelled wave.Cancelled = true
-is_cancelled wave.Done = false
-
--- A wave that went out was cancelled later: it is cancelled in the state after the history. No step brings a cancelled wave back, and a wave that goes out
--- isn't cancelled then.
-abbrev pub is_cancelled_later : History → WaveHolds → Bool
-is_cancelled_later history released =
-    option_map_or (λ found. is_cancelled found.1.state) (wave_from 0 (state_after history).waves released.wave) false
 
 -- what the words of a plan say of how waves are planned
 abbrev pub terms_of : PlanNames → Terms

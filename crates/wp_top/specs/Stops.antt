@@ -7,13 +7,12 @@ use Rattle.wp_cert.specs.declared.tree.CertWhy.TheVariants as cert_why
 use Rattle.wp_journal.specs.Journals.{IsJournalOf, Shows}
 use Rattle.wp_layout.specs.declared.fault.LayoutFault.{LayoutFault}
 use Rattle.wp_layout.specs.declared.fault.LayoutFault.TheVariants as layout_fault
-use Rattle.wp_machine.specs.Machine.{EachStateIsSound}
-use Rattle.wp_model.specs.History.{History, IsLegal, Script, part_of, script_of}
+use Rattle.wp_model.specs.History.{History, Script}
 use Rattle.wp_model.specs.Opening.{Opening}
 use Rattle.wp_model.specs.Warehouse.{Layout}
 use Rattle.wp_outside.specs.Outside.{Grows, TookPrefix}
 use Rattle.wp_top.specs.Ends.{Asked, HasRisen, IsCause, IsFirstRefused, IsOutput, complaint_line}
-use Rattle.wp_top.specs.Runs.{IsRefusedCertificate, ShowsBound}
+use Rattle.wp_top.specs.Runs.{IsHistoryOf, IsRefusedCertificate, ShowsBound}
 use Rattle.wp_planner.specs.declared.planner.Terms.{Terms}
 use Rattle.wp_top.specs.Sections.{output_of}
 use Rattle.wp_top.specs.Sheets.{AreSheets}
@@ -85,13 +84,6 @@ StopsAmong holds files before after stop.Memory = ⊤
 abbrev pub IsStop : (List ℕ → Option (List ℕ)) → Asked → (List ℕ → ℕ) → (List ℕ → ℕ) → Stop → Type 0
 IsStop holds asked before after (stop.Complaint why) = IsCause holds asked before after why
 IsStop holds asked before after stop.Memory = ⊤
-
--- one legal history of an opening whose part for each desk is that desk's script, and each of whose states is sound
-pub record IsHistoryOf (opening : Opening) (scripts : List Script) (history : History) : Type 0 where
-  pub starts : history.opening ≡ opening
-  pub legal : IsLegal history
-  pub parts : (desk : ℕ) → part_of desk history.entries ≡ script_of scripts desk
-  pub sound : EachStateIsSound history
 
 -- the output of a history and of the sheets of its waves, each with a good plan
 pub record IsTextOf (layout : Layout) (terms : Terms) (history : History) (output : List ℕ) : Type 0 where

@@ -1,12 +1,12 @@
 -- The summary of a made day.
 use Rattle.std.specs.Prelude.{ℕ, ⊤, Bool, true, false, List, [], ◌∷◌, ◌++◌, codes, count_by, length}
 use Rattle.std.specs.List.{filter_map, sum_by}
-use Rattle.wp_machine.specs.Outcome.{says_released}
 use Rattle.wp_machine.specs.declared.outcome.WaveHolds.{WaveHolds}
 use Rattle.wp_make.specs.declared.input.Size.{Size}
 use Rattle.wp_model.specs.History.{History, state_after}
 use Rattle.wp_model.specs.Journal.{line, number_after_space}
 use Rattle.wp_model.specs.Opening.{Stock}
+use Rattle.wp_model.specs.Step.{says_released}
 use Rattle.wp_model.specs.Warehouse.{Layout}
 use Rattle.wp_model.specs.declared.entry.Entry.{Entry}
 use Rattle.wp_model.specs.declared.row.Row.{Row}

@@ -9,7 +9,8 @@ ghost use Rattle.wp_planner.specs.Sheets.{GrowsBy};
 ghost use Rattle.wp_top.specs.Planned.{AreMadeBy, IsToldOf, waves_of};
 ghost use Rattle.wp_top.specs.Sheets.{AreSheets};
 ghost use Rattle.wp_machine.specs.Outcome.{refills_of, released_of};
-ghost use Rattle.wp_top.specs.Stops.{IsDayOf, IsHistoryOf, IsTextOf};
+ghost use Rattle.wp_top.specs.Runs.{IsHistoryOf};
+ghost use Rattle.wp_top.specs.Stops.{IsDayOf, IsTextOf};
 
 use crate::print::{print_journal, print_refills, print_stock};
 use crate::sheets::print_sheets;
@@ -34,7 +35,7 @@ fn run_planned<'a, R: Threads + Wait + Sync, C: PlansWaves, G: Gate>(
     gate: &G,
 ) -> Result<DayRun<'a, Option<WavePlan>>, Memory>
     requires { C.takes_any calls }
-    ensures history { IfOk result (λ day. IsHistoryOf opening.now scripts.now day.machine) }
+    ensures history { IsReadOpening opening.now → IfOk result (λ day. IsHistoryOf opening.now scripts.now day.machine) }
     ensures waves { IfOk result (λ day. waves_of day.plans.items ≡ released_of day.machine) }
     ensures plans { IfOk result (λ day. AreMadeBy (C.makes calls) day.plans.items) }
     ensures refills { IfOk result (λ day. day.refills.items ≡ refills_of day.machine) }

@@ -1,10 +1,11 @@
 //! The sheets of the waves that went out.
 ghost use Rattle.std.specs.Prelude.{◌≡◌, IfOk};
+ghost use Rattle.wp_machine.specs.Outcome.{is_cancelled_later};
 ghost use Rattle.wp_model.specs.Warehouse.{Layout as Block};
 ghost use Rattle.wp_planner.specs.Plans.{AreTerms};
 ghost use Rattle.wp_planner.specs.Sheets.{GrowsBy};
 ghost use Rattle.wp_top.specs.Planned.{ArePlanned, IsPlanned, waves_of};
-ghost use Rattle.wp_top.specs.Sheets.{AreSheets, IsSheetOf, is_cancelled_later};
+ghost use Rattle.wp_top.specs.Sheets.{AreSheets, IsSheetOf};
 
 use std::alloc::Global;
 use wp_desk::Planned;

@@ -38,5 +38,5 @@ returns-clause-output g c =
     IfOk-weaker c.output_of_desks.result _ _
     (λ text day. plan_is (holds c.args.files.now) (holds c.read_warehouse.new.files)
     (plan_names c.args.words.now) c.in_ok-warehouse.warehouse.layout c.in_ok-warehouse.warehouse.opening text.items
-    c.read_warehouse.ensures.same said c.in_ok-warehouse.ensures.read (rw (c.as_str-4.ensures.value, c.terms_of.ensures) at day))
+    c.read_warehouse.ensures.same said (rw (c.as_str-4.ensures.value, c.terms_of.ensures) at day))
     c.output_of_desks.ensures.output
