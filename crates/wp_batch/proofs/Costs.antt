@@ -1,11 +1,12 @@
 -- What batches cost when they are put into another order, and when two of them are joined.
-use Rattle.std.proofs.Common.{◌≡◌, ◌≢◌, ℕ, zero, suc, ◌+◌, ◌-◌, ◌<◌, ◌≤◌, List, [], ◌∷◌, length, get_or, set, arith, refl, ap, sym, ◌∙◌, subst, ⊎_elim, Contains}
-use Rattle.std.specs.Prelude.{remove}
+use Rattle.std.proofs.Common.{◌≡◌, ◌≢◌, ℕ, zero, suc, ◌+◌, ◌-◌, ◌^◌, ◌<◌, ◌≤◌, ◌⊎◌, List, [], ◌∷◌, ◌++◌, length, get_or, set, take, arith, refl, ap, sym, ◌∙◌, subst, ⊎_elim}
+use Rattle.std.proofs.Common.{Contains}
+use Rattle.std.specs.Prelude.{min, remove}
 use Rattle.std.proofs.lemmas.Bool.{cases_lt}
 use Rattle.std.proofs.lemmas.List.Edits.{get_or-remove_above, get_or-remove_below, length-remove}
-use Rattle.std.proofs.lemmas.List.{get_or-set_other, get_or_default, length-set}
+use Rattle.std.proofs.lemmas.List.{get_or-set_other, get_or_default, length-set, take_more}
 use Rattle.wp_batch.specs.Batchings.{IsCost, IsListedByLeast, batch_at}
-use Rattle.wp_batch.specs.Joins.{CostNoMore, JoinSaves}
+use Rattle.wp_batch.specs.Joins.{CostLess, CostNoMore, JoinSaves, TellsCost}
 use Rattle.wp_batch.specs.Lengths.{IsLengthOf}
 use Rattle.wp_batch.specs.Waves.{WavePicks}
 use Rattle.wp_batch.proofs.Gains.{one_length}
@@ -58,6 +59,53 @@ change_back wave (batch ∷ batches) zero other cost now before within of_other 
 change_back wave (batch ∷ batches) (suc place) other cost now before within of_other long is =
     let out = change_back wave batches place other is.1 now before (omega arith) of_other long is.3 in
     (is.0 + out.0, (is.0, out.0, is.2, out.1, refl), omega (arith, is.4, out.2))
+
+-- with two batches in the places of two others that are together no shorter, batches cost no more
+pub replaced_cost_no_more : (wave : WavePicks) (batches : List (List ℕ)) (left right : ℕ) (one other : List ℕ) (before behind total : ℕ) → left < right
+    → right < length batches → IsLengthOf wave (batch_at batches left) before → IsLengthOf wave (batch_at batches right) behind
+    → IsCost wave (one ∷ other ∷ []) total → total ≤ before + behind → CostNoMore wave batches (set (set batches left one) right other)
+replaced_cost_no_more wave batches left right one other before behind total order within is_left is_right both low = λ less is.
+    let ne : right ≢ left = omega (arith, order) in
+    let inside : right < length (set batches left one) = omega (arith, within, length-set batches left one) in
+    let there : batch_at (set batches left one) right ≡ batch_at batches right = get_or-set_other batches left right one [] ne in
+    let first = change_back wave (set batches left one) right other less both.3.0 behind inside both.3.2
+    (subst (λ (b : List ℕ). IsLengthOf wave b behind) (sym there) is_right) is in
+    let second = change_back wave batches left one first.0 both.0 before (omega (arith, order, within)) both.2 is_left first.1 in
+    (second.0, second.1, omega (arith, first.2, second.2, both.4, both.3.4, both.3.3, low))
+
+-- the batches that cost least so far stay, or others that cost less take their place
+pub cheaper_taken : (wave : WavePicks) (batches best other : List (List ℕ)) (least total : ℕ) → TellsCost wave best least → TellsCost wave other total
+    → total < least → (best ≡ batches) ⊎ CostLess wave batches best → CostLess wave batches other
+cheaper_taken wave batches best other least total known told low kept = λ cost less is other_is.
+    let here = one_cost wave other told.cost less told.is other_is in ⊎_elim
+    (λ (same : best ≡ batches). omega (
+      arith,
+      one_cost wave best known.cost cost known.is
+          (subst (λ (bs : List (List ℕ)). IsCost wave bs cost) (sym same) is),
+      here,
+      known.told_is,
+      told.told_is,
+      low,
+    ))
+    (λ (cheaper : CostLess wave batches best). omega (arith, cheaper cost known.cost is known.is, here, known.told_is, told.told_is, low)) kept
+
+-- the batches and one more cost more by its length
+cost_push : (wave : WavePicks) (batches : List (List ℕ)) (batch : List ℕ) (cost more : ℕ) → IsCost wave batches cost → IsLengthOf wave batch more
+    → IsCost wave (batches ++ batch ∷ []) (cost + more)
+cost_push wave [] batch cost more is long = (more, 0, long, refl, omega (arith, is))
+cost_push wave (first ∷ rest) batch cost more is long =
+    (is.0, is.1 + more, is.2, cost_push wave rest batch is.1 more is.3 long, omega (arith, is.4))
+
+-- what the first batches and one more cost is told by what the first cost and its length
+pub told_more : (wave : WavePicks) (batches : List (List ℕ)) (place : ℕ) (batch : List ℕ) (told more next : ℕ) → place < length batches
+    → batch ≡ batch_at batches place → TellsCost wave (take place batches) told → IsLengthOf wave batch more → next ≡ min (told + more) (2 ^ 64 - 1)
+    → TellsCost wave (take (place + 1) batches) next
+told_more wave batches place batch told more next within read is long next_is = record {
+  cost = is.cost + more;
+  is = subst (λ (bs : List (List ℕ)). IsCost wave bs (is.cost + more)) (sym (take_more batches place [] within))
+      (cost_push wave (take place batches) (batch_at batches place) is.cost more is.is (subst (λ (b : List ℕ). IsLengthOf wave b more) read long));
+  told_is = omega (arith, next_is, is.told_is);
+}
 
 -- after a join that saves, batches cost no more
 pub join_costs_no_more : (wave : WavePicks) (batches : List (List ℕ)) (left right : ℕ) (union : List ℕ) → left < right → right < length batches

@@ -1,5 +1,5 @@
 -- Two batches of a list that may be joined.
-use Rattle.std.specs.Prelude.{◌≡◌, ℕ, ◌+◌, ◌<◌, ◌≤◌, List, ◌++◌, All, length}
+use Rattle.std.specs.Prelude.{◌≡◌, ℕ, ◌+◌, ◌-◌, ◌^◌, ◌<◌, ◌≤◌, List, ◌++◌, All, length, min}
 use Rattle.wp_batch.specs.declared.merge.Join.{Join}
 use Rattle.wp_batch.specs.Batchings.{IsCost, NoGain, batch_at}
 use Rattle.wp_batch.specs.Lengths.{IsLengthOf}
@@ -18,6 +18,16 @@ pub record JoinSaves (wave : WavePicks) (left right : List ℕ) : Type 0 where
 -- whatever batches cost after a change, they cost no less before it
 abbrev pub CostNoMore : WavePicks → List (List ℕ) → List (List ℕ) → Type 0
 CostNoMore wave before after = (less : ℕ) → IsCost wave after less → (cost : ℕ) × IsCost wave before cost × (less ≤ cost)
+
+-- batches cost less after a change than before it
+abbrev pub CostLess : WavePicks → List (List ℕ) → List (List ℕ) → Type 0
+CostLess wave before after = (cost less : ℕ) → IsCost wave before cost → IsCost wave after less → less < cost
+
+-- what batches cost, as far as a word of 64 bits goes
+pub record TellsCost (wave : WavePicks) (batches : List (List ℕ)) (told : ℕ) : Type 0 where
+  pub cost : ℕ
+  pub is : IsCost wave batches cost
+  pub told_is : told ≡ min cost (2 ^ 64 - 1)
 
 -- two batches of the list that fit into one and cost less as one
 pub record CanJoin (wave : WavePicks) (capacity : ℕ) (batches : List (List ℕ)) (join : Join) : Type 0 where

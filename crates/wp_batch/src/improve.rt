@@ -1,5 +1,6 @@
-ghost use Rattle.std.specs.Prelude.{◌≡◌, ◌<◌, All, Contains, IfSome, IsTrue, List, ℕ, length};
-ghost use Rattle.wp_batch.specs.Batchings.{IsBatching};
+ghost use Rattle.std.specs.Prelude.{◌≡◌, ◌<◌, ◌∷◌, [], All, Contains, IfSome, IsTrue, List, ℕ, length, set};
+ghost use Rattle.wp_batch.specs.Batchings.{IsBatching, IsCost};
+ghost use Rattle.wp_batch.specs.Joins.{CostNoMore};
 ghost use Rattle.wp_batch.specs.Splits.{CanReplace, DividesInto, IsDivided, IsFit, IsSplit};
 
 use crate::wave::Wave;
@@ -105,7 +106,9 @@ fn fitting_split(capacity: u32, union: Batch, choice: u32) -> Option<Split>
 // A batch divided by a choice, if both parts fit and cost less than this.
 fn lesser_split(wave: &Wave, capacity: u32, union: Batch, choice: u32, least: u64) -> Option<Split>
     requires { All (λ order. order < length wave.now.orders) union }
-    ensures { IfSome result (IsSplit capacity union) }
+    ensures split { IfSome result (IsSplit capacity union) }
+    ensures total { IfSome result (λ split. IsCost wave.now (split.left ∷ split.right ∷ []) split.total) }
+    ensures less { IfSome result (λ split. split.total < least) }
 {
     let split = fitting_split(capacity, union, choice)?;
     let total = wave
@@ -132,7 +135,9 @@ fn count_choices(orders: u32) -> u32 {
 // The cheapest way to divide the orders of two batches anew, if one costs less than this.
 fn best_split(wave: &Wave, capacity: u32, union: Batch, most: u64) -> Option<Split>
     requires { All (λ order. order < length wave.now.orders) union }
-    ensures { IfSome result (IsSplit capacity union) }
+    ensures split { IfSome result (IsSplit capacity union) }
+    ensures total { IfSome result (λ split. IsCost wave.now (split.left ∷ split.right ∷ []) split.total) }
+    ensures less { IfSome result (λ split. split.total < most) }
 {
     let mut least = most;
     let mut best = None;
@@ -158,6 +163,7 @@ fn replace(
     requires split { CanReplace capacity batches.old.items left right split }
     ensures batching { IsBatching orders capacity batches.new.items }
     ensures count { length batches.new.items ≡ length batches.old.items }
+    ensures items { batches.new.items ≡ set (set batches.old.items left split.left) right split.right }
 {
     batches[left] = split.left;
     batches[right] = split.right;
@@ -178,6 +184,7 @@ fn improve_pair(
     requires within { right < length batches.old.items }
     ensures batching { IsBatching orders capacity batches.new.items }
     ensures count { length batches.new.items ≡ length batches.old.items }
+    ensures no_dearer { CostNoMore wave.now batches.old.items batches.new.items }
 {
     let one = batches[left];
     let other = batches[right];
@@ -227,6 +234,7 @@ fn improve_with(
     requires within { right < length batches.old.items }
     ensures batching { IsBatching orders capacity batches.new.items }
     ensures count { length batches.new.items ≡ length batches.old.items }
+    ensures no_dearer { CostNoMore wave.now batches.old.items batches.new.items }
 {
     let mut improved = false;
     for left in 0..right {
@@ -243,6 +251,7 @@ fn improve_once(wave: &Wave, orders: u32, capacity: u32, batches: &mut Vec<Batch
     requires batching { IsBatching orders capacity batches.old.items }
     ensures batching { IsBatching orders capacity batches.new.items }
     ensures count { length batches.new.items ≡ length batches.old.items }
+    ensures no_dearer { CostNoMore wave.now batches.old.items batches.new.items }
 {
     let mut improved = false;
     for right in 0..batches.len() {
@@ -260,6 +269,7 @@ pub fn improve(wave: &Wave, orders: u32, capacity: u32, batches: &mut Vec<Batch>
     requires batching { IsBatching orders capacity batches.old.items }
     ensures batching { IsBatching orders capacity batches.new.items }
     ensures count { length batches.new.items ≡ length batches.old.items }
+    ensures no_dearer { CostNoMore wave.now batches.old.items batches.new.items }
 {
     for _ in 0..MOST_ROUNDS {
         if !improve_once(wave, orders, capacity, batches) {

@@ -1,6 +1,6 @@
-ghost use Rattle.std.specs.Prelude.{◌≡◌, ◌<◌, IfOk, length};
+ghost use Rattle.std.specs.Prelude.{◌≡◌, ◌<◌, ◌⊎◌, IfOk, length};
 ghost use Rattle.wp_batch.specs.Batchings.{IsBatching};
-ghost use Rattle.wp_batch.specs.Joins.{AreKnown};
+ghost use Rattle.wp_batch.specs.Joins.{AreKnown, CostLess, TellsCost};
 
 use crate::improve::{improve, shake_pair};
 use crate::wave::Wave;
@@ -40,9 +40,10 @@ fn count_starts(orders: u32, capacity: u32) -> u32 {
     (MOST_LENGTHS / work).min(MOST_STARTS)
 }
 
-// The sum of the lengths of the batches.
+// The sum of the lengths of the batches, as far as a word of 64 bits goes.
 fn cost_of(wave: &Wave, batches: &[Batch]) -> u64
     requires { AreKnown wave.now batches.now }
+    ensures { TellsCost wave.now batches.now result }
 {
     let mut sum: u64 = 0;
     for batch in batches {
@@ -74,8 +75,8 @@ fn shake(orders: u32, capacity: u32, batches: &mut Vec<Batch>, first: u64) -> u6
     state
 }
 
-/// The cheapest of some batches and of what drawn divisions of their orders are improved to. The draws are the same on
-/// every call.
+/// The cheapest of some batches and of what drawn divisions of their orders are improved to. The batches stay where none is
+/// cheaper. The draws are the same on every call.
 pub fn best_of_starts(
     alloc: Global,
     wave: &Wave,
@@ -85,7 +86,8 @@ pub fn best_of_starts(
 ) -> Result<Vec<Batch>, Memory>
     requires orders { orders ≡ length wave.now.orders }
     requires batching { IsBatching orders capacity batches.now }
-    ensures { IfOk result (λ best. IsBatching orders capacity best.items) }
+    ensures batching { IfOk result (λ best. IsBatching orders capacity best.items) }
+    ensures kept { IfOk result (λ best. (best.items ≡ batches.now) ⊎ CostLess wave.now batches.now best.items) }
 {
     let mut best = Vec::from_slice(alloc, batches)?;
     let mut least = cost_of(wave, best.as_slice());

@@ -20,4 +20,8 @@ mod TextTold
 pub mod OneOutcome
 pub mod OneVerdict
 mod OrdersBelow
-mod HaveLengths
+pub mod HaveLengths
+pub mod AscendingUnions
+pub mod OneFault
+pub mod PutIntoBatches
+pub mod Walked

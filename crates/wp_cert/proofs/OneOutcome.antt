@@ -146,7 +146,7 @@ marks_not_refused wave pairing own why.BadMarks passed refused = ⊎_elim
 marks_not_refused wave pairing own _ passed refused = refused
 
 -- what a node has of its own is not both right and broken
-own_not_broken : (wave : WavePicks) (pairing : Pairing) (above : ℕ) (own : Own) (fault : CertWhy) → IsRightOwn wave pairing above own
+pub own_not_broken : (wave : WavePicks) (pairing : Pairing) (above : ℕ) (own : Own) (fault : CertWhy) → IsRightOwn wave pairing above own
     → IsBrokenOwn wave pairing above own fault → ⊥
 own_not_broken wave pairing above own _ right (not_all never) = never right.all
 own_not_broken wave pairing above own _ right (low all under) = omega (arith, right.raised, under)
@@ -154,11 +154,11 @@ own_not_broken wave pairing above own fault right (marks all raised refused) = m
 own_not_broken wave pairing above own _ right (not_tight {order} all raised passed slack) = slack.slack (right.shown order slack.known)
 
 -- two right trees at one place of the nodes end at one place, with one bound
-record Agree (rest others : List Node) (bound other : Option ℕ) : Type 0 where
-  nodes : rest ≡ others
-  bounds : bound ≡ other
+pub record Agree (rest others : List Node) (bound other : Option ℕ) : Type 0 where
+  pub nodes : rest ≡ others
+  pub bounds : bound ≡ other
 
-right_agree : (wave : WavePicks) (pairing : Pairing) (above : ℕ) (nodes rest others : List Node) (bound other : Option ℕ)
+pub right_agree : (wave : WavePicks) (pairing : Pairing) (above : ℕ) (nodes rest others : List Node) (bound other : Option ℕ)
     → IsRight wave pairing above nodes rest bound → IsRight wave pairing above nodes others other → Agree rest others bound other
 right_agree wave pairing above _ _ _ _ _ kept kept = record { nodes = refl; bounds = refl }
 right_agree wave pairing above _ _ _ _ _ (leaf own) (leaf own_too) = record { nodes = refl; bounds = refl }
@@ -173,7 +173,7 @@ right_agree wave pairing above _ rest others _ _ (split {first} {second} {own} {
     }
 
 -- a right tree breaks no rule
-right_not_broken : (wave : WavePicks) (pairing : Pairing) (above : ℕ) (nodes rest left : List Node) (bound : Option ℕ) (fault : CertWhy)
+pub right_not_broken : (wave : WavePicks) (pairing : Pairing) (above : ℕ) (nodes rest left : List Node) (bound : Option ℕ) (fault : CertWhy)
     → IsRight wave pairing above nodes rest bound → IsBroken wave pairing above nodes left fault → ⊥
 right_not_broken wave pairing above _ rest left _ fault kept broken = elim broken [ ]
 right_not_broken wave pairing above _ rest _ _ fault (leaf {own} right) (own_leaf broken) = own_not_broken wave pairing above own fault right broken
@@ -190,7 +190,7 @@ right_not_broken wave pairing above _ rest left _ fault (split {first} {second} 
     (subst (λ (ns : List Node). IsBroken wave (with_pair pairing first second false) (sum own.duals) ns left fault) (sym one.nodes) broken)
 
 -- the share duals come to one number
-same_shares : (wave : WavePicks) (capacity one other : ℕ) → IsSumOfShares wave capacity one → IsSumOfShares wave capacity other → one ≡ other
+pub same_shares : (wave : WavePicks) (capacity one other : ℕ) → IsSumOfShares wave capacity one → IsSumOfShares wave capacity other → one ≡ other
 same_shares wave capacity one other first second =
     let same = same_below (slice_index first.0) (slice_index second.0) (length wave.orders) (λ k within.
     let a = first.1.each k within in

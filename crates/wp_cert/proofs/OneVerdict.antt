@@ -168,7 +168,7 @@ module _ (wave other : WavePicks) (same : HaveSameLengths wave other) where
     skip_is place from marks one two rest again (inr more) = again more
 
     -- a visit comes to one thing
-    one_visit : (due : Due) (marks : List Bool) (one two : Visit) → IsVisit wave pairing duals due marks one → IsVisit other pairing duals due marks two
+    pub one_visit : (due : Due) (marks : List Bool) (one two : Visit) → IsVisit wave pairing duals due marks one → IsVisit other pairing duals due marks two
         → one ≡ two
     one_visit _ marks _ two (too_much {place} {from} {total} long much) second =
         much_again place from total marks two long much (place_goes other pairing duals place from marks two second)
@@ -204,7 +204,7 @@ module _ (wave other : WavePicks) (same : HaveSameLengths wave other) where
         (sym (one_visit (PlaceDue batch (from + 1)) marks (Passed left) more.0 first more.1)) more.2)
 
   -- marks that pass are not refused
-  marks_pass : (pairing : Pairing) (own : Own) (fault : CertWhy) → IsVisitOfAll wave pairing own.duals own.marks (Passed [])
+  pub marks_pass : (pairing : Pairing) (own : Own) (fault : CertWhy) → IsVisitOfAll wave pairing own.duals own.marks (Passed [])
       → AreRefused other pairing own fault → ⊥
   marks_pass pairing own (why.NotFeasible batch) passed refused =
       cc (one_visit pairing own.duals (PlaceDue [] 0) own.marks (Passed []) (TooMuch batch) passed refused)

@@ -1,4 +1,5 @@
 pub mod Trees
+pub mod Walks
 pub mod Bounds
 pub mod Refusals
 pub mod Paths

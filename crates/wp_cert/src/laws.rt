@@ -1,8 +1,28 @@
-ghost use Rattle.wp_cert.specs.Bounds.{BoundsHold, RightTreesBreakNoRule, RightTreesHaveOneBound};
+ghost use Rattle.wp_cert.specs.Bounds.{BatchesHaveLengths, BoundsHold, CostsAreWalked, RightTreesBreakNoRule, RightTreesHaveOneBound};
+ghost use Rattle.wp_cert.specs.Bounds.{PutBatchesAreBatchings, TreesBreakOneRuleFirst, WalksAreNoShorter};
 
 /// A law: no batching of a wave within a capacity costs less than the bound of a right tree.
 pub fn no_batching_costs_less()
     ensures { BoundsHold }
+{}
+
+/// A law: however a wave is put into batches within a capacity, and whatever closed walk each cart takes past the picks of its
+/// batch, the walks are together no shorter than the bound of a right tree. From this it follows that no batching costs less.
+/// Batches into which orders are put so are a batching where each has its orders in ascending order.
+pub fn no_walks_are_shorter()
+    ensures walks { WalksAreNoShorter }
+    ensures costs { CostsAreWalked }
+    ensures batchings { PutBatchesAreBatchings }
+{}
+
+/// A law: a tree that breaks a rule breaks one first, at one node.
+pub fn trees_break_one_rule_first()
+    ensures { TreesBreakOneRuleFirst }
+{}
+
+/// A law: each batch of a wave has a length.
+pub fn batches_have_lengths()
+    ensures { BatchesHaveLengths }
 {}
 
 /// A law: a right tree breaks no rule, so it is never refused, and it has one bound.

@@ -14,7 +14,10 @@ mod visit;
 mod way;
 
 pub use checking::check;
-pub use laws::{no_batching_costs_less, right_trees_are_told_exactly};
+pub use laws::{
+    batches_have_lengths, no_batching_costs_less, no_walks_are_shorter,
+    right_trees_are_told_exactly, trees_break_one_rule_first,
+};
 pub use path::pairs_of;
 pub use text::{print_certificate, read_certificate};
 pub use tree::{CertFault, CertWhy, Certificate, Duals, Node, Nodes, Own, Tree};

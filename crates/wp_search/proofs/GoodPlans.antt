@@ -4,7 +4,10 @@ use Rattle.std.specs.Prelude.{IfOk, Some, Result, Ok, Err, sum}
 use Rattle.wp_model.specs.declared.memory.Memory.{Memory}
 use Rattle.wp_batch.specs.Waves.{WavePicks}
 use Rattle.wp_cert.specs.Trees.{IsBoundOf}
+use Rattle.std.specs.List.Sorted.{IsStrictlyIncreasing}
 use Rattle.wp_cert.proofs.BoundsHold.{bounds_hold}
+use Rattle.wp_cert.proofs.PutIntoBatches.{all_places, batching_is_put}
+use Rattle.wp_cert.proofs.Walked.{no_walks_are_shorter}
 use Rattle.wp_batch.specs.Batchings.{no_pairs}
 use Rattle.wp_duals.specs.Duals.{AreShares, units_of}
 use Rattle.wp_search.specs.Branches.{bound_of, nodes_of}
@@ -16,7 +19,7 @@ use Rattle.wp_search.specs.declared.plan.Planned.{Planned}
 use Rattle.wp_search.specs.declared.plan.State.TheVariants as states
 use Rattle.wp_search.specs.declared.search.Search.{Search}
 use Rattle.wp_search.proofs.OwnCounts.{full_not_spent}
-use Rattle.wp_search.proofs.Searches.{duals_listed, own_listed, search_bound, splits_listed}
+use Rattle.wp_search.proofs.Searches.{duals_listed, own_listed, search_bound, search_short, splits_listed}
 
 module _ (wave : WavePicks) (capacity : ℕ) (shares : List ℕ) (search : Search) (bound : ℕ) (some : 1 ≤ capacity) (are : AreShares wave capacity shares)
     (is : IsSearch wave capacity (sum shares) search) (at : bound_of (units_of (sum shares)) search.tree ≡ Some bound) where
@@ -56,20 +59,26 @@ module _ (wave : WavePicks) (capacity : ℕ) (shares : List ℕ) (search : Searc
   good_plan budget planned ended spends batching costs nodes bounds state =
       let right : IsBoundOf wave capacity planned.tree.nodes planned.bound = rw (nodes, bounds) tree_right in
       let least = bounds_hold wave capacity planned.tree.nodes planned.bound some right in record {
-        batching = rw batching is.best.proper.batching;
-        listed = rw batching is.best.proper.listed;
-        cost = rw (batching, costs) is.best.cost;
-        bound = right;
-        least = least;
-        below = rw (costs) (least search.best.batching search.best.cost is.best.proper.batching is.best.cost);
-        duals = rw nodes (duals_listed wave (no_pairs (length wave.orders) capacity) (sum shares) search.tree is.right);
-        state = rw (bounds, costs) state;
-        joined = rw batching is.best.proper.joined;
-        within = rw nodes (omega (arith, all_paid, is.within, spends));
-        worked = λ count enough. ⊎_elim (λ short. inr (rw nodes (all_worked count short (omega (arith, enough, spends)))))
-            (λ done. inl (state.1 (at_cost done))) ended;
-        full_tree = λ enough. ⊎_elim (λ short. absurd (not_full short (omega (arith, enough, spends)))) (λ done. state.1 (at_cost done)) ended;
-        splits = rw (nodes, bounds) (splits_listed bound search.tree (is.cuts bound at));
+        sound = record {
+          batching = rw batching (batching_is_put (length wave.orders) capacity search.best.batching is.best.proper.batching);
+          ascending = rw batching (all_places IsStrictlyIncreasing search.best.batching (λ place low. (is.best.proper.batching.each place low).ascending));
+          listed = rw batching is.best.proper.listed;
+          cost = rw (batching, costs) is.best.cost;
+          bound = right;
+          least = no_walks_are_shorter wave capacity planned.bound least;
+          below = rw (costs) (least search.best.batching search.best.cost is.best.proper.batching is.best.cost);
+          duals = rw nodes (duals_listed wave (no_pairs (length wave.orders) capacity) (sum shares) search.tree is.right);
+          short = rw nodes (search_short wave (no_pairs (length wave.orders) capacity) (sum shares) search.tree is.right);
+        };
+        worth = record {
+          state = rw (bounds, costs) state;
+          joined = rw batching is.best.proper.joined;
+          within = rw nodes (omega (arith, all_paid, is.within, spends));
+          worked = λ count enough. ⊎_elim (λ short. inr (rw nodes (all_worked count short (omega (arith, enough, spends)))))
+              (λ done. inl (state.1 (at_cost done))) ended;
+          full_tree = λ enough. ⊎_elim (λ short. absurd (not_full short (omega (arith, enough, spends)))) (λ done. state.1 (at_cost done)) ended;
+          splits = rw (nodes, bounds) (splits_listed bound search.tree (is.cuts bound at));
+        };
       }
 
   -- so is what it is answered with

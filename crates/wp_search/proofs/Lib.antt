@@ -10,7 +10,6 @@ pub mod OwnCounts
 pub mod WholeBatchings
 pub mod OrderTotals
 pub mod ClassBatchings
-pub mod AscendingUnions
 pub mod OptimalJoins
 pub mod Searches
 pub mod GoodPlans

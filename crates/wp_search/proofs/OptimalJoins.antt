@@ -10,7 +10,7 @@ use Rattle.wp_batch.proofs.Unions.{all_from_contained, same_shortest}
 use Rattle.wp_duals.proofs.Lengths.{picked_by_more, same_length}
 use Rattle.wp_duals.proofs.OrderSums.{all_of, in_all}
 use Rattle.wp_cert.specs.Bounds.{NoBatchingCostsLess}
-use Rattle.wp_search.proofs.AscendingUnions.{IsUnion, union_of}
+use Rattle.wp_cert.proofs.AscendingUnions.{IsUnion, union_of}
 
 -- ---- batches of which no two meet
 

@@ -20,7 +20,8 @@ use Rattle.wp_cert.proofs.BoundsHold.{bounds_hold}
 use Rattle.wp_duals.specs.Duals.{AreShares, units_of}
 use Rattle.wp_search.specs.Branches.{AreCutsWithin, HasBound, IsBranch, bound_of, nodes_of, own_bound, own_count, turns_left}
 use Rattle.wp_search.specs.Counts.{own_nodes}
-use Rattle.wp_search.specs.Plans.{IsSplitWithin}
+use Rattle.wp_search.specs.Plans.{HasShortMarks, IsSplitWithin}
+use Rattle.wp_search.specs.Plans.{kept as kept_marks, leaf as leaf_marks, dead as dead_marks, split as split_marks}
 use Rattle.wp_search.specs.Prices.{choose, price}
 use Rattle.wp_search.specs.Searches.{HasEnded, IsBest, IsOnward, IsSearch}
 use Rattle.wp_batch.proofs.Costs.{one_cost}
@@ -87,6 +88,24 @@ duals_listed wave pairing above (Split' cut p together q apart) is =
   where
     both : {a b : Bool} → a ≡ true → b ≡ true → (a && b) ≡ true
     both one two = rw (one, two) refl
+
+-- the marks of its nodes are the short ones, whatever nodes follow
+pub short_listed : (wave : WavePicks) (pairing : Pairing) (above : ℕ) (branch : Branch) → IsBranch wave pairing above branch → (rest : List Node)
+    → HasShortMarks wave pairing (nodes_of branch ++ rest) rest
+short_listed wave pairing above (Leaf None) is rest = kept_marks
+short_listed wave pairing above (Leaf (Some worked)) is rest = leaf_marks is.short
+short_listed wave pairing above (Dead order) is rest = dead_marks
+short_listed wave pairing above (Split' cut p together q apart) is rest =
+    subst (λ (nodes : List Node). HasShortMarks wave pairing (node.Split cut.first cut.second (Some cut.worked.own) ∷ nodes) rest)
+    (sym (append_assoc (nodes_of together) (nodes_of apart) rest)) (split_marks is.0.worked.short
+    (short_listed wave (with_pair pairing cut.first cut.second true) (sum cut.worked.own.duals) together is.2 (nodes_of apart ++ rest))
+    (short_listed wave (with_pair pairing cut.first cut.second false) (sum cut.worked.own.duals) apart is.3 rest))
+
+-- so are those of a whole tree
+pub search_short : (wave : WavePicks) (pairing : Pairing) (above : ℕ) (branch : Branch) → IsBranch wave pairing above branch
+    → HasShortMarks wave pairing (nodes_of branch) []
+search_short wave pairing above branch is =
+    subst (λ (nodes : List Node). HasShortMarks wave pairing nodes []) (append-nil (nodes_of branch)) (short_listed wave pairing above branch is [])
 
 -- what is within a bound is within a higher one
 pub cuts_rise : (low high : ℕ) (branch : Branch) → low ≤ high → AreCutsWithin low branch → AreCutsWithin high branch
@@ -268,3 +287,9 @@ settled_proper wave capacity bound shares tree batching some are is at settled =
   joined = optimal_joins wave capacity batching bound settled.batching settled.cost
       (bounds_hold wave capacity (nodes_of tree) bound some (search_bound wave capacity bound shares tree are is at));
 }
+
+-- a batching that costs the bound of a search's tree is cheaper than one that costs more
+pub settled_cheaper : (wave : WavePicks) (capacity bound cost : ℕ) (best : Best) (batching : List (List ℕ)) → IsSettled wave capacity bound batching
+    → IsBest wave capacity best → best.batching ≡ batching → bound < cost → best.cost < cost
+settled_cheaper wave capacity bound cost best batching settled is taken dearer =
+    omega (arith, dearer, one_cost wave batching bound best.cost settled.cost (rw taken at is.cost))

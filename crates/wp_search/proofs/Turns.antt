@@ -40,7 +40,11 @@ feasible_below wave pairing new duals feasible = λ batch total permitted long. 
 -- what a node has of its own is right below less
 pub worked_below : (wave : WavePicks) (pairing : Pairing) (low high : ℕ) (worked : Worked) → low ≤ high → IsWorked wave pairing high worked
     → IsWorked wave pairing low worked
-worked_below wave pairing low high worked less is = record { right = right_below wave pairing low high worked.own less is.right; duals = is.duals }
+worked_below wave pairing low high worked less is = record {
+  right = right_below wave pairing low high worked.own less is.right;
+  duals = is.duals;
+  short = is.short;
+}
 
 -- and below all that its duals come to at least
 pub worked_at : (wave : WavePicks) (pairing : Pairing) (above : ℕ) (worked : Worked) → above ≤ sum worked.own.duals → IsWorked wave pairing 0 worked
@@ -55,6 +59,7 @@ worked_at wave pairing above worked less is = record {
     shown = is.right.shown;
   };
   duals = is.duals;
+  short = is.short;
 }
 
 -- no bound is lower than itself

@@ -7,6 +7,7 @@ use Rattle.wp_cert.specs.Trees.{IsRightOwn, lower_of, with_pair}
 use Rattle.wp_cert.specs.declared.tree.Node.{Node}
 use Rattle.wp_cert.specs.declared.tree.Node.TheVariants as node
 use Rattle.wp_duals.specs.Duals.{units_of}
+use Rattle.wp_price.specs.ShortMarks.{AreShortMarks}
 use Rattle.wp_search.specs.Raises.{AreDuals}
 use Rattle.wp_search.specs.declared.branch.Branch.{Branch}
 use Rattle.wp_search.specs.declared.branch.Branch.TheVariants.{Leaf, Dead, Split'}
@@ -49,10 +50,11 @@ HasBound orders (Dead order) = ⊤
 HasBound orders (Split' cut p together q apart) =
     cut.least ≡ lower_of (bound_of (own_bound cut.worked) together) (bound_of (own_bound cut.worked) apart)
 
--- what a node has of its own is right, and its duals are within their range
+-- what a node has of its own is right, its duals are within their range, and its marks are the short ones
 pub record IsWorked (wave : WavePicks) (pairing : Pairing) (above : ℕ) (worked : Worked) : Type 0 where
   pub right : IsRightOwn wave pairing above worked.own
   pub duals : AreDuals (length wave.orders) worked.own.duals
+  pub short : AreShortMarks wave pairing worked.own.duals worked.own.marks
 
 -- a node that is split has duals of its own, and is split on an undecided pair
 pub record IsCut (wave : WavePicks) (pairing : Pairing) (above : ℕ) (cut : Cut) : Type 0 where

@@ -14,6 +14,10 @@ pub record IsBest (wave : WavePicks) (capacity : ℕ) (best : Best) : Type 0 whe
   pub proper : IsProper wave capacity best.batching
   pub cost : IsCost wave best.batching best.cost
 
+-- the best batching stays, or one that costs less takes its place
+abbrev pub KeepsBest : Best → Best → Type 0
+KeepsBest before after = (after ≡ before) ⊎ (after.cost < before.cost)
+
 -- A search for a wave and a capacity, at whose root stand share duals that come to this: its tree is right; it has spent the price of each node with duals of
 -- its own, and no more than its budget; and each node that is split has a bound that the tree's isn't below.
 pub record IsSearch (wave : WavePicks) (capacity shares : ℕ) (search : Search) : Type 0 where

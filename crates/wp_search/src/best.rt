@@ -1,6 +1,6 @@
-ghost use Rattle.std.specs.Prelude.{◌≡◌, ◌≤◌, length};
+ghost use Rattle.std.specs.Prelude.{◌≡◌, ◌≤◌, ◌⊎◌, ℕ, IfSome, Some, length};
 ghost use Rattle.wp_batch.specs.Batchings.{IsCost};
-ghost use Rattle.wp_search.specs.Searches.{IsBest};
+ghost use Rattle.wp_search.specs.Searches.{IsBest, KeepsBest};
 ghost use Rattle.wp_search.specs.Turns.{IsFound, IsProper};
 
 use crate::cost::cost_of;
@@ -23,12 +23,15 @@ pub fn best_of(wave: &Wave, capacity: u32, batching: Batching) -> Best
     Best { batching, cost }
 }
 
-/// The cheaper of the best batching and one that was found, if one was.
+/// The cheaper of the best batching and one that was found, if one was. Of two that cost the same it is the one that was the
+/// best before.
 pub fn cheaper_of(wave: &Wave, capacity: u32, best: Best, found: Option<Batching>) -> Best
     requires best { IsBest wave.now capacity best }
     requires found { IsFound wave.now capacity found }
     ensures best { IsBest wave.now capacity result }
-    ensures no_dearer { result.cost ≤ best.cost }
+    ensures either { (result ≡ best) ⊎ (found ≡ Some result.batching) }
+    ensures kept { KeepsBest best result }
+    ensures no_dearer { IfSome found (λ batching. (cost : ℕ) → IsCost wave.now batching cost → result.cost ≤ cost) }
 {
     let Some(batching) = found else {
         return best;

@@ -68,7 +68,9 @@ fn solved_of(alloc: Global, pair: &Pair) -> Result<Solved, Memory> {
 
 // The answer of the linear program over columns, if it has one.
 fn solve_over(alloc: Global, wave: &Wave, columns: &[Column]) -> Result<Option<Solved>, Memory> {
-    let pool = pool_of(alloc, wave, columns)?;
+    let Some(pool) = pool_of(alloc, wave, columns)? else {
+        return Ok(None);
+    };
     match solve(alloc, &pool, MOST_TURNS) {
         Ok(pair) => Ok(Some(solved_of(alloc, &pair)?)),
         Err(MasterFault::Memory) => Err(Memory),

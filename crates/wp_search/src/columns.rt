@@ -1,4 +1,5 @@
-ghost use Rattle.std.specs.Prelude.{◌≡◌, ◌≢◌, ◌<◌, ◌≤◌, ◌^◌, [], All, IfOk, IsTrue, length};
+ghost use Rattle.std.specs.Prelude.{◌≡◌, ◌<◌, ◌↔◌, All, IfNone, IfOk, IfSome, IsTrue, length};
+ghost use Rattle.wp_master.specs.Pools.{IsColumn};
 
 use crate::items::total_in;
 use crate::visit::{FEW, Find, slack_of};
@@ -10,9 +11,7 @@ use wp_pairs::{Batch, Pairs};
 
 // Whether a column can stand in a pool of so many orders.
 fn is_column(orders: u32, column: &Column) -> bool
-    ensures filled { IsTrue result → column.now.batch ≢ [] }
-    ensures known { IsTrue result → All (λ order. order < orders) column.now.batch }
-    ensures short { IsTrue result → column.now.length < 2 ^ 40 }
+    ensures { IsTrue result ↔ IsColumn orders column.now }
 {
     for order in orders..64 {
         if column.batch.has(order) {
@@ -22,16 +21,20 @@ fn is_column(orders: u32, column: &Column) -> bool
     column.batch.len() > 0 && column.length < 1 << 40
 }
 
-/// The pool of these columns.
-pub fn pool_of(alloc: Global, wave: &Wave, columns: &[Column]) -> Result<Pool, Memory> {
+/// The pool of these columns, each at its place. None comes exactly where one of them can't stand in a pool.
+pub fn pool_of(alloc: Global, wave: &Wave, columns: &[Column]) -> Result<Option<Pool>, Memory>
+    ensures kept { IfOk result (λ found. IfSome found (λ pool. pool.columns ≡ columns.now)) }
+    ensures none { IfOk result (λ found. IfNone found (All (IsColumn (length wave.now.orders)) columns.now → ⊥)) }
+{
     let orders = wave.orders();
     let mut pool = Pool::new(alloc, orders)?;
     for column in columns {
-        if is_column(orders, column) {
-            pool.add(column.batch, column.length)?;
+        if !is_column(orders, column) {
+            return Ok(None);
         }
+        pool.add(column.batch, column.length)?;
     }
-    Ok(pool)
+    Ok(Some(pool))
 }
 
 /// Adds a column, where none of the columns has its batch, and tells whether it was added.

@@ -3,6 +3,7 @@ ghost use Rattle.wp_cert.specs.Trees.{IsRightOwn};
 ghost use Rattle.wp_duals.specs.Duals.{AreFeasible};
 ghost use Rattle.wp_duals.specs.Visits.{IsVisitOfAll, Passed};
 ghost use Rattle.wp_pairs.specs.Permitted.{AreHeldBelow};
+ghost use Rattle.wp_price.specs.ShortMarks.{AreShortMarks};
 ghost use Rattle.wp_search.specs.Raises.{AreDuals};
 
 use crate::raise::raise_all;
@@ -38,7 +39,7 @@ pub fn are_feasible<R: Threads + Sync, G: Gate>(
     Ok(priced.slack >= 0)
 }
 
-// The marks of feasible duals.
+// The short marks of feasible duals.
 fn marks_of<R: Threads + Sync, G: Gate>(
     rt: &R,
     alloc: Global,
@@ -55,7 +56,8 @@ fn marks_of<R: Threads + Sync, G: Gate>(
     requires feasible { AreFeasible wave.now pairs.now duals.now.items }
     requires some_workers { 1 ≤ workers }
     requires most_workers { workers ≤ 16 }
-    ensures { IfOk result (λ marks. IsVisitOfAll wave.now pairs.now duals.now.items marks (Passed [])) }
+    ensures pass { IfOk result (λ marks. IsVisitOfAll wave.now pairs.now duals.now.items marks (Passed [])) }
+    ensures short { IfOk result (λ marks. AreShortMarks wave.now pairs.now duals.now.items marks) }
 {
     let priced = least_slack(rt, alloc, wave, pairs, duals, None, workers, gate)?.unwrap();
     Ok(priced.marks.unwrap())
@@ -81,6 +83,7 @@ fn own_from<R: Threads + Sync, G: Gate>(
     requires most_workers { workers ≤ 16 }
     ensures right { IfOk result (IsRightOwn wave.now pairs.now (sum feasible.now)) }
     ensures duals { IfOk result (λ own. AreDuals (length wave.now.orders) own.duals) }
+    ensures short { IfOk result (λ own. AreShortMarks wave.now pairs.now own.duals own.marks) }
 {
     let mut duals = Vec::from_slice(alloc, feasible)?;
     let tight = raise_all(rt, alloc, wave, pairs, &mut duals, workers, gate)?;
@@ -115,6 +118,7 @@ pub fn own_of<R: Threads + Sync, G: Gate>(
     requires most_workers { workers ≤ 16 }
     ensures right { IfOk result (IsRightOwn wave.now pairs.now (sum above.now)) }
     ensures duals { IfOk result (λ own. AreDuals (length wave.now.orders) own.duals) }
+    ensures short { IfOk result (λ own. AreShortMarks wave.now pairs.now own.duals own.marks) }
 {
     if are_feasible(rt, alloc, wave, pairs, tried, workers, gate)? {
         let own = own_from(rt, alloc, wave, pairs, tried.as_slice(), workers, gate)?;

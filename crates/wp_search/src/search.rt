@@ -4,7 +4,7 @@ ghost use Rattle.wp_duals.specs.Duals.{AreShares, units_of};
 ghost use Rattle.wp_search.specs.Branches.{HasBound, IsBranch, bound_of as least_of};
 ghost use Rattle.wp_search.specs.Prices.{price};
 ghost use Rattle.wp_search.specs.Raises.{AreDuals};
-ghost use Rattle.wp_search.specs.Searches.{HasEnded, IsBest, IsOnward, IsSearch};
+ghost use Rattle.wp_search.specs.Searches.{HasEnded, IsBest, IsOnward, IsSearch, KeepsBest};
 ghost use Rattle.wp_search.specs.Turns.{IsFound, IsProper, IsTurned};
 
 use crate::best::{Best, best_of, cheaper_of};
@@ -66,6 +66,7 @@ fn paid(wave: &Wave, capacity: u32, search: Search, found: Option<Batching>) -> 
     requires best { IsBest wave.now capacity search.best }
     requires found { IsFound wave.now capacity found }
     ensures best { IsBest wave.now capacity result.best }
+    ensures kept { KeepsBest search.best result.best }
     ensures tree { result.tree ≡ search.tree }
     ensures budget { result.budget ≡ search.budget }
     ensures spent { result.spent ≡ search.spent + price (length wave.now.orders) capacity }
@@ -117,7 +118,8 @@ fn take_step<R: Threads + Sync, G: Gate>(
     requires bound { least_of (units_of (sum shares.now)) search.tree ≡ Some bound }
     requires some_workers { 1 ≤ workers }
     requires most_workers { workers ≤ 16 }
-    ensures { IfOk result (λ step. IsOnward wave.now capacity (sum shares.now) search step.search step.goes_on) }
+    ensures onward { IfOk result (λ step. IsOnward wave.now capacity (sum shares.now) search step.search step.goes_on) }
+    ensures kept { IfOk result (λ step. bound < search.best.cost → KeepsBest search.best step.search.best) }
 {
     let pays = pays(wave.orders(), capacity, search.budget - search.spent);
     let turner = Turner {
@@ -174,6 +176,7 @@ pub fn search_on<R: Threads + Sync, G: Gate>(
     ensures search { IfOk result (IsSearch wave.now capacity (sum shares.now)) }
     ensures budget { IfOk result (λ search. search.budget ≡ start.budget) }
     ensures ended { IfOk result (HasEnded wave.now capacity (sum shares.now)) }
+    ensures kept { IfOk result (λ search. KeepsBest start.best search.best) }
 {
     let orders = wave.orders();
     let above = bound_of(orders, shares);

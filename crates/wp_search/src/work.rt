@@ -2,6 +2,7 @@ ghost use Rattle.std.specs.Prelude.{◌≡◌, ◌≤◌, ◌<◌, IfOk, length,
 ghost use Rattle.wp_cert.specs.Trees.{IsRightOwn};
 ghost use Rattle.wp_duals.specs.Duals.{AreFeasible};
 ghost use Rattle.wp_pairs.specs.Permitted.{AreHeldBelow};
+ghost use Rattle.wp_price.specs.ShortMarks.{AreShortMarks};
 ghost use Rattle.wp_search.specs.Raises.{AreDuals};
 
 use crate::ascent::{GREATEST_DUAL, ascend};
@@ -257,6 +258,7 @@ pub fn work_node<R: Threads + Sync, G: Gate>(
     requires most_workers { workers ≤ 16 }
     ensures right { IfOk result (λ worked. IsRightOwn wave.now pairs.now (sum above.now) worked.own) }
     ensures duals { IfOk result (λ worked. AreDuals (length wave.now.orders) worked.own.duals) }
+    ensures short { IfOk result (λ worked. AreShortMarks wave.now pairs.now worked.own.duals worked.own.marks) }
 {
     let orders = wave.orders();
     let first = first_columns(alloc, wave, pairs, above, columns)?;

@@ -3,6 +3,7 @@ use Rattle.std.proofs.Common.{◌≡◌, ◌∙◌, refl, sym, ap, ℕ, inl, inr
 use Rattle.std.specs.Prelude.{IfOk}
 use Rattle.wp_batch.specs.Waves.{WavePicks}
 use Rattle.wp_cert.proofs.OneVerdict.{told_not_refused, told_right}
+use Rattle.wp_cert.proofs.Walked.{no_walks_are_shorter}
 use Rattle.wp_cert.specs.Bounds.{NoBatchingCostsLess}
 use Rattle.wp_cert.specs.Text.{Tells}
 use Rattle.wp_cert.specs.Trees.{IsBoundOf}
@@ -31,7 +32,7 @@ pub shows_bound : (layout : Layout) (text : List ℕ) (wave : WavePicks) (capaci
     → IfOk result (ShowsBound layout text)
 shows_bound layout text wave capacity nodes (Ok bound) told right least = record {
   tree = record { wave = wave; capacity = capacity; nodes = nodes; told = told; right = right };
-  least = least;
+  least = no_walks_are_shorter wave capacity bound least;
 }
 shows_bound layout text wave capacity nodes (Err fault) told right least = tt
 

@@ -1,9 +1,11 @@
 use Rattle.std.proofs.Common.{◌≡◌, length}
 use Rattle.wp_batch.specs.Batchings.{IsBatching}
+use Rattle.wp_batch.specs.Joins.{CostNoMore}
 use Rattle.wp_batch.proofs.improve.improve_once.Given as goal
 
 abbrev pub invariant-loop-right : goal.invariant-loop-right
 invariant-loop-right l = record {
   batching : IsBatching l.orders l.capacity l.batches.items;
   count : length l.batches.items ≡ length l.initial.batches.items;
+  no_dearer : CostNoMore l.wave l.initial.batches.items l.batches.items;
 }

@@ -1,5 +1,11 @@
+use Rattle.std.proofs.Common.{◌≡◌, ◌⊎◌}
 use Rattle.wp_batch.specs.Batchings.{IsBatching}
+use Rattle.wp_batch.specs.Joins.{CostLess, TellsCost}
 use Rattle.wp_batch.proofs.starts.best_of_starts.Given as goal
 
 abbrev pub invariant-loop : goal.invariant-loop
-invariant-loop l = IsBatching l.orders l.capacity l.best.items
+invariant-loop l = record {
+  batching : IsBatching l.orders l.capacity l.best.items;
+  told : TellsCost l.wave l.best.items l.least;
+  kept : (l.best.items ≡ l.batches) ⊎ CostLess l.wave l.batches l.best.items;
+}

@@ -18,4 +18,4 @@ returns-clause-right g c =
     (ap (λ (ds : List ℕ). length ds) c.in_ok-duals.ensures.items ∙ (c.requires.duals.count ∙ sym c.raise_all.ensures.duals.count)) c.raise_all.ensures.no_lower in
     rw (c.of.ensures, c.of-2.ensures) (right_own c.args.wave.now c.args.pairs.now _ _ c.requires.pairs c.raise_all.ensures.duals
     (subst (λ (ds : List ℕ). sum ds ≤ sum c.raise_all.new.duals.items) c.in_ok-duals.ensures.items raised)
-    c.raise_all.ensures.feasible c.in_ok-tight.ensures.tight c.in_ok-marks.ensures)
+    c.raise_all.ensures.feasible c.in_ok-tight.ensures.tight c.in_ok-marks.ensures.pass)

@@ -1,6 +1,6 @@
-use Rattle.std.proofs.Common.{ℕ, ◌-◌, ◌≤◌, ◌<◌, ◌∙◌, length, sum, arith, refl, subst}
+use Rattle.std.proofs.Common.{ℕ, ◌-◌, ◌≤◌, ◌<◌, ◌∙◌, length, sum, arith, inl, inr, refl, subst}
 use Rattle.wp_search.specs.Prices.{price}
-use Rattle.wp_search.proofs.Searches.{not_paid, paid_onward, settled_ended, settled_proper, spent_ended, split_onward}
+use Rattle.wp_search.proofs.Searches.{not_paid, paid_onward, settled_cheaper, settled_ended, settled_proper, spent_ended, split_onward}
 use Rattle.wp_search.proofs.search.take_step.Goals as goal
 use Rattle.wp_search.proofs.search.take_step.Goals.{in-Worked, in-Onward, in-Spent, in-Settled}
 
@@ -9,8 +9,8 @@ settled-requires g c =
     settled_proper c.args.wave.now c.args.capacity c.args.bound c.args.shares.now c.args.search.tree c.in-Settled.batching c.requires.some
     c.requires.shares c.requires.search.right c.requires.bound (rw c.in-Settled.is at c.in_ok-turn.ensures.turned.reason)
 
-pub returns : goal.returns
-returns g c = elim c.match-turn.branch [
+pub returns-clause-onward : goal.returns-clause-onward
+returns-clause-onward g c = elim c.match-turn.branch [
   | in-Worked w ↦
       let reason = rw w.in-Worked.is at c.in_ok-turn.ensures.turned.reason in
       let enough : price (length c.args.wave.now.orders) c.args.capacity ≤ c.args.search.budget - c.args.search.spent =
@@ -36,4 +36,13 @@ returns g c = elim c.match-turn.branch [
       c.turn_at_root.new.search.tree c.in_ok-turn.turn c.requires.search c.requires.bound c.in_ok-turn.ensures.turned w.settled.result
       w.in-Settled.batching w.in-Settled.is w.settled.ensures.tree w.settled.ensures.best w.settled.ensures.same
       (w.settled.ensures.spent ∙ c.in_ok-turn.ensures.spent) (w.settled.ensures.budget ∙ c.in_ok-turn.ensures.budget))
+]
+
+pub returns-clause-kept : goal.returns-clause-kept
+returns-clause-kept g c = λ dearer. elim c.match-turn.branch [
+  | in-Worked w ↦ rw w.result-is (rw c.in_ok-turn.ensures.best at w.paid.ensures.kept)
+  | in-Onward w ↦ rw w.result-is (inl c.in_ok-turn.ensures.best)
+  | in-Spent w ↦ rw w.result-is (inl c.in_ok-turn.ensures.best)
+  | in-Settled w ↦ rw w.result-is (inr (settled_cheaper c.args.wave.now c.args.capacity c.args.bound c.args.search.best.cost w.settled.result.best
+      w.in-Settled.batching (rw w.in-Settled.is at c.in_ok-turn.ensures.turned.reason) w.settled.ensures.best w.settled.ensures.same dearer))
 ]

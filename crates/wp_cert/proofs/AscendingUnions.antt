@@ -13,7 +13,7 @@ pub record IsUnion (xs ys union : List ℕ) : Type 0 where
   pub count : length union ≤ length xs + length ys
 
 -- one number more
-one_in : (x : ℕ) (ys : List ℕ) → IsStrictlyIncreasing ys → (union : List ℕ) × IsUnion (x ∷ []) ys union
+pub one_in : (x : ℕ) (ys : List ℕ) → IsStrictlyIncreasing ys → (union : List ℕ) × IsUnion (x ∷ []) ys union
 one_in x [] up = (
   x ∷ [],
   record { ascending = single_ascends x; both = λ p. (λ has. inl has, ⊎_elim (λ l. l) (λ none. absurd (contains_none p none))); count = omega arith },

@@ -1,0 +1,39 @@
+-- What carts walk for a wave, however its orders are put into batches.
+use Rattle.std.specs.Prelude.{◌≡◌, ℕ, ◌+◌, ◌<◌, ◌≤◌, List, [], ◌∷◌, All, length, map, nat_eq, slice_index_or}
+use Rattle.std.specs.List.{count_by, flat_map}
+use Rattle.wp_model.specs.declared.point.Point.{Point}
+use Rattle.wp_model.specs.Tours.{IsTour}
+use Rattle.wp_model.specs.Warehouse.{Layout}
+use Rattle.wp_batch.specs.Waves.{WavePicks}
+
+-- how often an order stands in the batches
+abbrev pub times_in : List (List ℕ) → ℕ → ℕ
+times_in [] order = 0
+times_in (batch ∷ batches) order = count_by (nat_eq order) batch + times_in batches order
+
+-- so many orders are put into batches: none is empty, none has more orders than the capacity, and each order stands in exactly one, once
+pub record ArePutIntoBatches (orders capacity : ℕ) (batches : List (List ℕ)) : Type 0 where
+  pub filled : All (λ batch. 0 < length batch) batches
+  pub fits : All (λ batch. length batch ≤ capacity) batches
+  pub known : All (λ batch. All (λ order. order < orders) batch) batches
+  pub once : (order : ℕ) → order < orders → times_in batches order ≡ 1
+
+-- the picks of a batch, order by order; an order is the list of the points at which it picks
+abbrev pub picks_in : List (List Point) → List ℕ → List Point
+picks_in orders batch = flat_map (λ order. slice_index_or orders order []) batch
+
+-- a cart for each batch takes some closed walk past the picks of its batch, and the walks are together so long
+abbrev pub AreWalked : Layout → List (List Point) → List (List ℕ) → ℕ → Type 0
+AreWalked layout orders [] total = total ≡ 0
+AreWalked layout orders (batch ∷ batches) total = (points : List Point) × (first : ℕ) × (rest : ℕ) × IsTour layout (picks_in orders batch) points first
+    × AreWalked layout orders batches rest × (total ≡ first + rest)
+
+-- however orders are put into batches within the capacity, and whatever closed walk each cart takes past the picks of its batch, the walks are together no
+-- shorter than this
+abbrev pub NoWalksAreShorter : Layout → List (List Point) → ℕ → ℕ → Type 0
+NoWalksAreShorter layout orders capacity bound = (batches : List (List ℕ)) (total : ℕ) → ArePutIntoBatches (length orders) capacity batches
+    → AreWalked layout orders batches total → bound ≤ total
+
+-- the lists of points at which the orders of a wave pick
+abbrev pub order_points : WavePicks → List (List Point)
+order_points wave = map (λ picks. picks.points) wave.orders
