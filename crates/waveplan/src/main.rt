@@ -17,7 +17,7 @@ use std::process::ExitCode;
 use std::sync::Wait;
 use std::thread::Threads;
 use std::{env, io};
-use wp_outside::{Files, Gate, OpenGate, RealFiles, Sink, StdSink, SystemFiles};
+use wp_outside::{Files, Gate, OpenGate, RealFiles, Sink, StdSink, SystemFiles, SystemWriter};
 use wp_top::run;
 
 // Words that stand for those of which one isn't UTF-8: a mode without its options, which is refused as bad words.
@@ -70,10 +70,8 @@ fn end_of<R: Threads + Wait + Sync, F: Files, K: Sink, G: Gate>(
     gate: &G,
 ) -> ExitCode
     ensures runs { IfOk words (λ words. Keeps (asked_by words.items)
-        (course (F.holds files.old) (F.holds files.new) (F.faults files.old) (F.faults files.new) (K.taken out.old) (K.taken out.new) (K.faults out.old)
-        (K.faults out.new)) (exit_status result)) }
-    ensures lacks { OnErr words (LacksWords (course (F.holds files.old) (F.holds files.new) (F.faults files.old) (F.faults files.new) (K.taken out.old)
-        (K.taken out.new) (K.faults out.old) (K.faults out.new)) (exit_status result)) }
+        (course (F.told files.old) (K.told out.old) (F.told files.new) (K.told out.new)) (exit_status result)) }
+    ensures lacks { OnErr words (LacksWords (course (F.told files.old) (K.told out.old) (F.told files.new) (K.told out.new)) (exit_status result)) }
 {
     match words {
         Ok(words) => ExitCode::from(run(rt, alloc, &words, files, out, gate)),
@@ -92,21 +90,18 @@ fn run_given<R: Threads + Wait + Sync, F: Files, K: Sink, G: Gate>(
     gate: &G,
 ) -> ExitCode
     ensures given { IfOk given (λ given. EndsFor (asked_by (drop 1 (into_iter_items given)))
-        (course (F.holds files.old) (F.holds files.new) (F.faults files.old) (F.faults files.new) (K.taken out.old) (K.taken out.new) (K.faults out.old)
-        (K.faults out.new)) (exit_status result)) }
+        (course (F.told files.old) (K.told out.old) (F.told files.new) (K.told out.new)) (exit_status result)) }
     ensures bad { OnErr given (EndsFor (job_said (codes "plan" ∷ []))
-        (course (F.holds files.old) (F.holds files.new) (F.faults files.old) (F.faults files.new) (K.taken out.old) (K.taken out.new) (K.faults out.old)
-        (K.faults out.new)) (exit_status result)) }
+        (course (F.told files.old) (K.told out.old) (F.told files.new) (K.told out.new)) (exit_status result)) }
     ensures lacks { IfErr given (λ fault. error_kind fault ≢ InvalidData → LacksWords
-        (course (F.holds files.old) (F.holds files.new) (F.faults files.old) (F.faults files.new) (K.taken out.old) (K.taken out.new) (K.faults out.old)
-        (K.faults out.new)) (exit_status result)) }
+        (course (F.told files.old) (K.told out.old) (F.told files.new) (K.told out.new)) (exit_status result)) }
 {
     end_of(rt, alloc, words_given(alloc, given), files, out, gate)
 }
 
 fn main(rt: HostRuntime) -> ExitCode {
     let mut files = RealFiles::new(SystemFiles::of(&rt));
-    let mut out = StdSink::new(io::writer(&rt));
+    let mut out = StdSink::new(SystemWriter::of(io::writer(&rt)));
     run_given(
         &rt,
         rt.alloc(),

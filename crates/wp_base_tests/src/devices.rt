@@ -1,5 +1,6 @@
 //! Files and sinks, in memory and over the system.
-ghost use Rattle.std.specs.Prelude.{vec_len, ◌≡◌, ◌<◌, IfOk, Some, refl};
+ghost use Rattle.std.specs.Prelude.{vec_len, ◌≡◌, ◌<◌, IfOk, refl};
+ghost use Rattle.wp_outside.specs.InMemory.{sink_told};
 
 use std::alloc::{AllocError, Global};
 use std::process::id;
@@ -7,7 +8,7 @@ use std::test::Fail;
 use std::{env, fs, io};
 use wp_outside::{
     FileFault, Files, MOST_FILE_BYTES, MemFiles, MemSink, NeverFails, RealFiles, Sink, SinkFault,
-    StdSink, SystemFiles, Tells, write_text,
+    StdSink, SystemFiles, SystemWriter, Tells, write_text,
 };
 
 const TEXT: &[u8] = b"first\nsecond\n";
@@ -83,9 +84,7 @@ struct OneByte {
 }
 
 impl Sink for OneByte {
-    ghost taken = { λ s. Some s.sink.taken };
-
-    ghost faults = { λ s. s.sink.calls.faults };
+    ghost told = { λ s. sink_told s.sink };
 
     fn write(&mut self, piece: &[u8]) -> Result<usize, SinkFault> {
         if piece.is_empty() {
@@ -316,7 +315,7 @@ const DEVICES: &[(Device, SinkFault)] = &[
 ];
 
 fn fails_so(device: Device, fault: SinkFault) -> bool {
-    let mut sink = StdSink::new(device);
+    let mut sink = StdSink::new(SystemWriter::of(device));
     write_text(&mut sink, TEXT) == Err(fault) && sink.write(b"") == Ok(0)
 }
 
@@ -344,7 +343,10 @@ fn own_path(rt: &HostRuntime) -> Result<String, Fail> {
 
 fn write_real(rt: &HostRuntime, path: &str) -> Result<(), Fail> {
     let file = fs::create(rt, path)?;
-    write_text(&mut StdSink::new(SystemFile { file }), TEXT)?;
+    write_text(
+        &mut StdSink::new(SystemWriter::of(SystemFile { file })),
+        TEXT,
+    )?;
     Ok(())
 }
 

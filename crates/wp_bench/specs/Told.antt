@@ -1,5 +1,5 @@
 -- What the words of the program say, the line of a sum, and how a run ends.
-use Rattle.std.specs.Prelude.{◌≡◌, ◌++◌, ◌<◌, ◌≤◌, ◌^◌, ℕ, List, [], ◌∷◌, Option, Some, None, codes, ⊤}
+use Rattle.std.specs.Prelude.{◌≡◌, ◌++◌, ◌+◌, ◌≤◌, ◌^◌, ℕ, List, [], ◌∷◌, Option, Some, None, codes, ⊤}
 use Rattle.wp_bench.specs.Made.{IsSumOfTours}
 use Rattle.wp_bench.specs.declared.told.Fault.{Fault}
 use Rattle.wp_bench.specs.declared.told.Fault.TheVariants as fault
@@ -58,5 +58,5 @@ pub record TookLine (words : List (List ℕ)) (taken taken' : Option (List ℕ))
 abbrev pub IsCause : List (List ℕ) → ℕ → ℕ → Fault → Type 0
 IsCause words before after fault.TooGreat = IsTooGreat words
 IsCause words before after fault.NoNumber = tours_asked words ≡ None
-IsCause words before after fault.Unwritten = before < after
+IsCause words before after fault.Unwritten = after ≡ before + 1
 IsCause words before after fault.Memory = ⊤

@@ -8,7 +8,7 @@ mod told;
 use std::alloc::AllocError;
 use std::process::ExitCode;
 use std::{env, io};
-use wp_outside::StdSink;
+use wp_outside::{StdSink, SystemWriter};
 
 fn main(rt: HostRuntime) -> ExitCode {
     let alloc = rt.alloc();
@@ -17,6 +17,6 @@ fn main(rt: HostRuntime) -> ExitCode {
         Err(fault) if fault.kind() == io::ErrorKind::InvalidData => Ok(Vec::new(alloc)),
         Err(_) => Err(AllocError),
     };
-    let mut out = StdSink::new(io::writer(&rt));
+    let mut out = StdSink::new(SystemWriter::of(io::writer(&rt)));
     told::run_given(alloc, words, &mut out)
 }

@@ -97,8 +97,8 @@ fn line_for(alloc: Global, words: &Vec<String>) -> Result<String, Fault>
 
 // Writes the line of the sum of the tours that the words ask for.
 fn tell<K: Sink>(alloc: Global, words: &Vec<String>, out: &mut K) -> Result<(), Fault>
-    ensures told { OnOk result (TookLine (map string_bytes words.now.items) (K.taken out.old) (K.taken out.new)) }
-    ensures fault { IfErr result (IsCause (map string_bytes words.now.items) (K.faults out.old) (K.faults out.new)) }
+    ensures told { OnOk result (TookLine (map string_bytes words.now.items) (K.told out.old).taken (K.told out.new).taken) }
+    ensures fault { IfErr result (IsCause (map string_bytes words.now.items) (K.told out.old).faults (K.told out.new).faults) }
     ensures asked { tours_asked (map string_bytes words.now.items) ≡ None → IsErrOf result Fault.NoNumber }
 {
     let line = line_for(alloc, words)?;
@@ -113,9 +113,9 @@ pub(crate) fn run_given<K: Sink>(
     words: Result<Vec<String>, AllocError>,
     out: &mut K,
 ) -> ExitCode
-    ensures told { IfOk words (λ words. exit_status result ≡ 0 → TookLine (map string_bytes words.items) (K.taken out.old) (K.taken out.new)) }
+    ensures told { IfOk words (λ words. exit_status result ≡ 0 → TookLine (map string_bytes words.items) (K.told out.old).taken (K.told out.new).taken) }
     ensures faults { IfOk words (λ words. (fault : Fault) → exit_status result ≡ status_of fault
-        → IsCause (map string_bytes words.items) (K.faults out.old) (K.faults out.new) fault) }
+        → IsCause (map string_bytes words.items) (K.told out.old).faults (K.told out.new).faults fault) }
     ensures asked { IfOk words (λ words. tours_asked (map string_bytes words.items) ≡ None → exit_status result ≡ 2) }
     ensures lacks { OnErr words (exit_status result ≡ 5) }
     ensures named { (exit_status result ≡ 0) ⊎ ((fault : Fault) × (exit_status result ≡ status_of fault)) }

@@ -30,7 +30,9 @@ use std::sync::Wait;
 use std::thread::Threads;
 use std::{env, io};
 use wp_model::Memory;
-use wp_outside::{Files, MemFiles, RealFiles, Sink, StdSink, SystemFiles, write_text};
+use wp_outside::{
+    Files, MemFiles, RealFiles, Sink, StdSink, SystemFiles, SystemWriter, write_text,
+};
 use wp_top::run;
 
 /// How many writes of a case may fail in turn.
@@ -222,7 +224,7 @@ fn run_files<R: Threads + Wait + Sync>(rt: &HostRuntime, threads: &R) -> Result<
     };
     let _program = names.next();
     let mut source = RealFiles::new(SystemFiles::of(rt));
-    let mut out = StdSink::new(io::writer(rt));
+    let mut out = StdSink::new(SystemWriter::of(io::writer(rt)));
     for name in names {
         run_file(threads, rt.alloc(), name.as_str(), &mut source, &mut out)?;
     }

@@ -1,4 +1,5 @@
-ghost use Rattle.std.specs.Prelude.{◌≡◌, [], Some};
+ghost use Rattle.std.specs.Prelude.{◌≡◌, []};
+ghost use Rattle.wp_outside.specs.InMemory.{sink_told};
 
 use std::alloc::Global;
 use wp_outside::{MemSink, Sink, SinkFault};
@@ -30,9 +31,7 @@ impl NarrowSink {
 }
 
 impl Sink for NarrowSink {
-    ghost taken = { λ s. Some s.sink.taken };
-
-    ghost faults = { λ s. s.sink.calls.faults };
+    ghost told = { λ s. sink_told s.sink };
 
     fn write(&mut self, piece: &[u8]) -> Result<usize, SinkFault> {
         if self.one_byte && !piece.is_empty() {

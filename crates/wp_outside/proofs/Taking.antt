@@ -1,5 +1,5 @@
 -- What a sink took in several calls, one after the other.
-use Rattle.std.proofs.Common.{ap, refl, sym, ◌+◌, ℕ, List, [], ◌++◌, length, append_assoc, append-nil, length-append, Option, Some, None, arith}
+use Rattle.std.proofs.Common.{◌≡◌, ap, refl, sym, Result, Ok, Err, ◌+◌, ℕ, List, [], ◌++◌, length, append_assoc, append-nil, length-append, Option, Some, None, arith}
 use Rattle.std.proofs.Math.Seq.{take-append-add}
 use Rattle.std.proofs.lemmas.Grind.{common_steps}
 use Rattle.wp_outside.specs.Outside.{Grows, TookPrefix}
@@ -33,3 +33,7 @@ pub TookPrefix-second : (old mid new : Option (List ℕ)) (first second : List �
     → TookPrefix old new (first ++ second)
 TookPrefix-second old mid new first second one took =
     (length first + took.0, omega (arith, length-append first second, took.1), rw take-append-add (Grows-append old mid new first _ one took.2))
+
+-- an answer isn't an error
+pub not_both : {A E : Type 0} (a : A) (e : E) → ◌≡◌ {A = Result A E} (Ok a) (Err e) → ⊥
+not_both a e same = cc same

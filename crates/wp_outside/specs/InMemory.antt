@@ -1,9 +1,11 @@
 -- Files and sinks in memory, as clauses see them.
-use Rattle.std.specs.Prelude.{ℕ, ◌+◌, ◌-◌, ◌^◌, Bool, ◌==◌, ◌&&◌, ◌||◌, nat_lt, if◌then◌else◌, List, [], length, map, find, Option, is_none, option_map}
+use Rattle.std.specs.Prelude.{ℕ, ◌+◌, ◌-◌, ◌^◌, Bool, ◌==◌, ◌&&◌, ◌||◌, nat_lt, if◌then◌else◌, List, [], length, map, find, Option, Some, is_none, option_map}
 use Rattle.std.specs.Prelude.{unwrap_or, String, string_bytes, Vec}
 use Rattle.std.specs.List.{zip, list_any}
 use Rattle.std.specs.Str.{bytes_eq}
 use Rattle.std.specs.declared.alloc.Global.{Global}
+use Rattle.wp_outside.specs.Devices.{WriteErrors}
+use Rattle.wp_outside.specs.Outside.{FilesTold, SinkTold}
 
 -- files made of names and contents: each name beside its bytes
 abbrev pub files_of : List (String Global) → List (Vec ℕ Global) → List (List ℕ × List ℕ)
@@ -50,21 +52,37 @@ read_fails held name = has_number held.calls && (is_to_fail held.calls || is_non
 abbrev pub after_read : FilesInMemory → List ℕ → FilesInMemory
 after_read held name = record held { calls = after_call held.calls (read_fails held name) }
 
--- the bytes that a sink in memory took, and the writes to it of pieces that aren't empty
+-- what such files tell
+abbrev pub files_told : FilesInMemory → FilesTold
+files_told held = record { holds = bytes_of held.files; faults = λ _. held.calls.faults; reads = held.calls.made }
+
+-- the bytes that a sink in memory took, the writes to it of pieces that aren't empty, and the errors of its writes
 pub record SinkInMemory : Type 0 where
   pub taken : List ℕ
   pub calls : NumberedCalls
+  pub errors : WriteErrors
+
+-- what such a sink tells
+abbrev pub sink_told : SinkInMemory → SinkTold
+sink_told sink = record { taken = Some sink.taken; faults = sink.calls.faults; stopped = sink.errors.stopped; late = sink.errors.late }
 
 -- a write of this piece fails: it isn't empty, and its number says so
+abbrev pub piece_fails : NumberedCalls → List ℕ → Bool
+piece_fails calls piece = nat_lt 0 (length piece) && has_number calls && is_to_fail calls
+
 abbrev pub write_fails : SinkInMemory → List ℕ → Bool
-write_fails sink piece = nat_lt 0 (length piece) && has_number sink.calls && is_to_fail sink.calls
+write_fails sink piece = piece_fails sink.calls piece
 
 -- the writes after one of this piece
-abbrev pub calls_after_write : SinkInMemory → List ℕ → NumberedCalls
-calls_after_write sink piece =
-    if nat_lt 0 (length piece) then after_call sink.calls (write_fails sink piece) else sink.calls
+abbrev pub calls_after_piece : NumberedCalls → List ℕ → NumberedCalls
+calls_after_piece calls piece = if nat_lt 0 (length piece) then after_call calls (piece_fails calls piece) else calls
 
--- files and a sink in memory that never fail: the files, and the bytes that were taken
+abbrev pub calls_after_write : SinkInMemory → List ℕ → NumberedCalls
+calls_after_write sink piece = calls_after_piece sink.calls piece
+
+-- files and a sink in memory that never fail: the files, how many reads there were, the bytes that were taken, and the errors of writes
 pub record BothInMemory : Type 0 where
   pub files : List (List ℕ × List ℕ)
+  pub reads : ℕ
   pub taken : List ℕ
+  pub errors : WriteErrors

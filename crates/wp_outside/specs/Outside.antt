@@ -1,6 +1,20 @@
 -- What reading and writing promise, over the meanings that an implementation gives.
-use Rattle.std.specs.Prelude.{◌≡◌, ℕ, ◌<◌, ◌≤◌, List, ◌++◌, length, take, Option, option_map}
+use Rattle.std.specs.Prelude.{◌≡◌, ℕ, ◌<◌, ◌≤◌, Bool, List, ◌++◌, length, take, Option, option_map}
 use Rattle.wp_model.specs.Limits.{most_file_bytes}
+
+-- what files tell: the bytes that each name holds, where that is told; how often reading each name has failed; and how many reads there were
+pub record FilesTold : Type 0 where
+  pub holds : List ℕ → Option (List ℕ)
+  pub faults : List ℕ → ℕ
+  pub reads : ℕ
+
+-- what a sink tells: the bytes that it took, where that is told; how often taking has failed; whether a write was answered with an error; and
+-- whether a write was made after one that was
+pub record SinkTold : Type 0 where
+  pub taken : Option (List ℕ)
+  pub faults : ℕ
+  pub stopped : Bool
+  pub late : Bool
 
 -- a file has more bytes than a file may have
 abbrev pub IsTooLong : List ℕ → Type 0

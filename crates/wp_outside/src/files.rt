@@ -1,6 +1,6 @@
-ghost use Rattle.std.specs.Prelude.{◌≡◌, ℕ, ◌<◌, ◌⊎◌, List, Option, Some, IfOk, IfSome, IsErrOf};
+ghost use Rattle.std.specs.Prelude.{◌≡◌, ◌+◌, ◌<◌, ◌≤◌, ◌⊎◌, Some, IfOk, IfSome, IsErrOf};
 ghost use Rattle.wp_outside.specs.Faults.{file_fault_text};
-ghost use Rattle.wp_outside.specs.Outside.{SameBytes, NoneFalls, IsTooLong};
+ghost use Rattle.wp_outside.specs.Outside.{FilesTold, SameBytes, NoneFalls, IsTooLong};
 ghost use Rattle.wp_outside.specs.declared.files.FileFault.TheVariants.{Memory as MemoryFault};
 
 use std::alloc::{AllocError, Global};
@@ -51,28 +51,29 @@ impl From<AllocError> for FileFault {
 
 /// Named files that are read whole.
 pub trait Files {
-    /// The bytes that each name holds, by the bytes of the name. `None` where they are not told.
-    ghost holds: { Self → List ℕ → Option (List ℕ) };
+    /// What they tell: the bytes that each name holds, by the bytes of the name, or that they aren't told; how often
+    /// reading each name failed, where one number may serve for all names; and how many reads there were.
+    ghost told: { Self → FilesTold };
 
-    /// How often reading failed, for each name. One number may serve for all names.
-    ghost faults: { Self → List ℕ → ℕ };
-
-    /// All the bytes of the file of this name. No read changes what a name holds, nor whether that is
-    /// told, and no count falls. `Failed` comes only where the count of this name rose in this call.
-    /// Where the bytes are told, `TooLong` comes exactly where they are more than `MOST_FILE_BYTES`
+    /// All the bytes of the file of this name. It is one read, but where memory runs out it may be none. No read changes
+    /// what a name holds, nor whether that is told, and no count falls. `Failed` comes only where the count of this name
+    /// rose in this call. Where the bytes are told, `TooLong` comes exactly where they are more than `MOST_FILE_BYTES`
     /// and that count did not rise, unless memory runs out.
     fn read(&mut self, alloc: Global, name: &str) -> Result<Vec<u8>, FileFault>
         ensures bytes { IfOk result (λ read.
-            IfSome (holds self.old name.now) (λ told. read.items ≡ told)) }
-        ensures same { SameBytes (holds self.old) (holds self.new) }
-        ensures counts { NoneFalls (faults self.old) (faults self.new) }
+            IfSome ((told self.old).holds name.now) (λ held. read.items ≡ held)) }
+        ensures same { SameBytes (told self.old).holds (told self.new).holds }
+        ensures counts { NoneFalls (told self.old).faults (told self.new).faults }
         ensures failed { IsErrOf result FileFault.Failed
-            → faults self.old name.now < faults self.new name.now }
+            → (told self.old).faults name.now < (told self.new).faults name.now }
         ensures too_long { IsErrOf result FileFault.TooLong
-            → IfSome (holds self.old name.now) (λ told.
-            IsTooLong told × (faults self.new name.now ≡ faults self.old name.now)) }
-        ensures long { IfSome (holds self.old name.now) (λ told.
-            IsTooLong told
-            → faults self.new name.now ≡ faults self.old name.now
-            → IsErrOf result FileFault.TooLong ⊎ IsErrOf result FileFault.Memory) };
+            → IfSome ((told self.old).holds name.now) (λ held.
+            IsTooLong held × ((told self.new).faults name.now ≡ (told self.old).faults name.now)) }
+        ensures long { IfSome ((told self.old).holds name.now) (λ held.
+            IsTooLong held
+            → (told self.new).faults name.now ≡ (told self.old).faults name.now
+            → IsErrOf result FileFault.TooLong ⊎ IsErrOf result FileFault.Memory) }
+        ensures once { (IsErrOf result FileFault.Memory → ⊥) → (told self.new).reads ≡ (told self.old).reads + 1 }
+        ensures least { (told self.old).reads ≤ (told self.new).reads }
+        ensures most { (told self.new).reads ≤ (told self.old).reads + 1 };
 }

@@ -1,44 +1,29 @@
-ghost use Rattle.std.specs.Prelude.{◌≡◌, ◌↔◌, ◌<◌, ◌≤◌, Option, is_some, length, take, IsTrue, IfOk, OnOk, OnErr, refl};
+ghost use Rattle.std.specs.Prelude.{◌≡◌, ◌↔◌, ◌<◌, ◌≤◌, length, take, IsTrue, IfOk, OnOk, OnErr, IsErrOf};
 ghost use Rattle.wp_outside.specs.Outside.{Grows};
 
-use std::io;
-use std::io::{Printer, Write};
+use crate::sink::SinkFault;
+use crate::writer::Writes;
 use std::marker::Model;
 
-/// A writer of which either each value tells the bytes that it holds, or none does.
-pub trait Tells: Write {
-    ghost alike: { (one other : Self) → is_some (Self.contents one) ≡ is_some (Self.contents other) };
-}
-
-/// Standard output tells nothing.
-impl<P: Print> Tells for Printer<'_, P> {
-    ghost alike = { λ _ _. refl };
-}
-
-/// A list of bytes tells all that it holds.
-impl Tells for Vec<u8> {
-    ghost alike = { λ _ _. refl };
-}
-
 /// A writer, and how many of the bytes that it took last weren't flushed. Clauses see the bytes that it holds, where they
-/// are told, and that number.
+/// are told, how often it failed, and that number.
 #[derive(Drop)]
-pub(crate) struct Flushing<W: Tells> {
+pub(crate) struct Flushing<W: Writes + Drop> {
     out: W,
     behind: usize,
 }
 
-impl<W: Tells> Model for Flushing<W> {
+impl<W: Writes + Drop> Model for Flushing<W> {
     ghost use Rattle.wp_outside.specs.Devices.{Written};
 
     ghost Value = { Written };
 
-    ghost view = { λ s. record { contents = W.contents s.out; behind = s.behind } };
+    ghost view = { λ s. record { contents = W.contents s.out; faults = W.faults s.out; behind = s.behind } };
 }
 
-impl<W: Tells> Flushing<W> {
+impl<W: Writes + Drop> Flushing<W> {
     pub(crate) fn new(out: W) -> Flushing<W>
-        ensures { result ≡ record { contents = W.contents out; behind = 0 } }
+        ensures { result ≡ record { contents = W.contents out; faults = W.faults out; behind = 0 } }
     {
         Flushing { out, behind: 0 }
     }
@@ -49,13 +34,17 @@ impl<W: Tells> Flushing<W> {
         self.behind > 0
     }
 
-    /// Writes the first bytes of a piece, and answers how many.
-    pub(crate) fn write(&mut self, piece: &[u8]) -> io::Result<usize>
-        requires { self.old.behind ≡ 0 }
+    /// Writes the first bytes of a piece that isn't empty, and answers how many.
+    pub(crate) fn write(&mut self, piece: &[u8]) -> Result<usize, SinkFault>
+        requires flushed { self.old.behind ≡ 0 }
+        requires some { 0 < length piece.now }
         ensures within { IfOk result (λ n. n ≤ length piece.now) }
+        ensures progress { IfOk result (λ n. 0 < n) }
         ensures behind { IfOk result (λ n. self.new.behind ≡ n) }
         ensures takes { IfOk result (λ n. Grows self.old.contents self.new.contents (take n piece.now)) }
-        ensures nothing { OnErr result (self.new ≡ self.old) }
+        ensures nothing { OnErr result ((self.new.contents ≡ self.old.contents) × (self.new.behind ≡ 0)) }
+        ensures counts { self.old.faults ≤ self.new.faults }
+        ensures failed { IsErrOf result SinkFault.Failed → self.old.faults < self.new.faults }
     {
         let count = self.out.write(piece)?;
         self.behind = count;
@@ -63,10 +52,12 @@ impl<W: Tells> Flushing<W> {
     }
 
     /// Flushes what was written.
-    pub(crate) fn flush(&mut self) -> io::Result<()>
+    pub(crate) fn flush(&mut self) -> Result<(), SinkFault>
         ensures contents { self.new.contents ≡ self.old.contents }
         ensures flushed { OnOk result (self.new.behind ≡ 0) }
         ensures behind { OnErr result (self.new.behind ≡ self.old.behind) }
+        ensures counts { self.old.faults ≤ self.new.faults }
+        ensures failed { IsErrOf result SinkFault.Failed → self.old.faults < self.new.faults }
     {
         self.out.flush()?;
         self.behind = 0;

@@ -2,13 +2,15 @@
 //! which tests hold desks, and the answer where memory runs out.
 //!
 //! Files and a sink are traits with a written meaning: the bytes that each name holds, the bytes
-//! that a sink has taken, and counts of faults that never fall. Code that is generic over them is
-//! proved once. `MemFiles`, `MemSink` and `NeverFails` stand in memory and tell all of this.
-//! `RealFiles` and `StdSink` reach the system, and tell their counts alone.
+//! that a sink has taken, and counts of reads and of faults that never fall. Code that is generic over
+//! them is proved once. `MemFiles`, `MemSink` and `NeverFails` stand in memory and tell all of this.
+//! `RealFiles` and `StdSink` stand over what opens files and over a writer, which count their faults.
+//! `SystemFiles` and `SystemWriter` are those of the system, which tell their counts alone.
 #![tactic(auto)]
 
 mod calls;
-mod fault_count;
+mod count;
+mod errors;
 mod files;
 mod flushing;
 mod gate;
@@ -20,10 +22,10 @@ mod real_files;
 mod shelf;
 mod sink;
 mod std_sink;
+mod writer;
 mod writing;
 
 pub use files::{FileFault, Files};
-pub use flushing::Tells;
 pub use gate::{Gate, Moment, OpenGate};
 pub use mem_files::MemFiles;
 pub use mem_sink::MemSink;
@@ -33,4 +35,5 @@ pub use real_files::RealFiles;
 pub use sink::{Sink, SinkFault};
 pub use std_sink::StdSink;
 pub use wp_model::{MOST_FILE_BYTES, Memory};
+pub use writer::{SystemWriter, Tells, Writes};
 pub use writing::write_text;

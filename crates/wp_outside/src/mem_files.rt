@@ -1,6 +1,6 @@
-ghost use Rattle.std.specs.Prelude.{◌≡◌, ◌↔◌, ◌⊎◌, vec_len, IfOk, IfSome, IsTrue, IsErrOf};
+ghost use Rattle.std.specs.Prelude.{◌≡◌, ◌↔◌, ◌⊎◌, ◌+◌, ◌≤◌, vec_len, IfOk, IfSome, IsTrue, IsErrOf};
 ghost use Rattle.wp_outside.specs.Outside.{IsTooLong};
-ghost use Rattle.wp_outside.specs.InMemory.{files_of, bytes_of, read_fails, after_read};
+ghost use Rattle.wp_outside.specs.InMemory.{files_of, files_told, bytes_of, read_fails, after_read};
 
 use crate::calls::Calls;
 use crate::files::{FileFault, Files};
@@ -41,9 +41,7 @@ impl MemFiles {
 }
 
 impl Files for MemFiles {
-    ghost holds = { λ s. bytes_of s.files };
-
-    ghost faults = { λ s _. s.calls.faults };
+    ghost told = { files_told };
 
     /// A read fails exactly where its number says so or no file has the name, and each is counted.
     /// After 2^64 - 1 reads there is no number: none fails, and nothing is counted.
@@ -60,6 +58,9 @@ impl Files for MemFiles {
             IsTooLong told
             → self.new.calls.faults ≡ self.old.calls.faults
             → IsErrOf result FileFault.TooLong ⊎ IsErrOf result FileFault.Memory) }
+        ensures once { (IsErrOf result FileFault.Memory → ⊥) → self.new.calls.made ≡ self.old.calls.made + 1 }
+        ensures least { self.old.calls.made ≤ self.new.calls.made }
+        ensures most { self.new.calls.made ≤ self.old.calls.made + 1 }
     {
         let held = self.shelf.bytes_of(name);
         let fails = self.calls.next_fails(held.is_none())?;

@@ -1,8 +1,10 @@
-ghost use Rattle.std.specs.Prelude.{◌≡◌, ◌≤◌, ◌++◌, [], Some, length, vec_len, IfOk, OnOk, OnErr, IsErrOf};
+ghost use Rattle.std.specs.Prelude.{◌≡◌, ◌+◌, ◌≤◌, ◌++◌, [], Some, true, false, length, vec_len, IfOk, OnOk, OnErr, IsErrOf};
 ghost use Rattle.wp_model.specs.Limits.{most_file_bytes};
 ghost use Rattle.wp_outside.specs.Outside.{IsTooLong};
 ghost use Rattle.wp_outside.specs.InMemory.{files_of, bytes_or_empty};
 
+use crate::count::Count;
+use crate::errors::Errors;
 use crate::files::{FileFault, Files};
 use crate::shelf::{Shelf, whole_copy};
 use crate::sink::{Sink, SinkFault};
@@ -14,7 +16,9 @@ use std::marker::Model;
 #[derive(Drop)]
 pub struct NeverFails {
     shelf: Shelf,
+    reads: Count,
     bytes: Vec<u8>,
+    errors: Errors,
 }
 
 impl Model for NeverFails {
@@ -22,19 +26,23 @@ impl Model for NeverFails {
 
     ghost Value = { BothInMemory };
 
-    ghost view = { λ s. record { files = s.shelf; taken = s.bytes.items } };
+    ghost view = { λ s. record { files = s.shelf; reads = s.reads; taken = s.bytes.items; errors = s.errors } };
 }
 
 impl NeverFails {
-    /// Each name holds the content beside it. Nothing was taken yet.
+    /// Each name holds the content beside it. Nothing was read or taken yet.
     pub fn of(alloc: Global, names: Vec<String>, contents: Vec<Vec<u8>>) -> NeverFails
         requires { vec_len contents ≡ vec_len names }
         ensures files { result.files ≡ files_of names.items contents.items }
+        ensures reads { result.reads ≡ 0 }
         ensures taken { result.taken ≡ [] }
+        ensures errors { result.errors ≡ record { stopped = false; late = false } }
     {
         NeverFails {
             shelf: Shelf::of(names, contents),
+            reads: Count::zero(),
             bytes: Vec::new(alloc),
+            errors: Errors::none(),
         }
     }
 
@@ -47,11 +55,10 @@ impl NeverFails {
 }
 
 impl Files for NeverFails {
-    ghost holds = { λ s name. Some (bytes_or_empty s.files name) };
+    ghost told = { λ s. record { holds = λ name. Some (bytes_or_empty s.files name); faults = λ _. 0; reads = s.reads } };
 
-    ghost faults = { λ _ _. 0 };
-
-    /// A read is refused only where the file is too long or memory is wanting. It changes nothing.
+    /// A read is refused only where the file is too long or memory is wanting. It is counted, unless its count is at its
+    /// end, and changes nothing else.
     fn read(&mut self, alloc: Global, name: &str) -> Result<Vec<u8>, FileFault>
         ensures bytes { IfOk result (λ read. read.items ≡ bytes_or_empty self.old.files name.now) }
         ensures fits { OnOk result
@@ -59,8 +66,14 @@ impl Files for NeverFails {
         ensures too_long { IsErrOf result FileFault.TooLong
             → IsTooLong (bytes_or_empty self.old.files name.now) }
         ensures no_fault { ¬ IsErrOf result FileFault.Failed }
-        ensures unchanged { self.new ≡ self.old }
+        ensures once { (IsErrOf result FileFault.Memory → ⊥) → self.new.reads ≡ self.old.reads + 1 }
+        ensures least { self.old.reads ≤ self.new.reads }
+        ensures most { self.new.reads ≤ self.old.reads + 1 }
+        ensures files { self.new.files ≡ self.old.files }
+        ensures taken { self.new.taken ≡ self.old.taken }
+        ensures errors { self.new.errors ≡ self.old.errors }
     {
+        self.reads.raise()?;
         match self.shelf.bytes_of(name) {
             Some(bytes) => whole_copy(alloc, bytes),
             None => Ok(Vec::new(alloc)),
@@ -69,9 +82,7 @@ impl Files for NeverFails {
 }
 
 impl Sink for NeverFails {
-    ghost taken = { λ s. Some s.taken };
-
-    ghost faults = { λ _. 0 };
+    ghost told = { λ s. record { taken = Some s.taken; faults = 0; stopped = s.errors.stopped; late = s.errors.late } };
 
     /// It takes the whole piece, unless memory is wanting. The files stay as they were.
     fn write(&mut self, piece: &[u8]) -> Result<usize, SinkFault>
@@ -81,8 +92,25 @@ impl Sink for NeverFails {
         ensures memory { OnErr result (self.new.taken ≡ self.old.taken) }
         ensures no_fault { ¬ IsErrOf result SinkFault.Failed }
         ensures files { self.new.files ≡ self.old.files }
+        ensures reads { self.new.reads ≡ self.old.reads }
+        ensures sound { OnOk result (self.new.errors.stopped ≡ self.old.errors.stopped) }
+        ensures stopped { OnErr result (self.new.errors.stopped ≡ true) }
+        ensures early { self.old.errors.stopped ≡ false → self.new.errors.late ≡ self.old.errors.late }
+        ensures late { self.old.errors.stopped ≡ true → self.new.errors.late ≡ true }
     {
-        self.bytes.extend_from_slice(piece)?;
-        Ok(piece.len())
+        let answer = take_whole(&mut self.bytes, piece);
+        self.errors.note(answer.is_err());
+        answer
     }
+}
+
+fn take_whole(bytes: &mut Vec<u8>, piece: &[u8]) -> Result<usize, SinkFault>
+    ensures whole { IfOk result (λ n. n ≡ length piece.now) }
+    ensures takes { OnOk result (bytes.new.items ≡ bytes.old.items ++ piece.now) }
+    ensures empty { length piece.now ≡ 0 → result ≡ Ok 0 }
+    ensures memory { OnErr result (bytes.new.items ≡ bytes.old.items) }
+    ensures no_fault { ¬ IsErrOf result SinkFault.Failed }
+{
+    bytes.extend_from_slice(piece)?;
+    Ok(piece.len())
 }

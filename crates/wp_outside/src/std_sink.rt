@@ -1,100 +1,122 @@
-ghost use Rattle.std.specs.Prelude.{◌≡◌, ◌≢◌, ◌<◌, ◌≤◌, ◌+◌, length, take, IfOk, OnErr, OnOk, IsErrOf, Ok};
-ghost use Rattle.std.specs.IoError.{error_kind};
-ghost use Rattle.std.specs.declared.io.ErrorKind.TheVariants.{OutOfMemory};
+ghost use Rattle.std.specs.Prelude.{◌≡◌, ◌<◌, ◌≤◌, ◌+◌, ◌⊎◌, true, false, length, take, IfOk, OnOk, OnErr, IsErrOf, Ok};
 ghost use Rattle.wp_outside.specs.Devices.{flushed};
 ghost use Rattle.wp_outside.specs.Outside.{Grows};
-ghost use Rattle.wp_outside.specs.declared.sink.SinkFault.TheVariants.{Failed, Memory as MemoryFault};
 
-use crate::fault_count::FaultCount;
-use crate::flushing::{Flushing, Tells};
+use crate::count::Count;
+use crate::errors::Errors;
+use crate::flushing::Flushing;
 use crate::sink::{Sink, SinkFault};
-use std::io;
+use crate::writer::Writes;
 use std::marker::Model;
 
 /// A sink over a writer, as standard output, which is flushed after each write. What was flushed was taken. Where the
 /// writer tells its bytes, so does the sink. After bytes that could not be flushed nothing more is written.
 #[derive(Drop)]
-pub struct StdSink<W: Tells> {
+pub struct StdSink<W: Writes + Drop> {
     writer: Flushing<W>,
-    faults: FaultCount,
+    faults: Count,
+    errors: Errors,
 }
 
-impl<W: Tells> Model for StdSink<W> {
-    ghost use Rattle.wp_outside.specs.Devices.{OverWriter, flushed};
+impl<W: Writes + Drop> Model for StdSink<W> {
+    ghost use Rattle.wp_outside.specs.Devices.{OverWriter};
 
     ghost Value = { OverWriter };
 
-    ghost view = { λ s. record { taken = flushed s.writer; faults = s.faults } };
+    ghost view = { λ s. record { writer = s.writer; faults = s.faults; errors = s.errors } };
 }
 
-impl<W: Tells> StdSink<W> {
+impl<W: Writes + Drop> StdSink<W> {
     /// A sink over this writer. What the writer holds was taken, and no write failed yet.
     pub fn new(out: W) -> StdSink<W>
-        ensures { result ≡ record { taken = W.contents out; faults = 0 } }
+        ensures writer { result.writer ≡ record { contents = W.contents out; faults = W.faults out; behind = 0 } }
+        ensures faults { result.faults ≡ 0 }
+        ensures errors { result.errors ≡ record { stopped = false; late = false } }
     {
         StdSink {
             writer: Flushing::new(out),
-            faults: FaultCount::zero(),
+            faults: Count::zero(),
+            errors: Errors::none(),
         }
     }
 }
 
-impl<W: Tells> Sink for StdSink<W> {
-    ghost taken = { λ s. s.taken };
+impl<W: Writes + Drop> Sink for StdSink<W> {
+    ghost told = { λ s. record { taken = flushed s.writer; faults = s.faults; stopped = s.errors.stopped; late = s.errors.late } };
 
-    ghost faults = { λ s. s.faults };
-
-    /// Each failure counts once, and nothing else does.
+    /// A write fails only where the writer's count rose in this call, or where bytes that it took before could not be
+    /// flushed. That comes only of a flush in which the writer's count rose.
     fn write(&mut self, piece: &[u8]) -> Result<usize, SinkFault>
-        ensures counted { IsErrOf result SinkFault.Failed → self.new.faults ≡ self.old.faults + 1 }
-        ensures uncounted { (IsErrOf result SinkFault.Failed → ⊥) → self.new.faults ≡ self.old.faults }
+        ensures cause { IsErrOf result SinkFault.Failed
+            → (self.old.writer.faults < self.new.writer.faults) ⊎ (0 < self.old.writer.behind) }
+        ensures behind { 0 < self.new.writer.behind
+            → (self.old.writer.faults < self.new.writer.faults) ⊎ (0 < self.old.writer.behind) ⊎ IsErrOf result SinkFault.Memory }
 
         ensures within { IfOk result (λ n. n ≤ length piece.now) }
-        ensures takes { IfOk result (λ n. Grows self.old.taken self.new.taken (take n piece.now)) }
+        ensures takes { IfOk result (λ n. Grows (flushed self.old.writer) (flushed self.new.writer) (take n piece.now)) }
         ensures progress { 0 < length piece.now → IfOk result (λ n. 0 < n) }
-        ensures empty { length piece.now ≡ 0 → (result ≡ Ok 0) × (self.new.taken ≡ self.old.taken) }
-        ensures nothing { OnErr result (self.new.taken ≡ self.old.taken) }
+        ensures empty { length piece.now ≡ 0 → (result ≡ Ok 0) × (flushed self.new.writer ≡ flushed self.old.writer) }
+        ensures nothing { OnErr result (flushed self.new.writer ≡ flushed self.old.writer) }
+        ensures counted { IsErrOf result SinkFault.Failed → self.new.faults ≡ self.old.faults + 1 }
+        ensures uncounted { (IsErrOf result SinkFault.Failed → ⊥) → self.new.faults ≡ self.old.faults }
+        ensures sound { OnOk result (self.new.errors.stopped ≡ self.old.errors.stopped) }
+        ensures stopped { OnErr result (self.new.errors.stopped ≡ true) }
+        ensures early { self.old.errors.stopped ≡ false → self.new.errors.late ≡ self.old.errors.late }
+        ensures late { self.old.errors.stopped ≡ true → self.new.errors.late ≡ true }
     {
-        if piece.is_empty() {
-            return Ok(0);
-        }
-        let answer = write_and_flush(&mut self.writer, piece);
-        if let Err(SinkFault::Failed) = answer {
-            self.faults.raise()?;
-        }
+        let answer = write_counted(&mut self.writer, &mut self.faults, piece);
+        self.errors.note(answer.is_err());
         answer
     }
 }
 
-/// Want of memory is told as it is, and every other error as a fault.
-impl From<io::Error> for SinkFault {
-    ghost from_gives = { λ error fault.
-        (error_kind error ≡ OutOfMemory → fault ≡ MemoryFault)
-        × (error_kind error ≢ OutOfMemory → fault ≡ Failed) };
-
-    fn from(error: io::Error) -> SinkFault {
-        match error.kind() {
-            io::ErrorKind::OutOfMemory => SinkFault::Memory,
-            _ => SinkFault::Failed,
-        }
+// Each failure counts once, and nothing else does.
+fn write_counted<W: Writes + Drop>(
+    writer: &mut Flushing<W>,
+    faults: &mut Count,
+    piece: &[u8],
+) -> Result<usize, SinkFault>
+    ensures cause { IsErrOf result SinkFault.Failed → (writer.old.faults < writer.new.faults) ⊎ (0 < writer.old.behind) }
+    ensures behind { 0 < writer.new.behind
+        → (writer.old.faults < writer.new.faults) ⊎ (0 < writer.old.behind) ⊎ IsErrOf result SinkFault.Memory }
+    ensures counted { IsErrOf result SinkFault.Failed → faults.new ≡ faults.old + 1 }
+    ensures uncounted { (IsErrOf result SinkFault.Failed → ⊥) → faults.new ≡ faults.old }
+    ensures within { IfOk result (λ n. n ≤ length piece.now) }
+    ensures takes { IfOk result (λ n. Grows (flushed writer.old) (flushed writer.new) (take n piece.now)) }
+    ensures progress { 0 < length piece.now → IfOk result (λ n. 0 < n) }
+    ensures empty { length piece.now ≡ 0 → (result ≡ Ok 0) × (flushed writer.new ≡ flushed writer.old) }
+    ensures nothing { OnErr result (flushed writer.new ≡ flushed writer.old) }
+{
+    if piece.is_empty() {
+        return Ok(0);
     }
+    let answer = write_and_flush(writer, piece);
+    if let Err(SinkFault::Failed) = answer {
+        faults.raise()?;
+    }
+    answer
 }
 
-/// Writes some of the piece, which isn't empty, and flushes it. A writer that takes nothing has failed, and so has one
-/// that could not flush what it took before.
-fn write_and_flush<W: Tells>(writer: &mut Flushing<W>, piece: &[u8]) -> Result<usize, SinkFault>
+/// Writes some of the piece, which isn't empty, and flushes it. A writer that could not flush what it took before has
+/// failed.
+fn write_and_flush<W: Writes + Drop>(
+    writer: &mut Flushing<W>,
+    piece: &[u8],
+) -> Result<usize, SinkFault>
+    requires { 0 < length piece.now }
     ensures within { IfOk result (λ n. n ≤ length piece.now) }
     ensures progress { IfOk result (λ n. 0 < n) }
     ensures takes { IfOk result (λ n. Grows (flushed writer.old) (flushed writer.new) (take n piece.now)) }
     ensures nothing { OnErr result (flushed writer.new ≡ flushed writer.old) }
+    ensures counts { writer.old.faults ≤ writer.new.faults }
+    ensures cause { IsErrOf result SinkFault.Failed → (writer.old.faults < writer.new.faults) ⊎ (0 < writer.old.behind) }
+    ensures behind { 0 < writer.new.behind
+        → (writer.old.faults < writer.new.faults) ⊎ (0 < writer.old.behind) ⊎ IsErrOf result SinkFault.Memory }
 {
     if writer.is_behind() {
         return Err(SinkFault::Failed);
     }
     let count = writer.write(piece)?;
-    if count == 0 {
-        return Err(SinkFault::Failed);
-    }
     writer.flush()?;
     Ok(count)
 }

@@ -1,5 +1,5 @@
 -- What the check of a certificate comes to.
-use Rattle.std.proofs.Common.{◌≡◌, ◌∙◌, refl, sym, ap, ℕ, inl, inr, Bool, true, false, List, [], ◌∷◌, Ok, Err, Result, true≢false, if◌then◌else◌}
+use Rattle.std.proofs.Common.{◌≡◌, ◌∙◌, refl, sym, ap, subst, ℕ, inl, inr, Bool, true, false, List, [], ◌∷◌, Ok, Err, Result, true≢false, if◌then◌else◌}
 use Rattle.std.specs.Prelude.{IfOk}
 use Rattle.wp_batch.specs.Waves.{WavePicks}
 use Rattle.wp_cert.proofs.OneVerdict.{told_not_refused, told_right}
@@ -12,12 +12,12 @@ use Rattle.wp_cert.specs.declared.tree.CertFault.{CertFault}
 use Rattle.wp_cert.specs.declared.tree.CertWhy.{CertWhy}
 use Rattle.wp_cert.specs.declared.tree.CertWhy.TheVariants as cert_why
 use Rattle.wp_model.specs.Warehouse.{Layout}
-use Rattle.wp_outside.specs.Outside.{NoneFalls, SameBytes}
-use Rattle.wp_top.proofs.FilesRead.{Counts, Holding, after_layout, have_next, held_before, layout_file, none_fell, nothing_read, stops_there}
-use Rattle.wp_top.proofs.Jobs.{stop_of}
-use Rattle.wp_top.specs.Ends.{HaveSaid, IsOutput}
-use Rattle.wp_top.specs.Runs.{IsRefusedCertificate, ShowsBound, TellsBound, bound_line}
-use Rattle.wp_top.specs.Stops.{IsRead, IsRightCertificate, IsSaid, IsStop, IsUnsaid, StopsCheck, StopsShowing, is_memory, stop_at_certificate}
+use Rattle.wp_outside.specs.Outside.{FilesTold, NoneFalls, SameBytes}
+use Rattle.wp_top.proofs.FilesRead.{HaveRead, WasRead, after_layout, layout_file, nothing_read, read_next, stops_there}
+use Rattle.wp_top.proofs.Jobs.{has_read, stop_at_last, stop_of}
+use Rattle.wp_top.specs.Ends.{IsOutput, of_run}
+use Rattle.wp_top.specs.Runs.{IsRefusedCertificate, IsWrong, ShowsBound, TellsBound, bound_line}
+use Rattle.wp_top.specs.Stops.{HasRightText, IsRead, IsSaid, StopsAt, StopsFor, is_memory, of_certificate, of_file, stop_at_certificate}
 use Rattle.wp_top.specs.Texts.{Said, file_of, files_of, layout_in, nothing_said, text_in}
 use Rattle.wp_top.specs.declared.complaint.Complaint.TheVariants as complaint
 use Rattle.wp_top.specs.declared.complaint.Finding.TheVariants as finding
@@ -49,22 +49,14 @@ no_memory why other is = true≢false (sym (ap is_memory is) ∙ other)
 
 stops_by : (layout : Layout) (text : List ℕ) (fault : CertFault) (memory : Bool) → is_memory fault.why ≡ memory
     → ((fault.why ≡ cert_why.Memory → ⊥) → IsRefusedCertificate layout text fault)
-    → StopsCheck layout text (if memory then stop.Memory else stop.Complaint (complaint.Wrong (finding.Certificate fault)))
+    → StopsFor (of_certificate layout text) (if memory then stop.Memory else stop.Complaint (complaint.Wrong (finding.Certificate fault)))
 stops_by layout text fault true is refused = tt
-stops_by layout text fault false is refused = refused (no_memory fault.why is)
+stops_by layout text fault false is refused = (fault, refl, refused (no_memory fault.why is))
 
 -- the fault of a certificate stops a run
 pub stops_check : (layout : Layout) (text : List ℕ) (fault : CertFault)
-    → ((fault.why ≡ cert_why.Memory → ⊥) → IsRefusedCertificate layout text fault) → StopsCheck layout text (stop_at_certificate fault)
+    → ((fault.why ≡ cert_why.Memory → ⊥) → IsRefusedCertificate layout text fault) → StopsFor (of_certificate layout text) (stop_at_certificate fault)
 stops_check layout text fault refused = stops_by layout text fault (is_memory fault.why) refl refused
-
--- nothing came of the layout file
-pub stop_at_layout : (holds : Holding) (names : CheckNames) (before after : Counts) (s : Stop) → NoneFalls before after
-    → IsUnsaid layout_in holds names.layout (before names.layout) (after names.layout) input.Layout s → IsStop holds (Ok (check names)) before after s
-stop_at_layout holds names before after s counts nothing =
-    stop_of holds (check names) before after s
-    (stops_there layout_in holds holds [] (file_of input.Certificate names.certificate ∷ []) nothing_said input.Layout names.layout
-    before before after after s (λ text why none. rw none refl) (λ name. refl) (nothing_read holds) (none_fell before) (none_fell after) nothing)
 
 -- what is said once the layout file was read
 abbrev of_layout : Layout → Said
@@ -74,57 +66,47 @@ of_layout layout = record nothing_said { layout = layout }
 abbrev with_certificate : Layout → List ℕ → Said
 with_certificate layout text = record (of_layout layout) { certificate = text }
 
-check_files : (holds held : Holding) (names : CheckNames) (layout : Layout) (text : List ℕ) → SameBytes holds held
-    → IsSaid layout_in holds names.layout layout → IsRead held names.certificate text
-    → HaveSaid holds (files_of (check names)) (with_certificate layout text)
-check_files holds held names layout text same said read =
-    have_next holds (layout_file names.layout) (of_layout layout) (with_certificate layout text) input.Certificate names.certificate text
-    (after_layout holds names.layout layout said) (held_before holds held names.certificate text (same names.certificate) read.held) (rw read.short refl)
+-- nothing came of the layout file
+pub stop_at_layout : (old new : FilesTold) (names : CheckNames) (s : Stop) → StopsFor (of_file layout_in old new names.layout input.Layout) s
+    → StopsFor (of_run (Ok (check names)) old new) s
+stop_at_layout old new names s nothing =
+    stop_of old new (check names) s
+    (stops_there layout_in old old new [] (file_of input.Certificate names.certificate ∷ []) nothing_said input.Layout names.layout s
+    (λ text why none. rw none refl) (nothing_read old) nothing)
 
--- nothing came of the certificate
-stop_at_certificate_file : (holds held : Holding) (names : CheckNames) (before first after : Counts) (layout : Layout) (s : Stop)
-    → SameBytes holds held → IsSaid layout_in holds names.layout layout → NoneFalls before first
-    → IsUnsaid text_in held names.certificate (first names.certificate) (after names.certificate) input.Certificate s
-    → IsStop holds (Ok (check names)) before after s
-stop_at_certificate_file holds held names before first after layout s same said counts nothing =
-    stop_of holds (check names) before after s
-    (stops_there text_in holds held (layout_file names.layout) [] (of_layout layout) input.Certificate names.certificate before first after after s
-    (λ text why none. rw none refl) same (after_layout holds names.layout layout said) counts (none_fell after) nothing)
+check_files : (old mid new : FilesTold) (names : CheckNames) (layout : Layout) (text : List ℕ) → WasRead old mid
+    → IsSaid layout_in old.holds names.layout layout → WasRead mid new → IsRead mid.holds names.certificate text
+    → HaveRead old new (files_of (check names)) (with_certificate layout text)
+check_files old mid new names layout text first said was read =
+    read_next old mid new (layout_file names.layout) (of_layout layout) (with_certificate layout text) input.Certificate names.certificate text
+    (after_layout old mid names.layout layout first said) was read.held (rw read.short refl)
 
 -- the certificate isn't right
-stop_at_fault : (holds held : Holding) (names : CheckNames) (before after : Counts) (layout : Layout) (text : List ℕ) (s : Stop)
-    → SameBytes holds held → IsSaid layout_in holds names.layout layout → IsRead held names.certificate text
-    → StopsCheck layout text s → IsStop holds (Ok (check names)) before after s
-stop_at_fault holds held names before after layout text (stop.Complaint (complaint.Words why)) same said read wrong = absurd wrong
-stop_at_fault holds held names before after layout text (stop.Complaint (complaint.Refused f why)) same said read wrong = absurd wrong
-stop_at_fault holds held names before after layout text (stop.Complaint (complaint.Fault f)) same said read wrong = absurd wrong
-stop_at_fault holds held names before after layout text (stop.Complaint (complaint.Wrong (finding.Journal fault))) same said read wrong = absurd wrong
-stop_at_fault holds held names before after layout text (stop.Complaint (complaint.Wrong (finding.Certificate fault))) same said read wrong = record {
-  job = check names;
-  asked_for = refl;
-  said = with_certificate layout text;
-  accepted = check_files holds held names layout text same said read;
-  wrong = wrong;
-}
-stop_at_fault holds held names before after layout text stop.Memory same said read wrong = tt
+stop_at_fault : (old mid new : FilesTold) (names : CheckNames) (layout : Layout) (text : List ℕ) (s : Stop) → WasRead old mid
+    → IsSaid layout_in old.holds names.layout layout → WasRead mid new → IsRead mid.holds names.certificate text
+    → StopsFor (of_certificate layout text) s → StopsFor (of_run (Ok (check names)) old new) s
+stop_at_fault old mid new names layout text (stop.Complaint (complaint.Words why)) first said was read wrong = absurd wrong
+stop_at_fault old mid new names layout text (stop.Complaint (complaint.Refused f why)) first said was read wrong = absurd wrong
+stop_at_fault old mid new names layout text (stop.Complaint (complaint.Fault f)) first said was read wrong = absurd wrong
+stop_at_fault old mid new names layout text (stop.Complaint (complaint.Wrong found)) first said was read (fault, is, refused) =
+    has_read old new (check names) (with_certificate layout text) _ (check_files old mid new names layout text first said was read)
+    (subst (IsWrong (check names) (with_certificate layout text)) (sym is) refused)
+stop_at_fault old mid new names layout text stop.Memory first said was read wrong = tt
 
 -- the certificate shows no bound
-pub stop_at_showing : (holds held : Holding) (names : CheckNames) (before first after : Counts) (layout : Layout) (s : Stop)
-    → SameBytes holds held → IsSaid layout_in holds names.layout layout → NoneFalls before first
-    → StopsShowing held layout names.certificate (first names.certificate) (after names.certificate) s → IsStop holds (Ok (check names)) before after s
-stop_at_showing holds held names before first after layout s same said counts (inl nothing) =
-    stop_at_certificate_file holds held names before first after layout s same said counts nothing
-stop_at_showing holds held names before first after layout s same said counts (inr (text, read, wrong)) =
-    stop_at_fault holds held names before after layout text s same said read wrong
+pub stop_at_showing : (old mid new : FilesTold) (names : CheckNames) (layout : Layout) (s : Stop) → WasRead old mid
+    → IsSaid layout_in old.holds names.layout layout → SameBytes mid.holds new.holds → NoneFalls mid.faults new.faults
+    → StopsAt (of_certificate layout) mid new names.certificate input.Certificate s → StopsFor (of_run (Ok (check names)) old new) s
+stop_at_showing old mid new names layout s first said same counts (inl nothing) =
+    stop_at_last text_in old mid new (check names) (layout_file names.layout) (of_layout layout) input.Certificate names.certificate s refl
+    (λ text why none. rw none refl) (after_layout old mid names.layout layout first said) nothing
+stop_at_showing old mid new names layout s first said same counts (inr (text, read, next, wrong)) =
+    stop_at_fault old mid new names layout text s first said (record { same = same; counts = counts; reads = next }) read wrong
 
 -- the output of a check
-pub check_is : (holds held : Holding) (names : CheckNames) (layout : Layout) (bound : ℕ) (output : List ℕ) → SameBytes holds held
-    → IsSaid layout_in holds names.layout layout → IsRightCertificate held layout names.certificate bound
-    → output ≡ bound_line bound → IsOutput holds (Ok (check names)) output
-check_is holds held names layout bound output same said right is = record {
-  job = check names;
-  asked_for = refl;
-  said = with_certificate layout right.text;
-  accepted = check_files holds held names layout right.text same said right.read;
-  comes = record { bound = bound; shows = right.shows; is = is };
-}
+pub check_is : (old mid new : FilesTold) (names : CheckNames) (layout : Layout) (bound : ℕ) (output : List ℕ) → WasRead old mid
+    → IsSaid layout_in old.holds names.layout layout → WasRead mid new → HasRightText mid.holds names.certificate (λ text. ShowsBound layout text bound)
+    → output ≡ bound_line bound → IsOutput (Ok (check names)) old new output
+check_is old mid new names layout bound output first said was right is =
+    has_read old new (check names) (with_certificate layout right.text) _ (check_files old mid new names layout right.text first said was right.read)
+    (record { bound = bound; shows = right.shows; is = is })

@@ -5,11 +5,17 @@ use Rattle.std.specs.List.{All}
 use Rattle.std.proofs.lemmas.List.Elements.{All-cons, All-head, All-nil, All-tail}
 use Rattle.wp_model.specs.Outcomes.{and_then}
 use Rattle.wp_top.proofs.FilesRead.{Holding, say_further}
-use Rattle.wp_top.specs.Ends.{HaveSaid, IsFirstRefused}
-use Rattle.wp_top.specs.Promise.{AreToldToSay}
-use Rattle.wp_top.specs.Texts.{AreHeld, AreTold, File, IsHeld, ReadFile, Said, Say, file_of, nothing_said, said_after, said_with}
+use Rattle.wp_outside.specs.Outside.{FilesTold}
+use Rattle.wp_top.specs.Ends.{EndsAt, IsRefused}
+use Rattle.wp_top.specs.Texts.{File, HaveSaid, IsHeld, IsTold, ReadFile, Said, Say, file_of, nothing_said, said_after, said_with}
 use Rattle.wp_top.specs.declared.input.Input.{Input}
 use Rattle.wp_top.specs.declared.input.Refusal.{Refusal}
+
+abbrev AreHeld : Holding → List ReadFile → Type 0
+AreHeld holds read = All (λ r. IsHeld holds r.file.name r.text) read
+
+abbrev AreTold : Holding → List ReadFile → Type 0
+AreTold holds read = All (λ r. IsTold holds r.file.name r.text) read
 
 -- what is told is what was read
 pub told_text : (holds : Holding) (name told text : List ℕ) → holds name ≡ Some told → IsHeld holds name text → text ≡ told
@@ -45,9 +51,9 @@ same_ok : (a b : Said) → ◌≡◌ {A = Result Said Refusal} (Ok a) (Ok b) →
 same_ok a b e = cc e
 
 -- what files say is one thing
-pub one_said : (holds : Holding) (files : List File) (a b : Said) → HaveSaid holds files a → AreToldToSay holds files b → a ≡ b
+pub one_said : (holds : Holding) (files : List File) (a b : Said) → HaveSaid (IsHeld holds) files a → HaveSaid (IsTold holds) files b → a ≡ b
 one_said holds files a b p q =
-    let same = same_texts holds p.read q.read (p.are ∙ sym q.are) p.held q.told in
+    let same = same_texts holds p.read q.read (p.are ∙ sym q.are) p.texts q.texts in
     same_ok a b (sym p.say ∙ (ap (said_after nothing_said) same ∙ q.say))
 
 -- files and their texts, where one file stands among them
@@ -107,13 +113,13 @@ refused_there first others here said all why say refused whole =
 
 -- files that say something have none that is told and refused
 pub none_told : (holds : Holding) (files before : List File) (file : File) (later : List File) (all said : Said) (text : List ℕ) (why : Refusal)
-    → HaveSaid holds files all → files ≡ before ++ file ∷ later
-    → AreToldToSay holds before said → holds file.name ≡ Some text → said_with said file.kind text ≡ Err why → ⊥
+    → HaveSaid (IsHeld holds) files all → files ≡ before ++ file ∷ later
+    → HaveSaid (IsTold holds) before said → holds file.name ≡ Some text → said_with said file.kind text ≡ Err why → ⊥
 none_told holds files before file later all said text why have place accepted told refused =
     let at = split have.read before file later (have.are ∙ place) in
-    let held : AreHeld holds (at.first ++ at.here ∷ at.others) = subst (AreHeld holds) at.parts have.held in
+    let held : AreHeld holds (at.first ++ at.here ∷ at.others) = subst (AreHeld holds) at.parts have.texts in
     let same = same_texts holds at.first accepted.read (at.are ∙ sym accepted.are)
-    (all_first (λ (r : ReadFile). IsHeld holds r.file.name r.text) at.first (at.here ∷ at.others) held) accepted.told in
+    (all_first (λ (r : ReadFile). IsHeld holds r.file.name r.text) at.first (at.here ∷ at.others) held) accepted.texts in
     let here : IsHeld holds file.name at.here.text = subst (λ (f : File). IsHeld holds f.name at.here.text) at.is
     (all_here (λ (r : ReadFile). IsHeld holds r.file.name r.text) at.first at.here at.others held) in
     let text_is = told_text holds file.name text at.here.text told here in
@@ -122,16 +128,18 @@ none_told holds files before file later all said text why have place accepted to
     (ap (said_after nothing_said) (sym at.parts) ∙ have.say)
 
 -- files that are told to say something have none that is refused
-pub none_refused : (holds : Holding) (files : List File) (all : Said) (kind : Input) (why : Refusal) → AreToldToSay holds files all
-    → IsFirstRefused holds files kind why → ⊥
-none_refused holds files all kind why told first =
+pub none_refused : (old new : FilesTold) (files : List File) (all : Said) (kind : Input) (why : Refusal) → HaveSaid (IsTold old.holds) files all
+    → EndsAt old new files kind (IsRefused old kind why) → ⊥
+none_refused old new files all kind why told first =
+    let holds = old.holds in
     let at = split told.read first.before (file_of kind first.name) first.later (told.are ∙ first.place) in
-    let are : AreTold holds (at.first ++ at.here ∷ at.others) = subst (AreTold holds) at.parts told.told in
-    let same = same_texts holds first.accepted.read at.first (first.accepted.are ∙ sym at.are) first.accepted.held
+    let are : AreTold holds (at.first ++ at.here ∷ at.others) = subst (AreTold holds) at.parts told.texts in
+    let same = same_texts holds first.accepted.read at.first (first.accepted.are ∙ sym at.are) first.accepted.texts
     (all_first (λ (r : ReadFile). holds r.file.name ≡ Some r.text) at.first (at.here ∷ at.others) are) in
     let here : holds first.name ≡ Some at.here.text = subst (λ (f : File). holds f.name ≡ Some at.here.text) at.is
     (all_here (λ (r : ReadFile). holds r.file.name ≡ Some r.text) at.first at.here at.others are) in
-    let text_is = told_text holds first.name at.here.text first.text here first.held in
+    let text = first.why.0 in
+    let text_is = told_text holds first.name at.here.text text here first.why.1 in
     refused_there at.first at.others at.here first.said all why (ap (said_after nothing_said) (sym same) ∙ first.accepted.say)
-    (ap (λ (f : File). said_with first.said f.kind at.here.text) at.is ∙ (ap (said_with first.said kind) (sym text_is) ∙ first.refused))
+    (ap (λ (f : File). said_with first.said f.kind at.here.text) at.is ∙ (ap (said_with first.said kind) (sym text_is) ∙ first.why.2))
     (ap (said_after nothing_said) (sym at.parts) ∙ told.say)

@@ -1,11 +1,12 @@
 -- The lines of complaints, and what each has for its cause.
-use Rattle.std.specs.Prelude.{◌≡◌, ◌++◌, ℕ, ◌<◌, List, ◌∷◌, Option, String, Result, Ok, Err, codes, map}
+use Rattle.std.specs.Prelude.{◌≡◌, ◌++◌, ℕ, ◌+◌, ◌<◌, ◌≤◌, List, ◌∷◌, String, Result, Ok, Err, codes, length}
 use Rattle.std.specs.declared.alloc.Global.{Global}
 use Rattle.wp_cert.specs.FaultTexts.{cert_fault_text}
 use Rattle.wp_journal.specs.FaultTexts.{audit_fault_text}
 use Rattle.wp_model.specs.Journal.{after_space, line}
+use Rattle.wp_outside.specs.Outside.{FilesTold}
 use Rattle.wp_top.specs.Runs.{ComesTo, IsWrong}
-use Rattle.wp_top.specs.Texts.{AreHeld, File, IsHeld, ReadFile, Said, Say, file_of, files_of, input_text, refusal_text, said_with}
+use Rattle.wp_top.specs.Texts.{File, HaveSaid, IsHeld, Said, file_of, files_of, input_text, refusal_text, said_with}
 use Rattle.wp_top.specs.declared.complaint.Complaint.{Complaint}
 use Rattle.wp_top.specs.declared.complaint.Complaint.TheVariants as complaint
 use Rattle.wp_top.specs.declared.complaint.Finding.{Finding}
@@ -60,54 +61,78 @@ complaint_text (complaint.Wrong found) = codes "refused" ++ after_space (finding
 abbrev pub complaint_line : Complaint → List ℕ
 complaint_line why = line (complaint_text why)
 
--- these files hold texts, where that is told, none of which is refused, and together they say this
-pub record HaveSaid (holds : List ℕ → Option (List ℕ)) (files : List File) (said : Said) : Type 0 where
-  pub read : List ReadFile
-  pub are : map (λ read. read.file) read ≡ files
-  pub held : AreHeld holds read
-  pub say : Say read said
+-- what each cause of a complaint means
+pub record Causes : Type 1 where
+  pub words : WordsFault → Type 0
+  pub refused : Input → Refusal → Type 0
+  pub fault : Input → Type 0
+  pub wrong : Finding → Type 0
 
--- one of these files is refused, and those before it aren't
-pub record IsFirstRefused (holds : List ℕ → Option (List ℕ)) (files : List File) (kind : Input) (why : Refusal) : Type 0 where
+-- there is no cause
+abbrev pub no_cause : Causes
+no_cause = record { words = λ why. ⊥; refused = λ kind why. ⊥; fault = λ kind. ⊥; wrong = λ found. ⊥ }
+
+-- a complaint has its cause among these
+abbrev pub HasCause : Causes → Complaint → Type 0
+HasCause causes (complaint.Words why) = causes.words why
+HasCause causes (complaint.Refused kind why) = causes.refused kind why
+HasCause causes (complaint.Fault kind) = causes.fault kind
+HasCause causes (complaint.Wrong found) = causes.wrong found
+
+-- the last read, between these two states of the files, was of one of them; those before it aren't refused, and this holds of what they say and
+-- of its name
+pub record EndsAt (old new : FilesTold) (files : List File) (kind : Input) (Why : Said → List ℕ → Type 0) : Type 0 where
   pub before : List File
   pub name : List ℕ
   pub later : List File
   pub place : files ≡ before ++ file_of kind name ∷ later
   pub said : Said
-  pub accepted : HaveSaid holds before said
-  pub text : List ℕ
-  pub held : IsHeld holds name text
-  pub refused : said_with said kind text ≡ Err why
+  pub accepted : HaveSaid (IsHeld old.holds) before said
+  pub reads : new.reads ≡ old.reads + (length before + 1)
+  pub why : Why said name
 
--- the count of faults rose for the name of one of these files, and those before it aren't refused
-pub record HasRisen (holds : List ℕ → Option (List ℕ)) (files : List File) (counts counts' : List ℕ → ℕ) (kind : Input) : Type 0 where
-  pub before : List File
-  pub name : List ℕ
-  pub later : List File
-  pub place : files ≡ before ++ file_of kind name ∷ later
-  pub said : Said
-  pub accepted : HaveSaid holds before said
-  pub rose : counts name < counts' name
+-- what the name holds, where that is told, is refused
+abbrev pub IsRefused : FilesTold → Input → Refusal → Said → List ℕ → Type 0
+IsRefused old kind why said name = (text : List ℕ) × IsHeld old.holds name text × (said_with said kind text ≡ Err why)
 
--- a job is asked for, none of its files is refused, and the output is what they come to
-pub record IsOutput (holds : List ℕ → Option (List ℕ)) (asked : Asked) (output : List ℕ) : Type 0 where
+-- the count of faults of the name rose
+abbrev pub HasRisen : FilesTold → FilesTold → Said → List ℕ → Type 0
+HasRisen old new said name = old.faults name < new.faults name
+
+-- why a job stops among files, which were read up to the one at fault: it is the first that is refused, or its count of faults rose
+abbrev pub among : FilesTold → FilesTold → List File → Causes
+among old new files = record no_cause {
+  refused = λ kind why. EndsAt old new files kind (IsRefused old kind why);
+  fault = λ kind. EndsAt old new files kind (HasRisen old new);
+}
+
+-- a job is asked for, each of its files was read once, none is refused, and this holds of what they say
+pub record HasRead (asked : Asked) (old new : FilesTold) (Comes : JobNames → Said → Type 0) : Type 0 where
   pub job : JobNames
   pub asked_for : asked ≡ Ok job
   pub said : Said
-  pub accepted : HaveSaid holds (files_of job) said
-  pub comes : ComesTo job said output
+  pub accepted : HaveSaid (IsHeld old.holds) (files_of job) said
+  pub reads : new.reads ≡ old.reads + length (files_of job)
+  pub comes : Comes job said
 
--- a job is asked for, none of its files is refused, but this is found
-pub record IsFound (holds : List ℕ → Option (List ℕ)) (asked : Asked) (found : Finding) : Type 0 where
-  pub job : JobNames
-  pub asked_for : asked ≡ Ok job
-  pub said : Said
-  pub accepted : HaveSaid holds (files_of job) said
-  pub wrong : IsWrong job said found
+-- the output of the job that is asked for
+abbrev pub IsOutput : Asked → FilesTold → FilesTold → List ℕ → Type 0
+IsOutput asked old new output = HasRead asked old new (λ job said. ComesTo job said output)
 
--- a complaint has its cause in what is asked for and in the files
-abbrev pub IsCause : (List ℕ → Option (List ℕ)) → Asked → (List ℕ → ℕ) → (List ℕ → ℕ) → Complaint → Type 0
-IsCause holds asked counts counts' (complaint.Words why) = asked ≡ Err why
-IsCause holds asked counts counts' (complaint.Refused kind why) = (job : JobNames) × (asked ≡ Ok job) × IsFirstRefused holds (files_of job) kind why
-IsCause holds asked counts counts' (complaint.Fault kind) = (job : JobNames) × (asked ≡ Ok job) × HasRisen holds (files_of job) counts counts' kind
-IsCause holds asked counts counts' (complaint.Wrong found) = IsFound holds asked found
+-- why a run complains: of its words, and then nothing was read; of a file of the job; or of what is found when all were read
+abbrev pub of_run : Asked → FilesTold → FilesTold → Causes
+of_run asked old new = record {
+  words = λ why. (asked ≡ Err why) × (new.reads ≡ old.reads);
+  refused = λ kind why. (job : JobNames) × (asked ≡ Ok job) × (among old new (files_of job)).refused kind why;
+  fault = λ kind. (job : JobNames) × (asked ≡ Ok job) × (among old new (files_of job)).fault kind;
+  wrong = λ found. HasRead asked old new (λ job said. IsWrong job said found);
+}
+
+-- how many reads the job takes that is asked for
+abbrev pub most_reads : Asked → ℕ
+most_reads (Ok job) = length (files_of job)
+most_reads (Err why) = 0
+
+-- there were no more reads than so many
+abbrev pub ReadsWithin : FilesTold → FilesTold → ℕ → Type 0
+ReadsWithin old new most = (old.reads ≤ new.reads) × (new.reads ≤ old.reads + most)

@@ -1,18 +1,19 @@
 -- What comes of the files, one after the other, why a job stops, and how a run ends. The code is held against these; what they come to is in Promise.
-use Rattle.std.specs.Prelude.{◌≡◌, ◌⊎◌, ℕ, ◌<◌, ⊤, Bool, true, false, List, [], ◌∷◌, Option, Vec, Result, Ok, Err, if◌then◌else◌}
+use Rattle.std.specs.Prelude.{◌≡◌, ◌⊎◌, ℕ, ◌+◌, ◌<◌, ⊤, Bool, true, false, List, [], ◌∷◌, Option, Vec, Result, Ok, Err, if◌then◌else◌}
 use Rattle.std.specs.declared.alloc.Global.{Global}
 use Rattle.wp_cert.specs.declared.tree.CertFault.{CertFault}
 use Rattle.wp_cert.specs.declared.tree.CertWhy.{CertWhy}
 use Rattle.wp_cert.specs.declared.tree.CertWhy.TheVariants as cert_why
-use Rattle.wp_journal.specs.Journals.{IsJournalOf, Shows}
+use Rattle.wp_journal.specs.Journals.{Shows}
+use Rattle.wp_journal.specs.declared.verdict.AuditFault.{AuditFault}
 use Rattle.wp_layout.specs.declared.fault.LayoutFault.{LayoutFault}
 use Rattle.wp_layout.specs.declared.fault.LayoutFault.TheVariants as layout_fault
 use Rattle.wp_model.specs.History.{History, Script}
 use Rattle.wp_model.specs.Opening.{Opening}
 use Rattle.wp_model.specs.Warehouse.{Layout}
-use Rattle.wp_outside.specs.Outside.{Grows, TookPrefix}
-use Rattle.wp_top.specs.Ends.{Asked, HasRisen, IsCause, IsFirstRefused, IsOutput, complaint_line}
-use Rattle.wp_top.specs.Runs.{IsHistoryOf, IsRefusedCertificate, ShowsBound}
+use Rattle.wp_outside.specs.Outside.{FilesTold, Grows, SinkTold, TookPart, TookPrefix}
+use Rattle.wp_top.specs.Ends.{Asked, Causes, HasCause, IsOutput, complaint_line, no_cause, of_run}
+use Rattle.wp_top.specs.Runs.{IsHistoryOf, IsRefusedCertificate}
 use Rattle.wp_planner.specs.declared.planner.Terms.{Terms}
 use Rattle.wp_top.specs.Sections.{output_of}
 use Rattle.wp_top.specs.Sheets.{AreSheets}
@@ -41,24 +42,43 @@ pub record IsRead (holds : List ℕ → Option (List ℕ)) (name text : List ℕ
 abbrev pub IsSaid : {A : Type 0} → (List ℕ → Result A Refusal) → (List ℕ → Option (List ℕ)) → List ℕ → A → Type 0
 IsSaid says holds name said = (text : List ℕ) × IsHeld holds name text × (says text ≡ Ok said)
 
--- why nothing came of one file: its text is refused, or its count of faults rose
-abbrev pub IsUnsaid : {A : Type 0} → (List ℕ → Result A Refusal) → (List ℕ → Option (List ℕ)) → List ℕ → ℕ → ℕ → Input → Stop → Type 0
-IsUnsaid says holds name before after file (stop.Complaint (complaint.Words why)) = ⊥
-IsUnsaid says holds name before after file (stop.Complaint (complaint.Refused f why)) = (f ≡ file) × (text : List ℕ) × IsHeld holds name text
-    × (says text ≡ Err why)
-IsUnsaid says holds name before after file (stop.Complaint (complaint.Fault f)) = (f ≡ file) × (before < after)
-IsUnsaid says holds name before after file (stop.Complaint (complaint.Wrong found)) = ⊥
-IsUnsaid says holds name before after file stop.Memory = ⊤
+-- a stop has its cause among these, or memory ran out
+abbrev pub StopsFor : Causes → Stop → Type 0
+StopsFor causes (stop.Complaint why) = HasCause causes why
+StopsFor causes stop.Memory = ⊤
+
+-- why nothing came of one file, in one read: its text is refused, or its count of faults rose
+abbrev pub of_file : {A : Type 0} → (List ℕ → Result A Refusal) → FilesTold → FilesTold → List ℕ → Input → Causes
+of_file says old new name file = record no_cause {
+  refused = λ kind why. (kind ≡ file) × (new.reads ≡ old.reads + 1) × (text : List ℕ) × IsHeld old.holds name text × (says text ≡ Err why);
+  fault = λ kind. (kind ≡ file) × (new.reads ≡ old.reads + 1) × (old.faults name < new.faults name);
+}
+
+-- why a journal stops a run: it isn't right
+abbrev pub of_journal : Opening → List ℕ → Causes
+of_journal opening text = record no_cause { wrong = λ found. (fault : AuditFault) × (found ≡ finding.Journal fault) × Shows opening text (Err fault) }
+
+-- why a certificate does
+abbrev pub of_certificate : Layout → List ℕ → Causes
+of_certificate layout text = record no_cause {
+  wrong = λ found. (fault : CertFault) × (found ≡ finding.Certificate fault) × IsRefusedCertificate layout text fault;
+}
+
+-- why a file stops a run that is held against those before it: nothing came of it, or its text isn't right
+abbrev pub StopsAt : (List ℕ → Causes) → FilesTold → FilesTold → List ℕ → Input → Stop → Type 0
+StopsAt of_text old new name file why = StopsFor (of_file text_in old new name file) why
+    ⊎ ((text : List ℕ) × IsRead old.holds name text × (new.reads ≡ old.reads + 1) × StopsFor (of_text text) why)
+
+-- a file that is held against those before it has a right text
+pub record HasRightText (holds : List ℕ → Option (List ℕ)) (name : List ℕ) (IsRight : List ℕ → Type 0) : Type 0 where
+  pub text : List ℕ
+  pub read : IsRead holds name text
+  pub shows : IsRight text
 
 -- there was no memory for what a layout file says
 abbrev pub lacks_memory : LayoutFault → Bool
-lacks_memory layout_fault.NotJson = false
-lacks_memory layout_fault.NotObject = false
-lacks_memory (layout_fault.MissingKey key) = false
-lacks_memory layout_fault.UnknownKey = false
-lacks_memory (layout_fault.NotWhole key) = false
-lacks_memory (layout_fault.OutOfRange key) = false
 lacks_memory layout_fault.Memory = true
+lacks_memory other = false
 
 -- why words stop a run
 abbrev pub stop_at_words : WordsFault → Stop
@@ -71,19 +91,6 @@ opening_files layout stock orders = file_of input.Layout layout ∷ file_of inpu
 -- what they say
 abbrev pub opening_said : Layout → Opening → Said
 opening_said layout opening = record nothing_said { layout = layout; opening = opening }
-
--- why a job stops among files: one of them is refused, or the count of its name rose
-abbrev pub StopsAmong : (List ℕ → Option (List ℕ)) → List File → (List ℕ → ℕ) → (List ℕ → ℕ) → Stop → Type 0
-StopsAmong holds files before after (stop.Complaint (complaint.Words why)) = ⊥
-StopsAmong holds files before after (stop.Complaint (complaint.Refused kind why)) = IsFirstRefused holds files kind why
-StopsAmong holds files before after (stop.Complaint (complaint.Fault kind)) = HasRisen holds files before after kind
-StopsAmong holds files before after (stop.Complaint (complaint.Wrong found)) = ⊥
-StopsAmong holds files before after stop.Memory = ⊤
-
--- a stop has its cause in what is asked for and in the files
-abbrev pub IsStop : (List ℕ → Option (List ℕ)) → Asked → (List ℕ → ℕ) → (List ℕ → ℕ) → Stop → Type 0
-IsStop holds asked before after (stop.Complaint why) = IsCause holds asked before after why
-IsStop holds asked before after stop.Memory = ⊤
 
 -- the output of a history and of the sheets of its waves, each with a good plan
 pub record IsTextOf (layout : Layout) (terms : Terms) (history : History) (output : List ℕ) : Type 0 where
@@ -103,65 +110,14 @@ pub record IsDay (holds : List ℕ → Option (List ℕ)) (layout : Layout) (ope
   pub desk_file : IsSaid scripts_in holds name scripts
   pub day : IsDayOf layout opening terms scripts output
 
--- a journal stops a run where it isn't right
-abbrev pub StopsAudit : Opening → List ℕ → Stop → Type 0
-StopsAudit opening text (stop.Complaint (complaint.Words why)) = ⊥
-StopsAudit opening text (stop.Complaint (complaint.Refused file why)) = ⊥
-StopsAudit opening text (stop.Complaint (complaint.Fault file)) = ⊥
-StopsAudit opening text (stop.Complaint (complaint.Wrong (finding.Certificate fault))) = ⊥
-StopsAudit opening text (stop.Complaint (complaint.Wrong (finding.Journal fault))) = Shows opening text (Err fault)
-StopsAudit opening text stop.Memory = ⊤
-
--- the audit of the journal of this name finds that it is right, with so many entries
-pub record IsRightJournal (holds : List ℕ → Option (List ℕ)) (opening : Opening) (name : List ℕ) (entries : ℕ) : Type 0 where
-  pub text : List ℕ
-  pub read : IsRead holds name text
-  pub shows : IsJournalOf opening text entries
-
--- it finds nothing: nothing came of the file, or the journal isn't right
-abbrev pub StopsFinding : (List ℕ → Option (List ℕ)) → Opening → List ℕ → ℕ → ℕ → Stop → Type 0
-StopsFinding holds opening name before after why = IsUnsaid text_in holds name before after input.Journal why
-    ⊎ ((text : List ℕ) × IsRead holds name text × StopsAudit opening text why)
-
 -- there was no memory for the check of a certificate
 abbrev pub is_memory : CertWhy → Bool
-is_memory cert_why.NotJson = false
-is_memory cert_why.BadShape = false
-is_memory cert_why.OutOfRange = false
-is_memory cert_why.Cut = false
-is_memory cert_why.SplitKept = false
-is_memory cert_why.DualsLength = false
-is_memory cert_why.SumLow = false
-is_memory (cert_why.NotFeasible batch) = false
-is_memory cert_why.BadMarks = false
-is_memory (cert_why.NotTight order) = false
-is_memory cert_why.BadPair = false
-is_memory (cert_why.NotDead order) = false
 is_memory cert_why.Memory = true
+is_memory other = false
 
 -- why the fault of a certificate stops a run
 abbrev pub stop_at_certificate : CertFault → Stop
 stop_at_certificate fault = if is_memory fault.why then stop.Memory else stop.Complaint (complaint.Wrong (finding.Certificate fault))
-
--- a certificate stops a run where it isn't right
-abbrev pub StopsCheck : Layout → List ℕ → Stop → Type 0
-StopsCheck layout text (stop.Complaint (complaint.Words why)) = ⊥
-StopsCheck layout text (stop.Complaint (complaint.Refused file why)) = ⊥
-StopsCheck layout text (stop.Complaint (complaint.Fault file)) = ⊥
-StopsCheck layout text (stop.Complaint (complaint.Wrong (finding.Certificate fault))) = IsRefusedCertificate layout text fault
-StopsCheck layout text (stop.Complaint (complaint.Wrong (finding.Journal fault))) = ⊥
-StopsCheck layout text stop.Memory = ⊤
-
--- the certificate of this name shows a bound
-pub record IsRightCertificate (holds : List ℕ → Option (List ℕ)) (layout : Layout) (name : List ℕ) (bound : ℕ) : Type 0 where
-  pub text : List ℕ
-  pub read : IsRead holds name text
-  pub shows : ShowsBound layout text bound
-
--- it shows none: nothing came of the file, or the certificate isn't right
-abbrev pub StopsShowing : (List ℕ → Option (List ℕ)) → Layout → List ℕ → ℕ → ℕ → Stop → Type 0
-StopsShowing holds layout name before after why = IsUnsaid text_in holds name before after input.Certificate why
-    ⊎ ((text : List ℕ) × IsRead holds name text × StopsCheck layout text why)
 
 -- the ending of an output, or of a stop
 abbrev pub IsEndOf : Result (Vec ℕ Global) Stop → Ending → Type 0
@@ -193,13 +149,13 @@ number_of status.OutOfMemory = 5
 number_of status.Wrong = 6
 
 -- an ending has its cause
-abbrev pub IsEnding : (List ℕ → Option (List ℕ)) → Asked → (List ℕ → ℕ) → (List ℕ → ℕ) → Ending → Type 0
-IsEnding holds asked before after (ending.Done text) = IsOutput holds asked text.items
-IsEnding holds asked before after (ending.Complaint why) = IsCause holds asked before after why
+abbrev pub IsEnding : Asked → FilesTold → FilesTold → Ending → Type 0
+IsEnding asked old new (ending.Done text) = IsOutput asked old new text.items
+IsEnding asked old new (ending.Complaint why) = HasCause (of_run asked old new) why
 
--- the text of an ending was taken, or the sink failed, or memory ran out
-abbrev pub Finishes : Ending → Option (List ℕ) → Option (List ℕ) → ℕ → ℕ → Status → Type 0
-Finishes ending old new before after ended =
-    ((ended ≡ status_of ending) × Grows old new (text_of ending))
-    ⊎ ((ended ≡ status.WriteFault) × (before < after) × TookPrefix old new (text_of ending))
-    ⊎ ((ended ≡ status.OutOfMemory) × TookPrefix old new (text_of ending))
+-- the text of an ending was taken, or the sink failed, once, after a part of it, or memory ran out
+abbrev pub Finishes : Ending → SinkTold → SinkTold → Status → Type 0
+Finishes ending old new ended =
+    ((ended ≡ status_of ending) × Grows old.taken new.taken (text_of ending) × (new.faults ≡ old.faults) × (new.stopped ≡ old.stopped))
+    ⊎ ((ended ≡ status.WriteFault) × (new.faults ≡ old.faults + 1) × TookPart old.taken new.taken (text_of ending))
+    ⊎ ((ended ≡ status.OutOfMemory) × (new.faults ≡ old.faults) × TookPrefix old.taken new.taken (text_of ending))

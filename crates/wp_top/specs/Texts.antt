@@ -1,5 +1,5 @@
 -- The files that a job reads, what they say one after the other, and why one is refused.
-use Rattle.std.specs.Prelude.{◌≡◌, ℕ, nat_lt, List, [], ◌∷◌, codes, Option, Some, IfSome, length, if◌then◌else◌, Result, Ok, Err}
+use Rattle.std.specs.Prelude.{◌≡◌, ℕ, nat_lt, List, [], ◌∷◌, codes, Option, Some, IfSome, length, map, if◌then◌else◌, Result, Ok, Err}
 use Rattle.std.specs.List.{All}
 use Rattle.wp_layout.specs.Keys.{fault_text}
 use Rattle.wp_layout.specs.LayoutFile.{layout_said}
@@ -44,13 +44,9 @@ pub record ReadFile : Type 0 where
 abbrev pub IsHeld : (List ℕ → Option (List ℕ)) → List ℕ → List ℕ → Type 0
 IsHeld holds name text = IfSome (holds name) (λ told. text ≡ told)
 
--- so it is of each file
-abbrev pub AreHeld : (List ℕ → Option (List ℕ)) → List ReadFile → Type 0
-AreHeld holds files = All (λ read. IsHeld holds read.file.name read.text) files
-
--- what the files hold is told, and it is this
-abbrev pub AreTold : (List ℕ → Option (List ℕ)) → List ReadFile → Type 0
-AreTold holds files = All (λ read. holds read.file.name ≡ Some read.text) files
+-- it is what the name holds, and that is told
+abbrev pub IsTold : (List ℕ → Option (List ℕ)) → List ℕ → List ℕ → Type 0
+IsTold holds name text = holds name ≡ Some text
 
 -- what was said so far: the layout, the stock and the orders, the scripts of the desks, and the texts of a certificate and of a journal
 pub record Said : Type 0 where
@@ -117,6 +113,13 @@ said_after said (read ∷ more) = and_then (said_with said read.file.kind read.t
 -- the files say this
 abbrev pub Say : List ReadFile → Said → Type 0
 Say files said = said_after nothing_said files ≡ Ok said
+
+-- these files have texts of which this is known, none of which is refused, and together they say this
+pub record HaveSaid (IsText : List ℕ → List ℕ → Type 0) (files : List File) (said : Said) : Type 0 where
+  pub read : List ReadFile
+  pub are : map (λ read. read.file) read ≡ files
+  pub texts : All (λ read. IsText read.file.name read.text) read
+  pub say : Say read said
 
 -- what a file is called
 abbrev pub input_text : Input → List ℕ

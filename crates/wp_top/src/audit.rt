@@ -1,9 +1,9 @@
 //! The mode `audit`.
-ghost use Rattle.std.specs.Prelude.{◌≡◌, Ok, IfOk, IfErr, string_bytes};
+ghost use Rattle.std.specs.Prelude.{◌≡◌, ◌+◌, Ok, IfOk, IfErr, OnOk, string_bytes};
 ghost use Rattle.wp_journal.specs.Journals.{IsJournalOf};
 ghost use Rattle.wp_outside.specs.Outside.{NoneFalls, SameBytes};
-ghost use Rattle.wp_top.specs.Ends.{IsOutput, audit_job};
-ghost use Rattle.wp_top.specs.Stops.{IsRightJournal, IsStop, StopsAudit, StopsFinding};
+ghost use Rattle.wp_top.specs.Ends.{IsOutput, ReadsWithin, audit_job, of_run};
+ghost use Rattle.wp_top.specs.Stops.{HasRightText, StopsAt, StopsFor, of_journal};
 ghost use Rattle.wp_top.specs.Runs.{audit_line};
 
 use crate::complaint::{Complaint, Finding, Stop};
@@ -19,7 +19,7 @@ use wp_words::AuditWords;
 
 fn audit_text(alloc: Global, opening: &Opening, text: &Vec<u8>) -> Result<Audit, Stop>
     ensures right { IfOk result (λ found. IsJournalOf opening.now text.now.items found.entries) }
-    ensures wrong { IfErr result (StopsAudit opening.now text.now.items) }
+    ensures wrong { IfErr result (StopsFor (of_journal opening.now text.now.items)) }
 {
     match audit(alloc, opening, text) {
         Ok(found) => Ok(found),
@@ -44,10 +44,12 @@ fn found_in<F: Files>(
     opening: &Opening,
     name: &str,
 ) -> Result<Audit, Stop>
-    ensures found { IfOk result (λ found. IsRightJournal (F.holds files.old) opening.now name.now found.entries) }
-    ensures stops { IfErr result (StopsFinding (F.holds files.old) opening.now name.now (F.faults files.old name.now) (F.faults files.new name.now)) }
-    ensures same { SameBytes (F.holds files.old) (F.holds files.new) }
-    ensures counts { NoneFalls (F.faults files.old) (F.faults files.new) }
+    ensures found { IfOk result (λ found. HasRightText (F.told files.old).holds name.now (λ text. IsJournalOf opening.now text found.entries)) }
+    ensures stops { IfErr result (StopsAt (of_journal opening.now) (F.told files.old) (F.told files.new) name.now Input.Journal) }
+    ensures same { SameBytes (F.told files.old).holds (F.told files.new).holds }
+    ensures counts { NoneFalls (F.told files.old).faults (F.told files.new).faults }
+    ensures once { OnOk result ((F.told files.new).reads ≡ (F.told files.old).reads + 1) }
+    ensures reads { ReadsWithin (F.told files.old) (F.told files.new) 1 }
 {
     let journal = read_text(alloc, files, name, Input::Journal)?;
     audit_text(alloc, opening, &journal)
@@ -59,10 +61,11 @@ pub fn audit_output<F: Files>(
     files: &mut F,
     words: &AuditWords,
 ) -> Result<Vec<u8>, Stop>
-    ensures output { IfOk result (λ text. IsOutput (F.holds files.old) (Ok (audit_job words.now)) text.items) }
-    ensures stops { IfErr result (IsStop (F.holds files.old) (Ok (audit_job words.now)) (F.faults files.old) (F.faults files.new)) }
-    ensures same { SameBytes (F.holds files.old) (F.holds files.new) }
-    ensures counts { NoneFalls (F.faults files.old) (F.faults files.new) }
+    ensures output { IfOk result (λ text. IsOutput (Ok (audit_job words.now)) (F.told files.old) (F.told files.new) text.items) }
+    ensures stops { IfErr result (StopsFor (of_run (Ok (audit_job words.now)) (F.told files.old) (F.told files.new))) }
+    ensures same { SameBytes (F.told files.old).holds (F.told files.new).holds }
+    ensures counts { NoneFalls (F.told files.old).faults (F.told files.new).faults }
+    ensures reads { ReadsWithin (F.told files.old) (F.told files.new) 4 }
 {
     let warehouse = read_warehouse(
         alloc,

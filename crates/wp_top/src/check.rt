@@ -1,10 +1,10 @@
 //! The mode `check`.
-ghost use Rattle.std.specs.Prelude.{◌≡◌, Ok, IfOk, IfErr, string_bytes};
+ghost use Rattle.std.specs.Prelude.{◌≡◌, ◌+◌, Ok, IfOk, IfErr, OnOk, string_bytes};
 ghost use Rattle.wp_cert.specs.declared.tree.CertWhy.TheVariants as cert_why;
 ghost use Rattle.wp_outside.specs.Outside.{NoneFalls, SameBytes};
-ghost use Rattle.wp_top.specs.Ends.{IsOutput, check_job};
+ghost use Rattle.wp_top.specs.Ends.{IsOutput, ReadsWithin, check_job, of_run};
 ghost use Rattle.wp_top.specs.Runs.{IsRefusedCertificate, ShowsBound, bound_line};
-ghost use Rattle.wp_top.specs.Stops.{IsRightCertificate, IsStop, StopsCheck, StopsShowing, stop_at_certificate};
+ghost use Rattle.wp_top.specs.Stops.{HasRightText, StopsAt, StopsFor, of_certificate, stop_at_certificate};
 
 use crate::complaint::{Complaint, Finding, Stop};
 use crate::input::Input;
@@ -38,7 +38,7 @@ fn stop_at(fault: CertFault) -> Stop
 
 fn check_text(alloc: Global, layout: &Layout, text: &Vec<u8>) -> Result<u64, Stop>
     ensures right { IfOk result (ShowsBound layout.now text.now.items) }
-    ensures wrong { IfErr result (StopsCheck layout.now text.now.items) }
+    ensures wrong { IfErr result (StopsFor (of_certificate layout.now text.now.items)) }
 {
     match bound_of(alloc, layout, text) {
         Ok(bound) => Ok(bound),
@@ -61,10 +61,12 @@ fn shown_in<F: Files>(
     layout: &Layout,
     name: &str,
 ) -> Result<u64, Stop>
-    ensures shown { IfOk result (IsRightCertificate (F.holds files.old) layout.now name.now) }
-    ensures stops { IfErr result (StopsShowing (F.holds files.old) layout.now name.now (F.faults files.old name.now) (F.faults files.new name.now)) }
-    ensures same { SameBytes (F.holds files.old) (F.holds files.new) }
-    ensures counts { NoneFalls (F.faults files.old) (F.faults files.new) }
+    ensures shown { IfOk result (λ bound. HasRightText (F.told files.old).holds name.now (λ text. ShowsBound layout.now text bound)) }
+    ensures stops { IfErr result (StopsAt (of_certificate layout.now) (F.told files.old) (F.told files.new) name.now Input.Certificate) }
+    ensures same { SameBytes (F.told files.old).holds (F.told files.new).holds }
+    ensures counts { NoneFalls (F.told files.old).faults (F.told files.new).faults }
+    ensures once { OnOk result ((F.told files.new).reads ≡ (F.told files.old).reads + 1) }
+    ensures reads { ReadsWithin (F.told files.old) (F.told files.new) 1 }
 {
     let certificate = read_text(alloc, files, name, Input::Certificate)?;
     check_text(alloc, layout, &certificate)
@@ -76,10 +78,11 @@ pub fn check_output<F: Files>(
     files: &mut F,
     words: &CheckWords,
 ) -> Result<Vec<u8>, Stop>
-    ensures output { IfOk result (λ text. IsOutput (F.holds files.old) (Ok (check_job words.now)) text.items) }
-    ensures stops { IfErr result (IsStop (F.holds files.old) (Ok (check_job words.now)) (F.faults files.old) (F.faults files.new)) }
-    ensures same { SameBytes (F.holds files.old) (F.holds files.new) }
-    ensures counts { NoneFalls (F.faults files.old) (F.faults files.new) }
+    ensures output { IfOk result (λ text. IsOutput (Ok (check_job words.now)) (F.told files.old) (F.told files.new) text.items) }
+    ensures stops { IfErr result (StopsFor (of_run (Ok (check_job words.now)) (F.told files.old) (F.told files.new))) }
+    ensures same { SameBytes (F.told files.old).holds (F.told files.new).holds }
+    ensures counts { NoneFalls (F.told files.old).faults (F.told files.new).faults }
+    ensures reads { ReadsWithin (F.told files.old) (F.told files.new) 2 }
 {
     let layout = layout_from(alloc, files, words.layout.as_str())?;
     let bound = shown_in(alloc, files, &layout, words.certificate.as_str())?;

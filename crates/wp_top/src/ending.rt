@@ -1,9 +1,9 @@
-ghost use Rattle.std.specs.Prelude.{◌≡◌, ◌<◌, ◌≤◌, Ok, IfOk, IfErr, OnOk, OnErr, IsErrOf, string_bytes};
-ghost use Rattle.wp_outside.specs.Outside.{Grows, NoneFalls, SameBytes, TookPrefix};
+ghost use Rattle.std.specs.Prelude.{◌≡◌, ◌+◌, Ok, false, IfOk, IfErr, OnOk, OnErr, IsErrOf, string_bytes};
+ghost use Rattle.wp_outside.specs.Outside.{Grows, NoneFalls, SameBytes, TookPart, TookPrefix};
 ghost use Rattle.wp_outside.specs.declared.sink.SinkFault.TheVariants as sink_fault;
-ghost use Rattle.wp_top.specs.Ends.{IsOutput, asked_by, audit_job, check_job, complaint_line};
+ghost use Rattle.wp_top.specs.Ends.{IsOutput, ReadsWithin, asked_by, audit_job, check_job, complaint_line, most_reads, of_run};
 ghost use Rattle.wp_top.specs.declared.status.Status.TheVariants as status;
-ghost use Rattle.wp_top.specs.Stops.{Finishes, IsEndOf, IsEnding, IsStop, status_of, text_of};
+ghost use Rattle.wp_top.specs.Stops.{Finishes, IsEndOf, IsEnding, StopsFor, status_of, text_of};
 
 use crate::audit::audit_output;
 use crate::check::check_output;
@@ -60,10 +60,11 @@ fn job_output<R: Threads + Wait + Sync, F: Files, G: Gate>(
     files: &mut F,
     gate: &G,
 ) -> Result<Vec<u8>, Stop>
-    ensures output { IfOk result (λ text. IsOutput (F.holds files.old) (asked_by words.now.items) text.items) }
-    ensures stops { IfErr result (IsStop (F.holds files.old) (asked_by words.now.items) (F.faults files.old) (F.faults files.new)) }
-    ensures same { SameBytes (F.holds files.old) (F.holds files.new) }
-    ensures counts { NoneFalls (F.faults files.old) (F.faults files.new) }
+    ensures output { IfOk result (λ text. IsOutput (asked_by words.now.items) (F.told files.old) (F.told files.new) text.items) }
+    ensures stops { IfErr result (StopsFor (of_run (asked_by words.now.items) (F.told files.old) (F.told files.new))) }
+    ensures same { SameBytes (F.told files.old).holds (F.told files.new).holds }
+    ensures counts { NoneFalls (F.told files.old).faults (F.told files.new).faults }
+    ensures reads { ReadsWithin (F.told files.old) (F.told files.new) (most_reads (asked_by words.now.items)) }
 {
     let job = read_words(alloc, words)?;
     match &job {
@@ -82,9 +83,10 @@ pub fn ending_of<R: Threads + Wait + Sync, F: Files, G: Gate>(
     files: &mut F,
     gate: &G,
 ) -> Result<Ending, Memory>
-    ensures is { IfOk result (IsEnding (F.holds files.old) (asked_by words.now.items) (F.faults files.old) (F.faults files.new)) }
-    ensures same { SameBytes (F.holds files.old) (F.holds files.new) }
-    ensures counts { NoneFalls (F.faults files.old) (F.faults files.new) }
+    ensures is { IfOk result (IsEnding (asked_by words.now.items) (F.told files.old) (F.told files.new)) }
+    ensures same { SameBytes (F.told files.old).holds (F.told files.new).holds }
+    ensures counts { NoneFalls (F.told files.old).faults (F.told files.new).faults }
+    ensures reads { ReadsWithin (F.told files.old) (F.told files.new) (most_reads (asked_by words.now.items)) }
 {
     ending_with(job_output(rt, alloc, words, files, gate))
 }
@@ -95,9 +97,10 @@ pub fn check_ending<F: Files>(
     words: &CheckWords,
     files: &mut F,
 ) -> Result<Ending, Memory>
-    ensures is { IfOk result (IsEnding (F.holds files.old) (Ok (check_job words.now)) (F.faults files.old) (F.faults files.new)) }
-    ensures same { SameBytes (F.holds files.old) (F.holds files.new) }
-    ensures counts { NoneFalls (F.faults files.old) (F.faults files.new) }
+    ensures is { IfOk result (IsEnding (Ok (check_job words.now)) (F.told files.old) (F.told files.new)) }
+    ensures same { SameBytes (F.told files.old).holds (F.told files.new).holds }
+    ensures counts { NoneFalls (F.told files.old).faults (F.told files.new).faults }
+    ensures reads { ReadsWithin (F.told files.old) (F.told files.new) 2 }
 {
     ending_with(check_output(alloc, files, words))
 }
@@ -108,9 +111,10 @@ pub fn audit_ending<F: Files>(
     words: &AuditWords,
     files: &mut F,
 ) -> Result<Ending, Memory>
-    ensures is { IfOk result (IsEnding (F.holds files.old) (Ok (audit_job words.now)) (F.faults files.old) (F.faults files.new)) }
-    ensures same { SameBytes (F.holds files.old) (F.holds files.new) }
-    ensures counts { NoneFalls (F.faults files.old) (F.faults files.new) }
+    ensures is { IfOk result (IsEnding (Ok (audit_job words.now)) (F.told files.old) (F.told files.new)) }
+    ensures same { SameBytes (F.told files.old).holds (F.told files.new).holds }
+    ensures counts { NoneFalls (F.told files.old).faults (F.told files.new).faults }
+    ensures reads { ReadsWithin (F.told files.old) (F.told files.new) 4 }
 {
     ending_with(audit_output(alloc, files, words))
 }
@@ -124,20 +128,26 @@ fn line_of(alloc: Global, complaint: Complaint) -> Result<String, Memory>
 }
 
 fn write_line<K: Sink>(alloc: Global, complaint: Complaint, out: &mut K) -> Result<(), SinkFault>
-    ensures whole { OnOk result (Grows (K.taken out.old) (K.taken out.new) (complaint_line complaint)) }
-    ensures prefix { TookPrefix (K.taken out.old) (K.taken out.new) (complaint_line complaint) }
-    ensures counts { K.faults out.old ≤ K.faults out.new }
-    ensures failed { IsErrOf result sink_fault.Failed → K.faults out.old < K.faults out.new }
+    ensures whole { OnOk result (Grows (K.told out.old).taken (K.told out.new).taken (complaint_line complaint)) }
+    ensures prefix { TookPrefix (K.told out.old).taken (K.told out.new).taken (complaint_line complaint) }
+    ensures part { IsErrOf result sink_fault.Failed → TookPart (K.told out.old).taken (K.told out.new).taken (complaint_line complaint) }
+    ensures counted { IsErrOf result sink_fault.Failed → (K.told out.new).faults ≡ (K.told out.old).faults + 1 }
+    ensures uncounted { (IsErrOf result sink_fault.Failed → ⊥) → (K.told out.new).faults ≡ (K.told out.old).faults }
+    ensures sound { OnOk result ((K.told out.new).stopped ≡ (K.told out.old).stopped) }
+    ensures early { (K.told out.old).stopped ≡ false → (K.told out.new).late ≡ (K.told out.old).late }
 {
     let line = line_of(alloc, complaint)?;
     write_text(out, line.as_bytes())
 }
 
 fn write_ending<K: Sink>(alloc: Global, ending: &Ending, out: &mut K) -> Result<(), SinkFault>
-    ensures whole { OnOk result (Grows (K.taken out.old) (K.taken out.new) (text_of ending.now)) }
-    ensures prefix { TookPrefix (K.taken out.old) (K.taken out.new) (text_of ending.now) }
-    ensures counts { K.faults out.old ≤ K.faults out.new }
-    ensures failed { IsErrOf result sink_fault.Failed → K.faults out.old < K.faults out.new }
+    ensures whole { OnOk result (Grows (K.told out.old).taken (K.told out.new).taken (text_of ending.now)) }
+    ensures prefix { TookPrefix (K.told out.old).taken (K.told out.new).taken (text_of ending.now) }
+    ensures part { IsErrOf result sink_fault.Failed → TookPart (K.told out.old).taken (K.told out.new).taken (text_of ending.now) }
+    ensures counted { IsErrOf result sink_fault.Failed → (K.told out.new).faults ≡ (K.told out.old).faults + 1 }
+    ensures uncounted { (IsErrOf result sink_fault.Failed → ⊥) → (K.told out.new).faults ≡ (K.told out.old).faults }
+    ensures sound { OnOk result ((K.told out.new).stopped ≡ (K.told out.old).stopped) }
+    ensures early { (K.told out.old).stopped ≡ false → (K.told out.new).late ≡ (K.told out.old).late }
 {
     match ending {
         Ending::Done(text) => write_text(out, text.as_slice()),
@@ -147,8 +157,8 @@ fn write_ending<K: Sink>(alloc: Global, ending: &Ending, out: &mut K) -> Result<
 
 // Writes the text of an ending, and gives the status: the ending's, or that the sink failed, or that memory ran out.
 fn end_with<K: Sink>(alloc: Global, ending: &Ending, out: &mut K) -> Status
-    ensures finishes { Finishes ending.now (K.taken out.old) (K.taken out.new) (K.faults out.old) (K.faults out.new) result }
-    ensures counts { K.faults out.old ≤ K.faults out.new }
+    ensures finishes { Finishes ending.now (K.told out.old) (K.told out.new) result }
+    ensures early { (K.told out.old).stopped ≡ false → (K.told out.new).late ≡ (K.told out.old).late }
 {
     match write_ending(alloc, ending, out) {
         Ok(()) => ending.status(),
@@ -159,9 +169,9 @@ fn end_with<K: Sink>(alloc: Global, ending: &Ending, out: &mut K) -> Status
 
 /// Ends a run, whose ending may lack memory, and gives the status.
 pub fn finish<K: Sink>(alloc: Global, ending: Result<Ending, Memory>, out: &mut K) -> Status
-    ensures finishes { IfOk ending (λ ended. Finishes ended (K.taken out.old) (K.taken out.new) (K.faults out.old) (K.faults out.new) result) }
-    ensures nothing { OnErr ending ((result ≡ status.OutOfMemory) × (K.taken out.new ≡ K.taken out.old)) }
-    ensures counts { K.faults out.old ≤ K.faults out.new }
+    ensures finishes { IfOk ending (λ ended. Finishes ended (K.told out.old) (K.told out.new) result) }
+    ensures nothing { OnErr ending ((result ≡ status.OutOfMemory) × (K.told out.new ≡ K.told out.old)) }
+    ensures early { (K.told out.old).stopped ≡ false → (K.told out.new).late ≡ (K.told out.old).late }
 {
     match ending {
         Ok(ending) => end_with(alloc, &ending, out),

@@ -46,8 +46,7 @@ pub fn run<R: Threads + Wait + Sync, F: Files, K: Sink, G: Gate>(
     out: &mut K,
     gate: &G,
 ) -> u8
-    ensures { Keeps (asked_by words.now.items) (course (F.holds files.old) (F.holds files.new) (F.faults files.old) (F.faults files.new) (K.taken out.old)
-        (K.taken out.new) (K.faults out.old) (K.faults out.new)) result }
+    ensures { Keeps (asked_by words.now.items) (course (F.told files.old) (K.told out.old) (F.told files.new) (K.told out.new)) result }
 {
     let ending = ending_of(rt, alloc, words, files, gate);
     finish(alloc, ending, out).number()
@@ -60,8 +59,7 @@ pub fn run_check<F: Files, K: Sink>(
     files: &mut F,
     out: &mut K,
 ) -> u8
-    ensures { Keeps (Ok (check_job words.now)) (course (F.holds files.old) (F.holds files.new) (F.faults files.old) (F.faults files.new) (K.taken out.old)
-        (K.taken out.new) (K.faults out.old) (K.faults out.new)) result }
+    ensures { Keeps (Ok (check_job words.now)) (course (F.told files.old) (K.told out.old) (F.told files.new) (K.told out.new)) result }
 {
     let ending = check_ending(alloc, words, files);
     finish(alloc, ending, out).number()
@@ -74,8 +72,7 @@ pub fn run_audit<F: Files, K: Sink>(
     files: &mut F,
     out: &mut K,
 ) -> u8
-    ensures { Keeps (Ok (audit_job words.now)) (course (F.holds files.old) (F.holds files.new) (F.faults files.old) (F.faults files.new) (K.taken out.old)
-        (K.taken out.new) (K.faults out.old) (K.faults out.new)) result }
+    ensures { Keeps (Ok (audit_job words.now)) (course (F.told files.old) (K.told out.old) (F.told files.new) (K.told out.new)) result }
 {
     let ending = audit_ending(alloc, words, files);
     finish(alloc, ending, out).number()

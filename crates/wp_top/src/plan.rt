@@ -1,12 +1,12 @@
 //! The mode `plan`.
-ghost use Rattle.std.specs.Prelude.{◌≡◌, Ok, IfOk, IfErr};
+ghost use Rattle.std.specs.Prelude.{◌≡◌, ◌+◌, Ok, IfOk, IfErr, OnOk};
 ghost use Rattle.wp_model.specs.Tables.{IsReadOpening};
 ghost use Rattle.wp_planner.specs.Plans.{AreTerms};
 ghost use Rattle.wp_planner.specs.Released.{LiesIn};
 ghost use Rattle.wp_outside.specs.Outside.{NoneFalls, SameBytes};
-ghost use Rattle.wp_top.specs.Ends.{IsOutput, plan_job};
+ghost use Rattle.wp_top.specs.Ends.{IsOutput, ReadsWithin, of_run, plan_job};
 ghost use Rattle.wp_top.specs.Sheets.{terms_of};
-ghost use Rattle.wp_top.specs.Stops.{IsDay, IsStop, IsUnsaid};
+ghost use Rattle.wp_top.specs.Stops.{IsDay, StopsFor, of_file};
 ghost use Rattle.wp_top.specs.Texts.{scripts_in};
 ghost use Rattle.wp_top.specs.declared.input.Input.TheVariants as input;
 ghost use Rattle.wp_words.specs.Reading.{plan_names};
@@ -49,10 +49,12 @@ fn output_of_desks<R: Threads + Wait + Sync, F: Files, G: Gate>(
     requires read { IsReadOpening opening.now }
     requires lies { LiesIn layout.now opening.now.stock }
     requires terms { AreTerms terms.now }
-    ensures output { IfOk result (λ text. IsDay (F.holds files.old) layout.now opening.now terms.now name.now text.items) }
-    ensures stops { IfErr result (IsUnsaid scripts_in (F.holds files.old) name.now (F.faults files.old name.now) (F.faults files.new name.now) input.Desks) }
-    ensures same { SameBytes (F.holds files.old) (F.holds files.new) }
-    ensures counts { NoneFalls (F.faults files.old) (F.faults files.new) }
+    ensures output { IfOk result (λ text. IsDay (F.told files.old).holds layout.now opening.now terms.now name.now text.items) }
+    ensures stops { IfErr result (StopsFor (of_file scripts_in (F.told files.old) (F.told files.new) name.now input.Desks)) }
+    ensures same { SameBytes (F.told files.old).holds (F.told files.new).holds }
+    ensures counts { NoneFalls (F.told files.old).faults (F.told files.new).faults }
+    ensures once { OnOk result ((F.told files.new).reads ≡ (F.told files.old).reads + 1) }
+    ensures reads { ReadsWithin (F.told files.old) (F.told files.new) 1 }
 {
     let scripts = scripts_from(alloc, files, name)?;
     let text = day_text(rt, alloc, layout, opening, terms, &scripts, gate)?;
@@ -68,10 +70,11 @@ pub fn plan_output<R: Threads + Wait + Sync, F: Files, G: Gate>(
     gate: &G,
 ) -> Result<Vec<u8>, Stop>
     requires { HasRanges (plan_names words.now) }
-    ensures output { IfOk result (λ text. IsOutput (F.holds files.old) (Ok (plan_job words.now)) text.items) }
-    ensures stops { IfErr result (IsStop (F.holds files.old) (Ok (plan_job words.now)) (F.faults files.old) (F.faults files.new)) }
-    ensures same { SameBytes (F.holds files.old) (F.holds files.new) }
-    ensures counts { NoneFalls (F.faults files.old) (F.faults files.new) }
+    ensures output { IfOk result (λ text. IsOutput (Ok (plan_job words.now)) (F.told files.old) (F.told files.new) text.items) }
+    ensures stops { IfErr result (StopsFor (of_run (Ok (plan_job words.now)) (F.told files.old) (F.told files.new))) }
+    ensures same { SameBytes (F.told files.old).holds (F.told files.new).holds }
+    ensures counts { NoneFalls (F.told files.old).faults (F.told files.new).faults }
+    ensures reads { ReadsWithin (F.told files.old) (F.told files.new) 4 }
 {
     let warehouse = read_warehouse(
         alloc,

@@ -1,11 +1,11 @@
-ghost use Rattle.std.specs.Prelude.{◌≡◌, Err, IfOk, IfErr, if◌then◌else◌};
+ghost use Rattle.std.specs.Prelude.{◌≡◌, ◌+◌, Err, IfOk, IfErr, OnOk, if◌then◌else◌};
 ghost use Rattle.wp_model.specs.Tables.{AreReadOrders, AreReadScripts, IsReadOpening, IsReadStock};
 ghost use Rattle.wp_planner.specs.Released.{LiesIn};
 ghost use Rattle.wp_outside.specs.Outside.{NoneFalls, SameBytes};
 ghost use Rattle.wp_tables.specs.Faults.{wants_memory};
-ghost use Rattle.wp_top.specs.Ends.{HaveSaid};
-ghost use Rattle.wp_top.specs.Stops.{IsRead, IsSaid, IsUnsaid, StopsAmong, lacks_memory, opening_files, opening_said};
-ghost use Rattle.wp_top.specs.Texts.{layout_in, orders_in, scripts_in, stock_in, text_in};
+ghost use Rattle.wp_top.specs.Ends.{ReadsWithin, among};
+ghost use Rattle.wp_top.specs.Stops.{IsRead, IsSaid, StopsFor, lacks_memory, of_file, opening_files, opening_said};
+ghost use Rattle.wp_top.specs.Texts.{HaveSaid, IsHeld, layout_in, orders_in, scripts_in, stock_in, text_in};
 ghost use Rattle.wp_top.specs.declared.complaint.Complaint.TheVariants as complaint;
 ghost use Rattle.wp_top.specs.declared.complaint.Stop.TheVariants as stop;
 ghost use Rattle.wp_top.specs.declared.input.Input.TheVariants as input;
@@ -26,17 +26,19 @@ fn too_long(file: Input) -> Stop
     Stop::Complaint(Complaint::Refused(file, Refusal::TooLong))
 }
 
-/// The text of a file, at most 16,777,216 bytes.
+/// The text of a file, at most 16,777,216 bytes. It is read once.
 pub fn read_text<F: Files>(
     alloc: Global,
     files: &mut F,
     name: &str,
     file: Input,
 ) -> Result<Vec<u8>, Stop>
-    ensures text { IfOk result (λ text. IsRead (F.holds files.old) name.now text.items) }
-    ensures stops { IfErr result (IsUnsaid text_in (F.holds files.old) name.now (F.faults files.old name.now) (F.faults files.new name.now) file) }
-    ensures same { SameBytes (F.holds files.old) (F.holds files.new) }
-    ensures counts { NoneFalls (F.faults files.old) (F.faults files.new) }
+    ensures text { IfOk result (λ text. IsRead (F.told files.old).holds name.now text.items) }
+    ensures stops { IfErr result (StopsFor (of_file text_in (F.told files.old) (F.told files.new) name.now file)) }
+    ensures same { SameBytes (F.told files.old).holds (F.told files.new).holds }
+    ensures counts { NoneFalls (F.told files.old).faults (F.told files.new).faults }
+    ensures once { OnOk result ((F.told files.new).reads ≡ (F.told files.old).reads + 1) }
+    ensures reads { ReadsWithin (F.told files.old) (F.told files.new) 1 }
 {
     match files.read(alloc, name) {
         Ok(text) if text.len() > MOST_FILE_BYTES => Err(too_long(file)),
@@ -69,10 +71,12 @@ fn stop_at(file: Input, fault: RowFault) -> Stop
 
 /// The layout that a layout file says.
 pub fn layout_from<F: Files>(alloc: Global, files: &mut F, name: &str) -> Result<Layout, Stop>
-    ensures said { IfOk result (IsSaid layout_in (F.holds files.old) name.now) }
-    ensures stops { IfErr result (IsUnsaid layout_in (F.holds files.old) name.now (F.faults files.old name.now) (F.faults files.new name.now) Input.Layout) }
-    ensures same { SameBytes (F.holds files.old) (F.holds files.new) }
-    ensures counts { NoneFalls (F.faults files.old) (F.faults files.new) }
+    ensures said { IfOk result (IsSaid layout_in (F.told files.old).holds name.now) }
+    ensures stops { IfErr result (StopsFor (of_file layout_in (F.told files.old) (F.told files.new) name.now Input.Layout)) }
+    ensures same { SameBytes (F.told files.old).holds (F.told files.new).holds }
+    ensures counts { NoneFalls (F.told files.old).faults (F.told files.new).faults }
+    ensures once { OnOk result ((F.told files.new).reads ≡ (F.told files.old).reads + 1) }
+    ensures reads { ReadsWithin (F.told files.old) (F.told files.new) 1 }
 {
     let text = read_text(alloc, files, name, Input::Layout)?;
     match read_layout(alloc, &text) {
@@ -87,13 +91,14 @@ fn stock_from<F: Files>(
     name: &str,
     layout: &Layout,
 ) -> Result<Stock, Stop>
-    ensures said { IfOk result (IsSaid (stock_in layout.now) (F.holds files.old) name.now) }
+    ensures said { IfOk result (IsSaid (stock_in layout.now) (F.told files.old).holds name.now) }
     ensures read { IfOk result IsReadStock }
     ensures lies { IfOk result (LiesIn layout.now) }
-    ensures stops { IfErr result (IsUnsaid (stock_in layout.now) (F.holds files.old) name.now (F.faults files.old name.now)
-        (F.faults files.new name.now) Input.Stock) }
-    ensures same { SameBytes (F.holds files.old) (F.holds files.new) }
-    ensures counts { NoneFalls (F.faults files.old) (F.faults files.new) }
+    ensures stops { IfErr result (StopsFor (of_file (stock_in layout.now) (F.told files.old) (F.told files.new) name.now Input.Stock)) }
+    ensures same { SameBytes (F.told files.old).holds (F.told files.new).holds }
+    ensures counts { NoneFalls (F.told files.old).faults (F.told files.new).faults }
+    ensures once { OnOk result ((F.told files.new).reads ≡ (F.told files.old).reads + 1) }
+    ensures reads { ReadsWithin (F.told files.old) (F.told files.new) 1 }
 {
     let text = read_text(alloc, files, name, Input::Stock)?;
     match read_stock(alloc, &text, layout) {
@@ -108,12 +113,13 @@ fn orders_from<F: Files>(
     name: &str,
     stock: &Stock,
 ) -> Result<Orders, Stop>
-    ensures said { IfOk result (IsSaid (orders_in stock.now) (F.holds files.old) name.now) }
+    ensures said { IfOk result (IsSaid (orders_in stock.now) (F.told files.old).holds name.now) }
     ensures read { IfOk result (AreReadOrders stock.now.articles) }
-    ensures stops { IfErr result (IsUnsaid (orders_in stock.now) (F.holds files.old) name.now (F.faults files.old name.now)
-        (F.faults files.new name.now) Input.Orders) }
-    ensures same { SameBytes (F.holds files.old) (F.holds files.new) }
-    ensures counts { NoneFalls (F.faults files.old) (F.faults files.new) }
+    ensures stops { IfErr result (StopsFor (of_file (orders_in stock.now) (F.told files.old) (F.told files.new) name.now Input.Orders)) }
+    ensures same { SameBytes (F.told files.old).holds (F.told files.new).holds }
+    ensures counts { NoneFalls (F.told files.old).faults (F.told files.new).faults }
+    ensures once { OnOk result ((F.told files.new).reads ≡ (F.told files.old).reads + 1) }
+    ensures reads { ReadsWithin (F.told files.old) (F.told files.new) 1 }
 {
     let text = read_text(alloc, files, name, Input::Orders)?;
     match read_orders(alloc, &text, stock) {
@@ -124,11 +130,13 @@ fn orders_from<F: Files>(
 
 /// The scripts that a desk file says.
 pub fn scripts_from<F: Files>(alloc: Global, files: &mut F, name: &str) -> Result<Scripts, Stop>
-    ensures said { IfOk result (IsSaid scripts_in (F.holds files.old) name.now) }
+    ensures said { IfOk result (IsSaid scripts_in (F.told files.old).holds name.now) }
     ensures read { IfOk result AreReadScripts }
-    ensures stops { IfErr result (IsUnsaid scripts_in (F.holds files.old) name.now (F.faults files.old name.now) (F.faults files.new name.now) Input.Desks) }
-    ensures same { SameBytes (F.holds files.old) (F.holds files.new) }
-    ensures counts { NoneFalls (F.faults files.old) (F.faults files.new) }
+    ensures stops { IfErr result (StopsFor (of_file scripts_in (F.told files.old) (F.told files.new) name.now Input.Desks)) }
+    ensures same { SameBytes (F.told files.old).holds (F.told files.new).holds }
+    ensures counts { NoneFalls (F.told files.old).faults (F.told files.new).faults }
+    ensures once { OnOk result ((F.told files.new).reads ≡ (F.told files.old).reads + 1) }
+    ensures reads { ReadsWithin (F.told files.old) (F.told files.new) 1 }
 {
     let text = read_text(alloc, files, name, Input::Desks)?;
     match read_desks(alloc, &text) {
@@ -152,14 +160,15 @@ pub fn read_warehouse<F: Files>(
     stock_name: &str,
     orders_name: &str,
 ) -> Result<Warehouse, Stop>
-    ensures said { IfOk result (λ warehouse. HaveSaid (F.holds files.old) (opening_files layout_name.now stock_name.now orders_name.now)
+    ensures said { IfOk result (λ warehouse. HaveSaid (IsHeld (F.told files.old).holds) (opening_files layout_name.now stock_name.now orders_name.now)
         (opening_said warehouse.layout warehouse.opening)) }
     ensures read { IfOk result (λ warehouse. IsReadOpening warehouse.opening) }
     ensures lies { IfOk result (λ warehouse. LiesIn warehouse.layout warehouse.opening.stock) }
-    ensures stops { IfErr result (StopsAmong (F.holds files.old) (opening_files layout_name.now stock_name.now orders_name.now) (F.faults files.old)
-        (F.faults files.new)) }
-    ensures same { SameBytes (F.holds files.old) (F.holds files.new) }
-    ensures counts { NoneFalls (F.faults files.old) (F.faults files.new) }
+    ensures stops { IfErr result (StopsFor (among (F.told files.old) (F.told files.new) (opening_files layout_name.now stock_name.now orders_name.now))) }
+    ensures same { SameBytes (F.told files.old).holds (F.told files.new).holds }
+    ensures counts { NoneFalls (F.told files.old).faults (F.told files.new).faults }
+    ensures all { OnOk result ((F.told files.new).reads ≡ (F.told files.old).reads + 3) }
+    ensures reads { ReadsWithin (F.told files.old) (F.told files.new) 3 }
 {
     let layout = layout_from(alloc, files, layout_name)?;
     let stock = stock_from(alloc, files, stock_name, &layout)?;

@@ -10,33 +10,35 @@ use Rattle.wp_words.specs.Words.{audit}
 
 pub returns-in_err-warehouse-clause-stops : goal.returns-in_err-warehouse-clause-stops
 returns-in_err-warehouse-clause-stops g c =
-    let holds = g.F.Files.holds in
-    let faults = g.F.Files.faults in
+    let told = g.F.Files.told in
     let names = audit_names c.args.words.now in
     let p = err_from_is_err_and c.from_residual.result c.from_residual.ensures.1 in
     rw (p.1, p.2)
-    (stop_at_opening (holds c.args.files.now) (audit names) (opening_files names.layout names.stock names.orders) (file_of input.Journal names.journal)
-    (faults c.args.files.now) (faults c.read_warehouse.new.files)
+    (stop_at_opening (told c.args.files.now) (told c.read_warehouse.new.files) (audit names) (opening_files names.layout names.stock names.orders)
+    (file_of input.Journal names.journal)
     c.in_err-warehouse.field-0.0 refl (rw (c.as_str.ensures.value, c.as_str-2.ensures.value, c.as_str-3.ensures.value) at c.in_err-warehouse.ensures.stops))
 
 pub returns-in_err-found-clause-stops : goal.returns-in_err-found-clause-stops
 returns-in_err-found-clause-stops g c =
-    let holds = g.F.Files.holds in
-    let faults = g.F.Files.faults in
+    let told = g.F.Files.told in
     let p = err_from_is_err_and c.from_residual-in_err-found.result c.from_residual-in_err-found.ensures.1 in
-    let said = rw (c.as_str.ensures.value, c.as_str-2.ensures.value, c.as_str-3.ensures.value) at c.in_ok-warehouse.ensures.said in
+    let read = c.in_ok-warehouse.ensures in
+    let said = rw (c.as_str.ensures.value, c.as_str-2.ensures.value, c.as_str-3.ensures.value) at read.said in
     rw (p.1, p.2)
-    (stop_at_finding (holds c.args.files.now) (holds c.read_warehouse.new.files) (audit_names c.args.words.now) (faults c.args.files.now)
-    (faults c.read_warehouse.new.files) (faults c.found_in.new.files)
-    c.in_ok-warehouse.warehouse.layout c.in_ok-warehouse.warehouse.opening c.in_err-found.field-0.0 c.read_warehouse.ensures.same said
-    c.read_warehouse.ensures.counts (rw c.as_str-4.ensures.value at c.in_err-found.ensures.stops))
+    (stop_at_finding (told c.args.files.now) (told c.read_warehouse.new.files) (told c.found_in.new.files) (audit_names c.args.words.now)
+    c.in_ok-warehouse.warehouse.layout c.in_ok-warehouse.warehouse.opening c.in_err-found.field-0.0
+    (record { accepted = said; same = read.same; counts = read.counts; reads = read.all }) c.found_in.ensures.same c.found_in.ensures.counts
+    (rw c.as_str-4.ensures.value at c.in_err-found.ensures.stops))
 
 pub returns-clause-output : goal.returns-clause-output
 returns-clause-output g c =
-    let holds = g.F.Files.holds in
-    let said = rw (c.as_str.ensures.value, c.as_str-2.ensures.value, c.as_str-3.ensures.value) at c.in_ok-warehouse.ensures.said in
-    audit_is (holds c.args.files.now) (holds c.read_warehouse.new.files)
+    let told = g.F.Files.told in
+    let read = c.in_ok-warehouse.ensures in
+    let found = c.in_ok-found.ensures in
+    let said = rw (c.as_str.ensures.value, c.as_str-2.ensures.value, c.as_str-3.ensures.value) at read.said in
+    audit_is (told c.args.files.now) (told c.read_warehouse.new.files) (told c.found_in.new.files)
     (audit_names c.args.words.now) c.in_ok-warehouse.warehouse.layout c.in_ok-warehouse.warehouse.opening c.in_ok-found.found.entries
     c.into_bytes.result.items
-    c.read_warehouse.ensures.same said (rw c.as_str-4.ensures.value at c.in_ok-found.ensures.found)
+    (record { accepted = said; same = read.same; counts = read.counts; reads = read.all })
+    (record { same = found.same; counts = found.counts; reads = found.once }) (rw c.as_str-4.ensures.value at found.found)
     (ap (λ v. v.items) c.into_bytes.ensures.value ∙ c.in_ok-line.ensures)

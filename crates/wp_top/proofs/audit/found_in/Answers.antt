@@ -9,7 +9,7 @@ returns-in_err-journal-clause-stops g c =
 
 pub returns-clause-stops : goal.returns-clause-stops
 returns-clause-stops g c = IfErr-weaker c.audit_text.result _ _
-    (λ s wrong. inr (c.in_ok-journal.journal.items, c.in_ok-journal.ensures.text, wrong)) c.audit_text.ensures.wrong
+    (λ s wrong. inr (c.in_ok-journal.journal.items, c.in_ok-journal.ensures.text, c.in_ok-journal.ensures.once, wrong)) c.audit_text.ensures.wrong
 
 pub returns-clause-found : goal.returns-clause-found
 returns-clause-found g c = IfOk-weaker c.audit_text.result _ _

@@ -3,13 +3,13 @@ ghost use Rattle.std.specs.Prelude.{◌≡◌, ◌+◌, OnOk, OnErr};
 use std::marker::Model;
 use wp_model::Memory;
 
-/// How often a device has failed. Clauses see a number.
+/// How often something happened to a device. Clauses see a number.
 #[derive(Drop)]
-pub(crate) struct FaultCount {
+pub(crate) struct Count {
     count: u64,
 }
 
-impl Model for FaultCount {
+impl Model for Count {
     ghost use Rattle.std.specs.Prelude.{ℕ};
 
     ghost Value = { ℕ };
@@ -17,14 +17,14 @@ impl Model for FaultCount {
     ghost view = { λ s. s.count };
 }
 
-impl FaultCount {
-    pub(crate) fn zero() -> FaultCount
+impl Count {
+    pub(crate) fn zero() -> Count
         ensures { result ≡ 0 }
     {
-        FaultCount { count: 0 }
+        Count { count: 0 }
     }
 
-    /// One fault more. A count at its end cannot rise, which is answered as out of memory.
+    /// Once more. A count at its end cannot rise, which is answered as out of memory.
     pub(crate) fn raise(&mut self) -> Result<(), Memory>
         ensures risen { OnOk result (self.new ≡ self.old + 1) }
         ensures at_its_end { OnErr result ((self.old ≡ u64.MAX) × (self.new ≡ self.old)) }

@@ -1,0 +1,134 @@
+ghost use Rattle.std.specs.Prelude.{◌≡◌, ◌<◌, ◌≤◌, ℕ, List, Option, is_some, length, take, IfOk, OnErr, IsErrOf, refl};
+ghost use Rattle.wp_outside.specs.Outside.{Grows};
+ghost use Rattle.wp_outside.specs.declared.sink.SinkFault.TheVariants.{Failed};
+
+use crate::count::Count;
+use crate::sink::SinkFault;
+use std::io;
+use std::io::{Printer, Write};
+use std::marker::Model;
+
+/// A writer that is flushed, and counts how often it failed.
+pub trait Writes {
+    /// The bytes that it holds. `None` where they are not told.
+    ghost contents: { Self → Option (List ℕ) };
+
+    /// How often writing or flushing failed.
+    ghost faults: { Self → ℕ };
+
+    /// Writes the first bytes of a piece, and answers how many: at least one, unless the piece is empty. After an `Err`
+    /// nothing was written. `Failed` comes only where the count rose in this call.
+    fn write(&mut self, piece: &[u8]) -> Result<usize, SinkFault>
+        ensures within { IfOk result (λ n. n ≤ length piece.now) }
+        ensures progress { 0 < length piece.now → IfOk result (λ n. 0 < n) }
+        ensures takes { IfOk result (λ n. Grows (contents self.old) (contents self.new) (take n piece.now)) }
+        ensures nothing { OnErr result (contents self.new ≡ contents self.old) }
+        ensures counts { faults self.old ≤ faults self.new }
+        ensures failed { IsErrOf result SinkFault.Failed → faults self.old < faults self.new };
+
+    /// Flushes what was written. `Failed` comes only where the count rose in this call.
+    fn flush(&mut self) -> Result<(), SinkFault>
+        ensures contents { contents self.new ≡ contents self.old }
+        ensures counts { faults self.old ≤ faults self.new }
+        ensures failed { IsErrOf result SinkFault.Failed → faults self.old < faults self.new };
+}
+
+/// A writer of the kit of which either each value tells the bytes that it holds, or none does.
+pub trait Tells: Write {
+    ghost alike: { (one other : Self) → is_some (Self.contents one) ≡ is_some (Self.contents other) };
+}
+
+/// Standard output tells nothing.
+impl<P: Print> Tells for Printer<'_, P> {
+    ghost alike = { λ _ _. refl };
+}
+
+/// A list of bytes tells all that it holds.
+impl Tells for Vec<u8> {
+    ghost alike = { λ _ _. refl };
+}
+
+/// A writer of the kit, as standard output, and how often it failed. A writer that takes nothing of a piece that isn't empty
+/// has failed.
+#[derive(Drop)]
+pub struct SystemWriter<W: Tells> {
+    out: W,
+    faults: Count,
+}
+
+impl<W: Tells> Model for SystemWriter<W> {
+    ghost use Rattle.wp_outside.specs.Devices.{SystemWritten};
+
+    ghost Value = { SystemWritten };
+
+    ghost view = { λ s. record { contents = W.contents s.out; faults = s.faults } };
+}
+
+impl<W: Tells> SystemWriter<W> {
+    /// This writer, which didn't fail yet.
+    pub fn of(out: W) -> SystemWriter<W>
+        ensures { result ≡ record { contents = W.contents out; faults = 0 } }
+    {
+        SystemWriter {
+            out,
+            faults: Count::zero(),
+        }
+    }
+}
+
+impl<W: Tells> Writes for SystemWriter<W> {
+    ghost contents = { λ s. s.contents };
+
+    ghost faults = { λ s. s.faults };
+
+    fn write(&mut self, piece: &[u8]) -> Result<usize, SinkFault> {
+        match write_some(&mut self.out, piece) {
+            Ok(0) if !piece.is_empty() => Err(failure(&mut self.faults)),
+            Ok(count) => Ok(count),
+            Err(error) => Err(fault_of(&mut self.faults, &error)),
+        }
+    }
+
+    fn flush(&mut self) -> Result<(), SinkFault> {
+        match flush_all(&mut self.out) {
+            Ok(()) => Ok(()),
+            Err(error) => Err(fault_of(&mut self.faults, &error)),
+        }
+    }
+}
+
+// One more fault, unless its count is at its end.
+fn failure(faults: &mut Count) -> SinkFault
+    ensures rises { faults.old ≤ faults.new }
+    ensures failed { result ≡ Failed → faults.old < faults.new }
+{
+    match faults.raise() {
+        Ok(()) => SinkFault::Failed,
+        Err(_) => SinkFault::Memory,
+    }
+}
+
+// Want of memory is told as it is, and every other error is counted as a fault.
+fn fault_of(faults: &mut Count, error: &io::Error) -> SinkFault
+    ensures rises { faults.old ≤ faults.new }
+    ensures failed { result ≡ Failed → faults.old < faults.new }
+{
+    if error.kind() == io::ErrorKind::OutOfMemory {
+        return SinkFault::Memory;
+    }
+    failure(faults)
+}
+
+fn write_some<W: Tells>(out: &mut W, piece: &[u8]) -> io::Result<usize>
+    ensures within { IfOk result (λ n. n ≤ length piece.now) }
+    ensures takes { IfOk result (λ n. Grows (W.contents out.old) (W.contents out.new) (take n piece.now)) }
+    ensures nothing { OnErr result (W.contents out.new ≡ W.contents out.old) }
+{
+    out.write(piece)
+}
+
+fn flush_all<W: Tells>(out: &mut W) -> io::Result<()>
+    ensures { W.contents out.new ≡ W.contents out.old }
+{
+    out.flush()
+}
