@@ -5,7 +5,7 @@ use Rattle.std.specs.Prelude.{Option, Some, None, sum}
 use Rattle.std.specs.List.Sorted.{IsStrictlyIncreasing}
 use Rattle.std.proofs.lemmas.Bool.{cases_eq, false≢true}
 use Rattle.std.proofs.lemmas.List.Elements.{All-contains, Contains-push_cases}
-use Rattle.wp_pairs.specs.declared.pair.Pair.{Pair}
+use Rattle.wp_pairs.specs.declared.pair.OrderPair.{OrderPair}
 use Rattle.wp_pairs.specs.Permitted.{AreJoined, ArePair, AreUndecided, IsHeld, Pairing, itself, onward}
 use Rattle.wp_pairs.proofs.Chains.{joined_back, joined_before, joined_more, joined_on}
 use Rattle.wp_pairs.proofs.Classes.{head_below, joined_in, no_longer, tail_ascends}
@@ -18,7 +18,7 @@ use Rattle.wp_cert.specs.Trees.{IsRight, dead, kept, leaf, lower_of, split, with
 use Rattle.wp_duals.proofs.Ascending.{only_one, single_ascends}
 
 -- of any two orders it is known whether they are joined
-abbrev pub AreTold : List Pair → Type 0
+abbrev pub AreTold : List OrderPair → Type 0
 AreTold pairs = (a b : ℕ) → AreJoined pairs a b ⊎ (AreJoined pairs a b → ⊥)
 
 -- with no pair, an order is joined to itself alone
@@ -30,17 +30,17 @@ told_of_none = λ a b. ⊎_elim (λ (e : a ≡ b). inl (subst (λ (x : ℕ). Are
     same a b (onward {next} t p) = absurd (omega (arith, t.added.1))
 
 -- with a further apart pair, it is known still
-told_apart : (pairs : List Pair) (new : Pair) → new.together ≡ false → AreTold pairs → ((a b : ℕ) → AreJoined pairs a b → AreJoined (pairs ++ new ∷ []) a b)
+told_apart : (pairs : List OrderPair) (new : OrderPair) → new.together ≡ false → AreTold pairs → ((a b : ℕ) → AreJoined pairs a b → AreJoined (pairs ++ new ∷ []) a b)
     → AreTold (pairs ++ new ∷ [])
 told_apart pairs new kind told more = λ a b. ⊎_elim (λ j. inl (more a b j)) (λ none. inr (λ j. none (joined_before pairs new a b kind j))) (told a b)
 
 -- those of a list that are joined to an order
-record AreChosen (pairs : List Pair) (order : ℕ) (xs : List ℕ) : Type 0 where
+record AreChosen (pairs : List OrderPair) (order : ℕ) (xs : List ℕ) : Type 0 where
   chosen : List ℕ
   ascending : IsStrictlyIncreasing chosen
   exact : (x : ℕ) → Contains chosen x ↔ (Contains xs x × AreJoined pairs order x)
 
-choose : (pairs : List Pair) (order : ℕ) (xs : List ℕ) → AreTold pairs → IsStrictlyIncreasing xs → AreChosen pairs order xs
+choose : (pairs : List OrderPair) (order : ℕ) (xs : List ℕ) → AreTold pairs → IsStrictlyIncreasing xs → AreChosen pairs order xs
 choose pairs order [] told up = record {
   chosen = [];
   ascending = up;
@@ -77,7 +77,7 @@ held_apart : (pairing : Pairing) (first second order : ℕ) → AreTold pairing.
 held_apart pairing first second order told parts held =
     let batch = held.0 in
     let c = choose pairing.pairs order batch told held.1.ascending in
-    let new : Pair = record { first = first; second = second; together = false } in
+    let new : OrderPair = record { first = first; second = second; together = false } in
     let within = λ (x : ℕ) (has : Contains c.chosen x). ((c.exact x).0 has).0 in
     let here : Contains c.chosen order = (c.exact order).1 (held.2, itself) in
     let linked = λ (x y : ℕ) (l : Contains c.chosen x) (t : ArePair pairing.pairs true x y). (c.exact y).1 (
@@ -95,11 +95,11 @@ held_apart pairing first second order told parts held =
               λ l. linked pair.first pair.second l (record { pair = pair; added = old; kind = kind; both = inl (refl, refl) }),
               λ r. linked pair.second pair.first r (record { pair = pair; added = old; kind = kind; both = inr (refl, refl) }),
             ))
-            (λ (e : new ≡ pair). absurd (false≢true (ap (λ (p : Pair). p.together) e ∙ kind))) (Contains-push_cases pairing.pairs new pair added);
+            (λ (e : new ≡ pair). absurd (false≢true (ap (λ (p : OrderPair). p.together) e ∙ kind))) (Contains-push_cases pairing.pairs new pair added);
         apart = λ pair added kind both. ⊎_elim (λ old. held.1.apart pair old kind (within pair.first both.0, within pair.second both.1))
             (λ (e : new ≡ pair).
-            let l = subst (λ (p : Pair). AreJoined pairing.pairs order p.first) (sym e) ((c.exact pair.first).0 both.0).1 in
-            let r = subst (λ (p : Pair). AreJoined pairing.pairs order p.second) (sym e) ((c.exact pair.second).0 both.1).1 in
+            let l = subst (λ (p : OrderPair). AreJoined pairing.pairs order p.first) (sym e) ((c.exact pair.first).0 both.0).1 in
+            let r = subst (λ (p : OrderPair). AreJoined pairing.pairs order p.second) (sym e) ((c.exact pair.second).0 both.1).1 in
             parts.open_ (inl (joined_on (joined_back l) r))) (Contains-push_cases pairing.pairs new pair added);
       },
       here,
@@ -122,7 +122,7 @@ tree_alive wave pairing above _ rest _ kept told held = tt
 tree_alive wave pairing above _ rest _ (leaf own) told held = tt
 tree_alive wave pairing above _ rest _ (dead {order} is) told held = let h = held order is.known in is.unheld h.0 h.1 h.2
 tree_alive wave pairing above _ rest _ (split {first} {second} {own} {nodes} {between} {left} {right} own_right parts l r) told held =
-    let new : Pair = record { first = first; second = second; together = false } in
+    let new : OrderPair = record { first = first; second = second; together = false } in
     bound_from left right (tree_alive wave (with_pair pairing first second false) (sum own.duals) between rest right r
     (told_apart pairing.pairs new refl told (λ a b j. joined_more pairing.pairs new a b j)) (λ order low. held_apart pairing first second order told parts
     (held order low)))

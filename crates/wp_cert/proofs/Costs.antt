@@ -5,7 +5,7 @@ use Rattle.std.specs.Prelude.{sum, slice_index, Option, Some, None}
 use Rattle.std.proofs.lemmas.Bool.{cases_eq, true≢false, false≢true}
 use Rattle.std.proofs.lemmas.List.Sums.{sum_by-append}
 use Rattle.std.proofs.lemmas.List.Elements.{Contains-push_cases}
-use Rattle.wp_pairs.specs.declared.pair.Pair.{Pair}
+use Rattle.wp_pairs.specs.declared.pair.OrderPair.{OrderPair}
 use Rattle.wp_pairs.specs.Permitted.{IsPermitted, Pairing}
 use Rattle.wp_batch.specs.Batchings.{IsCost, batch_at}
 use Rattle.wp_batch.specs.Waves.{WavePicks}
@@ -43,31 +43,31 @@ sum_within wave pairing duals batches cost count feasible respects is =
 pub permitted_together : (pairing : Pairing) (first second : ℕ) (batch : List ℕ) → IsPermitted pairing batch
     → (Contains batch first ↔ Contains batch second) → IsPermitted (with_pair pairing first second true) batch
 permitted_together pairing first second batch permitted both =
-    let new : Pair = record { first = first; second = second; together = true } in record {
+    let new : OrderPair = record { first = first; second = second; together = true } in record {
       ascending = permitted.ascending;
       filled = permitted.filled;
       fits = permitted.fits;
       known = permitted.known;
       together = λ pair added kind. ⊎_elim (λ old. permitted.together pair old kind)
-          (λ (e : new ≡ pair). subst (λ (p : Pair). Contains batch p.first ↔ Contains batch p.second) e both)
+          (λ (e : new ≡ pair). subst (λ (p : OrderPair). Contains batch p.first ↔ Contains batch p.second) e both)
           (Contains-push_cases pairing.pairs new pair added);
       apart = λ pair added kind. ⊎_elim (λ old. permitted.apart pair old kind)
-          (λ (e : new ≡ pair). absurd (true≢false (ap (λ (p : Pair). p.together) e ∙ kind))) (Contains-push_cases pairing.pairs new pair added);
+          (λ (e : new ≡ pair). absurd (true≢false (ap (λ (p : OrderPair). p.together) e ∙ kind))) (Contains-push_cases pairing.pairs new pair added);
     }
 
 -- a permitted batch that doesn't have both of two more orders is permitted where they go apart
 pub permitted_apart : (pairing : Pairing) (first second : ℕ) (batch : List ℕ) → IsPermitted pairing batch
     → ((Contains batch first × Contains batch second) → ⊥) → IsPermitted (with_pair pairing first second false) batch
 permitted_apart pairing first second batch permitted never =
-    let new : Pair = record { first = first; second = second; together = false } in record {
+    let new : OrderPair = record { first = first; second = second; together = false } in record {
       ascending = permitted.ascending;
       filled = permitted.filled;
       fits = permitted.fits;
       known = permitted.known;
       together = λ pair added kind. ⊎_elim (λ old. permitted.together pair old kind)
-          (λ (e : new ≡ pair). absurd (false≢true (ap (λ (p : Pair). p.together) e ∙ kind))) (Contains-push_cases pairing.pairs new pair added);
+          (λ (e : new ≡ pair). absurd (false≢true (ap (λ (p : OrderPair). p.together) e ∙ kind))) (Contains-push_cases pairing.pairs new pair added);
       apart = λ pair added kind. ⊎_elim (λ old. permitted.apart pair old kind)
-          (λ (e : new ≡ pair). subst (λ (p : Pair). (Contains batch p.first × Contains batch p.second) → ⊥) e never)
+          (λ (e : new ≡ pair). subst (λ (p : OrderPair). (Contains batch p.first × Contains batch p.second) → ⊥) e never)
           (Contains-push_cases pairing.pairs new pair added);
     }
 

@@ -13,7 +13,7 @@ use Rattle.wp_batch.specs.Lengths.{IsLengthOf, batch_picks}
 use Rattle.wp_batch.specs.Waves.{WavePicks, picks_of}
 use Rattle.wp_batch.proofs.Unions.{nothing_in, same_shortest}
 use Rattle.wp_cert.specs.declared.text.form.Form.{Form}
-use Rattle.wp_cert.specs.declared.text.form.Place.{Place}
+use Rattle.wp_cert.specs.declared.text.form.WrittenSlot.{WrittenSlot}
 use Rattle.wp_cert.specs.declared.tree.CertFault.{CertFault}
 use Rattle.wp_cert.specs.declared.tree.CertWhy.{CertWhy}
 use Rattle.wp_cert.specs.declared.tree.CertWhy.TheVariants as why
@@ -312,7 +312,7 @@ bound_not_broken wave other same count capacity nodes bound fault right (nodes_l
     omega (arith, ap (λ (ns : List Node). length ns) none, some)
 
 -- orders that pick at the same places: what an order picks in the one list it picks in the other
-picks_too : (left right : List PickSet) (places : List (List Place)) (here there : Layout) → PickAt left places → PickAt right places → (order : ℕ) (p : Point)
+picks_too : (left right : List PickSet) (places : List (List WrittenSlot)) (here there : Layout) → PickAt left places → PickAt right places → (order : ℕ) (p : Point)
     → Contains (slice_index_or left order (record { layout = here; points = [] })).points p
     → Contains (slice_index_or right order (record { layout = there; points = [] })).points p
 picks_too [] right places here there one other order p has = absurd (nothing_in [] p refl has)

@@ -11,29 +11,29 @@ use Rattle.wp_model.specs.declared.point.Point.{Point}
 use Rattle.wp_graph.specs.PickSets.{PickSet}
 use Rattle.wp_model.specs.Warehouse.{Layout}
 use Rattle.wp_cert.specs.Text.{PickAt, PicksAt, is_order_of, is_slot_of, is_up_to, place_of}
-use Rattle.wp_cert.specs.declared.text.form.Place.{Place}
+use Rattle.wp_cert.specs.declared.text.form.WrittenSlot.{WrittenSlot}
 
 -- two points with the same numbers are the same
 pub same_point : (p q : Point) → place_of p ≡ place_of q → p ≡ q
 same_point p q same =
-    let aisle : p.aisle ≡ q.aisle = ap (λ (place : Place). place.aisle) same in
-    let slot : p.slot ≡ q.slot = ap (λ (place : Place). place.slot) same in
+    let aisle : p.aisle ≡ q.aisle = ap (λ (place : WrittenSlot). place.aisle) same in
+    let slot : p.slot ≡ q.slot = ap (λ (place : WrittenSlot). place.slot) same in
     rw (aisle, slot) refl
 
 -- one more place is one more slot
-pub one_more_slot : (places : List Place) (i : ℕ) (d : Place) (point : Point) (before after : PickSet) → i < length places
+pub one_more_slot : (places : List WrittenSlot) (i : ℕ) (d : WrittenSlot) (point : Point) (before after : PickSet) → i < length places
     → place_of point ≡ get_or places i d → PicksAt before (take i places)
     → ((p : Point) → Contains after.points p ↔ (Contains before.points p ⊎ (p ≡ point))) → PicksAt after (take (i + 1) places)
 one_more_slot places i d point before after within here had grown p =
     let whole = take_more places i d within in
     let forth : Contains after.points p → Contains (take (i + 1) places) (place_of p) =
     λ has. rw whole (⊎_elim (λ old. Contains-append_left (take i places) (get_or places i d ∷ []) (place_of p) ((had p).0 old))
-    (λ (e : p ≡ point). subst (λ (place : Place). Contains (take i places ++ get_or places i d ∷ []) place) (sym here ∙ ap place_of (sym e))
+    (λ (e : p ≡ point). subst (λ (place : WrittenSlot). Contains (take i places ++ get_or places i d ∷ []) place) (sym here ∙ ap place_of (sym e))
     (Contains-push (take i places) (get_or places i d))) ((grown p).0 has)) in
     let back : Contains (take (i + 1) places) (place_of p) → Contains after.points p =
     λ has. (grown p).1 (⊎_elim (λ old. inl ((had p).1 old)) (λ (e : get_or places i d ≡ place_of p). inr (same_point p point (sym e ∙ sym here)))
     (Contains-push_cases (take i places) (get_or places i d) (place_of p)
-    (subst (λ (xs : List Place). Contains xs (place_of p)) whole has))) in
+    (subst (λ (xs : List WrittenSlot). Contains xs (place_of p)) whole has))) in
     (forth, back)
 
 -- the first of two that both hold
@@ -46,12 +46,12 @@ pub and_right : (a b : Bool) → (a && b) ≡ true → b ≡ true
 and_right true b both = both
 and_right false b both = absurd (cc both)
 
-some_within : (places : List Place) → nat_le 1 (length places) ≡ true → 0 < length places
+some_within : (places : List WrittenSlot) → nat_le 1 (length places) ≡ true → 0 < length places
 some_within [] h = absurd (cc h)
 some_within (x ∷ xs) h = omega arith
 
 -- an order that is in range picks at some slot
-pub order_picks : (layout : Layout) (places : List Place) (picks : PickSet) → is_order_of layout places ≡ true → PicksAt picks places
+pub order_picks : (layout : Layout) (places : List WrittenSlot) (picks : PickSet) → is_order_of layout places ≡ true → PicksAt picks places
     → 0 < length picks.points
 order_picks layout places picks within at =
     let some = some_within places (and_left (nat_le 1 (length places)) (list_all (is_slot_of layout) places) within) in
@@ -66,7 +66,7 @@ zip_push R (z ∷ zs) [] x y all one = absurd all
 zip_push R (w ∷ ws) (z ∷ zs) x y all one = (all.0, zip_push R ws zs x y all.1 one)
 
 -- one more order picks at its places
-pub one_more_order : (orders : List (List Place)) (i : ℕ) (d : List Place) (all : List PickSet) (picks : PickSet) → i < length orders
+pub one_more_order : (orders : List (List WrittenSlot)) (i : ℕ) (d : List WrittenSlot) (all : List PickSet) (picks : PickSet) → i < length orders
     → PickAt all (take i orders) → PicksAt picks (get_or orders i d) → PickAt (all ++ picks ∷ []) (take (i + 1) orders)
 one_more_order orders i d all picks within at one =
     rw (take_more orders i d within) (zip_push PicksAt all (take i orders) picks (get_or orders i d) at one)
@@ -88,7 +88,7 @@ tail_same x y xs ys same = record {
 }
 
 -- orders that pick at the same slots pick at the same places
-pub same_picks : (left right : List PickSet) (places : List (List Place)) → HaveSamePicks left right → PickAt right places → PickAt left places
+pub same_picks : (left right : List PickSet) (places : List (List WrittenSlot)) → HaveSamePicks left right → PickAt right places → PickAt left places
 same_picks [] [] places same at = at
 same_picks [] (y ∷ ys) places same at = absurd (omega (arith, same.count))
 same_picks (x ∷ xs) [] places same at = absurd (omega (arith, same.count))
@@ -99,7 +99,7 @@ same_picks (x ∷ xs) (y ∷ ys) (z ∷ zs) same at = (
 )
 
 -- there are as many orders as the text has
-pub as_many : (orders : List PickSet) (places : List (List Place)) → PickAt orders places → length orders ≡ length places
+pub as_many : (orders : List PickSet) (places : List (List WrittenSlot)) → PickAt orders places → length orders ≡ length places
 as_many [] [] at = refl
 as_many [] (z ∷ zs) at = absurd at
 as_many (x ∷ xs) [] at = absurd at

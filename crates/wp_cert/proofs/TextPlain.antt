@@ -4,7 +4,7 @@ use Rattle.serde_json.specs.Read.{read}
 use Rattle.serde_json.specs.Data.{Data, depth, items_depth}
 use Rattle.serde_json.specs.View.{items_of}
 use Rattle.serde_json.specs.Written.{compact_text, has_float, items_have_float}
-use Rattle.wp_cert.specs.declared.text.form.Place.{Place}
+use Rattle.wp_cert.specs.declared.text.form.WrittenSlot.{WrittenSlot}
 use Rattle.wp_cert.specs.declared.tree.Node.{Node}
 use Rattle.wp_cert.specs.declared.tree.Node.TheVariants as node
 use Rattle.wp_cert.specs.TextData.{batch_data, certificate_data, certificate_text, list_data, node_data, number_data, place_data}
@@ -19,7 +19,7 @@ plain_numbers = plain_list number_data (λ n. refl)
 plain_batches : (batches : List (List ℕ)) → items_have_float (items_of (map batch_data batches)) ≡ false
 plain_batches = plain_list batch_data plain_numbers
 
-plain_places : (places : List Place) → items_have_float (items_of (map place_data places)) ≡ false
+plain_places : (places : List WrittenSlot) → items_have_float (items_of (map place_data places)) ≡ false
 plain_places = plain_list place_data (λ place. refl)
 
 plain_node : (tree_node : Node) → has_float (node_data tree_node) ≡ false
@@ -30,7 +30,7 @@ plain_node (node.Split first second (Some own)) = rw (plain_numbers own.duals, p
 plain_node (node.Dead order) = refl
 
 -- no number of a certificate is a float
-pub plain_certificate : (orders : List (List Place)) (capacity : ℕ) (nodes : List Node) → has_float (certificate_data orders capacity nodes) ≡ false
+pub plain_certificate : (orders : List (List WrittenSlot)) (capacity : ℕ) (nodes : List Node) → has_float (certificate_data orders capacity nodes) ≡ false
 plain_certificate orders capacity nodes =
     rw (plain_list node_data plain_node nodes, plain_list (list_data place_data) plain_places orders) refl
 
@@ -44,7 +44,7 @@ shallow_numbers = shallow_list number_data 0 (λ n. omega arith)
 shallow_batches : (batches : List (List ℕ)) → items_depth (items_of (map batch_data batches)) ≤ 1
 shallow_batches = shallow_list batch_data 1 (λ batch. omega (arith, shallow_numbers batch))
 
-shallow_places : (places : List Place) → items_depth (items_of (map place_data places)) ≤ 1
+shallow_places : (places : List WrittenSlot) → items_depth (items_of (map place_data places)) ≤ 1
 shallow_places = shallow_list place_data 1 (λ place. omega arith)
 
 shallow_node : (tree_node : Node) → depth (node_data tree_node) ≤ 3
@@ -55,7 +55,7 @@ shallow_node (node.Split first second (Some own)) = omega (arith, shallow_number
 shallow_node (node.Dead order) = omega arith
 
 -- a certificate is no deeper than a reader goes
-pub shallow_certificate : (orders : List (List Place)) (capacity : ℕ) (nodes : List Node) → depth (certificate_data orders capacity nodes) ≤ 127
+pub shallow_certificate : (orders : List (List WrittenSlot)) (capacity : ℕ) (nodes : List Node) → depth (certificate_data orders capacity nodes) ≤ 127
 shallow_certificate orders capacity nodes =
     omega (
       arith,
@@ -64,14 +64,14 @@ shallow_certificate orders capacity nodes =
     )
 
 -- bytes that are a value's compact text are a certificate's text, where the value is the certificate's
-pub printed : (value : Data) (orders : List (List Place)) (capacity : ℕ) (nodes : List Node) (bytes : List ℕ)
+pub printed : (value : Data) (orders : List (List WrittenSlot)) (capacity : ℕ) (nodes : List Node) (bytes : List ℕ)
     → value ≡ certificate_data orders capacity nodes → (has_float value ≡ false → bytes ≡ compact_text value) → bytes ≡ certificate_text orders capacity nodes
 unfolding certificate_text
 printed value orders capacity nodes bytes is text =
     text (ap has_float is ∙ plain_certificate orders capacity nodes) ∙ ap compact_text is
 
 -- bytes that are read as a value as deep as this are read as the certificate's
-pub read_again : (value : Data) (orders : List (List Place)) (capacity : ℕ) (nodes : List Node) (bytes : List ℕ)
+pub read_again : (value : Data) (orders : List (List WrittenSlot)) (capacity : ℕ) (nodes : List Node) (bytes : List ℕ)
     → value ≡ certificate_data orders capacity nodes → (depth value ≤ 127 → read bytes ≡ Some value)
     → read bytes ≡ Some (certificate_data orders capacity nodes)
 read_again value orders capacity nodes bytes is read_back =

@@ -7,7 +7,7 @@ use Rattle.serde_json.specs.Data.{Data}
 use Rattle.serde_json.specs.View.{items_of}
 use Rattle.wp_pairs.proofs.Members.{contains_first, contains_later}
 use Rattle.wp_pairs.specs.Batches.{IsBatch}
-use Rattle.wp_cert.specs.declared.text.form.Place.{Place}
+use Rattle.wp_cert.specs.declared.text.form.WrittenSlot.{WrittenSlot}
 use Rattle.wp_cert.specs.declared.tree.Node.{Node}
 use Rattle.wp_cert.specs.declared.tree.Node.TheVariants as node
 use Rattle.wp_cert.specs.Text.{batch_said, each_of, each_said, form_said, list_said, mark_said, node_said, number_said, orders_from, place_said}
@@ -57,14 +57,14 @@ marks_again (mark ∷ marks) = rw (mark_again mark, marks_again marks) refl
 batches_again : (batches : List (List ℕ)) → All IsBatch batches → each_said batch_said (items_of (map batch_data batches)) ≡ Some batches
 batches_again batches all = said_again batch_said batch_data IsBatch batch_again batches all
 
-place_again : (place : Place) → place_said (place_data place) ≡ Some place
+place_again : (place : WrittenSlot) → place_said (place_data place) ≡ Some place
 place_again place = refl
 
-order_again : (places : List Place) → list_said place_said (list_data place_data places) ≡ Some places
+order_again : (places : List WrittenSlot) → list_said place_said (list_data place_data places) ≡ Some places
 order_again [] = refl
 order_again (place ∷ places) = rw (order_again places) refl
 
-orders_all_again : (orders : List (List Place)) → each_said (list_said place_said) (items_of (map (list_data place_data) orders)) ≡ Some orders
+orders_all_again : (orders : List (List WrittenSlot)) → each_said (list_said place_said) (items_of (map (list_data place_data) orders)) ≡ Some orders
 orders_all_again [] = refl
 orders_all_again (places ∷ orders) = rw (order_again places, orders_all_again orders) refl
 
@@ -84,6 +84,6 @@ nodes_again : (nodes : List Node) → All IsKeptNode nodes → each_said node_sa
 nodes_again nodes all = said_again node_said node_data IsKeptNode node_again nodes all
 
 -- the form of a certificate is said again
-pub form_again : (orders : List (List Place)) (capacity : ℕ) (nodes : List Node) → All IsKeptNode nodes
+pub form_again : (orders : List (List WrittenSlot)) (capacity : ℕ) (nodes : List Node) → All IsKeptNode nodes
     → form_said (certificate_data orders capacity nodes) ≡ Some (record { version = 1; capacity = capacity; orders = orders; nodes = nodes })
 form_again orders capacity nodes all = rw (nodes_again nodes all, orders_all_again orders) refl

@@ -5,13 +5,13 @@ use Rattle.wp_model.specs.declared.point.Point.{Point}
 use Rattle.wp_batch.specs.Waves.{HaveSamePicks, WavePicks}
 use Rattle.wp_graph.specs.PickSets.{PickSet}
 use Rattle.wp_cert.specs.declared.text.form.Form.{Form}
-use Rattle.wp_cert.specs.declared.text.form.Place.{Place}
+use Rattle.wp_cert.specs.declared.text.form.WrittenSlot.{WrittenSlot}
 use Rattle.wp_cert.specs.declared.tree.CertWhy.{CertWhy}
 use Rattle.wp_cert.specs.declared.tree.Node.{Node}
 use Rattle.wp_cert.specs.Text.{IsSame, PickAt, Tells, certificate_said}
 use Rattle.wp_cert.proofs.TextPicks.{as_many}
 
-each_at : (left right : List PickSet) (places : List (List Place)) → PickAt left places → PickAt right places → (order : ℕ) (d : PickSet)
+each_at : (left right : List PickSet) (places : List (List WrittenSlot)) → PickAt left places → PickAt right places → (order : ℕ) (d : PickSet)
     → order < length left → (p : Point) → Contains (get_or left order d).points p ↔ Contains (get_or right order d).points p
 each_at [] right places one other order d inside p = absurd (omega arith)
 each_at (x ∷ xs) [] [] one other order d inside p = absurd one
@@ -22,7 +22,7 @@ each_at (x ∷ xs) (y ∷ ys) (z ∷ zs) one other zero d inside p =
 each_at (x ∷ xs) (y ∷ ys) (z ∷ zs) one other (suc order) d inside p = each_at xs ys zs one.1 other.1 order d (omega arith) p
 
 -- orders that pick at the same places pick at the same slots
-same_at : (left right : List PickSet) (places : List (List Place)) → PickAt left places → PickAt right places → HaveSamePicks left right
+same_at : (left right : List PickSet) (places : List (List WrittenSlot)) → PickAt left places → PickAt right places → HaveSamePicks left right
 same_at left right places one other = record {
   count = as_many left places one ∙ sym (as_many right places other);
   each = each_at left right places one other;

@@ -1,6 +1,6 @@
 -- Paths from the root of a tree to a node: the pairs of the splits on the way.
 use Rattle.std.specs.Prelude.{◌≡◌, ℕ, ◌+◌, ◌<◌, List, ◌∷◌, Option, Some, length, drop, take, slice_index_or, sum}
-use Rattle.wp_pairs.specs.declared.pair.Pair.{Pair}
+use Rattle.wp_pairs.specs.declared.pair.OrderPair.{OrderPair}
 use Rattle.wp_pairs.specs.Permitted.{AreUndecided, Pairing}
 use Rattle.wp_batch.specs.Waves.{WavePicks}
 use Rattle.wp_cert.specs.declared.tree.CertFault.{CertFault}
@@ -12,12 +12,12 @@ use Rattle.wp_cert.specs.Trees.{IsRightOwn}
 use Rattle.wp_cert.specs.Refusals.{IsBroken}
 
 -- so many orders, such a capacity, and these pairs
-abbrev pub pairing_of : ℕ → ℕ → List Pair → Pairing
+abbrev pub pairing_of : ℕ → ℕ → List OrderPair → Pairing
 pairing_of orders capacity pairs = record { orders = orders; capacity = capacity; pairs = pairs }
 
 -- each pair of a path was undecided by those before it
-pub record IsPath (orders capacity : ℕ) (pairs : List Pair) : Type 0 where
-  pub each : (k : ℕ) (d : Pair) → k < length pairs
+pub record IsPath (orders capacity : ℕ) (pairs : List OrderPair) : Type 0 where
+  pub each : (k : ℕ) (d : OrderPair) → k < length pairs
       → AreUndecided (pairing_of orders capacity (take k pairs)) (slice_index_or pairs k d).first (slice_index_or pairs k d).second
 
 -- a split has duals of its own, which are right and come to this, and is on an undecided pair

@@ -21,7 +21,7 @@ use Rattle.wp_cert.specs.declared.tree.Node.{Node}
 use Rattle.wp_cert.specs.declared.tree.Node.TheVariants as node
 use Rattle.wp_cert.specs.declared.tree.Own.{Own}
 use Rattle.wp_cert.specs.declared.text.form.Form.{Form}
-use Rattle.wp_cert.specs.declared.text.form.Place.{Place}
+use Rattle.wp_cert.specs.declared.text.form.WrittenSlot.{WrittenSlot}
 use Rattle.wp_cert.specs.declared.text.form.Unread.{Unread}
 use Rattle.wp_cert.specs.declared.text.form.Unread.TheVariants as unread
 
@@ -64,7 +64,7 @@ has_keys count value = option_map_or (λ members. members_len members == count) 
 -- ---- the parts of a certificate
 
 -- a slot that an order picks at: the numbers of its aisle and of the slot in it, and nothing else
-abbrev pub place_said : Data → Option Place
+abbrev pub place_said : Data → Option WrittenSlot
 place_said value =
     if is_none (at 2 value)
     then option_and_then
@@ -152,11 +152,11 @@ abbrev pub is_up_to : ℕ → ℕ → Bool
 is_up_to most n = nat_le 1 n && nat_le n most
 
 -- whether a place is a slot of the layout
-abbrev pub is_slot_of : Layout → Place → Bool
+abbrev pub is_slot_of : Layout → WrittenSlot → Bool
 is_slot_of layout place = is_up_to layout.aisles place.aisle && is_up_to layout.slots place.slot
 
 -- whether an order picks at some slots, which are slots of the layout
-abbrev pub is_order_of : Layout → List Place → Bool
+abbrev pub is_order_of : Layout → List WrittenSlot → Bool
 is_order_of layout places = nat_le 1 (length places) && list_all (is_slot_of layout) places
 
 -- whether the duals, where there are some, are all within their range
@@ -197,15 +197,15 @@ abbrev pub certificate_said : Layout → List ℕ → Result Form CertWhy
 certificate_said layout bytes = and_then (value_read bytes) (value_says layout)
 
 -- a point as the text has it
-abbrev pub place_of : Point → Place
+abbrev pub place_of : Point → WrittenSlot
 place_of point = record { aisle = point.aisle; slot = point.slot }
 
 -- an order picks just at the slots that the text has for it
-abbrev pub PicksAt : PickSet → List Place → Type 0
+abbrev pub PicksAt : PickSet → List WrittenSlot → Type 0
 PicksAt picks places = (p : Point) → Contains picks.points p ↔ Contains places (place_of p)
 
 -- each order picks just at the slots that the text has for it
-abbrev pub PickAt : List PickSet → List (List Place) → Type 0
+abbrev pub PickAt : List PickSet → List (List WrittenSlot) → Type 0
 PickAt orders places = AllZip PicksAt orders places
 
 -- the bytes of a certificate tell this wave of the layout, this capacity, and a tree of these nodes

@@ -13,7 +13,7 @@ use Rattle.wp_pairs.specs.Batches.{IsBatch}
 use Rattle.wp_cert.specs.declared.tree.Node.{Node}
 use Rattle.wp_cert.specs.declared.tree.Node.TheVariants as node
 use Rattle.wp_cert.specs.declared.tree.Own.{Own}
-use Rattle.wp_cert.specs.declared.text.form.Place.{Place}
+use Rattle.wp_cert.specs.declared.text.form.WrittenSlot.{WrittenSlot}
 use Rattle.wp_cert.specs.Text.{is_node_within, place_of}
 
 -- a list of values
@@ -25,7 +25,7 @@ abbrev pub number_data : ℕ → Data
 number_data n = number (unsigned n)
 
 -- a slot: the numbers of its aisle and of the slot in it
-abbrev pub place_data : Place → Data
+abbrev pub place_data : WrittenSlot → Data
 place_data place = array (item (number_data place.aisle) (item (number_data place.slot) no_items))
 
 -- a batch: its orders in ascending order
@@ -75,7 +75,7 @@ node_data (node.Split first second own) = split_data first second own
 node_data (node.Dead order) = dead_data order
 
 -- a certificate; its keys stand in the order of their bytes
-abbrev pub certificate_data : List (List Place) → ℕ → List Node → Data
+abbrev pub certificate_data : List (List WrittenSlot) → ℕ → List Node → Data
 certificate_data orders capacity nodes = object
     (member (codes "capacity") (number_data capacity)
     (member (codes "nodes") (list_data node_data nodes)
@@ -83,15 +83,15 @@ certificate_data orders capacity nodes = object
     (member (codes "version") (number_data 1) no_members))))
 
 -- the text of a certificate, with nothing between its parts
-unfoldable pub certificate_text : List (List Place) → ℕ → List Node → List ℕ
+unfoldable pub certificate_text : List (List WrittenSlot) → ℕ → List Node → List ℕ
 certificate_text orders capacity nodes = compact_text (certificate_data orders capacity nodes)
 
 -- the slots of a set, in the order of their aisles and then of their slots, each once
-abbrev pub order_places : Layout → List Point → List Place
+abbrev pub order_places : Layout → List Point → List WrittenSlot
 order_places layout points = map place_of (points_where layout (has_point points))
 
 -- the slots of each order of a wave
-abbrev pub wave_places : WavePicks → List (List Place)
+abbrev pub wave_places : WavePicks → List (List WrittenSlot)
 wave_places wave = map (λ picks. order_places wave.layout picks.points) wave.orders
 
 -- no dual is above the greatest

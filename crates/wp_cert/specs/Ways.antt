@@ -1,6 +1,6 @@
 -- Ways from the root of a tree to the node that is due: a check goes along them from node to node.
 use Rattle.std.specs.Prelude.{◌≡◌, ℕ, ◌+◌, true, false, List, [], ◌∷◌, ◌++◌, Option, Some, length, drop, slice_get}
-use Rattle.wp_pairs.specs.declared.pair.Pair.{Pair}
+use Rattle.wp_pairs.specs.declared.pair.OrderPair.{OrderPair}
 use Rattle.wp_pairs.specs.Permitted.{Pairing}
 use Rattle.wp_batch.specs.Waves.{WavePicks}
 use Rattle.wp_cert.specs.declared.tree.Node.{Node}
@@ -9,27 +9,27 @@ use Rattle.wp_cert.specs.declared.tree.Own.{Own}
 use Rattle.wp_cert.specs.declared.way.Met.{Met}
 use Rattle.wp_cert.specs.declared.way.Met.TheVariants as met
 use Rattle.wp_cert.specs.declared.way.Note.{Note}
-use Rattle.wp_cert.specs.declared.way.Step.{Step}
-use Rattle.wp_cert.specs.declared.way.Step.TheVariants as step
+use Rattle.wp_cert.specs.declared.way.NodeStep.{NodeStep}
+use Rattle.wp_cert.specs.declared.way.NodeStep.TheVariants as step
 use Rattle.wp_cert.specs.declared.way.Way.{Way}
 use Rattle.wp_cert.specs.Paths.{IsRightSplit, pairing_of}
 use Rattle.wp_cert.specs.Trees.{IsRight, with_pair}
 
 -- a node is a split on the orders of a pair, and right but for its subtrees; its duals come to this
-pub record IsSplit (wave : WavePicks) (pairing : Pairing) (above : ℕ) (here : Node) (pair : Pair) (total : ℕ) : Type 0 where
+pub record IsSplit (wave : WavePicks) (pairing : Pairing) (above : ℕ) (here : Node) (pair : OrderPair) (total : ℕ) : Type 0 where
   pub given : Option Own
   pub is : here ≡ node.Split pair.first pair.second given
   pub right : IsRightSplit wave pairing above pair.first pair.second given total
 
 -- The way to a node of a list. Each split on it is right; where its second subtree is due, the first one is right too, and its bound is noted. The duals above
 -- the node come to the number that is given.
-pub data IsWay (wave : WavePicks) (capacity : ℕ) (nodes : List Node) (shares : ℕ) : List Pair → List Note → ℕ → ℕ → Type 0 where
+pub data IsWay (wave : WavePicks) (capacity : ℕ) (nodes : List Node) (shares : ℕ) : List OrderPair → List Note → ℕ → ℕ → Type 0 where
   at_root : IsWay wave capacity nodes shares [] [] shares 0
-  in_first : {path pairs : List Pair} {notes others : List Note} {pair : Pair} {here : Node} {above at : ℕ} (note : Note)
+  in_first : {path pairs : List OrderPair} {notes others : List Note} {pair : OrderPair} {here : Node} {above at : ℕ} (note : Note)
       → IsWay wave capacity nodes shares path notes above at → slice_get nodes at ≡ Some here
       → IsSplit wave (pairing_of (length wave.orders) capacity path) above here pair note.total → pair.together ≡ true
       → pairs ≡ path ++ pair ∷ [] → others ≡ notes ++ note ∷ [] → IsWay wave capacity nodes shares pairs others note.total (at + 1)
-  in_second : {path pairs : List Pair} {notes others : List Note} {pair : Pair} {here : Node} {above at between : ℕ} (note : Note)
+  in_second : {path pairs : List OrderPair} {notes others : List Note} {pair : OrderPair} {here : Node} {above at between : ℕ} (note : Note)
       → IsWay wave capacity nodes shares path notes above at → slice_get nodes at ≡ Some here
       → IsSplit wave (pairing_of (length wave.orders) capacity path) above here pair note.total → pair.together ≡ false
       → IsRight wave (with_pair (pairing_of (length wave.orders) capacity path) pair.first pair.second true) note.total (drop (at + 1) nodes)
@@ -37,7 +37,7 @@ pub data IsWay (wave : WavePicks) (capacity : ℕ) (nodes : List Node) (shares :
       → pairs ≡ path ++ pair ∷ [] → others ≡ notes ++ note ∷ [] → IsWay wave capacity nodes shares pairs others note.total between
 
 -- the subtree at the end of a way is right, and ends before the node at a place; this is its bound
-pub record IsDone (wave : WavePicks) (capacity : ℕ) (nodes : List Node) (shares : ℕ) (pairs : List Pair) (notes : List Note) (next : ℕ) (bound : Option ℕ)
+pub record IsDone (wave : WavePicks) (capacity : ℕ) (nodes : List Node) (shares : ℕ) (pairs : List OrderPair) (notes : List Note) (next : ℕ) (bound : Option ℕ)
     : Type 0 where
   pub above : ℕ
   pub at : ℕ
@@ -45,7 +45,7 @@ pub record IsDone (wave : WavePicks) (capacity : ℕ) (nodes : List Node) (share
   pub right : IsRight wave (pairing_of (length wave.orders) capacity pairs) above (drop at nodes) (drop next nodes) bound
 
 -- a node leads to its first subtree, or out of its own, whatever nodes follow
-abbrev pub IsStep : WavePicks → Pairing → ℕ → Node → Step → Type 0
+abbrev pub IsStep : WavePicks → Pairing → ℕ → Node → NodeStep → Type 0
 IsStep wave pairing above here (step.Into pair total) = IsSplit wave pairing above here pair total × (pair.together ≡ true)
 IsStep wave pairing above here (step.Out bound) = (rest : List Node) → IsRight wave pairing above (here ∷ rest) rest bound
 
@@ -63,7 +63,7 @@ LeavesTo way shown then met = (wave : WavePicks) (capacity shares at next : ℕ)
     → IsMet wave capacity nodes shares next then met
 
 -- what a node leads to, which is the node at the end of a way, leads on from one way to another
-abbrev pub GoesTo : Way → Step → Way → Met → Type 0
+abbrev pub GoesTo : Way → NodeStep → Way → Met → Type 0
 GoesTo way step then met = (wave : WavePicks) (capacity shares at : ℕ) (nodes : List Node) (here : Node)
     → IsWay wave capacity nodes shares way.path.items way.notes.items way.above at → slice_get nodes at ≡ Some here
     → IsStep wave (pairing_of (length wave.orders) capacity way.path.items) way.above here step → IsMet wave capacity nodes shares (at + 1) then met

@@ -8,11 +8,11 @@ ghost use Rattle.wp_cert.specs.Ways.{IsMet, IsStep, IsWay};
 
 use crate::node::{test_dead, test_leaf, test_split};
 use crate::tree::{CertFault, CertWhy, Node, Nodes, Tree};
-use crate::way::{Met, Step, Way};
+use crate::way::{Met, NodeStep, Way};
 use std::alloc::Global;
 use wp_batch::Wave;
 use wp_duals::shares_of;
-use wp_pairs::Pair;
+use wp_pairs::OrderPair;
 
 /// What a tree shows: its bound, which it has not where all of its leaves are dead; and the place of the node after it.
 #[derive(Clone, Copy)]
@@ -33,7 +33,7 @@ fn fault_at(at: u32, why: CertWhy) -> CertFault
 }
 
 // Tests a node, whose subtrees aren't looked at, and tells what it leads to.
-fn test_node(wave: &Wave, capacity: u32, way: &Way, node: &Node) -> Result<Step, CertWhy>
+fn test_node(wave: &Wave, capacity: u32, way: &Way, node: &Node) -> Result<NodeStep, CertWhy>
     requires some { 1 ≤ capacity }
     requires most { capacity ≤ 8 }
     requires path { IsPath (length wave.now.orders) capacity way.now.path.items }
@@ -43,20 +43,20 @@ fn test_node(wave: &Wave, capacity: u32, way: &Way, node: &Node) -> Result<Step,
     match node {
         Node::Leaf(own) => {
             let bound = test_leaf(wave, capacity, &way.path, way.above, own)?;
-            Ok(Step::Out(Some(bound)))
+            Ok(NodeStep::Out(Some(bound)))
         }
         Node::Dead(order) => {
             test_dead(wave, capacity, &way.path, way.above, *order)?;
-            Ok(Step::Out(None))
+            Ok(NodeStep::Out(None))
         }
         Node::Split { first, second, own } => {
             let total = test_split(wave, capacity, &way.path, way.above, *first, *second, own)?;
-            let pair = Pair {
+            let pair = OrderPair {
                 first: *first as u8,
                 second: *second as u8,
                 together: true,
             };
-            Ok(Step::Into(pair, total))
+            Ok(NodeStep::Into(pair, total))
         }
     }
 }

@@ -10,7 +10,7 @@ use crate::own::test_own;
 use crate::path::{is_dead, is_open, pairs_of};
 use crate::tree::{CertWhy, Own};
 use wp_batch::Wave;
-use wp_pairs::Pair;
+use wp_pairs::OrderPair;
 
 /// Sixtieths in whole units, rounded up.
 pub fn units_of(sixtieths: u128) -> u128
@@ -28,7 +28,7 @@ pub fn units_of(sixtieths: u128) -> u128
 pub fn test_leaf(
     wave: &Wave,
     capacity: u32,
-    path: &Vec<Pair>,
+    path: &Vec<OrderPair>,
     above: u128,
     own: &Option<Own>,
 ) -> Result<u128, CertWhy>
@@ -53,7 +53,7 @@ pub fn test_leaf(
 pub fn test_dead(
     wave: &Wave,
     capacity: u32,
-    path: &Vec<Pair>,
+    path: &Vec<OrderPair>,
     above: u128,
     order: u32,
 ) -> Result<(), CertWhy>
@@ -75,7 +75,7 @@ pub fn test_dead(
 pub fn test_split(
     wave: &Wave,
     capacity: u32,
-    path: &Vec<Pair>,
+    path: &Vec<OrderPair>,
     above: u128,
     first: u32,
     second: u32,

@@ -2,10 +2,10 @@ ghost use Rattle.std.specs.Prelude.{◌≡◌, ◌<◌, ◌≤◌, ◌↔◌, �
 ghost use Rattle.wp_pairs.specs.Permitted.{AreUndecided, IsDead};
 ghost use Rattle.wp_cert.specs.Paths.{IsPath, pairing_of};
 
-use wp_pairs::{Batch, Pair, Pairs};
+use wp_pairs::{Batch, OrderPair, Pairs};
 
 /// The pairs of a path, added one after the other.
-pub fn pairs_of(orders: u32, capacity: u32, path: &Vec<Pair>) -> Pairs
+pub fn pairs_of(orders: u32, capacity: u32, path: &Vec<OrderPair>) -> Pairs
     requires some_orders { 1 ≤ orders }
     requires most_orders { orders ≤ 64 }
     requires some_capacity { 1 ≤ capacity }

@@ -5,7 +5,7 @@ ghost use Rattle.wp_cert.specs.Ways.{GoesTo, LeavesTo};
 
 use std::alloc::Global;
 use wp_model::Memory;
-use wp_pairs::Pair;
+use wp_pairs::OrderPair;
 
 /// What a split on the way has shown: what its duals come to; and the bound of its first subtree, where the second is due.
 #[derive(Clone, Copy)]
@@ -18,16 +18,16 @@ pub struct Note {
 /// stand above that node come to `above`.
 #[derive(Drop)]
 pub struct Way {
-    pub path: Vec<Pair>,
+    pub path: Vec<OrderPair>,
     pub notes: Vec<Note>,
     pub above: u128,
 }
 
 /// What a node leads to.
 #[derive(Clone, Copy)]
-pub enum Step {
+pub enum NodeStep {
     /// To its first subtree, where its pair goes together, below duals that come to this.
-    Into(Pair, u128),
+    Into(OrderPair, u128),
     /// Out of its subtree, which has this bound, or none where it is dead.
     Out(Option<u128>),
 }
@@ -69,7 +69,7 @@ impl Way {
     }
 
     // Adds a split whose subtree with this pair is due. After `Memory`, nothing is said of the way.
-    fn add(&mut self, pair: Pair, note: Note) -> Result<(), Memory>
+    fn add(&mut self, pair: OrderPair, note: Note) -> Result<(), Memory>
         ensures path { OnOk result (self.new.path.items ≡ self.old.path.items ++ pair ∷ []) }
         ensures notes { OnOk result (self.new.notes.items ≡ self.old.notes.items ++ note ∷ []) }
         ensures above { OnOk result (self.new.above ≡ note.total) }
@@ -89,7 +89,7 @@ impl Way {
         while let Some(pair) = self.path.pop() {
             let note = self.notes.pop().unwrap();
             if pair.together {
-                let pair = Pair {
+                let pair = OrderPair {
                     first: pair.first,
                     second: pair.second,
                     together: false,
@@ -108,13 +108,13 @@ impl Way {
 
     /// Goes on from a node with what it leads to. `Memory` comes only where memory is wanting, and then nothing is said of
     /// the way.
-    pub fn go_on(&mut self, step: Step) -> Result<Met, Memory>
+    pub fn go_on(&mut self, step: NodeStep) -> Result<Met, Memory>
         requires even { length self.old.path.items ≡ length self.old.notes.items }
         ensures { IfOk result (GoesTo self.old step self.new) }
     {
         match step {
-            Step::Out(bound) => self.leave(bound),
-            Step::Into(pair, total) => {
+            NodeStep::Out(bound) => self.leave(bound),
+            NodeStep::Into(pair, total) => {
                 self.add(pair, Note { total, first: None })?;
                 Ok(Met::Onward)
             }

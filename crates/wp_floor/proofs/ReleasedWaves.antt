@@ -17,7 +17,7 @@ use Rattle.wp_floor.specs.declared.releasing.Released.{Released}
 use Rattle.wp_floor.specs.declared.releasing.Released.TheVariants as released
 use Rattle.wp_floor.specs.declared.waves.Found.{Found}
 use Rattle.wp_floor.specs.declared.waves.KeptWave.{KeptWave}
-use Rattle.wp_floor.specs.declared.waves.Sheet.{Sheet}
+use Rattle.wp_floor.specs.declared.waves.HeldOrders.{HeldOrders}
 use Rattle.wp_floor.specs.declared.waves.Waves.{Waves}
 use Rattle.wp_floor.proofs.Floors.{answered, back_there, found_at, takers_same, wave_by}
 
@@ -57,7 +57,7 @@ found_after opening name old rest found new left put floor named =
     ∙ ap (λ (n : ℕ). Some (n, wave_of left)) zero
 
 -- a wave that went out
-pub went_out : (opening : Opening) (name : List ℕ) (old : Floor) (rest : Waves) (found : Found) (new : Floor) (left : KeptWave) (sheet : Sheet)
+pub went_out : (opening : Opening) (name : List ℕ) (old : Floor) (rest : Waves) (found : Found) (new : Floor) (left : KeptWave) (sheet : HeldOrders)
     → IsPutBack opening name old rest found new left
     → HasReleased opening old.book new.book (map wave_of (waves_of old.waves)) found.number found.wave left sheet
     → HasStepped opening (command.Release name) old new reply.Released × TellsHolds (state_of new) name sheet

@@ -34,7 +34,7 @@ use Rattle.wp_floor.specs.WaveStock.{IsHeld, IsRefusedShort}
 use Rattle.wp_floor.specs.declared.holding.Rooms.{Rooms}
 use Rattle.wp_floor.specs.declared.waves.KeptWave.{KeptWave}
 use Rattle.wp_floor.specs.declared.waves.Needs.{Needs}
-use Rattle.wp_floor.specs.declared.waves.Sheet.{Sheet}
+use Rattle.wp_floor.specs.declared.waves.HeldOrders.{HeldOrders}
 use Rattle.wp_floor.specs.declared.waves.Stage.{Stage}
 use Rattle.wp_floor.specs.declared.waves.Stage.TheVariants as stage
 use Rattle.wp_floor.proofs.BookStates.{hold_for_done, hold_for_short, refused}
@@ -90,13 +90,13 @@ pub needs_are : (opening : Opening) (book : Book) (number : ℕ) (kept : KeptWav
 needs_are opening book number kept needs papers is = subst (λ (s : Stage). HasPapers opening s book number kept) is papers
 
 -- stock was held for a wave, and it has the sheet of that
-pub record HasSheet (number : ℕ) (old new : Book) (kept : KeptWave) (needs : Needs) (sheet : Sheet) : Type 0 where
+pub record HasSheet (number : ℕ) (old new : Book) (kept : KeptWave) (needs : Needs) (sheet : HeldOrders) : Type 0 where
   pub stage : kept.stage ≡ stage.Submitted needs
   pub held : IsHeld number needs.wants.items old new needs.rooms.sheet sheet.room
   pub orders : sheet.orders ≡ needs.orders
 
 -- a wave that is allotted then
-pub allotted : (opening : Opening) (old new : Book) (waves : List Wave) (number : ℕ) (kept : KeptWave) (needs : Needs) (sheet : Sheet)
+pub allotted : (opening : Opening) (old new : Book) (waves : List Wave) (number : ℕ) (kept : KeptWave) (needs : Needs) (sheet : HeldOrders)
     → IsAt opening old waves number kept → HasSheet number old new kept needs sheet
     → HasAnswered opening (allot opening (state_at old waves) number (wave_of kept) (state_in kept.stage)) old new waves number kept
     (record kept { stage = stage.Allotted sheet }) reply.Allotted
@@ -146,7 +146,7 @@ short_at opening old new waves number kept needs back next done answer stepped a
 
 -- a wave that is released from another stage than submitted or allotted
 pub release_wrong : (opening : Opening) (state : State) (number : ℕ) (w : Wave) (s : Stage) → ((needs : Needs) → s ≡ stage.Submitted needs → ⊥)
-    → ((sheet : Sheet) → s ≡ stage.Allotted sheet → ⊥)
+    → ((sheet : HeldOrders) → s ≡ stage.Allotted sheet → ⊥)
     → release opening state number w (state_in s) ≡ refuse state (reply.WrongState (state_in s))
 release_wrong opening state number w (stage.Submitted needs) submitted allotted = absurd (submitted needs refl)
 release_wrong opening state number w (stage.Allotted sheet) submitted allotted = absurd (allotted sheet refl)
@@ -155,7 +155,7 @@ release_wrong opening state number w stage.Cancelled submitted allotted = refl
 release_wrong opening state number w stage.Done submitted allotted = refl
 
 -- stock was held for a wave that goes out then
-pub submitted_out : (opening : Opening) (old new : Book) (waves : List Wave) (number : ℕ) (kept : KeptWave) (needs : Needs) (sheet : Sheet)
+pub submitted_out : (opening : Opening) (old new : Book) (waves : List Wave) (number : ℕ) (kept : KeptWave) (needs : Needs) (sheet : HeldOrders)
     → IsAt opening old waves number kept → HasSheet number old new kept needs sheet
     → HasReleased opening old new waves number kept (record kept { stage = stage.Released }) sheet
 submitted_out opening old new waves number kept needs sheet at has =

@@ -9,7 +9,7 @@ ghost use Rattle.wp_floor.specs.WaveStock.{IsHeld, IsRefusedShort, short_reply};
 
 use crate::held::Claim;
 use crate::opening::Opening;
-use crate::waves::{Needs, Sheet};
+use crate::waves::{HeldOrders, Needs};
 use std::alloc::Global;
 use wp_allot::gathered::{self, most_holds};
 use wp_allot::{Short, Want};
@@ -101,7 +101,7 @@ pub fn hold_stock(
     opening: &Opening,
     number: u32,
     needs: Needs,
-) -> Result<Sheet, Unmet>
+) -> Result<HeldOrders, Unmet>
     requires needs { AreNeedsOf opening.now needs.orders needs }
     requires rows { AreSameRows opening.now book.old.rows }
     ensures held { IfOk result (λ sheet. IsHeld number needs.wants.items book.old book.new needs.rooms.sheet sheet.room) }
@@ -120,7 +120,7 @@ pub fn hold_stock(
     } = needs;
     let Rooms { room, mut sheet } = rooms;
     gathered::allot(book, number, wants.as_slice(), None, room, &mut sheet);
-    Ok(Sheet {
+    Ok(HeldOrders {
         orders,
         room: sheet,
     })

@@ -24,4 +24,4 @@ pub use opening::Opening;
 pub use refilling::Missed;
 pub use releasing::Released;
 pub use submitting::{NewWave, size_fault};
-pub use waves::Sheet;
+pub use waves::HeldOrders;

@@ -10,7 +10,7 @@ ghost use Rattle.wp_floor.specs.ReleasedWaves.{HasReleased, IfOut, IfRefused, Te
 use crate::floor::Floor;
 use crate::holding::{Unmet, hold_stock};
 use crate::opening::Opening;
-use crate::waves::{KeptWave, Sheet, Stage};
+use crate::waves::{HeldOrders, KeptWave, Stage};
 use std::mem;
 use wp_book::StockBook;
 use wp_model::{Name, Reply};
@@ -18,7 +18,7 @@ use wp_model::{Name, Reply};
 /// What a release comes to: the wave went out with its sheet, or the release is refused.
 #[derive(Drop)]
 pub enum Released {
-    Out(Sheet),
+    Out(HeldOrders),
     Refused(Reply),
 }
 

@@ -12,7 +12,7 @@ use wp_model::{Cell, Chain, Memory, Name, Names, WaveState};
 
 /// What a wave has when it goes out: its orders, and the list of all that it holds.
 #[derive(Drop)]
-pub struct Sheet {
+pub struct HeldOrders {
     pub orders: Names,
     pub room: Room,
 }
@@ -31,7 +31,7 @@ pub struct Needs {
 #[derive(Drop)]
 pub enum Stage {
     Submitted(Needs),
-    Allotted(Sheet),
+    Allotted(HeldOrders),
     Released,
     Cancelled,
     Done,

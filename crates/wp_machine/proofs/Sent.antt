@@ -22,7 +22,7 @@ use Rattle.wp_model.proofs.name.Name.TheSendSync as name_sends
 use Rattle.wp_model.proofs.listing.Listing.TheSendSync as list_sends
 use Rattle.wp_floor.below.wp_allot.proofs.want.Want.TheSendSync as want_sends
 use Rattle.wp_floor.specs.contracts.waves.Needs as needs
-use Rattle.wp_floor.specs.contracts.waves.Sheet as sheet
+use Rattle.wp_floor.specs.contracts.waves.HeldOrders as sheet
 use Rattle.wp_floor.specs.contracts.waves.Stage as stage
 use Rattle.wp_floor.specs.contracts.waves.KeptWave as wave
 use Rattle.wp_floor.specs.contracts.waves.NumberedWave as numbered

@@ -11,7 +11,7 @@ ghost use Rattle.wp_floor.specs.MissingUnits.{HaveRoomsAt};
 use crate::outcome::{Answer, Outcome, Refill, WaveHolds};
 use crate::prepared::Prepared;
 use wp_book::Room;
-use wp_floor::{Claim, Floor, Missed, Opening, Released, Rooms, Sheet};
+use wp_floor::{Claim, Floor, HeldOrders, Missed, Opening, Released, Rooms};
 use wp_model::{Name, Reply};
 
 // An answer that tells nothing beside its reply.
@@ -26,14 +26,14 @@ fn plain(number: u64, reply: Reply) -> Answer
 }
 
 // The answer of a wave that went out: it tells all that the wave holds.
-fn released(number: u64, wave: Name, sheet: Sheet) -> Answer
+fn released(number: u64, wave: Name, sheet: HeldOrders) -> Answer
     ensures { result ≡ record {
       number = number;
       reply = Reply.Released;
       outcome = Outcome.Released (record { number = number; wave = wave; orders = sheet.orders; holds = sheet.room.holds });
     } }
 {
-    let Sheet { orders, room } = sheet;
+    let HeldOrders { orders, room } = sheet;
     Answer {
         number,
         reply: Reply::Released,

@@ -1,25 +1,25 @@
 -- What a further pair joins and parts.
 use Rattle.std.proofs.Common.{◌≡◌, ℕ, Bool, true, false, List, [], ◌∷◌, ◌++◌, refl, sym, ◌∙◌, subst, inl, inr, ◌⊎◌, ⊎_elim}
-use Rattle.wp_pairs.specs.declared.pair.Pair.{Pair}
+use Rattle.wp_pairs.specs.declared.pair.OrderPair.{OrderPair}
 use Rattle.wp_pairs.specs.Permitted.{AreDecided, AreJoined, ArePair, AreParted, itself, onward}
 use Rattle.wp_pairs.proofs.Chains.{AreJoinedBy, joined_back, joined_before, joined_cases, joined_more, joined_on, joined_parted, pair_cases, pair_new}
 use Rattle.wp_pairs.proofs.Chains.{parted_back, parted_joined, parted_more}
 
 -- a further pair of orders that were undecided, where no two orders were both joined and parted
-pub record IsFurther (pairs : List Pair) (new : Pair) : Type 0 where
+pub record IsFurther (pairs : List OrderPair) (new : OrderPair) : Type 0 where
   pub never_both : (a b : ℕ) → AreJoined pairs a b → AreParted pairs a b → ⊥
   pub open_ : AreDecided pairs new.first new.second → ⊥
 
 -- an order that was joined to one of the pair
-abbrev pub IsNear : List Pair → Pair → ℕ → Type 0
+abbrev pub IsNear : List OrderPair → OrderPair → ℕ → Type 0
 IsNear pairs new a = AreJoined pairs new.first a ⊎ AreJoined pairs new.second a
 
 -- an order that was parted from one of the pair
-abbrev pub IsAway : List Pair → Pair → ℕ → Type 0
+abbrev pub IsAway : List OrderPair → OrderPair → ℕ → Type 0
 IsAway pairs new a = AreParted pairs new.first a ⊎ AreParted pairs new.second a
 
 -- no order was joined to one of an undecided pair and parted from one of them
-pub near_not_away : (pairs : List Pair) (new : Pair) (a : ℕ) → IsFurther pairs new → IsNear pairs new a → IsAway pairs new a → ⊥
+pub near_not_away : (pairs : List OrderPair) (new : OrderPair) (a : ℕ) → IsFurther pairs new → IsNear pairs new a → IsAway pairs new a → ⊥
 near_not_away pairs new a far (inl j) (inl p) = far.never_both new.first a j p
 near_not_away pairs new a far (inl j) (inr p) = far.open_ (inr (joined_parted j (parted_back p)))
 near_not_away pairs new a far (inr j) (inl p) = far.open_ (inr (parted_joined p (joined_back j)))
@@ -28,28 +28,28 @@ near_not_away pairs new a far (inr j) (inr p) = far.never_both new.second a j p
 -- ---- a further together pair
 
 -- the two orders of a further together pair are joined
-pair_joins : (pairs : List Pair) (new : Pair) → new.together ≡ true → AreJoined (pairs ++ new ∷ []) new.first new.second
+pair_joins : (pairs : List OrderPair) (new : OrderPair) → new.together ≡ true → AreJoined (pairs ++ new ∷ []) new.first new.second
 pair_joins pairs new kind = onward (pair_new pairs new true kind) itself
 
 -- all that were joined to one of the pair are joined to its first
-near_joins : (pairs : List Pair) (new : Pair) (a : ℕ) → new.together ≡ true → IsNear pairs new a → AreJoined (pairs ++ new ∷ []) new.first a
+near_joins : (pairs : List OrderPair) (new : OrderPair) (a : ℕ) → new.together ≡ true → IsNear pairs new a → AreJoined (pairs ++ new ∷ []) new.first a
 near_joins pairs new a kind (inl j) = joined_more pairs new new.first a j
 near_joins pairs new a kind (inr j) = joined_on (pair_joins pairs new kind) (joined_more pairs new new.second a j)
 
 -- all that were joined to one of the pair are joined
-pub near_joined : (pairs : List Pair) (new : Pair) (a b : ℕ) → new.together ≡ true → IsNear pairs new a → IsNear pairs new b
+pub near_joined : (pairs : List OrderPair) (new : OrderPair) (a b : ℕ) → new.together ≡ true → IsNear pairs new a → IsNear pairs new b
     → AreJoined (pairs ++ new ∷ []) a b
 near_joined pairs new a b kind l r = joined_on (joined_back (near_joins pairs new a kind l)) (near_joins pairs new b kind r)
 
 -- what was joined to one of the pair is parted from what was parted from one of it
-pub near_parted : (pairs : List Pair) (new : Pair) (a b : ℕ) → new.together ≡ true → IsNear pairs new a → IsAway pairs new b
+pub near_parted : (pairs : List OrderPair) (new : OrderPair) (a b : ℕ) → new.together ≡ true → IsNear pairs new a → IsAway pairs new b
     → AreParted (pairs ++ new ∷ []) a b
 near_parted pairs new a b kind l (inl p) = joined_parted (joined_back (near_joins pairs new a kind l)) (parted_more pairs new new.first b p)
 near_parted pairs new a b kind l (inr p) =
     joined_parted (joined_on (joined_back (near_joins pairs new a kind l)) (pair_joins pairs new kind)) (parted_more pairs new new.second b p)
 
 -- what is joined to an order that was joined to one of the pair was itself
-pub joined_near : (pairs : List Pair) (new : Pair) (a b : ℕ) → IsNear pairs new a → AreJoined (pairs ++ new ∷ []) a b → IsNear pairs new b
+pub joined_near : (pairs : List OrderPair) (new : OrderPair) (a b : ℕ) → IsNear pairs new a → AreJoined (pairs ++ new ∷ []) a b → IsNear pairs new b
 joined_near pairs new a b near p = go near (joined_cases pairs new a b p)
   where
     go : IsNear pairs new a → AreJoined pairs a b ⊎ AreJoinedBy pairs new.first new.second a b → IsNear pairs new b
@@ -59,7 +59,7 @@ joined_near pairs new a b near p = go near (joined_cases pairs new a b p)
     go n (inr (inr (l, r))) = inl r
 
 -- what is joined to an order that was joined to none of the pair was joined to it before
-pub joined_elsewhere : (pairs : List Pair) (new : Pair) (a b : ℕ) → (IsNear pairs new a → ⊥) → AreJoined (pairs ++ new ∷ []) a b → AreJoined pairs a b
+pub joined_elsewhere : (pairs : List OrderPair) (new : OrderPair) (a b : ℕ) → (IsNear pairs new a → ⊥) → AreJoined (pairs ++ new ∷ []) a b → AreJoined pairs a b
 joined_elsewhere pairs new a b none p = go (joined_cases pairs new a b p)
   where
     go : AreJoined pairs a b ⊎ AreJoinedBy pairs new.first new.second a b → AreJoined pairs a b
@@ -68,10 +68,10 @@ joined_elsewhere pairs new a b none p = go (joined_cases pairs new a b p)
     go (inr (inr (l, r))) = absurd (none (inr (joined_back l)))
 
 -- how orders are parted, with a further together pair: as before, or the one was joined to one of the pair and the other parted from one of it
-abbrev PartedByJoining : List Pair → Pair → ℕ → ℕ → Type 0
+abbrev PartedByJoining : List OrderPair → OrderPair → ℕ → ℕ → Type 0
 PartedByJoining pairs new a b = AreParted pairs a b ⊎ ((IsNear pairs new a × IsAway pairs new b) ⊎ (IsNear pairs new b × IsAway pairs new a))
 
-parted_cases : (pairs : List Pair) (new : Pair) (a b near far : ℕ) → IsFurther pairs new → ArePair pairs false near far
+parted_cases : (pairs : List OrderPair) (new : OrderPair) (a b near far : ℕ) → IsFurther pairs new → ArePair pairs false near far
     → AreJoined pairs a near ⊎ AreJoinedBy pairs new.first new.second a near → AreJoined pairs far b ⊎ AreJoinedBy pairs new.first new.second far b
     → PartedByJoining pairs new a b
 parted_cases pairs new a b near far un apart (inl l) (inl r) = inl (record { near = near; far = far; joined = l; apart = apart; joins = r })
@@ -93,7 +93,7 @@ parted_cases pairs new a b near far un apart (inr (inr (l, t))) (inr (inr (r, u)
     absurd (un.open_ (inr (record { near = near; far = far; joined = t; apart = apart; joins = r })))
 
 -- with a further together pair, orders are parted as before, or by joining
-parted_by_joining : (pairs : List Pair) (new : Pair) (a b : ℕ) → new.together ≡ true → IsFurther pairs new → AreParted (pairs ++ new ∷ []) a b
+parted_by_joining : (pairs : List OrderPair) (new : OrderPair) (a b : ℕ) → new.together ≡ true → IsFurther pairs new → AreParted (pairs ++ new ∷ []) a b
     → PartedByJoining pairs new a b
 parted_by_joining pairs new a b kind un h =
     ⊎_elim
@@ -102,7 +102,7 @@ parted_by_joining pairs new a b kind un h =
     (pair_cases pairs new false h.near h.far h.apart)
 
 -- what is parted from an order that was joined to one of the pair was parted from one of it
-pub parted_near : (pairs : List Pair) (new : Pair) (a b : ℕ) → new.together ≡ true → IsFurther pairs new → IsNear pairs new a
+pub parted_near : (pairs : List OrderPair) (new : OrderPair) (a b : ℕ) → new.together ≡ true → IsFurther pairs new → IsNear pairs new a
     → AreParted (pairs ++ new ∷ []) a b → IsAway pairs new b
 parted_near pairs new a b kind un near h = go near (parted_by_joining pairs new a b kind un h)
   where
@@ -113,7 +113,7 @@ parted_near pairs new a b kind un near h = go near (parted_by_joining pairs new 
     go n (inr (inr (l, away))) = absurd (near_not_away pairs new a un n away)
 
 -- what is parted from an order that was joined to none of the pair was parted from it before, or was joined to one of the pair
-pub parted_elsewhere : (pairs : List Pair) (new : Pair) (a b : ℕ) → new.together ≡ true → IsFurther pairs new → (IsNear pairs new a → ⊥)
+pub parted_elsewhere : (pairs : List OrderPair) (new : OrderPair) (a b : ℕ) → new.together ≡ true → IsFurther pairs new → (IsNear pairs new a → ⊥)
     → AreParted (pairs ++ new ∷ []) a b → AreParted pairs a b ⊎ (IsNear pairs new b × IsAway pairs new a)
 parted_elsewhere pairs new a b kind un none h = go (parted_by_joining pairs new a b kind un h)
   where
@@ -123,7 +123,7 @@ parted_elsewhere pairs new a b kind un none h = go (parted_by_joining pairs new 
     go (inr (inr both)) = inr both
 
 -- with a further together pair, no order is parted from itself
-no_self_together : (pairs : List Pair) (new : Pair) (a : ℕ) → new.together ≡ true → IsFurther pairs new → AreParted (pairs ++ new ∷ []) a a → ⊥
+no_self_together : (pairs : List OrderPair) (new : OrderPair) (a : ℕ) → new.together ≡ true → IsFurther pairs new → AreParted (pairs ++ new ∷ []) a a → ⊥
 no_self_together pairs new a kind un h = go (parted_by_joining pairs new a a kind un h)
   where
     go : PartedByJoining pairs new a a → ⊥
@@ -134,12 +134,12 @@ no_self_together pairs new a kind un h = go (parted_by_joining pairs new a a kin
 -- ---- a further apart pair
 
 -- orders that a further apart pair parts
-abbrev pub ArePartedBy : List Pair → Pair → ℕ → ℕ → Type 0
+abbrev pub ArePartedBy : List OrderPair → OrderPair → ℕ → ℕ → Type 0
 ArePartedBy pairs new a b =
     (AreJoined pairs new.first a × AreJoined pairs new.second b) ⊎ (AreJoined pairs new.second a × AreJoined pairs new.first b)
 
 -- with a further apart pair, orders are parted as before, or by it
-pub parted_by_pair : (pairs : List Pair) (new : Pair) (a b : ℕ) → new.together ≡ false → AreParted (pairs ++ new ∷ []) a b
+pub parted_by_pair : (pairs : List OrderPair) (new : OrderPair) (a b : ℕ) → new.together ≡ false → AreParted (pairs ++ new ∷ []) a b
     → AreParted pairs a b ⊎ ArePartedBy pairs new a b
 parted_by_pair pairs new a b kind h = go (pair_cases pairs new false h.near h.far h.apart)
   where
@@ -158,7 +158,7 @@ parted_by_pair pairs new a b kind h = go (pair_cases pairs new false h.near h.fa
         inr (inr (subst (λ (x : ℕ). AreJoined pairs x a) (sym s) (joined_back l), subst (λ (x : ℕ). AreJoined pairs x b) (sym f) r))
 
 -- a further apart pair parts what was joined to its orders
-pub pair_parts : (pairs : List Pair) (new : Pair) (a b : ℕ) → new.together ≡ false → ArePartedBy pairs new a b → AreParted (pairs ++ new ∷ []) a b
+pub pair_parts : (pairs : List OrderPair) (new : OrderPair) (a b : ℕ) → new.together ≡ false → ArePartedBy pairs new a b → AreParted (pairs ++ new ∷ []) a b
 pair_parts pairs new a b kind (inl (l, r)) = record {
   near = new.first;
   far = new.second;
@@ -174,7 +174,7 @@ pair_parts pairs new a b kind (inr (l, r)) = parted_back (record {
   joins = joined_more pairs new new.second a l;
 })
 
-no_self_apart : (pairs : List Pair) (new : Pair) (a : ℕ) → new.together ≡ false → IsFurther pairs new → AreParted (pairs ++ new ∷ []) a a → ⊥
+no_self_apart : (pairs : List OrderPair) (new : OrderPair) (a : ℕ) → new.together ≡ false → IsFurther pairs new → AreParted (pairs ++ new ∷ []) a a → ⊥
 no_self_apart pairs new a kind un h = go (parted_by_pair pairs new a a kind h)
   where
     go : AreParted pairs a a ⊎ ArePartedBy pairs new a a → ⊥
@@ -183,7 +183,7 @@ no_self_apart pairs new a kind un h = go (parted_by_pair pairs new a a kind h)
     go (inr (inr (l, r))) = un.open_ (inl (joined_on r (joined_back l)))
 
 -- with a further pair of orders that were undecided, still no two orders are both joined and parted
-pub still_never_both : (pairs : List Pair) (new : Pair) (a b : ℕ) → IsFurther pairs new → AreJoined (pairs ++ new ∷ []) a b
+pub still_never_both : (pairs : List OrderPair) (new : OrderPair) (a b : ℕ) → IsFurther pairs new → AreJoined (pairs ++ new ∷ []) a b
     → AreParted (pairs ++ new ∷ []) a b → ⊥
 still_never_both pairs new a b un j p = go new.together refl
   where

@@ -5,7 +5,7 @@ use Rattle.std.specs.List.{IsDistinct}
 use Rattle.std.proofs.lemmas.Bool.{cases_eq, cases_lt}
 use Rattle.std.proofs.lemmas.List.{get_or-replicate, get_or_past, length-replicate}
 use Rattle.std.proofs.lemmas.List.Elements.{Contains-push_cases}
-use Rattle.wp_pairs.specs.declared.pair.Pair.{Pair}
+use Rattle.wp_pairs.specs.declared.pair.OrderPair.{OrderPair}
 use Rattle.wp_pairs.specs.Kept.{IsKept, IsListedForEither, IsPairing, JoinsClasses, PartsClasses, listed_for}
 use Rattle.wp_pairs.specs.Permitted.{AreDecided, AreJoined, AreParted, AreUndecided, Pairing, itself, onward}
 use Rattle.wp_pairs.proofs.Chains.{joined_back, joined_before, joined_more, joined_on, joined_same, parted_back, parted_more}
@@ -27,36 +27,36 @@ none_listed n order =
     (λ (past : n ≤ order). get_or_past (replicate n []) order [] (omega (arith, length-replicate {A = List ℕ} n []))) (cases_lt order n)
 
 -- a pairing with one more pair
-abbrev pub with_pair : Pairing → Pair → Pairing
+abbrev pub with_pair : Pairing → OrderPair → Pairing
 with_pair pairing new = record { orders = pairing.orders; capacity = pairing.capacity; pairs = pairing.pairs ++ new ∷ [] }
 
 -- a further pair of orders of the wave, of which the kept rows tell nothing
-pub record AddsPair (pairing : Pairing) (joined parted : List (List ℕ)) (new : Pair) : Type 0 where
+pub record AddsPair (pairing : Pairing) (joined parted : List (List ℕ)) (new : OrderPair) : Type 0 where
   pub before : IsKept pairing joined parted
   pub order : new.first < new.second
   pub known : new.second < pairing.orders
   pub open_ : AreDecided pairing.pairs new.first new.second → ⊥
 
 -- such a pair is a further one
-pub further : {pairing : Pairing} {joined parted : List (List ℕ)} {new : Pair} → AddsPair pairing joined parted new → IsFurther pairing.pairs new
+pub further : {pairing : Pairing} {joined parted : List (List ℕ)} {new : OrderPair} → AddsPair pairing joined parted new → IsFurther pairing.pairs new
 further h = record { never_both = h.before.never_both; open_ = h.open_ }
 
 -- with a further pair, the pairing is still in its ranges
-pub still_valid : {pairing : Pairing} {joined parted : List (List ℕ)} {new : Pair} → AddsPair pairing joined parted new → IsPairing (with_pair pairing new)
+pub still_valid : {pairing : Pairing} {joined parted : List (List ℕ)} {new : OrderPair} → AddsPair pairing joined parted new → IsPairing (with_pair pairing new)
 still_valid {pairing} {joined} {parted} {new} h = record {
   some_orders = h.before.valid.some_orders;
   most_orders = h.before.valid.most_orders;
   some_capacity = h.before.valid.some_capacity;
   most_capacity = h.before.valid.most_capacity;
-  order = λ pair has. ⊎_elim (λ old. h.before.valid.order pair old) (λ (e : new ≡ pair). subst (λ (p : Pair). p.first < p.second) e h.order)
+  order = λ pair has. ⊎_elim (λ old. h.before.valid.order pair old) (λ (e : new ≡ pair). subst (λ (p : OrderPair). p.first < p.second) e h.order)
       (Contains-push_cases pairing.pairs new pair has);
-  known = λ pair has. ⊎_elim (λ old. h.before.valid.known pair old) (λ (e : new ≡ pair). subst (λ (p : Pair). p.second < pairing.orders) e h.known)
+  known = λ pair has. ⊎_elim (λ old. h.before.valid.known pair old) (λ (e : new ≡ pair). subst (λ (p : OrderPair). p.second < pairing.orders) e h.known)
       (Contains-push_cases pairing.pairs new pair has);
 }
 
 -- ---- a together pair
 
-module _ (pairing : Pairing) (joined joined_after parted parted_after : List (List ℕ)) (new : Pair) (adds : AddsPair pairing joined parted new)
+module _ (pairing : Pairing) (joined joined_after parted parted_after : List (List ℕ)) (new : OrderPair) (adds : AddsPair pairing joined parted new)
     (kind : new.together ≡ true) (does : JoinsClasses joined joined_after parted parted_after new.first new.second) where
   near_listed : (x : ℕ) → IsNear pairing.pairs new x → IsListedForEither joined new.first new.second x
   near_listed x = ⊎_elim (λ j. inl ((adds.before.joins new.first x (omega (arith, adds.order, adds.known))).1 j))
@@ -128,7 +128,7 @@ module _ (pairing : Pairing) (joined joined_after parted parted_after : List (Li
 
 -- ---- an apart pair
 
-module _ (pairing : Pairing) (joined parted parted_after : List (List ℕ)) (new : Pair) (adds : AddsPair pairing joined parted new)
+module _ (pairing : Pairing) (joined parted parted_after : List (List ℕ)) (new : OrderPair) (adds : AddsPair pairing joined parted new)
     (kind : new.together ≡ false) (does : PartsClasses joined parted parted_after new.first new.second) where
   -- after the parting, each order lists those that are joined to it
   pub joins_apart : (order other : ℕ) → order < pairing.orders
@@ -183,13 +183,13 @@ module _ (pairing : Pairing) (joined parted parted_after : List (List ℕ)) (new
 -- ---- both
 
 -- what a further pair does to the kept rows
-pub record Settles (joined joined_after parted parted_after : List (List ℕ)) (new : Pair) : Type 0 where
+pub record Settles (joined joined_after parted parted_after : List (List ℕ)) (new : OrderPair) : Type 0 where
   pub joins : new.together ≡ true → JoinsClasses joined joined_after parted parted_after new.first new.second
   pub keeps : new.together ≡ false → joined_after ≡ joined
   pub parts : new.together ≡ false → PartsClasses joined parted parted_after new.first new.second
 
 -- a pair that is undecided in the view is one that adds to what is kept
-pub adds_from : (pairing now : Pairing) (joined parted : List (List ℕ)) (new : Pair) → pairing ≡ now → IsKept pairing joined parted
+pub adds_from : (pairing now : Pairing) (joined parted : List (List ℕ)) (new : OrderPair) → pairing ≡ now → IsKept pairing joined parted
     → AreUndecided now new.first new.second → AddsPair pairing joined parted new
 adds_from pairing now joined parted new view kept undecided =
     let un = subst (λ (p : Pairing). AreUndecided p new.first new.second) (sym view) undecided in

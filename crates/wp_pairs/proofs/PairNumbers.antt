@@ -9,7 +9,7 @@ use Rattle.std.proofs.lemmas.Cmp.{nat_eq_equiv}
 use Rattle.std.proofs.lemmas.Map.Keys.{IsDistinct-push}
 use Rattle.std.proofs.lemmas.Map.Steps.{length-le_from_distinct_below}
 use Rattle.std.proofs.lemmas.Map.Views.{Contains-from_any}
-use Rattle.wp_pairs.specs.declared.pair.Pair.{Pair}
+use Rattle.wp_pairs.specs.declared.pair.OrderPair.{OrderPair}
 use Rattle.wp_pairs.specs.Kept.{IsPairing, number_of, pairs_of}
 use Rattle.wp_pairs.specs.Permitted.{AreDecided, ArePair, Pairing, itself, onward}
 use Rattle.wp_pairs.proofs.Members.{contains_cases, contains_none}
@@ -22,7 +22,7 @@ pairs_below a (suc b) h =
     ⊎_elim (λ (lt : a < b). omega (arith, pairs_below a b lt)) (λ (ge : b ≤ a). let e : a ≡ b = omega arith in rw e (omega arith)) (cases_lt a b)
 
 -- two pairs of one number have the same second order
-same_second : (p q : Pair) → p.first < p.second → q.first < q.second → number_of p ≡ number_of q → p.second ≡ q.second
+same_second : (p q : OrderPair) → p.first < p.second → q.first < q.second → number_of p ≡ number_of q → p.second ≡ q.second
 same_second p q lp lq e =
     ⊎_elim (λ (lt : p.second < q.second). absurd (omega (arith, pairs_below p.second q.second lt, e)))
     (λ (ge : q.second ≤ p.second).
@@ -31,16 +31,16 @@ same_second p q lp lq e =
     (cases_lt p.second q.second)
 
 -- and the same first order
-same_first : (p q : Pair) → p.first < p.second → q.first < q.second → number_of p ≡ number_of q → p.first ≡ q.first
+same_first : (p q : OrderPair) → p.first < p.second → q.first < q.second → number_of p ≡ number_of q → p.first ≡ q.first
 same_first p q lp lq e = let s = ap pairs_of (same_second p q lp lq e) in omega (arith, s, e)
 
 -- there are as many numbers as pairs
-numbers_length : (pairs : List Pair) → length (map number_of pairs) ≡ length pairs
+numbers_length : (pairs : List OrderPair) → length (map number_of pairs) ≡ length pairs
 numbers_length [] = refl
 numbers_length (p ∷ ps) = ap suc (numbers_length ps)
 
 -- a number among those of a list of pairs is that of one of them
-numbered : (pairs : List Pair) (n : ℕ) → Contains (map number_of pairs) n → (pair : Pair) × Contains pairs pair × (number_of pair ≡ n)
+numbered : (pairs : List OrderPair) (n : ℕ) → Contains (map number_of pairs) n → (pair : OrderPair) × Contains pairs pair × (number_of pair ≡ n)
 numbered [] n h = absurd (contains_none n h)
 numbered (p ∷ ps) n h =
     ⊎_elim (λ e. (p, (0, omega arith, refl), e))
@@ -48,7 +48,7 @@ numbered (p ∷ ps) n h =
     (contains_cases (number_of p) n (map number_of ps) h)
 
 -- the orders of a pair that was added are decided
-pub added_decided : (pairs : List Pair) (pair : Pair) → Contains pairs pair → AreDecided pairs pair.first pair.second
+pub added_decided : (pairs : List OrderPair) (pair : OrderPair) → Contains pairs pair → AreDecided pairs pair.first pair.second
 added_decided pairs pair has = go pair.together refl
   where
     it : (kind : Bool) → pair.together ≡ kind → ArePair pairs kind pair.first pair.second
@@ -59,7 +59,7 @@ added_decided pairs pair has = go pair.together refl
     go false e = inr (record { near = pair.first; far = pair.second; joined = itself; apart = it false e; joins = itself })
 
 -- the number of a further pair is new
-new_number : {pairing : Pairing} {joined parted : List (List ℕ)} {new : Pair} → AddsPair pairing joined parted new
+new_number : {pairing : Pairing} {joined parted : List (List ℕ)} {new : OrderPair} → AddsPair pairing joined parted new
     → Contains (map number_of pairing.pairs) (number_of new) → ⊥
 new_number {pairing} {joined} {parted} {new} h has =
     let old = numbered pairing.pairs (number_of new) has in
@@ -76,7 +76,7 @@ not_found xs n none = go (list_any (eqb n) xs) refl
     go false e = e
 
 -- with a further pair, still no pair was added twice
-pub still_once : {pairing : Pairing} {joined parted : List (List ℕ)} {new : Pair} → AddsPair pairing joined parted new
+pub still_once : {pairing : Pairing} {joined parted : List (List ℕ)} {new : OrderPair} → AddsPair pairing joined parted new
     → IsDistinct nat_eq (map number_of (pairing.pairs ++ new ∷ []))
 still_once {pairing} {joined} {parted} {new} h =
     subst (IsDistinct nat_eq) (sym (map-append number_of pairing.pairs (new ∷ [])))
@@ -86,7 +86,7 @@ all_pairs : pairs_of 64 ≡ 2016
 all_pairs = refl
 
 -- the number of a pair of orders of a wave
-number_below : (pairing : Pairing) (pair : Pair) → IsPairing pairing → Contains pairing.pairs pair → number_of pair < 2016
+number_below : (pairing : Pairing) (pair : OrderPair) → IsPairing pairing → Contains pairing.pairs pair → number_of pair < 2016
 number_below pairing pair valid has =
     let low = valid.order pair has in
     let known = valid.known pair has in
@@ -94,7 +94,7 @@ number_below pairing pair valid has =
     omega (arith, pairs_below pair.second 64 second, all_pairs, low)
 
 -- there is room for a further pair
-pub has_room : {pairing : Pairing} {joined parted : List (List ℕ)} {new : Pair} → AddsPair pairing joined parted new → length pairing.pairs < 2016
+pub has_room : {pairing : Pairing} {joined parted : List (List ℕ)} {new : OrderPair} → AddsPair pairing joined parted new → length pairing.pairs < 2016
 has_room {pairing} {joined} {parted} {new} h =
     let all = pairing.pairs ++ new ∷ [] in
     let most = length-le_from_distinct_below (map number_of all) 2016 (still_once h)

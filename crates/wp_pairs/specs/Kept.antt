@@ -1,7 +1,7 @@
 -- What is kept of the pairs that were added: for each order the orders that are joined to it, and those that are parted from it.
 use Rattle.std.specs.Prelude.{◌≡◌, ℕ, zero, suc, ◌+◌, ◌<◌, ◌≤◌, ◌↔◌, ◌⊎◌, List, [], Contains, length, map, slice_index_or, nat_eq}
 use Rattle.std.specs.List.{IsDistinct}
-use Rattle.wp_pairs.specs.declared.pair.Pair.{Pair}
+use Rattle.wp_pairs.specs.declared.pair.OrderPair.{OrderPair}
 use Rattle.wp_pairs.specs.Permitted.{AreJoined, AreParted, Pairing}
 
 -- 1 to 64 orders, a capacity of 1 to 8, and pairs of orders of the wave, the lower first
@@ -10,8 +10,8 @@ pub record IsPairing (pairing : Pairing) : Type 0 where
   pub most_orders : pairing.orders ≤ 64
   pub some_capacity : 1 ≤ pairing.capacity
   pub most_capacity : pairing.capacity ≤ 8
-  pub order : (pair : Pair) → Contains pairing.pairs pair → pair.first < pair.second
-  pub known : (pair : Pair) → Contains pairing.pairs pair → pair.second < pairing.orders
+  pub order : (pair : OrderPair) → Contains pairing.pairs pair → pair.first < pair.second
+  pub known : (pair : OrderPair) → Contains pairing.pairs pair → pair.second < pairing.orders
 
 -- a batch has an order, and no more orders than the capacity
 pub record FitsCapacity (pairing : Pairing) (batch : List ℕ) : Type 0 where
@@ -34,7 +34,7 @@ pairs_of zero = 0
 pairs_of (suc n) = pairs_of n + n
 
 -- the number of a pair among all pairs of orders
-abbrev pub number_of : Pair → ℕ
+abbrev pub number_of : OrderPair → ℕ
 number_of pair = pairs_of pair.second + pair.first
 
 -- for each order of the wave those that are joined to it and those that are parted from it are listed; no two orders are both; no pair was added twice

@@ -1,13 +1,13 @@
 -- Orders that are to go together or apart, and the batches that this permits (Ryan and Foster, 1981).
 use Rattle.std.specs.Prelude.{◌≡◌, ℕ, ◌<◌, ◌≤◌, Bool, true, false, ◌⊎◌, ◌↔◌, List, All, Contains, length}
 use Rattle.std.specs.List.Sorted.{IsStrictlyIncreasing}
-use Rattle.wp_pairs.specs.declared.pair.Pair.{Pair}
+use Rattle.wp_pairs.specs.declared.pair.OrderPair.{OrderPair}
 
 -- the number of orders of a wave, how many of them a batch may have, and the pairs that were added, in the order of adding
 pub record Pairing : Type 0 where
   pub orders : ℕ
   pub capacity : ℕ
-  pub pairs : List Pair
+  pub pairs : List OrderPair
 
 -- a batch has some orders of the wave, no more than the capacity, both or none of each together pair, and not both of any apart pair
 pub record IsPermitted (pairing : Pairing) (batch : List ℕ) : Type 0 where
@@ -15,23 +15,23 @@ pub record IsPermitted (pairing : Pairing) (batch : List ℕ) : Type 0 where
   pub filled : 0 < length batch
   pub fits : length batch ≤ pairing.capacity
   pub known : All (λ order. order < pairing.orders) batch
-  pub together : (pair : Pair) → Contains pairing.pairs pair → pair.together ≡ true → (Contains batch pair.first ↔ Contains batch pair.second)
-  pub apart : (pair : Pair) → Contains pairing.pairs pair → pair.together ≡ false → (Contains batch pair.first × Contains batch pair.second) → ⊥
+  pub together : (pair : OrderPair) → Contains pairing.pairs pair → pair.together ≡ true → (Contains batch pair.first ↔ Contains batch pair.second)
+  pub apart : (pair : OrderPair) → Contains pairing.pairs pair → pair.together ≡ false → (Contains batch pair.first × Contains batch pair.second) → ⊥
 
 -- these two orders were added as a pair of this kind, one way or the other
-pub record ArePair (pairs : List Pair) (together : Bool) (left right : ℕ) : Type 0 where
-  pub pair : Pair
+pub record ArePair (pairs : List OrderPair) (together : Bool) (left right : ℕ) : Type 0 where
+  pub pair : OrderPair
   pub added : Contains pairs pair
   pub kind : pair.together ≡ together
   pub both : ((pair.first ≡ left) × (pair.second ≡ right)) ⊎ ((pair.first ≡ right) × (pair.second ≡ left))
 
 -- a chain of together pairs leads from one order to the other; each order is joined to itself
-pub data AreJoined (pairs : List Pair) : ℕ → ℕ → Type 0 where
+pub data AreJoined (pairs : List OrderPair) : ℕ → ℕ → Type 0 where
   itself : {order : ℕ} → AreJoined pairs order order
   onward : {order next last : ℕ} → ArePair pairs true order next → AreJoined pairs next last → AreJoined pairs order last
 
 -- an apart pair lies between an order that is joined to the one and an order that is joined to the other
-pub record AreParted (pairs : List Pair) (left right : ℕ) : Type 0 where
+pub record AreParted (pairs : List OrderPair) (left right : ℕ) : Type 0 where
   pub near : ℕ
   pub far : ℕ
   pub joined : AreJoined pairs left near
@@ -39,7 +39,7 @@ pub record AreParted (pairs : List Pair) (left right : ℕ) : Type 0 where
   pub joins : AreJoined pairs far right
 
 -- the pairs that were added tell of these two orders whether they go together or apart
-abbrev pub AreDecided : List Pair → ℕ → ℕ → Type 0
+abbrev pub AreDecided : List OrderPair → ℕ → ℕ → Type 0
 AreDecided pairs left right = AreJoined pairs left right ⊎ AreParted pairs left right
 
 -- two orders of the wave, the lower first, of which the pairs don't tell

@@ -7,5 +7,5 @@ mod pairs;
 mod rows;
 
 pub use batch::Batch;
-pub use pair::Pair;
+pub use pair::OrderPair;
 pub use pairs::Pairs;

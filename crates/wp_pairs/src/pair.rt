@@ -1,6 +1,6 @@
 /// Two orders that were added to go together, or else to go apart. The lower order stands first.
 #[derive(Clone, Copy)]
-pub struct Pair {
+pub struct OrderPair {
     pub first: u8,
     pub second: u8,
     pub together: bool,

@@ -1,12 +1,12 @@
 ghost use Rattle.std.specs.Prelude.{◌≡◌, ◌≤◌, ◌<◌, ◌+◌, ◌↔◌, ℕ, [], ◌∷◌, ◌++◌, IsTrue, IfNone, IfSome, Contains, length, take, true, false};
-ghost use Rattle.wp_pairs.specs.declared.pair.Pair.{Pair as PairData};
+ghost use Rattle.wp_pairs.specs.declared.pair.OrderPair.{OrderPair as PairData};
 ghost use Rattle.wp_pairs.specs.Batches.{IsBatch};
 ghost use Rattle.wp_pairs.specs.Permitted.{Pairing, IsPermitted, AreJoined, AreParted, AreDecided, AreUndecided, AreDecidedBefore, AllDecided, IsHeld, IsDead};
 ghost use Rattle.wp_pairs.specs.Permitted.{AreHeldBelow};
 ghost use Rattle.wp_pairs.specs.Kept.{FitsCapacity, IsPairing, KeepsOrder};
 
 use crate::batch::Batch;
-use crate::pair::Pair;
+use crate::pair::OrderPair;
 use crate::rows::{empty_rows, orders_for, settle, single_rows};
 use std::marker::Model;
 
@@ -20,7 +20,7 @@ pub struct Pairs {
     orders: u32,
     capacity: u32,
     count: usize,
-    added: [Pair; 2016],
+    added: [OrderPair; 2016],
     joined: [Batch; 64],
     parted: [Batch; 64],
 }
@@ -42,10 +42,10 @@ impl Model for Pairs {
 }
 
 // Room for pairs, in which none counts yet.
-fn blank_pairs() -> [Pair; 2016]
+fn blank_pairs() -> [OrderPair; 2016]
     ensures { length result ≡ 2016 }
 {
-    let blank = Pair {
+    let blank = OrderPair {
         first: 0,
         second: 0,
         together: false,
@@ -54,7 +54,7 @@ fn blank_pairs() -> [Pair; 2016]
 }
 
 // Puts a pair behind those that count.
-fn place(added: &mut [Pair; 2016], count: usize, pair: Pair)
+fn place(added: &mut [OrderPair; 2016], count: usize, pair: OrderPair)
     requires { count < 2016 }
     ensures { take (count + 1) added.new ≡ take count added.old ++ pair ∷ [] }
 {
@@ -106,7 +106,7 @@ impl Pairs {
         } }
     {
         settle(&mut self.joined, &mut self.parted, first, second, together);
-        let pair = Pair {
+        let pair = OrderPair {
             first: first as u8,
             second: second as u8,
             together,

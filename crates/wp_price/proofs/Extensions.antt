@@ -13,7 +13,7 @@ use Rattle.wp_duals.specs.Visits.{AddsItem, AreFurther, IsItem, IsLater, IsReach
 use Rattle.wp_duals.proofs.Ascending.{IsSplit, split_off}
 use Rattle.wp_duals.proofs.Lengths.{more_orders_no_shorter, same_length}
 use Rattle.wp_duals.proofs.Visits.{Extends, IsPlace, union_permitted}
-use Rattle.wp_price.specs.declared.best.Best.{Best}
+use Rattle.wp_price.specs.declared.best.LeastBatch.{LeastBatch}
 use Rattle.wp_price.specs.Bests.{IsNoWorse}
 use Rattle.wp_price.specs.Searches.{IsBeaten, IsNoChild, IsRaised, Task}
 use Rattle.wp_price.proofs.Lists.{one_list}
@@ -112,13 +112,13 @@ same_raised task batch one other first second =
     let same = same_length task.wave batch first.total second.total first.long second.long in omega (arith, first.is, second.is, same)
 
 -- a batch that is no better with its slack is no better
-pub known_beaten : (task : Task) (best : Best) (batch : List ℕ) (raised : ℕ) → IsRaised task batch raised
+pub known_beaten : (task : Task) (best : LeastBatch) (batch : List ℕ) (raised : ℕ) → IsRaised task batch raised
     → IsNoWorse best (record { batch = batch; raised = raised }) → IsBeaten task (Some best) batch
 known_beaten task best batch raised is no_worse = λ other also.
     subst (λ (r : ℕ). IsNoWorse best (record { batch = batch; raised = r })) (same_raised task batch raised other is also) no_worse
 
 -- no batch that extends a place is better than the best, where the reach of the place doesn't bring it there
-pub beaten_by_reach : (task : Task) (place batch : List ℕ) (from raised reach : ℕ) (best : Best) → IsPlace task.pairing place
+pub beaten_by_reach : (task : Task) (place batch : List ℕ) (from raised reach : ℕ) (best : LeastBatch) → IsPlace task.pairing place
     → IsRaised task place raised → IsReach task.pairing task.duals place from reach → best.raised + reach < raised → Extends task.pairing place from batch
     → IsBeaten task (Some best) batch
 beaten_by_reach task place batch from raised reach best closed is reaches far extends = λ other also.

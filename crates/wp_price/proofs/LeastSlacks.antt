@@ -6,7 +6,7 @@ use Rattle.wp_pairs.specs.Permitted.{IsPermitted}
 use Rattle.wp_batch.specs.Lengths.{IsLengthOf}
 use Rattle.wp_duals.specs.Duals.{AreFeasible, duals_of}
 use Rattle.wp_duals.proofs.Lengths.{same_length}
-use Rattle.wp_price.specs.declared.best.Best.{Best}
+use Rattle.wp_price.specs.declared.best.LeastBatch.{LeastBatch}
 use Rattle.wp_price.specs.Searches.{IsBeaten, IsRaised, Task, raise}
 use Rattle.wp_price.specs.Slacks.{IsCandidate, IsLeastSlack, IsSlack}
 
@@ -21,7 +21,7 @@ raised_slack : (task : Task) (batch : List ℕ) (slack : ℤ) → duals_of task.
 raised_slack task batch slack low is = record { total = is.total; long = is.long; is = omega (arith, low) }
 
 -- the best of all candidates has the least slack, and comes first
-pub least_of_best : (task : Task) (through : Option ℕ) (best : Best) (slack : ℤ)
+pub least_of_best : (task : Task) (through : Option ℕ) (best : LeastBatch) (slack : ℤ)
     → ((batch : List ℕ) → IsPermitted task.pairing batch → duals_of task.duals batch ≤ raise) → IsCandidate task.pairing through best.batch
     → IsRaised task best.batch best.raised → ((batch : List ℕ) → IsCandidate task.pairing through batch → IsBeaten task (Some best) batch)
     → IsSlack task.wave task.duals best.batch slack → IsLeastSlack task.wave task.pairing task.duals through best.batch slack

@@ -5,7 +5,7 @@ use Rattle.std.specs.Prelude.{Option, Some, None, IfSome, slice_index_or}
 use Rattle.wp_pairs.specs.Permitted.{AreJoined, IsPermitted, itself}
 use Rattle.wp_duals.specs.Visits.{AddsItem}
 use Rattle.wp_duals.proofs.Visits.{Extends, IsPlace}
-use Rattle.wp_price.specs.declared.best.Best.{Best}
+use Rattle.wp_price.specs.declared.best.LeastBatch.{LeastBatch}
 use Rattle.wp_price.specs.Bests.{IsBestAmong, IsBetterOf, IsNoBetter, IsNoWorse}
 use Rattle.wp_price.specs.Searches.{AreItemsSearched, AreSharesOf, AreSharesSearched, IsBeaten, IsFound, IsItemPast, IsNoChild, IsRaised, IsSearched, Task}
 use Rattle.wp_price.specs.Shares.{IsDealt}
@@ -15,18 +15,18 @@ use Rattle.wp_price.proofs.Extensions.{known_beaten, past_no_child, past_same, w
 use Rattle.wp_price.proofs.Lists.{never_before_itself}
 
 -- what is no better than the old best is no better than one that is no worse
-pub beaten_on : (task : Task) (old : Option Best) (best : Best) (batch : List ℕ) → IfSome old (IsNoWorse best) → IsBeaten task old batch
+pub beaten_on : (task : Task) (old : Option LeastBatch) (best : LeastBatch) (batch : List ℕ) → IfSome old (IsNoWorse best) → IsBeaten task old batch
     → IsBeaten task (Some best) batch
 beaten_on task None best batch no_worse beaten = absurd beaten
 beaten_on task (Some old) best batch no_worse beaten = λ raised is. no_worse_on best old _ no_worse (beaten raised is)
 
 -- the old best is itself
-found_self : (task : Task) (place : List ℕ) (old : Option Best) → IfSome old (λ (b : Best). (old ≡ Some b) ⊎ IsFound task place b)
+found_self : (task : Task) (place : List ℕ) (old : Option LeastBatch) → IfSome old (λ (b : LeastBatch). (old ≡ Some b) ⊎ IsFound task place b)
 found_self task place None = search rules
 found_self task place (Some best) = inl refl
 
 -- an order that adds nothing has no item to search
-pub pass_item : (task : Task) (place : List ℕ) (order : ℕ) (best : Option Best) → IsPlace task.pairing place → IsNoChild task.pairing place order
+pub pass_item : (task : Task) (place : List ℕ) (order : ℕ) (best : Option LeastBatch) → IsPlace task.pairing place → IsNoChild task.pairing place order
     → AreItemsSearched task place (λ (item : ℕ). item ≡ order) best best
 pass_item task place order best closed adds_none = record {
   found = found_self task place best;
@@ -34,30 +34,30 @@ pass_item task place order best closed adds_none = record {
   past = λ item e. subst (IsItemPast task place best) (sym e) (λ batch extends. inl (past_no_child task.pairing place batch order closed adds_none extends));
 }
 
-same_best : (one other : Best) → Some one ≡ Some other → one ≡ other
+same_best : (one other : LeastBatch) → Some one ≡ Some other → one ≡ other
 same_best one other e = cc e
 
 -- the better of the best and a child is the old best, or has all orders of the place
-found_better : (task : Task) (place union : List ℕ) (order raised : ℕ) (old best : Option Best) (next : Best) → AddsItem task.pairing place order union
-    → IsPermitted task.pairing union → IsRaised task union raised → IfSome best (λ (b : Best). (old ≡ Some b) ⊎ IsFound task place b)
+found_better : (task : Task) (place union : List ℕ) (order raised : ℕ) (old best : Option LeastBatch) (next : LeastBatch) → AddsItem task.pairing place order union
+    → IsPermitted task.pairing union → IsRaised task union raised → IfSome best (λ (b : LeastBatch). (old ≡ Some b) ⊎ IsFound task place b)
     → IsBetterOf best (record { batch = union; raised = raised }) next → (old ≡ Some next) ⊎ IsFound task place next
 found_better task place union order raised old best next adds permitted is found better = ⊎_elim
     (λ e. inr (subst (IsFound task place) (sym e) (record { permitted = permitted; holds = λ x has. (adds.orders x).1 (inl has); is = is })))
-    (λ (e : best ≡ Some next). subst (λ (b : Option Best). IfSome b (λ (b : Best). (old ≡ Some b) ⊎ IsFound task place b)) e found)
+    (λ (e : best ≡ Some next). subst (λ (b : Option LeastBatch). IfSome b (λ (b : LeastBatch). (old ≡ Some b) ⊎ IsFound task place b)) e found)
     better.either
 
 -- the best after a child's search is the old best, or has all orders of the place
-found_below : (task : Task) (place union : List ℕ) (order : ℕ) (old : Option Best) (next : Best) (result : Option Best)
+found_below : (task : Task) (place union : List ℕ) (order : ℕ) (old : Option LeastBatch) (next : LeastBatch) (result : Option LeastBatch)
     → AddsItem task.pairing place order union → (old ≡ Some next) ⊎ IsFound task place next
-    → IfSome result (λ (b : Best). (Some next ≡ Some b) ⊎ IsFound task union b) → IfSome result (λ (b : Best). (old ≡ Some b) ⊎ IsFound task place b)
+    → IfSome result (λ (b : LeastBatch). (Some next ≡ Some b) ⊎ IsFound task union b) → IfSome result (λ (b : LeastBatch). (old ≡ Some b) ⊎ IsFound task place b)
 found_below task place union order old next None adds before after = search rules
 found_below task place union order old next (Some b) adds before after = ⊎_elim
-    (λ (e : Some next ≡ Some b). subst (λ (b : Best). (old ≡ Some b) ⊎ IsFound task place b) (same_best next b e) before)
+    (λ (e : Some next ≡ Some b). subst (λ (b : LeastBatch). (old ≡ Some b) ⊎ IsFound task place b) (same_best next b e) before)
     (λ (f : IsFound task union b). inr (record { permitted = f.permitted; holds = λ x has. f.holds x ((adds.orders x).1 (inl has)); is = f.is }))
     after
 
 -- a child was compared with the best, and what extends it was searched
-pub enter_item : (task : Task) (place union : List ℕ) (order raised : ℕ) (old : Option Best) (next : Best) (result : Option Best)
+pub enter_item : (task : Task) (place union : List ℕ) (order raised : ℕ) (old : Option LeastBatch) (next : LeastBatch) (result : Option LeastBatch)
     → AddsItem task.pairing place order union → IsPermitted task.pairing union → IsRaised task union raised
     → IsBetterOf old (record { batch = union; raised = raised }) next → IsSearched task union (order + 1) (Some next) result
     → AreItemsSearched task place (λ (item : ℕ). item ≡ order) old result
@@ -71,15 +71,15 @@ enter_item task place union order raised old next result adds permitted is bette
 }
 
 -- what was found after more items is the old best, or has all orders of the place
-found_on : (task : Task) (place : List ℕ) (old best next : Option Best) → IfSome best (λ (b : Best). (old ≡ Some b) ⊎ IsFound task place b)
-    → IfSome next (λ (b : Best). (best ≡ Some b) ⊎ IsFound task place b) → IfSome next (λ (b : Best). (old ≡ Some b) ⊎ IsFound task place b)
+found_on : (task : Task) (place : List ℕ) (old best next : Option LeastBatch) → IfSome best (λ (b : LeastBatch). (old ≡ Some b) ⊎ IsFound task place b)
+    → IfSome next (λ (b : LeastBatch). (best ≡ Some b) ⊎ IsFound task place b) → IfSome next (λ (b : LeastBatch). (old ≡ Some b) ⊎ IsFound task place b)
 found_on task place old best None before after = search rules
 found_on task place old best (Some next) before after = ⊎_elim
-    (λ (e : best ≡ Some next). subst (λ (o : Option Best). IfSome o (λ (b : Best). (old ≡ Some b) ⊎ IsFound task place b)) e before)
+    (λ (e : best ≡ Some next). subst (λ (o : Option LeastBatch). IfSome o (λ (b : LeastBatch). (old ≡ Some b) ⊎ IsFound task place b)) e before)
     (λ (f : IsFound task place next). inr f) after
 
 -- after some items one more was searched
-pub then_item : (task : Task) (place : List ℕ) (before after : ℕ → Type 0) (order : ℕ) (old best next : Option Best)
+pub then_item : (task : Task) (place : List ℕ) (before after : ℕ → Type 0) (order : ℕ) (old best next : Option LeastBatch)
     → ((item : ℕ) → after item → before item ⊎ (item ≡ order)) → AreItemsSearched task place before old best
     → AreItemsSearched task place (λ (item : ℕ). item ≡ order) best next → AreItemsSearched task place after old next
 then_item task place before after order old best next split first last = record {
@@ -92,13 +92,13 @@ then_item task place before after order old best next split first last = record 
 }
 
 -- what is known of items is known of some of them
-pub fewer_items : (task : Task) (place : List ℕ) (more fewer : ℕ → Type 0) (old best : Option Best) → ((item : ℕ) → fewer item → more item)
+pub fewer_items : (task : Task) (place : List ℕ) (more fewer : ℕ → Type 0) (old best : Option LeastBatch) → ((item : ℕ) → fewer item → more item)
     → AreItemsSearched task place more old best → AreItemsSearched task place fewer old best
 fewer_items task place more fewer old best within searched =
     record { found = searched.found; kept = searched.kept; past = λ item among. searched.past item (within item among) }
 
 -- what extends a place is no better than the best, or has only items after so many
-past_items : (task : Task) (place : List ℕ) (from count : ℕ) (best : Option Best)
+past_items : (task : Task) (place : List ℕ) (from count : ℕ) (best : Option LeastBatch)
     → ((item : ℕ) → from ≤ item → item < from + count → IsItemPast task place best item) → (batch : List ℕ) → Extends task.pairing place from batch
     → Extends task.pairing place (from + count) batch ⊎ IsBeaten task best batch
 past_items task place from zero best past batch extends = inl (subst (λ (n : ℕ). Extends task.pairing place n batch) (omega arith) extends)
@@ -109,12 +109,12 @@ past_items task place from (suc count) best past batch extends = ⊎_elim
     (λ beaten. inr beaten) (past_items task place from count best (λ item low high. past item low (omega (arith, high))) batch extends)
 
 -- nothing that extends a place is better than the best: it was searched
-pub closed_search : (task : Task) (place : List ℕ) (from : ℕ) (best : Best)
+pub closed_search : (task : Task) (place : List ℕ) (from : ℕ) (best : LeastBatch)
     → ((batch : List ℕ) → Extends task.pairing place from batch → IsBeaten task (Some best) batch) → IsSearched task place from (Some best) (Some best)
 closed_search task place from best none = record { found = inl refl; kept = λ batch beaten. beaten; covered = none }
 
 -- past all orders only the place itself is left
-covered_all : (task : Task) (place : List ℕ) (from order : ℕ) (old best : Option Best) → IsPlace task.pairing place → from ≤ order
+covered_all : (task : Task) (place : List ℕ) (from order : ℕ) (old best : Option LeastBatch) → IsPlace task.pairing place → from ≤ order
     → task.pairing.orders ≤ order → (IsPermitted task.pairing place → IsBeaten task old place)
     → ((batch : List ℕ) → IsBeaten task old batch → IsBeaten task best batch)
     → ((item : ℕ) → from ≤ item → item < order → IsItemPast task place best item) → (batch : List ℕ) → Extends task.pairing place from batch
@@ -127,7 +127,7 @@ covered_all task place from order old best closed begun past known kept items ba
     (past_items task place from (order - from) best (λ item low high. items item low (omega (arith, high, begun))) batch extends)
 
 -- where all items from an order on were searched, all that extends the place was
-pub end_search : (task : Task) (place : List ℕ) (from order : ℕ) (old best : Option Best) → IsPlace task.pairing place → from ≤ order
+pub end_search : (task : Task) (place : List ℕ) (from order : ℕ) (old best : Option LeastBatch) → IsPlace task.pairing place → from ≤ order
     → task.pairing.orders ≤ order → (IsPermitted task.pairing place → IsBeaten task old place)
     → AreItemsSearched task place (λ (item : ℕ). (from ≤ item) × (item < order)) old best → IsSearched task place from old best
 end_search task place from order old best closed begun past known has = record {
@@ -137,24 +137,24 @@ end_search task place from order old best closed begun past known has = record {
 }
 
 -- what is no better than the old best is no better than one that the old best isn't better than
-beaten_by : (task : Task) (old best : Option Best) (batch : List ℕ) → IfSome old (λ (one : Best). IsNoBetter one best) → IsBeaten task old batch
+beaten_by : (task : Task) (old best : Option LeastBatch) (batch : List ℕ) → IfSome old (λ (one : LeastBatch). IsNoBetter one best) → IsBeaten task old batch
     → IsBeaten task best batch
 beaten_by task None best batch no_better beaten = absurd beaten
 beaten_by task (Some old) None batch no_better beaten = absurd no_better
 beaten_by task (Some old) (Some best) batch no_better beaten = beaten_on task (Some old) best batch no_better beaten
 
 -- the best of what workers found is the old one or one of theirs
-found_among : (task : Task) (place : List ℕ) (shares : List (List ℕ)) (old : Option Best) (found : List (Option Best)) (best : Option Best)
+found_among : (task : Task) (place : List ℕ) (shares : List (List ℕ)) (old : Option LeastBatch) (found : List (Option LeastBatch)) (best : Option LeastBatch)
     → length found ≡ length shares → AreSharesSearched task place shares old found → IsBestAmong old found (length found) best
-    → IfSome best (λ (b : Best). (old ≡ Some b) ⊎ IsFound task place b)
+    → IfSome best (λ (b : LeastBatch). (old ≡ Some b) ⊎ IsFound task place b)
 found_among task place shares old found best count searched is = ⊎_elim
-    (λ (e : best ≡ old). subst (λ (o : Option Best). IfSome o (λ (b : Best). (old ≡ Some b) ⊎ IsFound task place b)) (sym e) (found_self task place old))
+    (λ (e : best ≡ old). subst (λ (o : Option LeastBatch). IfSome o (λ (b : LeastBatch). (old ≡ Some b) ⊎ IsFound task place b)) (sym e) (found_self task place old))
     (λ (one : (at : ℕ) × (at < length found) × (slice_index_or found at best ≡ best)).
-    subst (λ (o : Option Best). IfSome o (λ (b : Best). (old ≡ Some b) ⊎ IsFound task place b)) one.2
+    subst (λ (o : Option LeastBatch). IfSome o (λ (b : LeastBatch). (old ≡ Some b) ⊎ IsFound task place b)) one.2
     (searched one.0 best (omega (arith, one.1, count))).found) is.either
 
 -- an item that a worker searched is past, and so is an order that names no first item
-past_shares : (task : Task) (place : List ℕ) (shares : List (List ℕ)) (old : Option Best) (found : List (Option Best)) (best : Option Best)
+past_shares : (task : Task) (place : List ℕ) (shares : List (List ℕ)) (old : Option LeastBatch) (found : List (Option LeastBatch)) (best : Option LeastBatch)
     → IsPlace task.pairing place → AreSharesOf task place shares → length found ≡ length shares → AreSharesSearched task place shares old found
     → IsBestAmong old found (length found) best → (item : ℕ) → item < task.pairing.orders → IsItemPast task place best item
 past_shares task place shares old found best closed all count searched is item known batch extends = ⊎_elim
@@ -164,7 +164,7 @@ past_shares task place shares old found best closed all count searched is item k
     (λ none. inl (past_no_child task.pairing place batch item closed none extends)) (all item known)
 
 -- where workers searched all first items, the best of what they found is that of all that extends the place
-pub put_together : (task : Task) (place : List ℕ) (shares : List (List ℕ)) (old : Option Best) (found : List (Option Best)) (best : Option Best)
+pub put_together : (task : Task) (place : List ℕ) (shares : List (List ℕ)) (old : Option LeastBatch) (found : List (Option LeastBatch)) (best : Option LeastBatch)
     → IsPlace task.pairing place → (IsPermitted task.pairing place → IsBeaten task old place) → AreSharesOf task place shares
     → length found ≡ length shares → AreSharesSearched task place shares old found → IsBestAmong old found (length found) best
     → IsSearched task place 0 old best
@@ -177,18 +177,18 @@ put_together task place shares old found best closed known all count searched is
     }
 
 -- a place that is the best is no better than itself
-pub alone_beaten : (task : Task) (best : Best) (place : List ℕ) → best.batch ≡ place → IsRaised task place best.raised → IsBeaten task (Some best) place
+pub alone_beaten : (task : Task) (best : LeastBatch) (place : List ℕ) → best.batch ≡ place → IsRaised task place best.raised → IsBeaten task (Some best) place
 alone_beaten task best place e is = known_beaten task best place best.raised is (record {
   low = omega arith;
   first = λ same. subst (λ (xs : List ℕ). comes_before xs best.batch ≡ false) e (never_before_itself best.batch);
 })
 
 -- what the search of a class found has the order of the class
-pub found_candidate : (task : Task) (place : List ℕ) (order : ℕ) (alone best : Best) → alone.batch ≡ place
+pub found_candidate : (task : Task) (place : List ℕ) (order : ℕ) (alone best : LeastBatch) → alone.batch ≡ place
     → ((other : ℕ) → Contains place other ↔ AreJoined task.pairing.pairs order other) → IsPermitted task.pairing place
     → (Some alone ≡ Some best) ⊎ IsFound task place best → IsPermitted task.pairing best.batch × Contains best.batch order
 found_candidate task place order alone best e is permitted found = ⊎_elim
     (λ (same : Some alone ≡ Some best).
-    let there : place ≡ best.batch = sym e ∙ ap (λ (b : Best). b.batch) (same_best alone best same) in
+    let there : place ≡ best.batch = sym e ∙ ap (λ (b : LeastBatch). b.batch) (same_best alone best same) in
     subst (λ (xs : List ℕ). IsPermitted task.pairing xs × Contains xs order) there (permitted, (is order).1 itself))
     (λ (f : IsFound task place best). (f.permitted, f.holds order ((is order).1 itself))) found

@@ -7,7 +7,7 @@ use Rattle.wp_batch.specs.Waves.{WavePicks}
 use Rattle.wp_duals.specs.Duals.{duals_of, greatest_dual}
 use Rattle.wp_duals.specs.Visits.{AddsItem, IsItem}
 use Rattle.wp_duals.proofs.Visits.{Extends}
-use Rattle.wp_price.specs.declared.best.Best.{Best}
+use Rattle.wp_price.specs.declared.best.LeastBatch.{LeastBatch}
 use Rattle.wp_price.specs.declared.item.Item.{Item}
 use Rattle.wp_price.specs.declared.place.Place.{Place}
 use Rattle.wp_price.specs.Bests.{IsNoWorse}
@@ -68,32 +68,32 @@ abbrev pub NamesBelow : Pairing → List ℕ → ℕ → Type 0
 NamesBelow pairing place from = (order : ℕ) → Contains place order → IsItem pairing order → order < from
 
 -- a batch is no better than the best
-abbrev pub IsBeaten : Task → Option Best → List ℕ → Type 0
+abbrev pub IsBeaten : Task → Option LeastBatch → List ℕ → Type 0
 IsBeaten task None batch = ⊥
 IsBeaten task (Some best) batch = (raised : ℕ) → IsRaised task batch raised → IsNoWorse best (record { batch = batch; raised = raised })
 
 -- a permitted batch that has all orders of a place, with its slack
-pub record IsFound (task : Task) (place : List ℕ) (best : Best) : Type 0 where
+pub record IsFound (task : Task) (place : List ℕ) (best : LeastBatch) : Type 0 where
   pub permitted : IsPermitted task.pairing best.batch
   pub holds : (order : ℕ) → Contains place order → Contains best.batch order
   pub is : IsRaised task best.batch best.raised
 
 -- The best after the search of all batches that extend a place: it is the old best or has all orders of the place, and no batch that was no better than the
 -- old best is better than it, nor any that extends the place.
-pub record IsSearched (task : Task) (place : List ℕ) (from : ℕ) (old best : Option Best) : Type 0 where
-  pub found : IfSome best (λ (b : Best). (old ≡ Some b) ⊎ IsFound task place b)
+pub record IsSearched (task : Task) (place : List ℕ) (from : ℕ) (old best : Option LeastBatch) : Type 0 where
+  pub found : IfSome best (λ (b : LeastBatch). (old ≡ Some b) ⊎ IsFound task place b)
   pub kept : (batch : List ℕ) → IsBeaten task old batch → IsBeaten task best batch
   pub covered : (batch : List ℕ) → Extends task.pairing place from batch → IsBeaten task best batch
 
 -- what extends a place with items from an order on is no better than the best, or has only items after the order
-abbrev pub IsItemPast : Task → List ℕ → Option Best → ℕ → Type 0
+abbrev pub IsItemPast : Task → List ℕ → Option LeastBatch → ℕ → Type 0
 IsItemPast task place best order = (batch : List ℕ) → Extends task.pairing place order batch
     → Extends task.pairing place (order + 1) batch ⊎ IsBeaten task best batch
 
 -- The best after the search of the items that some orders name: it is the old best or has all orders of the place, and no batch that was no better than the
 -- old best is better than it, nor any that extends the place with one of these items first.
-pub record AreItemsSearched (task : Task) (place : List ℕ) (orders : ℕ → Type 0) (old best : Option Best) : Type 0 where
-  pub found : IfSome best (λ (b : Best). (old ≡ Some b) ⊎ IsFound task place b)
+pub record AreItemsSearched (task : Task) (place : List ℕ) (orders : ℕ → Type 0) (old best : Option LeastBatch) : Type 0 where
+  pub found : IfSome best (λ (b : LeastBatch). (old ≡ Some b) ⊎ IsFound task place b)
   pub kept : (batch : List ℕ) → IsBeaten task old batch → IsBeaten task best batch
   pub past : (order : ℕ) → orders order → IsItemPast task place best order
 
@@ -106,6 +106,6 @@ abbrev pub InShare : Task → List ℕ → ℕ → Type 0
 InShare task share order = (order < task.pairing.orders) × Contains share order
 
 -- what each worker found when it had searched the items of its share
-abbrev pub AreSharesSearched : Task → List ℕ → List (List ℕ) → Option Best → List (Option Best) → Type 0
-AreSharesSearched task place shares old found = (worker : ℕ) (d : Option Best) → worker < length shares
+abbrev pub AreSharesSearched : Task → List ℕ → List (List ℕ) → Option LeastBatch → List (Option LeastBatch) → Type 0
+AreSharesSearched task place shares old found = (worker : ℕ) (d : Option LeastBatch) → worker < length shares
     → AreItemsSearched task place (InShare task (slice_index_or shares worker [])) old (slice_index_or found worker d)

@@ -6,7 +6,7 @@ use wp_pairs::Batch;
 
 /// A batch and its slack, raised by eight times the greatest dual, so that it is never below 0.
 #[derive(Clone, Copy)]
-pub struct Best {
+pub struct LeastBatch {
     pub batch: Batch,
     pub raised: u64,
 }
@@ -32,7 +32,7 @@ pub fn comes_first(left: Batch, right: Batch) -> bool
 }
 
 // Whether a batch is better than another: it has less slack, or the same slack and comes first.
-fn is_better(next: &Best, best: &Best) -> bool
+fn is_better(next: &LeastBatch, best: &LeastBatch) -> bool
     ensures better { result ≡ true → IsNoWorse next.now best.now }
     ensures no_better { result ≡ false → IsNoWorse best.now next.now }
 {
@@ -43,7 +43,7 @@ fn is_better(next: &Best, best: &Best) -> bool
 }
 
 /// The better of the best batch so far and the next.
-pub fn better_of(best: Option<Best>, next: Best) -> Best
+pub fn better_of(best: Option<LeastBatch>, next: LeastBatch) -> LeastBatch
     ensures { IsBetterOf best next result }
 {
     match best {
@@ -53,7 +53,7 @@ pub fn better_of(best: Option<Best>, next: Best) -> Best
 }
 
 /// The best of the best so far and of those that workers found.
-pub fn best_of(best: Option<Best>, found: &[Option<Best>]) -> Option<Best>
+pub fn best_of(best: Option<LeastBatch>, found: &[Option<LeastBatch>]) -> Option<LeastBatch>
     ensures { IsBestAmong best found.now (length found.now) result }
 {
     let mut least = best;

@@ -5,10 +5,10 @@ ghost use Rattle.wp_price.specs.Bests.{IsNoWorse};
 ghost use Rattle.wp_price.specs.Searches.{AreItemsSearched, IsAt, IsBeaten, IsRaised, IsSearched};
 ghost use Rattle.wp_price.specs.Slacks.{HasNoCandidate, IsCandidate};
 
-use crate::best::{Best, better_of};
+use crate::best::{LeastBatch, better_of};
 use crate::crew::Crew;
 use crate::place::Place;
-use crate::search::Search;
+use crate::search::SlackSearch;
 use std::alloc::Global;
 use std::thread::Threads;
 use wp_model::Memory;
@@ -17,7 +17,7 @@ use wp_outside::Gate;
 /// By how much slacks are raised: eight times the greatest dual.
 const RAISE: u64 = 8_000_000_000_000;
 
-impl Search<'_> {
+impl SlackSearch<'_> {
     // The slack of a place, raised.
     fn raised_of(&self, place: &Place) -> u64
         requires { IsAt self.now place.now }
@@ -28,19 +28,19 @@ impl Search<'_> {
     }
 
     // A place as the best, with its slack, raised.
-    fn best_at(&self, place: &Place) -> Best
+    fn best_at(&self, place: &Place) -> LeastBatch
         requires { IsAt self.now place.now }
         ensures batch { result.batch ≡ place.now.batch }
         ensures is { IsRaised self.now place.now.batch result.raised }
     {
-        Best {
+        LeastBatch {
             batch: place.batch,
             raised: self.raised_of(place),
         }
     }
 
     // Whether a batch that extends a place, with items after this order, may be better than the best.
-    fn can_better(&self, order: u32, place: &Place, raised: u64, best: &Best) -> bool
+    fn can_better(&self, order: u32, place: &Place, raised: u64, best: &LeastBatch) -> bool
         requires known { order < self.now.pairing.orders }
         requires place { IsAt self.now place.now }
         requires raised { IsRaised self.now place.now.batch raised }
@@ -53,7 +53,12 @@ impl Search<'_> {
     /// The best of the best batch so far and all batches that extend a place with the item that an order names, and with items of
     /// later orders.
     #[cycle(search)]
-    pub fn search_item(&self, place: &Place, order: u32, best: Option<Best>) -> Option<Best>
+    pub fn search_item(
+        &self,
+        place: &Place,
+        order: u32,
+        best: Option<LeastBatch>,
+    ) -> Option<LeastBatch>
         requires known { order < self.now.pairing.orders }
         requires place { IsAt self.now place.now }
         ensures { AreItemsSearched self.now place.now.batch (λ item. item ≡ order) best result }
@@ -64,7 +69,7 @@ impl Search<'_> {
         let _orders = self.orders();
         let raised = self.raised_of(&child);
         let batch = child.batch;
-        let next = better_of(best, Best { batch, raised });
+        let next = better_of(best, LeastBatch { batch, raised });
         if self.can_better(order, &child, raised, &next) {
             return self.search(&child, order + 1, Some(next));
         }
@@ -73,7 +78,7 @@ impl Search<'_> {
 
     // The best of the best batch so far and all batches that extend a place, with items from an order on.
     #[cycle(search)]
-    fn search(&self, place: &Place, from: u32, best: Option<Best>) -> Option<Best>
+    fn search(&self, place: &Place, from: u32, best: Option<LeastBatch>) -> Option<LeastBatch>
         requires place { IsAt self.now place.now }
         requires known { IsPermitted self.now.pairing place.now.batch → IsBeaten self.now best place.now.batch }
         ensures { IsSearched self.now place.now.batch from best result }
@@ -103,7 +108,7 @@ impl Search<'_> {
         alloc: Global,
         crew: &Crew<'_, R, G>,
         through: Option<u32>,
-    ) -> Result<Option<Best>, Memory>
+    ) -> Result<Option<LeastBatch>, Memory>
         requires through { IfSome through (λ order. order < self.now.pairing.orders) }
         requires workers { crew.now.workers ≤ 16 }
         ensures candidate { IfOk result (λ found. IfSome found (λ best. IsCandidate self.now.pairing through best.batch)) }
@@ -121,7 +126,7 @@ impl Search<'_> {
         &self,
         alloc: Global,
         crew: &Crew<'_, R, G>,
-    ) -> Result<Option<Best>, Memory>
+    ) -> Result<Option<LeastBatch>, Memory>
         requires { crew.now.workers ≤ 16 }
         ensures candidate { IfOk result (λ found. IfSome found (λ best. IsPermitted self.now.pairing best.batch)) }
         ensures is { IfOk result (λ found. IfSome found (λ best. IsRaised self.now best.batch best.raised)) }
@@ -136,7 +141,7 @@ impl Search<'_> {
         alloc: Global,
         crew: &Crew<'_, R, G>,
         order: u32,
-    ) -> Result<Option<Best>, Memory>
+    ) -> Result<Option<LeastBatch>, Memory>
         requires order { order < self.now.pairing.orders }
         requires workers { crew.now.workers ≤ 16 }
         ensures candidate { IfOk result (λ found. IfSome found (λ best. IsCandidate self.now.pairing (Some order) best.batch)) }

@@ -5,7 +5,7 @@ ghost use Rattle.wp_price.specs.Searches.{AreSharesOf, IsNoChild};
 ghost use Rattle.wp_price.specs.ShortMarks.{AreShortMarks};
 
 use crate::crew::Crew;
-use crate::search::Search;
+use crate::search::SlackSearch;
 use std::alloc::Global;
 use std::marker::Model;
 use std::thread;
@@ -40,7 +40,7 @@ fn append(marks: &mut Marks, more: &Marks) -> Result<(), Memory>
     Ok(())
 }
 
-impl Search<'_> {
+impl SlackSearch<'_> {
     // The short marks of the subtree of the first item that an order names. None comes exactly where it names none.
     fn item_marks(&self, alloc: Global, order: u32) -> Result<Option<Marks>, Memory>
         requires { order < self.now.pairing.orders }

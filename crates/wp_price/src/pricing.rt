@@ -6,7 +6,7 @@ ghost use Rattle.wp_price.specs.Slacks.{HasNoCandidate, IsLeastSlack};
 
 use crate::crew::Crew;
 use crate::priced::Priced;
-use crate::search::Search;
+use crate::search::SlackSearch;
 use std::alloc::Global;
 use std::thread::Threads;
 use wp_batch::{Marks, Wave};
@@ -17,7 +17,7 @@ use wp_pairs::Pairs;
 // The short marks, where no order is given and the least slack isn't below 0.
 fn marks_of<R: Threads + Sync, G: Gate>(
     alloc: Global,
-    search: &Search<'_>,
+    search: &SlackSearch<'_>,
     crew: &Crew<'_, R, G>,
     through: Option<u32>,
     slack: i64,
@@ -38,7 +38,7 @@ fn marks_of<R: Threads + Sync, G: Gate>(
 // The batch of least slack of a search, of those with an order where one is given, and the short marks.
 fn price<R: Threads + Sync, G: Gate>(
     alloc: Global,
-    search: &Search<'_>,
+    search: &SlackSearch<'_>,
     crew: &Crew<'_, R, G>,
     through: Option<u32>,
 ) -> Result<Option<Priced>, Memory>
@@ -98,7 +98,7 @@ pub fn least_slack<R: Threads + Sync, G: Gate>(
     ensures pass { IfOk result (λ found. IfSome found (λ priced. IfSome priced.marks (λ marks.
         IsVisitOfAll wave.now pairs.now duals.now.items marks (Passed [])))) }
 {
-    let search = Search::of(alloc, wave, pairs, duals)?;
+    let search = SlackSearch::of(alloc, wave, pairs, duals)?;
     let crew = Crew { rt, workers, gate };
     price(alloc, &search, &crew, through)
 }

@@ -18,14 +18,14 @@ use wp_pairs::{Batch, Pairs};
 
 /// A search of all permitted batches: a wave, its pairs and the duals of its orders, and what each order brings to a place.
 #[derive(Drop)]
-pub struct Search<'a> {
+pub struct SlackSearch<'a> {
     wave: &'a Wave,
     pairs: &'a Pairs,
     duals: &'a Vec<u64>,
     items: Vec<Item>,
 }
 
-impl<'a> Model for Search<'a> {
+impl<'a> Model for SlackSearch<'a> {
     ghost use Rattle.wp_price.specs.Searches.{IsTask, Task};
 
     ghost Value = { Task };
@@ -59,20 +59,20 @@ fn slack_between(length: u64, sum: u64) -> i64
     60 * length as i64 - sum as i64
 }
 
-impl<'a> Search<'a> {
+impl<'a> SlackSearch<'a> {
     /// A search with these duals.
     pub fn of(
         alloc: Global,
         wave: &'a Wave,
         pairs: &'a Pairs,
         duals: &'a Vec<u64>,
-    ) -> Result<Search<'a>, Memory>
+    ) -> Result<SlackSearch<'a>, Memory>
         requires orders { pairs.now.orders ≡ length wave.now.orders }
         requires count { length duals.now.items ≡ pairs.now.orders }
         requires duals { All (λ dual. dual ≤ greatest_dual) duals.now.items }
         ensures { IfOk result (λ search. search ≡ record { wave = wave.now; pairing = pairs.now; duals = duals.now.items }) }
     {
-        Ok(Search {
+        Ok(SlackSearch {
             wave,
             pairs,
             duals,
@@ -81,7 +81,7 @@ impl<'a> Search<'a> {
     }
 }
 
-impl Search<'_> {
+impl SlackSearch<'_> {
     /// The place with the item that an order names, where both together are a permitted batch.
     pub fn child_of(&self, place: &Place, order: u32) -> Option<Place>
         requires known { order < self.now.pairing.orders }

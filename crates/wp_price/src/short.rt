@@ -4,11 +4,11 @@ ghost use Rattle.wp_price.specs.Searches.{IsAt, NamesBelow};
 ghost use Rattle.wp_price.specs.ShortMarks.{AddsShort, IsMarked};
 
 use crate::place::Place;
-use crate::search::Search;
+use crate::search::SlackSearch;
 use wp_batch::Marks;
 use wp_model::Memory;
 
-impl Search<'_> {
+impl SlackSearch<'_> {
     /// Whether the reach of a place doesn't make it too much, so that it isn't entered.
     pub fn is_closed(&self, place: &Place, reach: u64) -> bool
         requires { IsAt self.now place.now }

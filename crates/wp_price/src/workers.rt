@@ -3,10 +3,10 @@ ghost use Rattle.std.specs.Prelude.{◌≡◌, ◌<◌, ◌≤◌, ℕ, [], Cont
 ghost use Rattle.wp_pairs.specs.Permitted.{IsPermitted};
 ghost use Rattle.wp_price.specs.Searches.{AreItemsSearched, AreSharesOf, AreSharesSearched, InShare, IsAt, IsBeaten, IsNoChild, IsSearched};
 
-use crate::best::{Best, best_of};
+use crate::best::{LeastBatch, best_of};
 use crate::crew::Crew;
 use crate::place::Place;
-use crate::search::Search;
+use crate::search::SlackSearch;
 use crate::share::deal;
 use std::alloc::Global;
 use std::thread;
@@ -29,7 +29,7 @@ fn batches_of(items: u32, room: u32) -> u64 {
     batches
 }
 
-impl Search<'_> {
+impl SlackSearch<'_> {
     // The orders that name first items of a place: those with which it makes a permitted batch.
     fn first_items(&self, place: &Place) -> Batch
         requires { IsAt self.now place.now }
@@ -49,10 +49,10 @@ impl Search<'_> {
         &self,
         place: &Place,
         share: Batch,
-        best: Option<Best>,
+        best: Option<LeastBatch>,
         number: u32,
         gate: &G,
-    ) -> Option<Best>
+    ) -> Option<LeastBatch>
         requires { IsAt self.now place.now }
         ensures { AreItemsSearched self.now place.now.batch (InShare self.now share) best result }
     {
@@ -72,9 +72,9 @@ impl Search<'_> {
         alloc: Global,
         crew: &Crew<'_, R, G>,
         place: &Place,
-        best: &Option<Best>,
+        best: &Option<LeastBatch>,
         shares: &[Batch],
-    ) -> Result<Vec<Option<Best>>, Memory>
+    ) -> Result<Vec<Option<LeastBatch>>, Memory>
         requires place { IsAt self.now place.now }
         requires few { length shares.now ≤ 16 }
         ensures count { IfOk result (λ found. length found.items ≡ length shares.now) }
@@ -86,7 +86,7 @@ impl Search<'_> {
             crew.rt,
             alloc,
             shares.len(),
-            &|worker: usize| -> Option<Best>
+            &|worker: usize| -> Option<LeastBatch>
                 requires { worker < length shares.now × (length shares.now ≤ 16) × IsAt search.now place.now }
                 ensures { AreItemsSearched search.entry.now place.entry.now.batch (InShare search.entry.now (slice_index_or shares.entry.now worker []))
                     best.entry.now result }
@@ -133,8 +133,8 @@ impl Search<'_> {
         alloc: Global,
         crew: &Crew<'_, R, G>,
         place: &Place,
-        best: Option<Best>,
-    ) -> Result<Option<Best>, Memory>
+        best: Option<LeastBatch>,
+    ) -> Result<Option<LeastBatch>, Memory>
         requires workers { crew.now.workers ≤ 16 }
         requires place { IsAt self.now place.now }
         requires known { IsPermitted self.now.pairing place.now.batch → IsBeaten self.now best place.now.batch }

@@ -17,11 +17,11 @@ use Rattle.wp_search.specs.Prices.{full, price}
 use Rattle.wp_search.specs.Searches.{HasEnded, IsSearch}
 use Rattle.wp_search.specs.declared.plan.Planned.{Planned}
 use Rattle.wp_search.specs.declared.plan.State.TheVariants as states
-use Rattle.wp_search.specs.declared.search.Search.{Search}
+use Rattle.wp_search.specs.declared.search.TreeSearch.{TreeSearch}
 use Rattle.wp_search.proofs.OwnCounts.{full_not_spent}
 use Rattle.wp_search.proofs.Searches.{duals_listed, own_listed, search_bound, search_short, splits_listed}
 
-module _ (wave : WavePicks) (capacity : ℕ) (shares : List ℕ) (search : Search) (bound : ℕ) (some : 1 ≤ capacity) (are : AreShares wave capacity shares)
+module _ (wave : WavePicks) (capacity : ℕ) (shares : List ℕ) (search : TreeSearch) (bound : ℕ) (some : 1 ≤ capacity) (are : AreShares wave capacity shares)
     (is : IsSearch wave capacity (sum shares) search) (at : bound_of (units_of (sum shares)) search.tree ≡ Some bound) where
   tree_right : IsBoundOf wave capacity (nodes_of search.tree) bound
   tree_right = search_bound wave capacity bound shares search.tree are is.right at

@@ -5,7 +5,7 @@ use Rattle.std.specs.Prelude.{Option, Some, None}
 use Rattle.std.proofs.Math.Nat.{two-pow-succ}
 use Rattle.std.proofs.lemmas.List.Sums.{sum_by-append, sum_by-cons}
 use Rattle.std.proofs.lemmas.Nat.{pow_pos}
-use Rattle.wp_pairs.specs.declared.pair.Pair.{Pair}
+use Rattle.wp_pairs.specs.declared.pair.OrderPair.{OrderPair}
 use Rattle.wp_pairs.specs.Permitted.{AreUndecided, Pairing}
 use Rattle.wp_batch.specs.Batchings.{no_pairs}
 use Rattle.wp_batch.specs.Waves.{WavePicks}
@@ -38,14 +38,14 @@ root_left orders capacity = record { path = empty_path orders capacity; all = om
 -- a path to which an undecided pair is added has one left before
 none_left : (pairing : Pairing) (first second : ℕ) → HasLeft pairing 0 → AreUndecided pairing first second → ⊥
 none_left pairing first second has undecided =
-    let new : Pair = record { first = first; second = second; together = true } in
+    let new : OrderPair = record { first = first; second = second; together = true } in
     let longer = paths_are_short pairing.orders pairing.capacity (pairing.pairs ++ new ∷ []) (longer_path pairing first second true has.path undecided) in
     omega (arith, longer, has.all, length-append pairing.pairs (new ∷ []))
 
 one_less : (pairing : Pairing) (first second left : ℕ) (together : Bool) → HasLeft pairing (suc left) → AreUndecided pairing first second
     → HasLeft (with_pair pairing first second together) left
 one_less pairing first second left together has undecided =
-    let new : Pair = record { first = first; second = second; together = together } in record {
+    let new : OrderPair = record { first = first; second = second; together = together } in record {
       path = longer_path pairing first second together has.path undecided;
       all = omega (arith, has.all, length-append pairing.pairs (new ∷ []));
     }

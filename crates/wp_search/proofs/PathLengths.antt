@@ -8,7 +8,7 @@ use Rattle.std.proofs.lemmas.List.{get_or-map, get_or-take, get_or_default, leng
 use Rattle.std.proofs.lemmas.Map.Keys.{IsDistinct-from_apart}
 use Rattle.std.proofs.lemmas.Map.Steps.{length-le_from_distinct_below}
 use Rattle.std.proofs.lemmas.Map.Views.{Contains-from_any}
-use Rattle.wp_pairs.specs.declared.pair.Pair.{Pair}
+use Rattle.wp_pairs.specs.declared.pair.OrderPair.{OrderPair}
 use Rattle.wp_pairs.specs.Kept.{number_of, pairs_of}
 use Rattle.wp_pairs.specs.Permitted.{AreDecided}
 use Rattle.wp_pairs.proofs.PairNumbers.{added_decided}
@@ -21,7 +21,7 @@ pairs_below a (suc b) h =
     ⊎_elim (λ (lt : a < b). omega (arith, pairs_below a b lt)) (λ (ge : b ≤ a). let e : a ≡ b = omega arith in rw e (omega arith)) (cases_lt a b)
 
 -- pairs of one number have the same second order
-same_second : (p q : Pair) → p.first < p.second → q.first < q.second → number_of p ≡ number_of q → p.second ≡ q.second
+same_second : (p q : OrderPair) → p.first < p.second → q.first < q.second → number_of p ≡ number_of q → p.second ≡ q.second
 same_second p q lp lq e =
     ⊎_elim (λ (lt : p.second < q.second). absurd (omega (arith, pairs_below p.second q.second lt, e)))
     (λ (ge : q.second ≤ p.second).
@@ -30,7 +30,7 @@ same_second p q lp lq e =
     (cases_lt p.second q.second)
 
 -- and the same first order
-same_first : (p q : Pair) → p.first < p.second → q.first < q.second → number_of p ≡ number_of q → p.first ≡ q.first
+same_first : (p q : OrderPair) → p.first < p.second → q.first < q.second → number_of p ≡ number_of q → p.first ≡ q.first
 same_first p q lp lq e = let s = ap pairs_of (same_second p q lp lq e) in omega (arith, s, e)
 
 -- twice the number of pairs of so many orders
@@ -46,9 +46,9 @@ pairs_are (suc n) =
     let twice : 2 * pairs_of (suc n) ≡ suc n * n = omega (arith, twice_pairs (suc n)) in
     sym (mul-div_cancel_left (pairs_of (suc n)) (omega arith)) ∙ ap (λ (k : ℕ). k / 2) (twice ∙ ap (λ (k : ℕ). suc n * k) back)
 
-module _ (orders capacity : ℕ) (pairs : List Pair) (path : IsPath orders capacity pairs) where
+module _ (orders capacity : ℕ) (pairs : List OrderPair) (path : IsPath orders capacity pairs) where
   -- no two pairs of a path have one number
-  numbers_differ : (i j : ℕ) (d : Pair) → i < j → j < length pairs → number_of (get_or pairs i d) ≡ number_of (get_or pairs j d) → ⊥
+  numbers_differ : (i j : ℕ) (d : OrderPair) → i < j → j < length pairs → number_of (get_or pairs i d) ≡ number_of (get_or pairs j d) → ⊥
   numbers_differ i j d lt within e =
       let here = path.each j d within in
       let there = path.each i d (omega (arith, lt, within)) in
@@ -66,14 +66,14 @@ module _ (orders capacity : ℕ) (pairs : List Pair) (path : IsPath orders capac
   distinct : IsDistinct eqb (map number_of pairs)
   distinct = IsDistinct-from_apart eqb (map number_of pairs) (λ i j d lt within.
       let count = length-map pairs number_of in
-      let blank : Pair = record { first = 0; second = 0; together = true } in
+      let blank : OrderPair = record { first = 0; second = 0; together = true } in
       let left = get_or-map number_of pairs i blank d (omega (arith, lt, within, count)) in
       let right = get_or-map number_of pairs j blank d (omega (arith, within, count)) in
       ne_eqb _ _ (λ e. numbers_differ i j blank lt (omega (arith, within, count)) (sym left ∙ (e ∙ right))))
 
   number_below : (n : ℕ) → Contains (map number_of pairs) n → n < pairs_of orders
   number_below n has =
-      let blank : Pair = record { first = 0; second = 0; together = true } in
+      let blank : OrderPair = record { first = 0; second = 0; together = true } in
       let count = length-map pairs number_of in
       let is = path.each has.0 blank (omega (arith, has.1, count)) in
       let named = get_or-map number_of pairs has.0 blank n (omega (arith, has.1, count)) in

@@ -27,12 +27,12 @@ use Rattle.wp_search.specs.Searches.{HasEnded, IsBest, IsOnward, IsSearch}
 use Rattle.wp_batch.proofs.Costs.{one_cost}
 use Rattle.wp_search.proofs.OptimalJoins.{optimal_joins}
 use Rattle.wp_search.specs.Turns.{IsProper, IsSettled, IsTurned, LeavesBound, made_by}
-use Rattle.wp_search.specs.declared.best.Best.{Best}
+use Rattle.wp_search.specs.declared.best.BestBatching.{BestBatching}
 use Rattle.wp_search.specs.declared.branch.Branch.{Branch}
 use Rattle.wp_search.specs.declared.branch.Branch.TheVariants.{Leaf, Dead, Split'}
-use Rattle.wp_search.specs.declared.search.Search.{Search}
-use Rattle.wp_search.specs.declared.turn.Turn.{Turn}
-use Rattle.wp_search.specs.declared.turn.Turn.TheVariants.{Onward, Settled, Spent, Worked as Made}
+use Rattle.wp_search.specs.declared.search.TreeSearch.{TreeSearch}
+use Rattle.wp_search.specs.declared.turn.LeafTurn.{LeafTurn}
+use Rattle.wp_search.specs.declared.turn.LeafTurn.TheVariants.{Onward, Settled, Spent, Worked as Made}
 use Rattle.wp_search.proofs.OwnCounts.{own_both, own_first}
 use Rattle.wp_search.proofs.Owns.{own_within}
 
@@ -166,7 +166,7 @@ search_has_bound wave capacity shares branch some is =
     is_some (Some bound) there = refl
 
 -- a search that begins with one leaf, which keeps the share duals, and has spent nothing
-pub start_search : (wave : WavePicks) (capacity budget shares : ℕ) (best : Best) → IsBest wave capacity best
+pub start_search : (wave : WavePicks) (capacity budget shares : ℕ) (best : BestBatching) → IsBest wave capacity best
     → IsSearch wave capacity shares (record { tree = Leaf None; best = best; budget = budget; spent = 0 })
 start_search wave capacity budget shares best is = record {
   best = is;
@@ -177,7 +177,7 @@ start_search wave capacity budget shares best is = record {
 }
 
 -- a search whose best batching costs no more than the tree's bound has ended
-pub cost_reached : (wave : WavePicks) (capacity bound : ℕ) (shares : List ℕ) (search : Search) → 1 ≤ capacity → AreShares wave capacity shares
+pub cost_reached : (wave : WavePicks) (capacity bound : ℕ) (shares : List ℕ) (search : TreeSearch) → 1 ≤ capacity → AreShares wave capacity shares
     → IsSearch wave capacity (sum shares) search → bound_of (units_of (sum shares)) search.tree ≡ Some bound → search.best.cost ≤ bound
     → HasEnded wave capacity (sum shares) search
 cost_reached wave capacity bound shares search some are is at low =
@@ -189,7 +189,7 @@ cost_reached wave capacity bound shares search some are is at low =
     ) in
     inr (at ∙ ap (λ (k : ℕ). Some k) same)
 
-module _ (wave : WavePicks) (capacity shares bound : ℕ) (pays : Bool) (before : Search) (tree : Branch) (turn : Turn) (is : IsSearch wave capacity shares before)
+module _ (wave : WavePicks) (capacity shares bound : ℕ) (pays : Bool) (before : TreeSearch) (tree : Branch) (turn : LeafTurn) (is : IsSearch wave capacity shares before)
     (at : bound_of (units_of shares) before.tree ≡ Some bound)
     (turned : IsTurned wave (no_pairs (length wave.orders) capacity) shares pays bound before.tree tree turn) where
   cuts_after : (new : ℕ) → bound_of (units_of shares) tree ≡ Some new → AreCutsWithin new tree
@@ -198,7 +198,7 @@ module _ (wave : WavePicks) (capacity shares bound : ℕ) (pays : Bool) (before 
       turned.cuts new up (cuts_rise bound new before.tree up (is.cuts bound at))
 
   -- after a turn the tree is right, and what it has spent is the price of its nodes
-  search_after : (after : Search) → after.tree ≡ tree → IsBest wave capacity after.best
+  search_after : (after : TreeSearch) → after.tree ≡ tree → IsBest wave capacity after.best
       → after.spent ≡ before.spent + made_by turn * price (length wave.orders) capacity → after.spent ≤ before.budget → after.budget ≡ before.budget
       → IsSearch wave capacity shares after
   search_after after same best spent within budget = record {
@@ -215,7 +215,7 @@ module _ (wave : WavePicks) (capacity shares bound : ℕ) (pays : Bool) (before 
   }
 
   -- a turn that gave a node duals of its own
-  pub paid_onward : (after : Search) (found : Option (List (List ℕ))) → turn ≡ Made found → after.tree ≡ tree → IsBest wave capacity after.best
+  pub paid_onward : (after : TreeSearch) (found : Option (List (List ℕ))) → turn ≡ Made found → after.tree ≡ tree → IsBest wave capacity after.best
       → after.spent ≡ before.spent + price (length wave.orders) capacity → before.spent + price (length wave.orders) capacity ≤ before.budget
       → after.budget ≡ before.budget → IsOnward wave capacity shares before after true
   paid_onward after found made same best spent enough budget =
@@ -237,7 +237,7 @@ module _ (wave : WavePicks) (capacity shares bound : ℕ) (pays : Bool) (before 
       }
 
   -- a turn that split a leaf, or found it dead
-  pub split_onward : (after : Search) → turn ≡ Onward → after.tree ≡ tree → IsBest wave capacity after.best → after.spent ≡ before.spent
+  pub split_onward : (after : TreeSearch) → turn ≡ Onward → after.tree ≡ tree → IsBest wave capacity after.best → after.spent ≡ before.spent
       → after.budget ≡ before.budget → IsOnward wave capacity shares before after true
   split_onward after made same best spent budget =
       let reason = rw made at turned.reason in
@@ -250,7 +250,7 @@ module _ (wave : WavePicks) (capacity shares bound : ℕ) (pays : Bool) (before 
       }
 
   -- a turn at a leaf for which the budget doesn't pay
-  pub spent_ended : (after : Search) → turn ≡ Spent → after.tree ≡ tree → IsBest wave capacity after.best → after.spent ≡ before.spent
+  pub spent_ended : (after : TreeSearch) → turn ≡ Spent → after.tree ≡ tree → IsBest wave capacity after.best → after.spent ≡ before.spent
       → after.budget ≡ before.budget → before.budget - before.spent < price (length wave.orders) capacity
       → IsOnward wave capacity shares before after false
   spent_ended after made same best spent budget short =
@@ -263,7 +263,7 @@ module _ (wave : WavePicks) (capacity shares bound : ℕ) (pays : Bool) (before 
       }
 
   -- a turn at a leaf where all pairs are decided
-  pub settled_ended : (after : Search) (batching : List (List ℕ)) → turn ≡ Settled batching → after.tree ≡ tree → IsBest wave capacity after.best
+  pub settled_ended : (after : TreeSearch) (batching : List (List ℕ)) → turn ≡ Settled batching → after.tree ≡ tree → IsBest wave capacity after.best
       → after.best.batching ≡ batching → after.spent ≡ before.spent → after.budget ≡ before.budget → IsOnward wave capacity shares before after false
   settled_ended after batching made same best taken spent budget =
       let reason = rw made at turned.reason in
@@ -289,7 +289,7 @@ settled_proper wave capacity bound shares tree batching some are is at settled =
 }
 
 -- a batching that costs the bound of a search's tree is cheaper than one that costs more
-pub settled_cheaper : (wave : WavePicks) (capacity bound cost : ℕ) (best : Best) (batching : List (List ℕ)) → IsSettled wave capacity bound batching
+pub settled_cheaper : (wave : WavePicks) (capacity bound cost : ℕ) (best : BestBatching) (batching : List (List ℕ)) → IsSettled wave capacity bound batching
     → IsBest wave capacity best → best.batching ≡ batching → bound < cost → best.cost < cost
 settled_cheaper wave capacity bound cost best batching settled is taken dearer =
     omega (arith, dearer, one_cost wave batching bound best.cost settled.cost (rw taken at is.cost))

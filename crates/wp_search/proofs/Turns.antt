@@ -4,7 +4,7 @@ use Rattle.std.proofs.Math.Nat.{le-min, min-eq_left, min-le_left, min-le_right}
 use Rattle.std.proofs.lemmas.List.Elements.{Contains-append_left}
 use Rattle.std.specs.Prelude.{IfOk, Option, Some, None, Result, Ok, Err, min, sum}
 use Rattle.wp_model.specs.declared.memory.Memory.{Memory}
-use Rattle.wp_pairs.specs.declared.pair.Pair.{Pair}
+use Rattle.wp_pairs.specs.declared.pair.OrderPair.{OrderPair}
 use Rattle.wp_pairs.specs.Permitted.{AreUndecided, IsPermitted, Pairing}
 use Rattle.wp_batch.specs.Waves.{WavePicks}
 use Rattle.wp_cert.specs.Trees.{lower_of, with_pair}
@@ -14,14 +14,14 @@ use Rattle.wp_search.specs.Turns.{HasReason, IsNoLower, IsTurned}
 use Rattle.wp_search.specs.declared.branch.Branch.{Branch}
 use Rattle.wp_search.specs.declared.branch.Branch.TheVariants.{Leaf, Dead, Split'}
 use Rattle.wp_search.specs.declared.branch.Cut.{Cut}
-use Rattle.wp_search.specs.declared.turn.Turn.{Turn}
-use Rattle.wp_search.specs.declared.turn.Turn.TheVariants.{Onward, Settled, Spent, Worked as Made}
-use Rattle.wp_search.specs.declared.turn.Turned.{Turned}
+use Rattle.wp_search.specs.declared.turn.LeafTurn.{LeafTurn}
+use Rattle.wp_search.specs.declared.turn.LeafTurn.TheVariants.{Onward, Settled, Spent, Worked as Made}
+use Rattle.wp_search.specs.declared.turn.TurnedBranch.{TurnedBranch}
 use Rattle.wp_search.specs.declared.work.Worked.{Worked}
 use Rattle.wp_search.proofs.Owns.{right_below}
 
 -- what is permitted with a further pair is permitted without it
-pub permitted_before : (pairing : Pairing) (new : Pair) (batch : List ℕ)
+pub permitted_before : (pairing : Pairing) (new : OrderPair) (batch : List ℕ)
     → IsPermitted (record { orders = pairing.orders; capacity = pairing.capacity; pairs = pairing.pairs ++ new ∷ [] }) batch → IsPermitted pairing batch
 permitted_before pairing new batch p = record {
   ascending = p.ascending;
@@ -33,7 +33,7 @@ permitted_before pairing new batch p = record {
 }
 
 -- so duals that are feasible without it are feasible with it
-pub feasible_below : (wave : WavePicks) (pairing : Pairing) (new : Pair) (duals : List ℕ) → AreFeasible wave pairing duals
+pub feasible_below : (wave : WavePicks) (pairing : Pairing) (new : OrderPair) (duals : List ℕ) → AreFeasible wave pairing duals
     → AreFeasible wave (record { orders = pairing.orders; capacity = pairing.capacity; pairs = pairing.pairs ++ new ∷ [] }) duals
 feasible_below wave pairing new duals feasible = λ batch total permitted long. feasible batch total (permitted_before pairing new batch permitted) long
 
@@ -122,7 +122,7 @@ split_turned wave pairing above pays worked first second (Leaf leaf) is parts fr
 split_turned wave pairing above pays worked first second (Dead order) is parts fresh = absurd fresh
 
 -- the reason of a turn in a part of a subtree is a reason for the whole
-reason_within : (wave : WavePicks) (capacity : ℕ) (pays : Bool) (least : ℕ) (before after whole changed : Branch) (turn : Turn)
+reason_within : (wave : WavePicks) (capacity : ℕ) (pays : Bool) (least : ℕ) (before after whole changed : Branch) (turn : LeafTurn)
     → turns_left changed + turns_left before ≡ turns_left whole + turns_left after → HasReason wave capacity pays least before after turn
     → HasReason wave capacity pays least whole changed turn
 reason_within wave capacity pays least before after whole changed (Made found) same reason = (reason.0, reason.1, omega (arith, same, reason.2))
@@ -139,7 +139,7 @@ kept_least cut together apart = record {
   least = lower_of (bound_of (own_bound cut.worked) together) (bound_of (own_bound cut.worked) apart);
 }
 
-module _ (wave : WavePicks) (pairing : Pairing) (above : ℕ) (pays : Bool) (least : ℕ) (cut cut_after : Cut) (together apart after : Branch) (turn : Turn) where
+module _ (wave : WavePicks) (pairing : Pairing) (above : ℕ) (pays : Bool) (least : ℕ) (cut cut_after : Cut) (together apart after : Branch) (turn : LeafTurn) where
   more_left : turns_left after + turns_left apart + turns_left together ≡ turns_left together + turns_left apart + turns_left after
   more_left = omega arith
 
@@ -181,7 +181,7 @@ module _ (wave : WavePicks) (pairing : Pairing) (above : ℕ) (pays : Bool) (lea
       })
 
 -- a turn at a leaf that keeps the duals above it
-pub kept_turned : (wave : WavePicks) (built pairing : Pairing) (above : ℕ) (pays : Bool) (leaf : Option Worked) (result : Result Turned Memory) → built ≡ pairing
+pub kept_turned : (wave : WavePicks) (built pairing : Pairing) (above : ℕ) (pays : Bool) (leaf : Option Worked) (result : Result TurnedBranch Memory) → built ≡ pairing
     → leaf ≡ None → IfOk result (λ turned. IsTurned wave built above pays (units_of above) (Leaf None) turned.branch turned.turn)
     → IfOk result (λ turned. (least : ℕ) → bound_of (units_of above) (Leaf leaf) ≡ Some least
     → IsTurned wave pairing above pays least (Leaf leaf) turned.branch turned.turn)
@@ -192,7 +192,7 @@ kept_turned wave built pairing above pays leaf (Err fault) same none is = is
 
 -- a turn at a leaf with duals of its own
 pub worked_turned : (wave : WavePicks) (built pairing : Pairing) (above : ℕ) (pays : Bool) (leaf : Option Worked) (worked : Worked)
-    (result : Result Turned Memory) → built ≡ pairing → leaf ≡ Some worked → above ≤ sum worked.own.duals
+    (result : Result TurnedBranch Memory) → built ≡ pairing → leaf ≡ Some worked → above ≤ sum worked.own.duals
     → IfOk result (λ turned. (above : ℕ) → above ≤ sum worked.own.duals
     → IsTurned wave built above pays (own_bound worked) (Leaf (Some worked)) turned.branch turned.turn)
     → IfOk result (λ turned. (least : ℕ) → bound_of (units_of above) (Leaf leaf) ≡ Some least

@@ -7,8 +7,8 @@ use Rattle.wp_duals.specs.Duals.{units_of}
 use Rattle.wp_search.specs.Branches.{AreCutsWithin, IsBranch, bound_of, nodes_of, own_bound, own_count, turns_left}
 use Rattle.wp_search.specs.declared.branch.Branch.{Branch}
 use Rattle.wp_search.specs.declared.branch.Branch.TheVariants.{Split'}
-use Rattle.wp_search.specs.declared.turn.Turn.{Turn}
-use Rattle.wp_search.specs.declared.turn.Turn.TheVariants.{Onward, Settled, Spent, Worked}
+use Rattle.wp_search.specs.declared.turn.LeafTurn.{LeafTurn}
+use Rattle.wp_search.specs.declared.turn.LeafTurn.TheVariants.{Onward, Settled, Spent, Worked}
 
 -- a bound that is no lower than one before; a subtree whose leaves are all dead has none any more
 abbrev pub IsNoLower : Option ℕ → Option ℕ → Type 0
@@ -34,19 +34,19 @@ pub record IsSettled (wave : WavePicks) (capacity total : ℕ) (batches : List (
   pub cost : IsCost wave batches total
 
 -- how many nodes get duals of their own by a turn
-abbrev pub made_by : Turn → ℕ
+abbrev pub made_by : LeafTurn → ℕ
 made_by (Worked found) = 1
 made_by _ = 0
 
 -- why a turn ended as it did, where the budget pays for a node or doesn't, and the bound of its leaf is this
-abbrev pub HasReason : WavePicks → ℕ → Bool → ℕ → Branch → Branch → Turn → Type 0
+abbrev pub HasReason : WavePicks → ℕ → Bool → ℕ → Branch → Branch → LeafTurn → Type 0
 HasReason wave capacity pays least before after (Worked found) = (pays ≡ true) × IsFound wave capacity found × (turns_left after ≤ turns_left before + 2)
 HasReason wave capacity pays least before after Onward = turns_left after + 1 ≤ turns_left before
 HasReason wave capacity pays least before after Spent = pays ≡ false
 HasReason wave capacity pays least before after (Settled batching) = IsSettled wave capacity least batching
 
 -- turns that leave a subtree's bound as it is
-abbrev pub LeavesBound : Turn → Type 0
+abbrev pub LeavesBound : LeafTurn → Type 0
 LeavesBound (Worked found) = ⊥
 LeavesBound Onward = ⊥
 LeavesBound Spent = ⊤
@@ -64,7 +64,7 @@ ChangesFirst least above before after = ⊤
 
 -- What a turn at the first leaf with the least bound makes of a subtree: it is right still, no bound of it has fallen, as many more nodes have duals of their
 -- own as the turn made, and only nodes with that bound were split.
-pub record IsTurned (wave : WavePicks) (pairing : Pairing) (above : ℕ) (pays : Bool) (least : ℕ) (before after : Branch) (turn : Turn) : Type 0 where
+pub record IsTurned (wave : WavePicks) (pairing : Pairing) (above : ℕ) (pays : Bool) (least : ℕ) (before after : Branch) (turn : LeafTurn) : Type 0 where
   pub right : IsBranch wave pairing above after
   pub first : ChangesFirst least (units_of above) before after
   pub risen : IsNoLower (bound_of (units_of above) before) (bound_of (units_of above) after)

@@ -2,7 +2,7 @@ ghost use Rattle.std.specs.Prelude.{◌≡◌, ◌≤◌, ◌<◌, All, length};
 ghost use Rattle.wp_search.specs.Items.{AreItems};
 ghost use Rattle.wp_search.specs.Raises.{AreDuals};
 
-use crate::items::{Item, Place, items_of, no_place, total_in, widened};
+use crate::items::{Item, VisitPlace, items_of, no_place, total_in, widened};
 use std::alloc::Global;
 use wp_batch::Wave;
 use wp_duals::total_of;
@@ -62,7 +62,7 @@ fn lower_from(
     orders: u32,
     duals: &mut [u64],
     items: &[Item],
-    place: &Place,
+    place: &VisitPlace,
     first: usize,
     room: u32,
 )

@@ -8,24 +8,29 @@ use wp_batch::{Batching, Wave};
 
 /// A batching of a wave, and what it costs in units of length.
 #[derive(Drop)]
-pub struct Best {
+pub struct BestBatching {
     pub batching: Batching,
     pub cost: u64,
 }
 
 /// A batching with its cost.
-pub fn best_of(wave: &Wave, capacity: u32, batching: Batching) -> Best
+pub fn best_of(wave: &Wave, capacity: u32, batching: Batching) -> BestBatching
     requires { IsProper wave.now capacity batching }
     ensures best { IsBest wave.now capacity result }
     ensures same { result.batching ≡ batching }
 {
     let cost = cost_of(wave, capacity, &batching);
-    Best { batching, cost }
+    BestBatching { batching, cost }
 }
 
 /// The cheaper of the best batching and one that was found, if one was. Of two that cost the same it is the one that was the
 /// best before.
-pub fn cheaper_of(wave: &Wave, capacity: u32, best: Best, found: Option<Batching>) -> Best
+pub fn cheaper_of(
+    wave: &Wave,
+    capacity: u32,
+    best: BestBatching,
+    found: Option<Batching>,
+) -> BestBatching
     requires best { IsBest wave.now capacity best }
     requires found { IsFound wave.now capacity found }
     ensures best { IsBest wave.now capacity result }

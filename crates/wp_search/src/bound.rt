@@ -29,7 +29,7 @@ pub struct Solved {
 
 /// Columns, and the answer of the linear program over them, if it has one.
 #[derive(Drop)]
-pub struct Priced {
+pub struct PricedColumns {
     pub columns: Vec<Column>,
     pub solved: Option<Solved>,
 }
@@ -113,7 +113,7 @@ pub fn price_columns(
     wave: &Wave,
     pairs: &Pairs,
     columns: Vec<Column>,
-) -> Result<Priced, Memory>
+) -> Result<PricedColumns, Memory>
     requires { pairs.now.orders ≡ length wave.now.orders }
 {
     let mut columns = columns;
@@ -122,14 +122,14 @@ pub fn price_columns(
             break;
         };
         if !add_priced(alloc, wave, pairs, &mut columns, found.duals.as_slice())? {
-            return Ok(Priced {
+            return Ok(PricedColumns {
                 columns,
                 solved: Some(found),
             });
         }
         columns = trimmed(alloc, wave.orders(), columns, found.duals.as_slice())?;
     }
-    Ok(Priced {
+    Ok(PricedColumns {
         columns,
         solved: None,
     })

@@ -17,7 +17,7 @@ pub struct Item {
 
 /// A place of a visit: a batch, what its orders have in duals, and the orders that are parted from them.
 #[derive(Clone, Copy)]
-pub struct Place {
+pub struct VisitPlace {
     pub batch: Batch,
     pub sum: u64,
     pub parted: Batch,
@@ -72,10 +72,10 @@ pub fn items_of(alloc: Global, pairs: &Pairs, duals: &[u64]) -> Result<Vec<Item>
 }
 
 /// The place of no order.
-pub fn no_place() -> Place
+pub fn no_place() -> VisitPlace
     ensures { (orders : ℕ) → All (λ order. order < orders) result.batch }
 {
-    Place {
+    VisitPlace {
         batch: Batch::empty(),
         sum: 0,
         parted: Batch::empty(),
@@ -83,7 +83,7 @@ pub fn no_place() -> Place
 }
 
 /// A place with one item more, where there is room for so many orders and none of them is parted from the item.
-pub fn widened(place: &Place, item: &Item, room: u32) -> Option<Place>
+pub fn widened(place: &VisitPlace, item: &Item, room: u32) -> Option<VisitPlace>
     ensures known { IfSome result (λ wider. (orders : ℕ) → All (λ order. order < orders) place.now.batch → All (λ order. order < orders) item.now.class
         → All (λ order. order < orders) wider.batch) }
     ensures room { IfSome result (λ _. item.now.size ≤ room) }
@@ -91,7 +91,7 @@ pub fn widened(place: &Place, item: &Item, room: u32) -> Option<Place>
     if room < item.size || place.parted.meets(item.class) {
         return None;
     }
-    Some(Place {
+    Some(VisitPlace {
         batch: place.batch.union(item.class),
         sum: place.sum.saturating_add(item.sum),
         parted: place.parted.union(item.parted),

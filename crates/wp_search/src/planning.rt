@@ -7,7 +7,7 @@ use crate::best::best_of;
 use crate::branch::Branch;
 use crate::listing::list_nodes;
 use crate::plan::{Planned, State};
-use crate::search::{Search, search_on};
+use crate::search::{TreeSearch, search_on};
 use crate::shares::{bound_of, share_duals};
 use std::alloc::Global;
 use std::thread::Threads;
@@ -42,7 +42,7 @@ fn tree_of(alloc: Global, branch: Branch) -> Result<Tree, Memory>
 }
 
 // The plan that a search found, whose tree has this bound.
-fn plan_of(alloc: Global, search: Search, bound: u64) -> Result<Planned, Memory>
+fn plan_of(alloc: Global, search: TreeSearch, bound: u64) -> Result<Planned, Memory>
     ensures batching { IfOk result (λ planned. planned.batching ≡ search.best.batching) }
     ensures cost { IfOk result (λ planned. planned.cost ≡ search.best.cost) }
     ensures nodes { IfOk result (λ planned. planned.tree.nodes ≡ nodes_of search.tree) }
@@ -83,7 +83,7 @@ pub fn plan_wave<R: Threads + Sync, G: Gate>(
 {
     let shares = share_duals(alloc, wave, capacity)?;
     let batching = merged_start(alloc, wave, capacity)?;
-    let start = Search {
+    let start = TreeSearch {
         tree: Branch::Leaf(None),
         best: best_of(wave, capacity, batching),
         budget,

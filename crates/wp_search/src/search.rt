@@ -7,11 +7,11 @@ ghost use Rattle.wp_search.specs.Raises.{AreDuals};
 ghost use Rattle.wp_search.specs.Searches.{HasEnded, IsBest, IsOnward, IsSearch, KeepsBest};
 ghost use Rattle.wp_search.specs.Turns.{IsFound, IsProper, IsTurned};
 
-use crate::best::{Best, best_of, cheaper_of};
+use crate::best::{BestBatching, best_of, cheaper_of};
 use crate::branch::Branch;
 use crate::price::{pays, price_of};
 use crate::shares::bound_of;
-use crate::turn::{Turn, Turner, take_turn};
+use crate::turn::{LeafTurn, Turner, take_turn};
 use std::alloc::Global;
 use std::thread::Threads;
 use wp_batch::{Batching, Wave};
@@ -20,17 +20,17 @@ use wp_outside::Gate;
 
 /// A search for a plan: its tree, the best batching that it knows, what it may spend, and what it has spent.
 #[derive(Drop)]
-pub struct Search {
+pub struct TreeSearch {
     pub tree: Branch,
-    pub best: Best,
+    pub best: BestBatching,
     pub budget: u64,
     pub spent: u64,
 }
 
 /// A search after a turn, and whether it goes on.
 #[derive(Drop)]
-pub struct Step {
-    pub search: Search,
+pub struct SearchStep {
+    pub search: TreeSearch,
     pub goes_on: bool,
 }
 
@@ -38,8 +38,8 @@ pub struct Step {
 fn turn_at_root<R: Threads + Sync, G: Gate>(
     turner: &Turner<'_, R, G>,
     shares: &[u64],
-    search: &mut Search,
-) -> Result<Turn, Memory>
+    search: &mut TreeSearch,
+) -> Result<LeafTurn, Memory>
     requires some { 1 ≤ turner.now.capacity }
     requires most { turner.now.capacity ≤ 8 }
     requires shares { AreShares turner.now.wave.now turner.now.capacity shares.now }
@@ -60,7 +60,7 @@ fn turn_at_root<R: Threads + Sync, G: Gate>(
 }
 
 // A search after a node was paid for, at which a batching was found, or none.
-fn paid(wave: &Wave, capacity: u32, search: Search, found: Option<Batching>) -> Search
+fn paid(wave: &Wave, capacity: u32, search: TreeSearch, found: Option<Batching>) -> TreeSearch
     requires capacity { capacity ≤ 8 }
     requires pays { search.spent + price (length wave.now.orders) capacity ≤ search.budget }
     requires best { IsBest wave.now capacity search.best }
@@ -73,7 +73,7 @@ fn paid(wave: &Wave, capacity: u32, search: Search, found: Option<Batching>) -> 
 {
     let spent = search.spent + price_of(wave.orders(), capacity) as u64;
     let best = cheaper_of(wave, capacity, search.best, found);
-    Search {
+    TreeSearch {
         tree: search.tree,
         best,
         budget: search.budget,
@@ -82,7 +82,7 @@ fn paid(wave: &Wave, capacity: u32, search: Search, found: Option<Batching>) -> 
 }
 
 // A search whose best batching is this.
-fn settled(wave: &Wave, capacity: u32, search: Search, batching: Batching) -> Search
+fn settled(wave: &Wave, capacity: u32, search: TreeSearch, batching: Batching) -> TreeSearch
     requires { IsProper wave.now capacity batching }
     ensures best { IsBest wave.now capacity result.best }
     ensures same { result.best.batching ≡ batching }
@@ -90,7 +90,7 @@ fn settled(wave: &Wave, capacity: u32, search: Search, batching: Batching) -> Se
     ensures budget { result.budget ≡ search.budget }
     ensures spent { result.spent ≡ search.spent }
 {
-    Search {
+    TreeSearch {
         tree: search.tree,
         best: best_of(wave, capacity, batching),
         budget: search.budget,
@@ -105,11 +105,11 @@ fn take_step<R: Threads + Sync, G: Gate>(
     wave: &Wave,
     capacity: u32,
     shares: &[u64],
-    mut search: Search,
+    mut search: TreeSearch,
     bound: u64,
     workers: u32,
     gate: &G,
-) -> Result<Step, Memory>
+) -> Result<SearchStep, Memory>
     requires some { 1 ≤ capacity }
     requires most { capacity ≤ 8 }
     requires shares { AreShares wave.now capacity shares.now }
@@ -134,19 +134,19 @@ fn take_step<R: Threads + Sync, G: Gate>(
     };
     let turn = turn_at_root(&turner, shares, &mut search)?;
     Ok(match turn {
-        Turn::Worked(found) => Step {
+        LeafTurn::Worked(found) => SearchStep {
             search: paid(wave, capacity, search, found),
             goes_on: true,
         },
-        Turn::Onward => Step {
+        LeafTurn::Onward => SearchStep {
             search,
             goes_on: true,
         },
-        Turn::Spent => Step {
+        LeafTurn::Spent => SearchStep {
             search,
             goes_on: false,
         },
-        Turn::Settled(batching) => Step {
+        LeafTurn::Settled(batching) => SearchStep {
             search: settled(wave, capacity, search, batching),
             goes_on: false,
         },
@@ -162,10 +162,10 @@ pub fn search_on<R: Threads + Sync, G: Gate>(
     wave: &Wave,
     capacity: u32,
     shares: &[u64],
-    start: Search,
+    start: TreeSearch,
     workers: u32,
     gate: &G,
-) -> Result<Search, Memory>
+) -> Result<TreeSearch, Memory>
     requires some { 1 ≤ capacity }
     requires most { capacity ≤ 8 }
     requires shares { AreShares wave.now capacity shares.now }

@@ -20,7 +20,7 @@ use wp_batch::{Batching, Wave};
 use wp_cert::pairs_of;
 use wp_model::Memory;
 use wp_outside::Gate;
-use wp_pairs::{Batch, Pair, Pairs};
+use wp_pairs::{Batch, OrderPair, Pairs};
 
 /// What stays the same in a turn: the wave and the capacity, 1 to 8; the bound of the leaf that takes
 /// it, which is the least; whether the budget pays for a node; and the workers, 1 to 16, with the
@@ -39,7 +39,7 @@ pub struct Turner<'a, R, G> {
 
 /// What a turn did at a leaf.
 #[derive(Drop)]
-pub enum Turn {
+pub enum LeafTurn {
     /// The leaf has duals of its own; a batching was found on the way, or none.
     Worked(Option<Batching>),
     /// The leaf is split, or dead.
@@ -52,9 +52,9 @@ pub enum Turn {
 
 /// A subtree after a turn, and what the turn did.
 #[derive(Drop)]
-pub struct Turned {
+pub struct TurnedBranch {
     pub branch: Branch,
-    pub turn: Turn,
+    pub turn: LeafTurn,
 }
 
 // A turn at a leaf that keeps the duals of the node above.
@@ -63,7 +63,7 @@ fn turn_kept<R: Threads + Sync, G: Gate>(
     pairs: &Pairs,
     above: &[u64],
     columns: &[Batch],
-) -> Result<Turned, Memory>
+) -> Result<TurnedBranch, Memory>
     requires some { 1 ≤ pairs.now.capacity }
     requires pairs { pairs.now.orders ≡ length turner.now.wave.now.orders }
     requires duals { AreDuals (length turner.now.wave.now.orders) above.now }
@@ -74,15 +74,15 @@ fn turn_kept<R: Threads + Sync, G: Gate>(
         (branches.Leaf None) turned.branch turned.turn) }
 {
     if let Some(order) = pairs.dead() {
-        return Ok(Turned {
+        return Ok(TurnedBranch {
             branch: Branch::Dead(order),
-            turn: Turn::Onward,
+            turn: LeafTurn::Onward,
         });
     }
     if !turner.pays {
-        return Ok(Turned {
+        return Ok(TurnedBranch {
             branch: Branch::Leaf(None),
-            turn: Turn::Spent,
+            turn: LeafTurn::Spent,
         });
     }
     let worked = work_node(
@@ -101,9 +101,9 @@ fn turn_kept<R: Threads + Sync, G: Gate>(
         pairs.capacity(),
         worked.whole.as_slice(),
     )?;
-    Ok(Turned {
+    Ok(TurnedBranch {
         branch: Branch::Leaf(Some(worked)),
-        turn: Turn::Worked(found),
+        turn: LeafTurn::Worked(found),
     })
 }
 
@@ -136,7 +136,7 @@ fn turn_worked<R: Threads + Sync, G: Gate>(
     turner: &Turner<'_, R, G>,
     pairs: &Pairs,
     worked: Worked,
-) -> Result<Turned, Memory>
+) -> Result<TurnedBranch, Memory>
     requires some { 1 ≤ pairs.now.capacity }
     requires pairs { pairs.now.orders ≡ length turner.now.wave.now.orders }
     requires worked { IsWorked turner.now.wave.now pairs.now 0 worked }
@@ -146,15 +146,15 @@ fn turn_worked<R: Threads + Sync, G: Gate>(
         → IsTurned turner.now.wave.now pairs.now above turner.now.pays (own_bound worked) (branches.Leaf (Some worked)) turned.branch turned.turn) }
 {
     match choose_pair(turner.alloc, pairs, &worked)? {
-        Some((first, second)) => Ok(Turned {
+        Some((first, second)) => Ok(TurnedBranch {
             branch: split_on(turner.alloc, turner.wave.orders(), first, second, worked)?,
-            turn: Turn::Onward,
+            turn: LeafTurn::Onward,
         }),
         None => {
             let batching = class_batching(turner.alloc, turner.wave, pairs, &worked.own)?;
-            Ok(Turned {
+            Ok(TurnedBranch {
                 branch: Branch::Leaf(Some(worked)),
-                turn: Turn::Settled(batching),
+                turn: LeafTurn::Settled(batching),
             })
         }
     }
@@ -163,11 +163,11 @@ fn turn_worked<R: Threads + Sync, G: Gate>(
 // A turn at a leaf that was taken out of its place, at the end of a path of pairs.
 fn turn_leaf<R: Threads + Sync, G: Gate>(
     turner: &Turner<'_, R, G>,
-    path: &Vec<Pair>,
+    path: &Vec<OrderPair>,
     above: &[u64],
     columns: &[Batch],
     leaf: Option<Worked>,
-) -> Result<Turned, Memory>
+) -> Result<TurnedBranch, Memory>
     requires some { 1 ≤ turner.now.capacity }
     requires most { turner.now.capacity ≤ 8 }
     requires path { IsPath (length turner.now.wave.now.orders) turner.now.capacity path.now.items }
@@ -193,11 +193,11 @@ fn turn_leaf<R: Threads + Sync, G: Gate>(
 #[inline(never)]
 fn turn_in_place<R: Threads + Sync, G: Gate>(
     turner: &Turner<'_, R, G>,
-    path: &Vec<Pair>,
+    path: &Vec<OrderPair>,
     above: &[u64],
     columns: &[Batch],
     branch: &mut Branch,
-) -> Result<Turn, Memory>
+) -> Result<LeafTurn, Memory>
     requires some { 1 ≤ turner.now.capacity }
     requires most { turner.now.capacity ≤ 8 }
     requires path { IsPath (length turner.now.wave.now.orders) turner.now.capacity path.now.items }
@@ -224,12 +224,12 @@ fn turn_in_place<R: Threads + Sync, G: Gate>(
 }
 
 // The pair of a node that is split, to go together or apart.
-fn pair_of(cut: &Cut, together: bool) -> Pair
+fn pair_of(cut: &Cut, together: bool) -> OrderPair
     requires first { cut.now.first < 64 }
     requires second { cut.now.second < 64 }
     ensures { result ≡ record { first = cut.now.first; second = cut.now.second; together = together } }
 {
-    Pair {
+    OrderPair {
         first: cut.first as u8,
         second: cut.second as u8,
         together,
@@ -270,11 +270,11 @@ fn is_together(orders: u32, cut: &Cut, together: &Branch, least: u64) -> bool
 #[cycle(turns)]
 pub fn take_turn<R: Threads + Sync, G: Gate>(
     turner: &Turner<'_, R, G>,
-    path: &mut Vec<Pair>,
+    path: &mut Vec<OrderPair>,
     above: &[u64],
     columns: &[Batch],
     branch: &mut Branch,
-) -> Result<Turn, Memory>
+) -> Result<LeafTurn, Memory>
     requires some { 1 ≤ turner.now.capacity }
     requires most { turner.now.capacity ≤ 8 }
     requires path { IsPath (length turner.now.wave.now.orders) turner.now.capacity path.old.items }
@@ -312,11 +312,11 @@ pub fn take_turn<R: Threads + Sync, G: Gate>(
 #[cycle(turns)]
 fn take_turn_below<R: Threads + Sync, G: Gate>(
     turner: &Turner<'_, R, G>,
-    path: &mut Vec<Pair>,
-    pair: Pair,
+    path: &mut Vec<OrderPair>,
+    pair: OrderPair,
     worked: &Worked,
     branch: &mut Branch,
-) -> Result<Turn, Memory>
+) -> Result<LeafTurn, Memory>
     requires some { 1 ≤ turner.now.capacity }
     requires most { turner.now.capacity ≤ 8 }
     requires path { IsPath (length turner.now.wave.now.orders) turner.now.capacity path.old.items }

@@ -1,7 +1,7 @@
 ghost use Rattle.std.specs.Prelude.{◌≡◌, ◌<◌, All, length};
 ghost use Rattle.wp_search.specs.Items.{AreItems};
 
-use crate::items::{Item, Place, items_of, no_place, widened};
+use crate::items::{Item, VisitPlace, items_of, no_place, widened};
 use std::alloc::Global;
 use wp_batch::Wave;
 use wp_model::Memory;
@@ -76,7 +76,7 @@ fn keep(kept: &mut Vec<Find>, find: &Find) {
 }
 
 // Keeps a place, if its slack is below the limit.
-fn keep_place(wave: &Wave, place: &Place, finds: &mut Finds)
+fn keep_place(wave: &Wave, place: &VisitPlace, finds: &mut Finds)
     requires { All (λ order. order < length wave.now.orders) place.now.batch }
 {
     let batch = place.batch;
@@ -96,7 +96,7 @@ fn keep_place(wave: &Wave, place: &Place, finds: &mut Finds)
 fn visit_from(
     wave: &Wave,
     items: &[Item],
-    place: &Place,
+    place: &VisitPlace,
     first: usize,
     room: u32,
     finds: &mut Finds,

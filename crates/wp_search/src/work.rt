@@ -6,7 +6,7 @@ ghost use Rattle.wp_price.specs.ShortMarks.{AreShortMarks};
 ghost use Rattle.wp_search.specs.Raises.{AreDuals};
 
 use crate::ascent::{GREATEST_DUAL, ascend};
-use crate::bound::{Priced, Solved, WHOLE, price_columns};
+use crate::bound::{PricedColumns, Solved, WHOLE, price_columns};
 use crate::columns::{add_alone, add_finds, permitted_columns, ranked};
 use crate::own::own_of;
 use crate::visit::{FEW, PARTS, visit};
@@ -204,7 +204,7 @@ fn unweighted(alloc: Global, columns: &[Column]) -> Result<Vec<Weighted>, Memory
 }
 
 // The columns that are handed on, with their weights.
-fn handed_on(alloc: Global, orders: u32, priced: &Priced) -> Result<Vec<Weighted>, Memory> {
+fn handed_on(alloc: Global, orders: u32, priced: &PricedColumns) -> Result<Vec<Weighted>, Memory> {
     let columns = priced.columns.as_slice();
     match &priced.solved {
         Some(solved) => nearest_weighted(alloc, columns, solved, HANDED_ON * orders as usize),

@@ -3,7 +3,7 @@ use wp_model::Listing;
 
 /// A slot as it stands in the text: the number of an aisle and that of a slot in it, which the layout may not have.
 #[derive(Clone, Copy)]
-pub(crate) struct Place {
+pub(crate) struct WrittenSlot {
     pub(crate) aisle: u64,
     pub(crate) slot: u64,
 }
@@ -13,7 +13,7 @@ pub(crate) struct Place {
 pub(crate) struct Form {
     pub(crate) version: u64,
     pub(crate) capacity: u64,
-    pub(crate) orders: Listing<Listing<Place>>,
+    pub(crate) orders: Listing<Listing<WrittenSlot>>,
     pub(crate) nodes: Nodes,
 }
 

@@ -4,7 +4,7 @@ ghost use Rattle.wp_cert.specs.Text.{batch_said, dead_said, each_of, has_keys, k
 ghost use Rattle.wp_cert.specs.Text.{node_of_kind, node_said, own_said, place_said, position_said, said_at, split_own_said, split_said, within};
 ghost use Rattle.wp_cert.specs.declared.text.form.Unread.TheVariants as unread;
 
-use crate::text::form::{Place, Unread};
+use crate::text::form::{Unread, WrittenSlot};
 use crate::text::part::{Part, list_at, read_list};
 use crate::{Node, Own};
 use serde_json::Value;
@@ -13,10 +13,10 @@ use wp_batch::Marks;
 use wp_model::Listing;
 use wp_pairs::Batch;
 
-impl Part for Place {
+impl Part for WrittenSlot {
     ghost said = { place_said };
 
-    fn read(_alloc: Global, value: &Value) -> Result<Place, Unread> {
+    fn read(_alloc: Global, value: &Value) -> Result<WrittenSlot, Unread> {
         if value.get(2usize).is_some() {
             return Err(Unread::BadShape);
         }
@@ -28,14 +28,14 @@ impl Part for Place {
             .get(1usize)
             .and_then(Value::as_u64)
             .ok_or(Unread::BadShape)?;
-        Ok(Place { aisle, slot })
+        Ok(WrittenSlot { aisle, slot })
     }
 }
 
-impl Part for Listing<Place> {
+impl Part for Listing<WrittenSlot> {
     ghost said = { list_said place_said };
 
-    fn read(alloc: Global, value: &Value) -> Result<Listing<Place>, Unread> {
+    fn read(alloc: Global, value: &Value) -> Result<Listing<WrittenSlot>, Unread> {
         read_list(alloc, value)
     }
 }

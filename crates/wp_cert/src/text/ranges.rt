@@ -3,7 +3,7 @@ ghost use Rattle.std.specs.List.{list_all};
 ghost use Rattle.wp_duals.specs.Duals.{greatest_dual};
 ghost use Rattle.wp_cert.specs.Text.{are_duals_within, is_node_within, is_order_of, is_slot_of, is_up_to, is_within};
 
-use crate::text::form::{Form, Place};
+use crate::text::form::{Form, WrittenSlot};
 use crate::{Node, Own};
 use wp_graph::Layout;
 use wp_model::Listing;
@@ -19,14 +19,14 @@ fn is_up_to(number: u64, most: u32) -> bool
 }
 
 // Whether a place is a slot of the layout.
-fn is_slot_of(layout: &Layout, place: Place) -> bool
+fn is_slot_of(layout: &Layout, place: WrittenSlot) -> bool
     ensures { result ≡ is_slot_of layout.now place }
 {
     is_up_to(place.aisle, layout.aisles()) && is_up_to(place.slot, layout.slots())
 }
 
 // Whether all places are slots of the layout.
-fn are_slots(layout: &Layout, places: &[Place]) -> bool
+fn are_slots(layout: &Layout, places: &[WrittenSlot]) -> bool
     ensures { result ≡ list_all (is_slot_of layout.now) places.now }
 {
     for place in places {
@@ -38,14 +38,14 @@ fn are_slots(layout: &Layout, places: &[Place]) -> bool
 }
 
 // Whether an order picks at some slots, which are slots of the layout.
-fn is_order_of(layout: &Layout, places: &Listing<Place>) -> bool
+fn is_order_of(layout: &Layout, places: &Listing<WrittenSlot>) -> bool
     ensures { result ≡ is_order_of layout.now places.now }
 {
     1 <= places.len() && are_slots(layout, places.as_slice())
 }
 
 // Whether each order picks at slots of the layout.
-fn are_orders(layout: &Layout, orders: &[Listing<Place>]) -> bool
+fn are_orders(layout: &Layout, orders: &[Listing<WrittenSlot>]) -> bool
     ensures { result ≡ list_all (is_order_of layout.now) orders.now }
 {
     for places in orders {

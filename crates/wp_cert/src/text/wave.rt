@@ -4,14 +4,14 @@ ghost use Rattle.wp_model.specs.declared.point.Point.{Point as PointData};
 ghost use Rattle.wp_model.specs.Warehouse.{IsSlot};
 ghost use Rattle.wp_cert.specs.Text.{PickAt, PicksAt, is_order_of, is_slot_of, is_up_to, place_of};
 
-use crate::text::form::Place;
+use crate::text::form::WrittenSlot;
 use std::alloc::Global;
 use wp_batch::Wave;
 use wp_graph::{Layout, Picks};
 use wp_model::{Listing, Memory, Point};
 
 // The slot of a place.
-fn point_of(layout: &Layout, place: Place) -> Point
+fn point_of(layout: &Layout, place: WrittenSlot) -> Point
     requires { is_slot_of layout.now place ≡ true }
     ensures value { place_of result ≡ place }
     ensures slot { IsSlot layout.now result }
@@ -26,7 +26,7 @@ fn point_of(layout: &Layout, place: Place) -> Point
 }
 
 // The slots at which an order picks.
-fn picks_of(layout: &Layout, places: &[Place]) -> Picks
+fn picks_of(layout: &Layout, places: &[WrittenSlot]) -> Picks
     requires { list_all (is_slot_of layout.now) places.now ≡ true }
     ensures layout { result.layout ≡ layout.now }
     ensures points { PicksAt result places.now }
@@ -42,7 +42,7 @@ fn picks_of(layout: &Layout, places: &[Place]) -> Picks
 fn all_picks(
     alloc: Global,
     layout: &Layout,
-    orders: &[Listing<Place>],
+    orders: &[Listing<WrittenSlot>],
 ) -> Result<Vec<Picks>, Memory>
     requires { list_all (is_order_of layout.now) orders.now ≡ true }
     ensures layout { IfOk result (λ all. All (λ picks. picks.layout ≡ layout.now) all.items) }
@@ -60,7 +60,7 @@ fn all_picks(
 pub(crate) fn wave_of(
     alloc: Global,
     layout: &Layout,
-    orders: &Listing<Listing<Place>>,
+    orders: &Listing<Listing<WrittenSlot>>,
 ) -> Result<Wave, Memory>
     requires count { is_up_to 64 (length orders.now) ≡ true }
     requires within { list_all (is_order_of layout.now) orders.now ≡ true }

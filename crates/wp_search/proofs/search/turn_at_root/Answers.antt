@@ -1,5 +1,5 @@
 use Rattle.std.proofs.Common.{List, length, sym, subst}
-use Rattle.wp_pairs.specs.declared.pair.Pair.{Pair}
+use Rattle.wp_pairs.specs.declared.pair.OrderPair.{OrderPair}
 use Rattle.wp_cert.specs.Paths.{pairing_of}
 use Rattle.wp_cert.proofs.BoundsHold.{shares_feasible}
 use Rattle.wp_duals.specs.Duals.{AreFeasible}
@@ -9,5 +9,5 @@ pub take_turn-requires-clause-feasible : goal.take_turn-requires-clause-feasible
 take_turn-requires-clause-feasible g c κs within =
     let turner = c.args.turner.now in
     let wave = turner.wave.now in
-    subst (λ (pairs : List Pair). AreFeasible wave (pairing_of (length wave.orders) turner.capacity pairs) c.args.shares.now)
+    subst (λ (pairs : List OrderPair). AreFeasible wave (pairing_of (length wave.orders) turner.capacity pairs) c.args.shares.now)
     (sym c.new-path.ensures.items) (shares_feasible wave turner.capacity c.args.shares.now c.requires.some c.requires.shares)

@@ -1,7 +1,7 @@
 use Rattle.std.proofs.Common.{List, arith, subst, ◌∙◌}
 use Rattle.std.proofs.lemmas.List.{take_all}
 use Rattle.wp_cert.specs.Text.{PicksAt}
-use Rattle.wp_cert.specs.declared.text.form.Place.{Place}
+use Rattle.wp_cert.specs.declared.text.form.WrittenSlot.{WrittenSlot}
 use Rattle.wp_cert.proofs.TextPicks.{one_more_slot}
 use Rattle.wp_cert.proofs.text.wave.picks_of.Goals as goal
 
@@ -15,5 +15,5 @@ loop-place-preserved c =
 
 pub returns-clause-points : goal.returns-clause-points
 returns-clause-points c =
-    subst (λ (places : List Place). PicksAt c.loop-place.picks places) (take_all c.loop-place.place-index c.args.places.now (omega arith))
+    subst (λ (places : List WrittenSlot). PicksAt c.loop-place.picks places) (take_all c.loop-place.place-index c.args.places.now (omega arith))
     c.loop-place.invariant.1

@@ -1,6 +1,6 @@
 use Rattle.std.proofs.Common.{◌+◌, length, subst}
 use Rattle.std.proofs.lemmas.Result.{IfOk-weaker}
-use Rattle.wp_cert.specs.declared.way.Step.{Step}
+use Rattle.wp_cert.specs.declared.way.NodeStep.{NodeStep}
 use Rattle.wp_cert.specs.Paths.{pairing_of}
 use Rattle.wp_cert.specs.Ways.{GoesTo, IsStep, LeavesTo, in_first}
 use Rattle.wp_cert.proofs.TreeSteps.{right_here}
@@ -13,11 +13,11 @@ returns-in-Out c =
     let pairing = pairing_of (length wave.orders) capacity c.args.self.now.path.items in
     left wave capacity shares at (at + 1) nodes way
     (right_here wave pairing c.args.self.now.above nodes at here c.in-Out.bound is
-    (subst (λ (s : Step). IsStep wave pairing c.args.self.now.above here s) c.in-Out.is led)))
+    (subst (λ (s : NodeStep). IsStep wave pairing c.args.self.now.above here s) c.in-Out.is led)))
     c.leave.ensures
 
 pub returns-in_ok-add-in-Into : goal.returns-in_ok-add-in-Into
 returns-in_ok-add-in-Into c = λ wave capacity shares at nodes here way is led.
     let pairing = pairing_of (length wave.orders) capacity c.args.self.now.path.items in
-    let into = subst (λ (s : Step). IsStep wave pairing c.args.self.now.above here s) c.in-Into.is led in
+    let into = subst (λ (s : NodeStep). IsStep wave pairing c.args.self.now.above here s) c.in-Into.is led in
     rw c.in_ok-add-in-Into.ensures.above (in_first _ way is into.0 into.1 c.in_ok-add-in-Into.ensures.path c.in_ok-add-in-Into.ensures.notes)

@@ -2,7 +2,7 @@ use Rattle.std.proofs.Common.{◌≡◌, ℕ, ◌-◌, ◌++◌, ◌∷◌, [], 
 use Rattle.std.specs.Prelude.{Option}
 use Rattle.std.proofs.lemmas.List.{length_push}
 use Rattle.std.specs.Option.{option_to_list}
-use Rattle.wp_pairs.specs.declared.pair.Pair.{Pair}
+use Rattle.wp_pairs.specs.declared.pair.OrderPair.{OrderPair}
 use Rattle.wp_cert.specs.declared.way.Note.{Note}
 use Rattle.wp_cert.proofs.Ways.{root_done, second_due, split_done}
 use Rattle.wp_cert.proofs.way.Way.leave.Goals as goal
@@ -24,7 +24,7 @@ loop-pair-preserved c =
       even = omega (
         arith,
         c.loop-pair.invariant.even,
-        ap (λ (ps : List Pair). length ps) ends,
+        ap (λ (ps : List OrderPair). length ps) ends,
         ap (λ (ns : List Note). length ns) noted,
         length_push c.pop.new.self.items c.in-Some.pair,
         length_push c.pop-in-Some.new.self.items c.unwrap-note.result,
@@ -38,6 +38,6 @@ loop-pair-preserved c =
 pub returns : goal.returns
 returns c = λ wave capacity shares at next nodes way right.
     let done = c.loop-pair.invariant.done wave capacity shares at next nodes way right in
-    let none = c.in_default.ensures.items ∙ ap (λ (ps : List Pair). ps ++ [])
+    let none = c.in_default.ensures.items ∙ ap (λ (ps : List OrderPair). ps ++ [])
     (c.in_default.ensures.rest ∙ ap (λ (n : ℕ). take (n - 1) c.loop-pair.self.path.items) c.in_default.ensures.cases.0) in
     root_done wave capacity nodes shares _ _ done.above done.at next c.loop-pair.bound none done.way done.right

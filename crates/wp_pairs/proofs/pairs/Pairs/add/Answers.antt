@@ -1,5 +1,5 @@
 use Rattle.std.proofs.Common.{[], ◌∷◌, arith, length-append, take}
-use Rattle.wp_pairs.specs.declared.pair.Pair.{Pair}
+use Rattle.wp_pairs.specs.declared.pair.OrderPair.{OrderPair}
 use Rattle.wp_pairs.proofs.Adding.{still_kept}
 use Rattle.wp_pairs.proofs.KeptPairs.{adds_from}
 use Rattle.wp_pairs.proofs.PairNumbers.{has_room}
@@ -7,13 +7,13 @@ use Rattle.wp_pairs.proofs.pairs.Pairs.add.Goals as goal
 
 pub place-requires : goal.place-requires
 place-requires c =
-    let new : Pair = record { first = c.args.first; second = c.args.second; together = c.args.together } in
+    let new : OrderPair = record { first = c.args.first; second = c.args.second; together = c.args.together } in
     let adds = adds_from _ _ _ _ new c.self.view_is c.self.invariant.1 c.requires in
     omega (arith, has_room adds, c.self.invariant.0)
 
 pub invariant_of-self : goal.invariant_of-self
 invariant_of-self c =
-    let new : Pair = record { first = c.args.first; second = c.args.second; together = c.args.together } in
+    let new : OrderPair = record { first = c.args.first; second = c.args.second; together = c.args.together } in
     let adds = adds_from _ _ _ _ new c.self.view_is c.self.invariant.1 c.requires in
     let s = c.settle.ensures in
     rw c.place.ensures (

@@ -1,6 +1,0 @@
-use Rattle.std.proofs.Common.{◌<◌, ℕ, Contains}
-use Rattle.wp_price.specs.Searches.{AreItemsSearched}
-use Rattle.wp_price.proofs.search.Search.search_share.Given as goal
-
-abbrev pub invariant-loop-order : goal.invariant-loop-order
-invariant-loop-order g l = AreItemsSearched l.self l.place.batch (λ (item : ℕ). (item < l.order) × Contains l.share item) l.fn.best l.found
