@@ -2,6 +2,7 @@ pub mod Prices
 pub mod Counts
 pub mod Raises
 pub mod Items
+pub mod Weights
 pub mod Plans
 pub mod Branches
 pub mod Turns

@@ -1,4 +1,4 @@
-ghost use Rattle.std.specs.Prelude.{◌≡◌, length};
+ghost use Rattle.std.specs.Prelude.{◌≡◌, IfOk, IfSome, false, length};
 
 use crate::columns::{add_finds, nearest, pool_of};
 use crate::visit::{PARTS, RAISE, visit};
@@ -27,7 +27,7 @@ pub struct Solved {
     pub weights: Vec<u64>,
 }
 
-/// Columns, and the answer of the linear program over them, if it has one.
+/// Columns, and the answer of the linear program over them, if it has one: a weight for each, in their order.
 #[derive(Drop)]
 pub struct PricedColumns {
     pub columns: Vec<Column>,
@@ -51,7 +51,9 @@ fn all_scaled(
     values: &[i128],
     denominator: i128,
     scale: u64,
-) -> Result<Vec<u64>, Memory> {
+) -> Result<Vec<u64>, Memory>
+    ensures { IfOk result (λ parts. length parts.items ≡ length values.now) }
+{
     let mut parts = Vec::new(alloc);
     for value in values {
         parts.push(scaled(*value, denominator, scale))?;
@@ -60,14 +62,18 @@ fn all_scaled(
 }
 
 // The answer of a linear program, in parts.
-fn solved_of(alloc: Global, pair: &Pair) -> Result<Solved, Memory> {
+fn solved_of(alloc: Global, pair: &Pair) -> Result<Solved, Memory>
+    ensures { IfOk result (λ solved. length solved.weights.items ≡ length pair.now.weights.items) }
+{
     let duals = all_scaled(alloc, pair.duals.as_slice(), pair.denominator, 60 * PARTS)?;
     let weights = all_scaled(alloc, pair.weights.as_slice(), pair.denominator, WHOLE)?;
     Ok(Solved { duals, weights })
 }
 
-// The answer of the linear program over columns, if it has one.
-fn solve_over(alloc: Global, wave: &Wave, columns: &[Column]) -> Result<Option<Solved>, Memory> {
+// The answer of the linear program over columns, if it has one: a weight for each column.
+fn solve_over(alloc: Global, wave: &Wave, columns: &[Column]) -> Result<Option<Solved>, Memory>
+    ensures { IfOk result (λ found. IfSome found (λ solved. length solved.weights.items ≡ length columns.now)) }
+{
     let Some(pool) = pool_of(alloc, wave, columns)? else {
         return Ok(None);
     };
@@ -87,6 +93,7 @@ fn add_priced(
     duals: &[u64],
 ) -> Result<bool, Memory>
     requires { pairs.now.orders ≡ length wave.now.orders }
+    ensures { IfOk result (λ added. added ≡ false → columns.new.items ≡ columns.old.items) }
 {
     let finds = visit(alloc, wave, pairs, duals, RAISE)?;
     add_finds(columns, finds.as_slice(), 1)
@@ -115,6 +122,7 @@ pub fn price_columns(
     columns: Vec<Column>,
 ) -> Result<PricedColumns, Memory>
     requires { pairs.now.orders ≡ length wave.now.orders }
+    ensures { IfOk result (λ priced. IfSome priced.solved (λ solved. length solved.weights.items ≡ length priced.columns.items)) }
 {
     let mut columns = columns;
     for _ in 0..MOST_ROUNDS {

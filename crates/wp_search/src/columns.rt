@@ -1,4 +1,4 @@
-ghost use Rattle.std.specs.Prelude.{◌≡◌, ◌<◌, ◌↔◌, All, IfNone, IfOk, IfSome, IsTrue, length};
+ghost use Rattle.std.specs.Prelude.{◌≡◌, ◌<◌, ◌↔◌, All, IfNone, IfOk, IfSome, IsTrue, false, length};
 ghost use Rattle.wp_master.specs.Pools.{IsColumn};
 
 use crate::items::total_in;
@@ -38,7 +38,9 @@ pub fn pool_of(alloc: Global, wave: &Wave, columns: &[Column]) -> Result<Option<
 }
 
 /// Adds a column, where none of the columns has its batch, and tells whether it was added.
-pub fn add_new(columns: &mut Vec<Column>, column: Column) -> Result<bool, Memory> {
+pub fn add_new(columns: &mut Vec<Column>, column: Column) -> Result<bool, Memory>
+    ensures { IfOk result (λ added. added ≡ false → columns.new.items ≡ columns.old.items) }
+{
     if columns.iter().any(|known| known.batch.is(column.batch)) {
         return Ok(false);
     }
@@ -89,7 +91,9 @@ pub fn add_alone(wave: &Wave, pairs: &Pairs, columns: &mut Vec<Column>) -> Resul
 }
 
 /// Adds the best of the few batches that were found through each order, up to so many of them, and tells whether any is new.
-pub fn add_finds(columns: &mut Vec<Column>, finds: &[Find], most: usize) -> Result<bool, Memory> {
+pub fn add_finds(columns: &mut Vec<Column>, finds: &[Find], most: usize) -> Result<bool, Memory>
+    ensures { IfOk result (λ added. added ≡ false → columns.new.items ≡ columns.old.items) }
+{
     let mut added = false;
     for (place, find) in finds.iter().enumerate() {
         if place % FEW < most && add_found(columns, find)? {
@@ -100,7 +104,9 @@ pub fn add_finds(columns: &mut Vec<Column>, finds: &[Find], most: usize) -> Resu
 }
 
 // Adds a column that was found, if any was, and tells whether it is new.
-fn add_found(columns: &mut Vec<Column>, find: &Find) -> Result<bool, Memory> {
+fn add_found(columns: &mut Vec<Column>, find: &Find) -> Result<bool, Memory>
+    ensures { IfOk result (λ added. added ≡ false → columns.new.items ≡ columns.old.items) }
+{
     if find.batch.len() == 0 {
         return Ok(false);
     }

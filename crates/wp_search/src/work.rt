@@ -1,9 +1,10 @@
-ghost use Rattle.std.specs.Prelude.{◌≡◌, ◌≤◌, ◌<◌, IfOk, length, sum};
+ghost use Rattle.std.specs.Prelude.{◌≡◌, ◌≤◌, ◌<◌, All, IfOk, IfSome, length, slice_index, sum};
 ghost use Rattle.wp_cert.specs.Trees.{IsRightOwn};
 ghost use Rattle.wp_duals.specs.Duals.{AreFeasible};
 ghost use Rattle.wp_pairs.specs.Permitted.{AreHeldBelow};
 ghost use Rattle.wp_price.specs.ShortMarks.{AreShortMarks};
 ghost use Rattle.wp_search.specs.Raises.{AreDuals};
+ghost use Rattle.wp_search.specs.Weights.{IsWeighted};
 
 use crate::ascent::{GREATEST_DUAL, ascend};
 use crate::bound::{PricedColumns, Solved, WHOLE, price_columns};
@@ -164,7 +165,9 @@ fn whole_of(alloc: Global, weighted: &[Weighted]) -> Result<Vec<Batch>, Memory> 
 }
 
 // A number by its place, 0 where there is none.
-fn number_at(numbers: &[u64], place: usize) -> u64 {
+fn number_at(numbers: &[u64], place: usize) -> u64
+    ensures { result ≡ slice_index numbers.now place }
+{
     match numbers.get(place) {
         Some(number) => *number,
         None => 0,
@@ -177,7 +180,9 @@ fn nearest_weighted(
     columns: &[Column],
     solved: &Solved,
     most: usize,
-) -> Result<Vec<Weighted>, Memory> {
+) -> Result<Vec<Weighted>, Memory>
+    ensures { IfOk result (λ nearest. All (IsWeighted columns.now solved.now.weights.items) nearest.items) }
+{
     let ranks = ranked(alloc, columns, solved.duals.as_slice())?;
     let mut nearest = Vec::new(alloc);
     for (_, place) in ranks.iter().take(most) {
@@ -204,7 +209,10 @@ fn unweighted(alloc: Global, columns: &[Column]) -> Result<Vec<Weighted>, Memory
 }
 
 // The columns that are handed on, with their weights.
-fn handed_on(alloc: Global, orders: u32, priced: &PricedColumns) -> Result<Vec<Weighted>, Memory> {
+fn handed_on(alloc: Global, orders: u32, priced: &PricedColumns) -> Result<Vec<Weighted>, Memory>
+    ensures { IfSome priced.now.solved (λ solved. IfOk result (λ weighted.
+        All (IsWeighted priced.now.columns.items solved.weights.items) weighted.items)) }
+{
     let columns = priced.columns.as_slice();
     match &priced.solved {
         Some(solved) => nearest_weighted(alloc, columns, solved, HANDED_ON * orders as usize),
