@@ -16,6 +16,11 @@ abbrev pub NoBatchingCostsLess : WavePicks → ℕ → ℕ → Type 0
 NoBatchingCostsLess wave capacity bound = (batches : List (List ℕ)) (cost : ℕ) → IsBatching (length wave.orders) capacity batches → IsCost wave batches cost
     → bound ≤ cost
 
+-- the bound of a right tree is such a number
+abbrev pub BoundsHold : Type 0
+BoundsHold = (wave : WavePicks) (capacity : ℕ) (nodes : List Node) (bound : ℕ) → 1 ≤ capacity → IsBoundOf wave capacity nodes bound
+    → NoBatchingCostsLess wave capacity bound
+
 -- orders that are put into batches, each in ascending order, are a batching
 abbrev pub PutBatchesAreBatchings : Type 0
 PutBatchesAreBatchings = (orders capacity : ℕ) (batches : List (List ℕ)) → ArePutIntoBatches orders capacity batches → All IsStrictlyIncreasing batches
@@ -29,11 +34,6 @@ WalksAreNoShorter = (wave : WavePicks) (capacity : ℕ) (nodes : List Node) (bou
 -- where carts walk no less than a number, no batching costs less
 abbrev pub CostsAreWalked : Type 0
 CostsAreWalked = (wave : WavePicks) (capacity bound : ℕ) → NoWalksAreShorter wave.layout (order_points wave) capacity bound
-    → NoBatchingCostsLess wave capacity bound
-
--- the bound of a right tree is such a number
-abbrev pub BoundsHold : Type 0
-BoundsHold = (wave : WavePicks) (capacity : ℕ) (nodes : List Node) (bound : ℕ) → 1 ≤ capacity → IsBoundOf wave capacity nodes bound
     → NoBatchingCostsLess wave capacity bound
 
 -- a tree that is right has no broken rule

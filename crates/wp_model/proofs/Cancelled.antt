@@ -122,10 +122,7 @@ cancel_marks state other name number w wave.Allotted cancelled found is = given_
 cancel_marks state other name number w wave.Released cancelled found is =
     either name (bytes_eq other name) cancelled w.picked (refuse state reply.Picking) (give_up state number w)
     (unchanged state name (bytes_eq other name) cancelled reply.Picking refl is) (given_up state other name number w cancelled _ found refl is)
-cancel_marks state other name number w wave.Cancelled cancelled found is =
-    unchanged state name (bytes_eq other name) cancelled (reply.WrongState wave.Cancelled) refl is
-cancel_marks state other name number w wave.Done cancelled found is =
-    unchanged state name (bytes_eq other name) cancelled (reply.WrongState wave.Done) refl is
+cancel_marks state other name number w done cancelled found is = unchanged state name (bytes_eq other name) cancelled (reply.WrongState done) refl is
 
 -- each command
 step_marks : (opening : Opening) (state : State) (asked : Command) (name : List ℕ) (cancelled : Bool) → mark_in state.waves name ≡ Some cancelled
@@ -187,9 +184,7 @@ release_out opening state name number w wave.Submitted found =
     option_map_or-both (IsOut name) (refuse_short opening state w) (short_article opening state.rows w.orders None) _
     (λ article short said. absurd (cc said)) (λ covered said. put_out state name number w found)
 release_out opening state name number w wave.Allotted found = λ said. put_out state name number w found
-release_out opening state name number w wave.Released found = λ said. absurd (cc said)
-release_out opening state name number w wave.Cancelled found = λ said. absurd (cc said)
-release_out opening state name number w wave.Done found = λ said. absurd (cc said)
+release_out opening state name number w other found = λ said. absurd (cc said)
 
 goes_out : (opening : Opening) (state : State) (name : List ℕ) → IsOut name (step opening state (command.Release name))
 goes_out opening state name =
@@ -222,12 +217,7 @@ out_mark opening number state (entry ∷ entries) (suc place) name legal out =
 -- a command that asks to cancel the wave of a name is a cancel of it
 asks_it : (name : List ℕ) (asked : Command) → asks name asked ≡ true → asked ≡ command.Cancel name
 asks_it name (command.Cancel other) is = ap (λ n. command.Cancel n) ((bytes_eq-Decides other name).0 is)
-asks_it name (command.Submit other orders) is = absurd (cc is)
-asks_it name (command.Allot other) is = absurd (cc is)
-asks_it name (command.Release other) is = absurd (cc is)
-asks_it name (command.Pick other order location quantity) is = absurd (cc is)
-asks_it name (command.Missing other order location quantity) is = absurd (cc is)
-asks_it name (command.Receive location article quantity) is = absurd (cc is)
+asks_it name other is = absurd (cc is)
 
 both : (a b : Bool) → (a && b) ≡ true → (a ≡ true) × (b ≡ true)
 both true b is = (refl, is)
@@ -235,28 +225,7 @@ both false b is = absurd (cc is)
 
 says_it : (answer : Reply) → says answer ≡ true → answer ≡ reply.Cancelled
 says_it reply.Cancelled is = refl
-says_it reply.Submitted is = absurd (cc is)
-says_it reply.Allotted is = absurd (cc is)
-says_it reply.Released is = absurd (cc is)
-says_it reply.Picked is = absurd (cc is)
-says_it reply.Received is = absurd (cc is)
-says_it (reply.Refilled units) is = absurd (cc is)
-says_it (reply.Lost article units) is = absurd (cc is)
-says_it reply.NoOrders is = absurd (cc is)
-says_it (reply.WaveFull orders) is = absurd (cc is)
-says_it reply.KnownWave is = absurd (cc is)
-says_it (reply.UnknownOrder named) is = absurd (cc is)
-says_it (reply.OrderTwice named) is = absurd (cc is)
-says_it (reply.OrderTaken named w) is = absurd (cc is)
-says_it reply.UnknownWave is = absurd (cc is)
-says_it (reply.WrongState state) is = absurd (cc is)
-says_it (reply.Short article wanted free) is = absurd (cc is)
-says_it reply.Picking is = absurd (cc is)
-says_it (reply.NotHeld location) is = absurd (cc is)
-says_it (reply.TooMuch held) is = absurd (cc is)
-says_it reply.NoRow is = absurd (cc is)
-says_it (reply.OtherArticle article) is = absurd (cc is)
-says_it (reply.TooMany on_hand) is = absurd (cc is)
+says_it other is = absurd (cc is)
 
 -- an entry of a list that cancels the wave
 record CancelAt (entries : List Entry) (name : List ℕ) : Type 0 where

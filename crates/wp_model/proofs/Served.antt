@@ -79,14 +79,8 @@ allot_gives : (opening : Opening) (state : State) (name : List ℕ) (number : �
     → GivesStock opening state name number w reply.Allotted wave.Allotted (allot opening state number w s)
 allot_gives opening state name number w wave.Submitted is sound found e =
     holding_gives opening state name number w reply.Allotted wave.Allotted is sound found e (λ article said. absurd (cc said))
-allot_gives opening state name number w wave.Allotted is sound found e =
-    gives_none opening state name number w _ _ wave.Allotted e (λ is. absurd (cc is)) (λ said. absurd (cc said))
-allot_gives opening state name number w wave.Released is sound found e =
-    gives_none opening state name number w _ _ wave.Released e (λ is. absurd (cc is)) (λ said. absurd (cc said))
-allot_gives opening state name number w wave.Cancelled is sound found e =
-    gives_none opening state name number w _ _ wave.Cancelled e (λ is. absurd (cc is)) (λ said. absurd (cc said))
-allot_gives opening state name number w wave.Done is sound found e =
-    gives_none opening state name number w _ _ wave.Done e (λ is. absurd (cc is)) (λ said. absurd (cc said))
+allot_gives opening state name number w other is sound found e =
+    gives_none opening state name number w _ _ other e (λ is. absurd (cc is)) (λ said. absurd (cc said))
 
 release_gives : (opening : Opening) (state : State) (name : List ℕ) (number : ℕ) (w : Wave) (s : WaveState) → IsOpening opening → IsSound opening state
     → wave_from 0 state.waves name ≡ Some (number, w) → w.state ≡ s
@@ -101,12 +95,8 @@ release_gives opening state name number w wave.Allotted is sound found e = recor
         subst (λ s. HoldsAs s opening state number w) e was.holds;
   };
 }
-release_gives opening state name number w wave.Released is sound found e =
-    gives_none opening state name number w _ _ wave.Released e (λ is. absurd (cc is)) (λ said. absurd (cc said))
-release_gives opening state name number w wave.Cancelled is sound found e =
-    gives_none opening state name number w _ _ wave.Cancelled e (λ is. absurd (cc is)) (λ said. absurd (cc said))
-release_gives opening state name number w wave.Done is sound found e =
-    gives_none opening state name number w _ _ wave.Done e (λ is. absurd (cc is)) (λ said. absurd (cc said))
+release_gives opening state name number w other is sound found e =
+    gives_none opening state name number w _ _ other e (λ is. absurd (cc is)) (λ said. absurd (cc said))
 
 -- an allotted wave is released
 allotted_goes_out : (opening : Opening) (state : State) (number : ℕ) (w : Wave) → w.state ≡ wave.Allotted

@@ -90,19 +90,14 @@ holding_leaves opening state next answer number w there e will =
 allot_leaves : (opening : Opening) (state : State) (number : ℕ) (w : Wave) (s : WaveState) → slice_get state.waves number ≡ Some w → w.state ≡ s
     → Leaves state (allot opening state number w s)
 allot_leaves opening state number w wave.Submitted there e = holding_leaves opening state wave.Allotted reply.Allotted number w there e refl
-allot_leaves opening state number w wave.Allotted there e = refl
-allot_leaves opening state number w wave.Released there e = refl
-allot_leaves opening state number w wave.Cancelled there e = refl
-allot_leaves opening state number w wave.Done there e = refl
+allot_leaves opening state number w other there e = refl
 
 release_leaves : (opening : Opening) (state : State) (number : ℕ) (w : Wave) (s : WaveState) → slice_get state.waves number ≡ Some w → w.state ≡ s
     → Leaves state (release opening state number w s)
 release_leaves opening state number w wave.Submitted there e = holding_leaves opening state wave.Released reply.Released number w there e refl
 release_leaves opening state number w wave.Allotted there e =
     marks_put state.waves number w (record w { state = wave.Released }) there (on_in w wave.Allotted wave.Released e refl refl)
-release_leaves opening state number w wave.Released there e = refl
-release_leaves opening state number w wave.Cancelled there e = refl
-release_leaves opening state number w wave.Done there e = refl
+release_leaves opening state number w other there e = refl
 
 settle_leaves : (state before : State) (number : ℕ) (w : Wave) (picked : Bool) (answer : Reply) → before.waves ≡ state.waves
     → slice_get state.waves number ≡ Some w → w.state ≡ wave.Released
@@ -135,10 +130,7 @@ at_released_leaves : (state : State) (number : ℕ) (w : Wave) (order : List ℕ
     → Leaves state (at_released state number w order location quantity change s)
 at_released_leaves state number w order location quantity change wave.Released e each =
     at_held_leaves state number w order location quantity change (each e)
-at_released_leaves state number w order location quantity change wave.Submitted e each = refl
-at_released_leaves state number w order location quantity change wave.Allotted e each = refl
-at_released_leaves state number w order location quantity change wave.Cancelled e each = refl
-at_released_leaves state number w order location quantity change wave.Done e each = refl
+at_released_leaves state number w order location quantity change other e each = refl
 
 -- an allotment, a release, a pick and a loss leave the marks
 pub allotment_leaves : (opening : Opening) (state : State) (name : List ℕ) → Leaves state (step opening state (command.Allot name))

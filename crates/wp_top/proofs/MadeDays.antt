@@ -9,7 +9,7 @@ use Rattle.wp_layout.specs.LayoutFile.{layout_said}
 use Rattle.wp_layout.specs.declared.fault.LayoutFault.{LayoutFault}
 use Rattle.wp_layout.specs.declared.fault.LayoutFault.TheVariants as layout_fault
 use Rattle.wp_machine.proofs.Outcomes.{holds_come_with_released}
-use Rattle.wp_machine.specs.Outcome.{outcome_of, outcomes_from, released_in, released_of, says_released, tells_holds}
+use Rattle.wp_machine.specs.Outcome.{outcome_of, outcomes_from, released_in, released_of, tells_holds}
 use Rattle.wp_machine.specs.declared.outcome.Outcome.{Outcome}
 use Rattle.wp_machine.specs.declared.outcome.Outcome.TheVariants as outcome
 use Rattle.wp_make.specs.Accepted.{AreAccepted}
@@ -17,7 +17,7 @@ use Rattle.wp_make.specs.Texts.{Texts}
 use Rattle.wp_model.specs.History.{History, IsLegal, IsLegalFrom}
 use Rattle.wp_model.specs.Opening.{Opening, Order, Stock}
 use Rattle.wp_model.specs.State.{State, opening_state}
-use Rattle.wp_model.specs.Step.{step}
+use Rattle.wp_model.specs.Step.{says_released, step}
 use Rattle.wp_model.specs.Warehouse.{Layout}
 use Rattle.wp_model.specs.declared.entry.Entry.{Entry}
 use Rattle.wp_planner.specs.declared.planner.Terms.{Terms}

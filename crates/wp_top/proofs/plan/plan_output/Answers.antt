@@ -1,5 +1,5 @@
 use Rattle.std.proofs.Common.{refl}
-use Rattle.std.proofs.lemmas.Result.{IfErr-weaker, IfOk-weaker, err_from_is_err_and}
+use Rattle.std.proofs.lemmas.Result.{IfErr-weaker, err_from_is_err_and}
 use Rattle.wp_top.proofs.Jobs.{ok_and_read, plan_is, stop_at_last, stop_at_opening}
 use Rattle.wp_top.proofs.plan.plan_output.Goals as goal
 use Rattle.wp_top.specs.Stops.{opening_files, opening_said}
