@@ -15,11 +15,13 @@ pub type Held = (u32, u32, u32);
 /// The units on hand, free and held of a row.
 pub type Units = (u32, u32, u32);
 
+/// The stock that a text says of one aisle of 200 slots; the test fails where it is refused.
 pub fn stock_of(alloc: Global, text: &str) -> Result<Stock, Fail> {
     let layout = Layout::new(1, 200, 1, 1, 1, 1).ok_or("no layout")?;
     Ok(read_stock(alloc, &text.as_bytes().to_vec(alloc)?, &layout)?)
 }
 
+/// The book that opens with that stock.
 pub fn book_of(alloc: Global, text: &str) -> Result<StockBook, Fail> {
     let stock = stock_of(alloc, text)?;
     Ok(StockBook::open(alloc, &stock)?)
