@@ -8,3 +8,9 @@ pub mod Splits
 pub mod Replacing
 pub mod Listings
 pub mod Costs
+pub mod OrderSums
+pub mod FewerOrders
+pub mod Ascending
+pub mod Visits
+pub mod Further
+pub mod ShareSums

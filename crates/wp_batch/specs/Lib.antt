@@ -5,3 +5,6 @@ pub mod Batchings
 pub mod Joins
 pub mod KeptLengths
 pub mod Splits
+pub mod Duals
+pub mod Visits
+pub mod Reaches

@@ -1,4 +1,6 @@
-//! Waves of orders, the lengths of their batches, and a first way to put their orders into batches.
+//! Waves of orders, the lengths of their batches, and a first way to put their orders into batches; duals of a wave's orders: what
+//! they come to, how far further orders can reach, and the share duals. The definitions of feasible and tight duals, and of the
+//! visit of all permitted batches that tests them, stand in `specs`.
 #![tactic(auto)]
 
 mod batching;
@@ -8,12 +10,18 @@ mod listing;
 mod marks;
 mod merge;
 mod places;
+mod reach;
+mod shares;
 mod starts;
+mod sums;
 mod wave;
 
 pub use batching::Batching;
 pub use marks::Marks;
 pub use merge::{joined, merged_start};
+pub use reach::{is_later, reach_of, take_best};
+pub use shares::{share_of, shares_of};
+pub use sums::{sum_of, total_of};
 pub use wave::Wave;
 
 #[cfg(test)]

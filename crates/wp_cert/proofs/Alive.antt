@@ -15,7 +15,7 @@ use Rattle.wp_batch.specs.Waves.{WavePicks}
 use Rattle.wp_batch.proofs.Unions.{all_from_contained}
 use Rattle.wp_cert.specs.declared.tree.Node.{Node}
 use Rattle.wp_cert.specs.Trees.{IsRight, dead, kept, leaf, lower_of, split, with_pair}
-use Rattle.wp_duals.proofs.Ascending.{only_one, single_ascends}
+use Rattle.wp_batch.proofs.Ascending.{only_one, single_ascends}
 
 -- of any two orders it is known whether they are joined
 abbrev pub AreTold : List OrderPair → Type 0

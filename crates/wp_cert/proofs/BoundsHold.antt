@@ -12,9 +12,9 @@ use Rattle.wp_batch.specs.Lengths.{IsLengthOf}
 use Rattle.wp_batch.specs.Waves.{WavePicks}
 use Rattle.wp_batch.proofs.Unions.{all_from_contained}
 use Rattle.wp_cert.specs.Bounds.{BoundsHold}
-use Rattle.wp_duals.specs.Duals.{AreFeasible, AreShares, IsShare}
+use Rattle.wp_batch.specs.Duals.{AreFeasible, AreShares, IsShare}
 use Rattle.wp_cert.proofs.Costs.{Respects, sum_within, tree_bounds}
-use Rattle.wp_duals.proofs.Lengths.{more_orders_no_shorter}
+use Rattle.wp_batch.proofs.FewerOrders.{more_orders_no_shorter}
 
 -- an order alone is no longer than a batch that has it, so its share is no more than the batch's
 share_within : (wave : WavePicks) (capacity order share : ℕ) (batch : List ℕ) (total : ℕ) → 1 ≤ capacity → IsShare wave capacity order share

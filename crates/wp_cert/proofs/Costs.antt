@@ -10,9 +10,9 @@ use Rattle.wp_pairs.specs.Permitted.{IsPermitted, Pairing}
 use Rattle.wp_batch.specs.Batchings.{IsCost, batch_at}
 use Rattle.wp_batch.specs.Waves.{WavePicks}
 use Rattle.wp_cert.specs.declared.tree.Node.{Node}
-use Rattle.wp_duals.specs.Duals.{AreFeasible, duals_of}
+use Rattle.wp_batch.specs.Duals.{AreFeasible, duals_of}
 use Rattle.wp_cert.specs.Trees.{IsRight, dead, kept, leaf, lower_of, split, with_pair}
-use Rattle.wp_duals.proofs.OrderSums.{all_of, covering_sum, in_all, sum_of_places, units_at_most}
+use Rattle.wp_batch.proofs.OrderSums.{all_of, covering_sum, in_all, sum_of_places, units_at_most}
 
 -- batches that are all permitted, such that each order is in one of them and in no other
 pub record Respects (pairing : Pairing) (batches : List (List ℕ)) : Type 0 where

@@ -21,9 +21,9 @@ use Rattle.wp_needed.specs.Lengths.{by_some_way}
 use Rattle.wp_needed.proofs.LeastNeeded.{least_by_some}
 use Rattle.wp_batch.specs.Lengths.{batch_picks}
 use Rattle.wp_batch.specs.Waves.{WavePicks, picks_of}
-use Rattle.wp_duals.proofs.Lengths.{more_orders_no_shorter}
-use Rattle.wp_duals.specs.Duals.{duals_of}
-use Rattle.wp_duals.specs.Visits.{IsWithin}
+use Rattle.wp_batch.proofs.FewerOrders.{more_orders_no_shorter}
+use Rattle.wp_batch.specs.Duals.{duals_of}
+use Rattle.wp_batch.specs.Visits.{IsWithin}
 use Rattle.wp_cert.specs.Visited.{HasEachLength, IsNoLess}
 
 -- there is a least length by some crossing, and on

@@ -10,12 +10,12 @@ use Rattle.wp_cert.specs.declared.tree.CertWhy.TheVariants as why
 use Rattle.wp_cert.specs.declared.tree.Node.{Node}
 use Rattle.wp_cert.specs.declared.tree.Node.TheVariants as node
 use Rattle.wp_cert.specs.declared.tree.Own.{Own}
-use Rattle.wp_duals.specs.Duals.{units_of}
+use Rattle.wp_batch.specs.Duals.{units_of}
 use Rattle.wp_cert.specs.Paths.{IsBrokenHere}
 use Rattle.wp_cert.specs.Refusals.{IsBroken, IsBrokenOwn, bad_pair, kept_split, own_leaf, own_split}
 use Rattle.wp_cert.specs.Trees.{IsRight, IsRightOwn, kept, leaf}
-use Rattle.wp_duals.specs.Visits.{AddsItem}
-use Rattle.wp_duals.proofs.Visits.{empty_place, union_permitted}
+use Rattle.wp_batch.specs.Visits.{AddsItem}
+use Rattle.wp_batch.proofs.Visits.{empty_place, union_permitted}
 
 -- the orders that are joined to one, as they were added to no order
 pub adds_to_empty : (pairing : Pairing) (empty class union : List ℕ) (order : ℕ) → empty ≡ [] → IsStrictlyIncreasing union

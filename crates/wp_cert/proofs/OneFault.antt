@@ -14,7 +14,7 @@ use Rattle.wp_cert.specs.Bounds.{TreesBreakOneRuleFirst}
 use Rattle.wp_cert.specs.Refusals.{AreRefused, IsBroken, IsBrokenOwn, IsFirstBroken, IsFirstSlack, apart, bad_pair, cut, in_tree, kept_split, low, marks, nodes_left}
 use Rattle.wp_cert.specs.Refusals.{not_all, not_dead, not_tight, own_leaf, own_split, together}
 use Rattle.wp_cert.specs.Trees.{IsRight, with_pair}
-use Rattle.wp_duals.specs.Visits.{IsVisitOfAll, Passed, Place, TooMuch, Visit, Wrong}
+use Rattle.wp_batch.specs.Visits.{IsVisitOfAll, Passed, Place, TooMuch, Visit, Wrong}
 use Rattle.wp_cert.proofs.OneOutcome.{own_not_broken, right_agree, right_not_broken, same_shares}
 use Rattle.wp_cert.proofs.OneVerdict.{marks_pass, one_visit}
 

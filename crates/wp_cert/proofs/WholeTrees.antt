@@ -6,7 +6,7 @@ use Rattle.wp_batch.specs.Waves.{WavePicks}
 use Rattle.wp_cert.specs.declared.tree.CertFault.{CertFault}
 use Rattle.wp_cert.specs.declared.tree.CertWhy.TheVariants as why
 use Rattle.wp_cert.specs.declared.tree.Node.{Node}
-use Rattle.wp_duals.specs.Duals.{IsSumOfShares}
+use Rattle.wp_batch.specs.Duals.{IsSumOfShares}
 use Rattle.wp_cert.specs.Paths.{IsRefusedFrom, pairing_of}
 use Rattle.wp_cert.specs.Refusals.{IsFirstBroken, in_tree, nodes_left}
 use Rattle.wp_cert.specs.Trees.{IsBoundOf, IsRight}

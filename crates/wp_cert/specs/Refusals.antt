@@ -9,9 +9,9 @@ use Rattle.wp_cert.specs.declared.tree.CertWhy.TheVariants as why
 use Rattle.wp_cert.specs.declared.tree.Node.{Node}
 use Rattle.wp_cert.specs.declared.tree.Node.TheVariants as node
 use Rattle.wp_cert.specs.declared.tree.Own.{Own}
-use Rattle.wp_duals.specs.Duals.{IsSumOfShares}
+use Rattle.wp_batch.specs.Duals.{IsSumOfShares}
 use Rattle.wp_cert.specs.Trees.{HasAll, IsRight, IsRightOwn, IsTightAt, with_pair}
-use Rattle.wp_duals.specs.Visits.{Due, IsVisit, IsVisitOfAll, Passed, TooMuch, Wrong}
+use Rattle.wp_batch.specs.Visits.{Due, IsVisit, IsVisitOfAll, Passed, TooMuch, Wrong}
 
 -- a visit ends with this refusal
 abbrev pub IsRefusedVisit : WavePicks → Pairing → List ℕ → Due → List Bool → CertWhy → Type 0

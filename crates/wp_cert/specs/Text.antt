@@ -14,7 +14,7 @@ use Rattle.wp_model.specs.Outcomes.{and_then}
 use Rattle.wp_model.specs.Warehouse.{Layout}
 use Rattle.wp_graph.specs.PickSets.{PickSet}
 use Rattle.wp_batch.specs.Waves.{HaveSamePicks, WavePicks}
-use Rattle.wp_duals.specs.Duals.{greatest_dual}
+use Rattle.wp_batch.specs.Duals.{greatest_dual}
 use Rattle.wp_cert.specs.declared.tree.CertWhy.{CertWhy}
 use Rattle.wp_cert.specs.declared.tree.CertWhy.TheVariants as why
 use Rattle.wp_cert.specs.declared.tree.Node.{Node}

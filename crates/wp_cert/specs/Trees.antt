@@ -7,8 +7,8 @@ use Rattle.wp_batch.specs.Waves.{WavePicks}
 use Rattle.wp_cert.specs.declared.tree.Node.{Node}
 use Rattle.wp_cert.specs.declared.tree.Node.TheVariants as node
 use Rattle.wp_cert.specs.declared.tree.Own.{Own}
-use Rattle.wp_duals.specs.Duals.{AreFeasible, AreTight, IsSumOfShares, IsTightFor, units_of}
-use Rattle.wp_duals.specs.Visits.{IsVisitOfAll, Passed}
+use Rattle.wp_batch.specs.Duals.{AreFeasible, AreTight, IsSumOfShares, IsTightFor, units_of}
+use Rattle.wp_batch.specs.Visits.{IsVisitOfAll, Passed}
 
 -- two more orders are to go together, or else apart
 abbrev pub with_pair : Pairing → ℕ → ℕ → Bool → Pairing

@@ -3,8 +3,8 @@ use Rattle.std.specs.Prelude.{ℕ, ◌+◌, ◌*◌, ◌<◌, ◌≤◌, List, A
 use Rattle.wp_pairs.specs.Permitted.{Pairing}
 use Rattle.wp_batch.specs.Lengths.{IsLengthOf}
 use Rattle.wp_batch.specs.Waves.{WavePicks}
-use Rattle.wp_duals.specs.Duals.{duals_of}
-use Rattle.wp_duals.specs.Visits.{IsReach}
+use Rattle.wp_batch.specs.Duals.{duals_of}
+use Rattle.wp_batch.specs.Visits.{IsReach}
 
 -- each batch of a wave's orders has a length
 abbrev pub HasEachLength : WavePicks → Type 0

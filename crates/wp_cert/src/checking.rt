@@ -10,8 +10,7 @@ use crate::node::{test_dead, test_leaf, test_split};
 use crate::tree::{CertFault, CertWhy, Node, Nodes, Tree};
 use crate::way::{Met, NodeStep, Way};
 use std::alloc::Global;
-use wp_batch::Wave;
-use wp_duals::shares_of;
+use wp_batch::{Wave, shares_of};
 use wp_pairs::OrderPair;
 
 /// What a tree shows: its bound, which it has not where all of its leaves are dead; and the place of the node after it.

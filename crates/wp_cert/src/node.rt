@@ -2,7 +2,7 @@ ghost use Rattle.std.specs.Prelude.{◌≡◌, ◌≤◌, ◌∷◌, List, IfErr
 ghost use Rattle.wp_pairs.specs.Permitted.{IsDead};
 ghost use Rattle.wp_cert.specs.declared.tree.Node.{Node as NodeData};
 ghost use Rattle.wp_cert.specs.declared.tree.Node.TheVariants as node;
-ghost use Rattle.wp_duals.specs.Duals.{units_of as in_units};
+ghost use Rattle.wp_batch.specs.Duals.{units_of as in_units};
 ghost use Rattle.wp_cert.specs.Paths.{IsBrokenHere, IsPath, IsRightSplit, pairing_of};
 ghost use Rattle.wp_cert.specs.Trees.{IsRight};
 

@@ -1,14 +1,13 @@
 ghost use Rattle.std.specs.Prelude.{◌≡◌, ◌<◌, ◌≤◌, ◌↔◌, [], ℕ, IfErr, IfNone, IfOk, IfSome, IsTrue, OnOk, length, sum};
-ghost use Rattle.wp_duals.specs.Duals.{IsTightFor};
+ghost use Rattle.wp_batch.specs.Duals.{IsTightFor};
 ghost use Rattle.wp_cert.specs.Refusals.{AreRefused, IsBrokenOwn, IsFirstSlack};
 ghost use Rattle.wp_cert.specs.Trees.{HasAll, IsRightOwn, IsTightAt};
 ghost use Rattle.wp_cert.specs.Visited.{HasEachLength};
-ghost use Rattle.wp_duals.specs.Visits.{IsVisitOfAll, Passed};
+ghost use Rattle.wp_batch.specs.Visits.{IsVisitOfAll, Passed};
 
 use crate::tree::{CertWhy, Own};
 use crate::visit::visit;
-use wp_batch::Wave;
-use wp_duals::{sum_of, total_of};
+use wp_batch::{Wave, sum_of, total_of};
 use wp_pairs::{Batch, Pairs};
 
 // Whether there is one dual and one tight batch for each order.

@@ -3,12 +3,11 @@ ghost use Rattle.wp_pairs.specs.Permitted.{IsPermitted};
 ghost use Rattle.wp_batch.specs.Lengths.{IsLengthOf};
 ghost use Rattle.wp_cert.specs.Refusals.{IsRefusedVisit};
 ghost use Rattle.wp_cert.specs.Visited.{HasEachLength, IsNoLess, ReachesTooMuch, StandsForMore};
-ghost use Rattle.wp_duals.specs.Duals.{duals_of};
-ghost use Rattle.wp_duals.specs.Visits.{AddsItem, IsItem, IsVisit, Passed, Place};
+ghost use Rattle.wp_batch.specs.Duals.{duals_of};
+ghost use Rattle.wp_batch.specs.Visits.{AddsItem, IsItem, IsVisit, Passed, Place};
 
 use crate::tree::{CertWhy, Own};
-use wp_batch::Wave;
-use wp_duals::{is_later, reach_of, sum_of};
+use wp_batch::{Wave, is_later, reach_of, sum_of};
 use wp_pairs::{Batch, Pairs};
 
 // A place and one more item, where this order names one and both together are permitted.

@@ -14,11 +14,11 @@ use Rattle.wp_pairs.proofs.Chains.{joined_back, joined_on, joined_parted, parted
 use Rattle.wp_pairs.proofs.Classes.{joined_in, joined_known, keeping_permitted, permitted_keeps}
 use Rattle.wp_pairs.proofs.Members.{contains_none}
 use Rattle.wp_batch.proofs.Joining.{first_least}
-use Rattle.wp_duals.specs.Duals.{duals_of, greatest_dual}
-use Rattle.wp_duals.specs.Visits.{AddsItem, IsItem}
-use Rattle.wp_duals.proofs.Ascending.{split_off}
-use Rattle.wp_duals.proofs.Further.{none_first}
-use Rattle.wp_duals.proofs.Visits.{IsPlace, empty_place, permitted_place, union_permitted}
+use Rattle.wp_batch.specs.Duals.{duals_of, greatest_dual}
+use Rattle.wp_batch.specs.Visits.{AddsItem, IsItem}
+use Rattle.wp_batch.proofs.Ascending.{split_off}
+use Rattle.wp_batch.proofs.Further.{none_first}
+use Rattle.wp_batch.proofs.Visits.{IsPlace, empty_place, permitted_place, union_permitted}
 use Rattle.wp_price.specs.declared.item.Item.{Item}
 use Rattle.wp_price.specs.declared.place.Place.{Place}
 use Rattle.wp_price.specs.Items.{AreItemsBelow, IsItemOf, IsUsable}

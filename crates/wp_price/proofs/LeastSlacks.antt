@@ -4,8 +4,8 @@ use Rattle.std.specs.Prelude.{Option, Some, None}
 use Rattle.std.proofs.lemmas.Int.{ints}
 use Rattle.wp_pairs.specs.Permitted.{IsPermitted}
 use Rattle.wp_batch.specs.Lengths.{IsLengthOf}
-use Rattle.wp_duals.specs.Duals.{AreFeasible, duals_of}
-use Rattle.wp_duals.proofs.Lengths.{same_length}
+use Rattle.wp_batch.specs.Duals.{AreFeasible, duals_of}
+use Rattle.wp_batch.proofs.FewerOrders.{same_length}
 use Rattle.wp_price.specs.declared.best.LeastBatch.{LeastBatch}
 use Rattle.wp_price.specs.Searches.{IsBeaten, IsRaised, Task, raise}
 use Rattle.wp_price.specs.Slacks.{IsCandidate, IsLeastSlack, IsSlack}

@@ -5,9 +5,9 @@ use Rattle.std.specs.Prelude.{⊤}
 use Rattle.wp_pairs.specs.Permitted.{IsPermitted, Pairing}
 use Rattle.wp_batch.specs.Lengths.{IsLengthOf}
 use Rattle.wp_batch.specs.Waves.{WavePicks}
-use Rattle.wp_duals.specs.Duals.{AreFeasible, duals_of}
-use Rattle.wp_duals.specs.Visits.{AddsItem, Children, Due, IsItem, IsReach, IsVisit, IsVisitOfAll, IsWithin, Passed, Place}
-use Rattle.wp_duals.specs.Visits as visit
+use Rattle.wp_batch.specs.Duals.{AreFeasible, duals_of}
+use Rattle.wp_batch.specs.Visits.{AddsItem, Children, Due, IsItem, IsReach, IsVisit, IsVisitOfAll, IsWithin, Passed, Place}
+use Rattle.wp_batch.specs.Visits as visit
 use Rattle.wp_price.specs.Searches.{IsNoChild, IsReached, NamesBelow}
 use Rattle.wp_price.specs.ShortMarks.{AreShort, AreShortMarks, IsMarked}
 use Rattle.wp_price.specs.ShortMarks as short

@@ -2,9 +2,9 @@
 use Rattle.std.specs.Prelude.{◌≡◌, ℕ, ◌+◌, ◌*◌, ◌<◌, ◌≤◌, ◌⊎◌, ◌↔◌, true, false, List, Contains, length, slice_index, slice_index_or}
 use Rattle.std.specs.List.Sorted.{IsStrictlyIncreasing}
 use Rattle.wp_pairs.specs.Permitted.{AreJoined, AreParted, IsPermitted, Pairing}
-use Rattle.wp_duals.specs.Duals.{duals_of, greatest_dual}
-use Rattle.wp_duals.specs.Reaches.{HaveMost}
-use Rattle.wp_duals.specs.Visits.{IsItem}
+use Rattle.wp_batch.specs.Duals.{duals_of, greatest_dual}
+use Rattle.wp_batch.specs.Reaches.{HaveMost}
+use Rattle.wp_batch.specs.Visits.{IsItem}
 use Rattle.wp_price.specs.declared.item.Item.{Item}
 
 -- the most that so many orders, all of items from an order on, have in duals

@@ -4,9 +4,9 @@ use Rattle.wp_pairs.specs.Kept.{IsPairing}
 use Rattle.wp_pairs.specs.Permitted.{AreParted, IsPermitted, Pairing}
 use Rattle.wp_batch.specs.Lengths.{IsLengthOf}
 use Rattle.wp_batch.specs.Waves.{WavePicks}
-use Rattle.wp_duals.specs.Duals.{duals_of, greatest_dual}
-use Rattle.wp_duals.specs.Visits.{AddsItem, IsItem}
-use Rattle.wp_duals.proofs.Visits.{Extends}
+use Rattle.wp_batch.specs.Duals.{duals_of, greatest_dual}
+use Rattle.wp_batch.specs.Visits.{AddsItem, IsItem}
+use Rattle.wp_batch.proofs.Visits.{Extends}
 use Rattle.wp_price.specs.declared.best.LeastBatch.{LeastBatch}
 use Rattle.wp_price.specs.declared.item.Item.{Item}
 use Rattle.wp_price.specs.declared.place.Place.{Place}

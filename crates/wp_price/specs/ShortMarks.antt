@@ -3,8 +3,8 @@ use Rattle.std.specs.Prelude.{◌≡◌, ℕ, ◌+◌, ◌*◌, ◌<◌, ◌≤�
 use Rattle.wp_pairs.specs.Permitted.{IsPermitted, Pairing}
 use Rattle.wp_batch.specs.Lengths.{IsLengthOf}
 use Rattle.wp_batch.specs.Waves.{WavePicks}
-use Rattle.wp_duals.specs.Duals.{duals_of}
-use Rattle.wp_duals.specs.Visits.{AddsItem, Children, Due, IsItem, IsReach, Place}
+use Rattle.wp_batch.specs.Duals.{duals_of}
+use Rattle.wp_batch.specs.Visits.{AddsItem, Children, Due, IsItem, IsReach, Place}
 
 -- The short marks of what is due. A place is marked as not to be entered exactly where its reach doesn't make it too much; else it is entered, and the places
 -- with one more item follow in the order of the items. An item that with the place makes no permitted batch is passed over.

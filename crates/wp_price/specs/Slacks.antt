@@ -3,7 +3,7 @@ use Rattle.std.specs.Prelude.{◌≡◌, ℕ, ◌*◌, Bool, true, false, List, 
 use Rattle.wp_pairs.specs.Permitted.{IsPermitted, Pairing}
 use Rattle.wp_batch.specs.Lengths.{IsLengthOf}
 use Rattle.wp_batch.specs.Waves.{WavePicks}
-use Rattle.wp_duals.specs.Duals.{duals_of}
+use Rattle.wp_batch.specs.Duals.{duals_of}
 
 -- the slack of a batch: sixty times its length, less what its orders have in duals
 pub record IsSlack (wave : WavePicks) (duals batch : List ℕ) (slack : ℤ) : Type 0 where

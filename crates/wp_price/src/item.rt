@@ -1,9 +1,9 @@
 ghost use Rattle.std.specs.Prelude.{◌≡◌, [], ◌*◌, ◌+◌, ◌<◌, ◌≤◌, All, length};
-ghost use Rattle.wp_duals.specs.Duals.{duals_of, greatest_dual};
-ghost use Rattle.wp_duals.specs.Visits.{IsReach};
+ghost use Rattle.wp_batch.specs.Duals.{duals_of, greatest_dual};
+ghost use Rattle.wp_batch.specs.Visits.{IsReach};
 ghost use Rattle.wp_price.specs.Items.{AreReachesBelow, IsItemOf};
 
-use wp_duals::{is_later, sum_of, take_best};
+use wp_batch::{is_later, sum_of, take_best};
 use wp_pairs::{Batch, Pairs};
 
 /// What an order brings to a place: the orders that are joined to it and those that are parted from it. It is usable where

@@ -1,6 +1,6 @@
 ghost use Rattle.std.specs.Prelude.{◌≡◌, ◌+◌, ◌<◌, ◌≤◌, ◌↔◌, List, ℕ, Contains, IfNone, IfOk, IfSome, Some, false};
 ghost use Rattle.wp_pairs.specs.Permitted.{AreJoined, IsPermitted};
-ghost use Rattle.wp_duals.proofs.Visits.{Extends};
+ghost use Rattle.wp_batch.proofs.Visits.{Extends};
 ghost use Rattle.wp_price.specs.Bests.{IsNoWorse};
 ghost use Rattle.wp_price.specs.Searches.{AreItemsSearched, IsAt, IsBeaten, IsRaised, IsSearched};
 ghost use Rattle.wp_price.specs.Slacks.{HasNoCandidate, IsCandidate};

@@ -1,6 +1,6 @@
 ghost use Rattle.std.specs.Prelude.{◌≡◌, ◌≤◌, ◌<◌, ◌↔◌, [], All, IfOk, IfSome, IfNone, IsSome, None, length, pos, ◌≤ℤ◌};
-ghost use Rattle.wp_duals.specs.Duals.{AreFeasible, greatest_dual};
-ghost use Rattle.wp_duals.specs.Visits.{IsVisitOfAll, Passed};
+ghost use Rattle.wp_batch.specs.Duals.{AreFeasible, greatest_dual};
+ghost use Rattle.wp_batch.specs.Visits.{IsVisitOfAll, Passed};
 ghost use Rattle.wp_price.specs.ShortMarks.{AreShortMarks};
 ghost use Rattle.wp_price.specs.Slacks.{HasNoCandidate, IsLeastSlack};
 

@@ -2,8 +2,8 @@ ghost use Rattle.std.specs.Prelude.{◌≡◌, ◌+◌, ◌<◌, ◌≤◌, ◌^
 ghost use Rattle.wp_pairs.specs.Kept.{IsPairing};
 ghost use Rattle.wp_pairs.specs.Permitted.{AreJoined, IsPermitted};
 ghost use Rattle.wp_batch.specs.Lengths.{IsLengthOf};
-ghost use Rattle.wp_duals.specs.Duals.{duals_of, greatest_dual};
-ghost use Rattle.wp_duals.specs.Visits.{AddsItem, IsItem, IsReach};
+ghost use Rattle.wp_batch.specs.Duals.{duals_of, greatest_dual};
+ghost use Rattle.wp_batch.specs.Visits.{AddsItem, IsItem, IsReach};
 ghost use Rattle.wp_price.specs.Items.{AreItemsBelow};
 ghost use Rattle.wp_price.specs.Searches.{IsAt, IsNoChild, raise};
 ghost use Rattle.wp_price.specs.Slacks.{IsSlack};

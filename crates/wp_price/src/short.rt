@@ -1,5 +1,5 @@
 ghost use Rattle.std.specs.Prelude.{◌≡◌, ◌≤◌, OnOk, []};
-ghost use Rattle.wp_duals.specs.Visits.{IsReach, Place as PlaceDue};
+ghost use Rattle.wp_batch.specs.Visits.{IsReach, Place as PlaceDue};
 ghost use Rattle.wp_price.specs.Searches.{IsAt, NamesBelow};
 ghost use Rattle.wp_price.specs.ShortMarks.{AddsShort, IsMarked};
 

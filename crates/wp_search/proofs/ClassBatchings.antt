@@ -17,10 +17,10 @@ use Rattle.wp_batch.specs.Lengths.{IsLengthOf, batch_picks}
 use Rattle.wp_batch.specs.Waves.{WavePicks}
 use Rattle.wp_batch.proofs.Joining.{first_least, permitted_alone}
 use Rattle.wp_batch.proofs.Unions.{same_shortest}
-use Rattle.wp_duals.specs.Duals.{AreTight, duals_of, units_of}
-use Rattle.wp_duals.proofs.Ascending.{same_sum}
-use Rattle.wp_duals.proofs.Lengths.{picked_by_more}
-use Rattle.wp_duals.proofs.OrderSums.{under_all}
+use Rattle.wp_batch.specs.Duals.{AreTight, duals_of, units_of}
+use Rattle.wp_batch.proofs.Ascending.{same_sum}
+use Rattle.wp_batch.proofs.FewerOrders.{picked_by_more}
+use Rattle.wp_batch.proofs.OrderSums.{under_all}
 use Rattle.wp_search.proofs.OrderTotals.{first_values, total_under}
 
 -- the orders that are joined to one

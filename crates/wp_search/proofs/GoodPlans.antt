@@ -9,7 +9,7 @@ use Rattle.wp_cert.proofs.BoundsHold.{bounds_hold}
 use Rattle.wp_cert.proofs.PutIntoBatches.{all_places, batching_is_put}
 use Rattle.wp_cert.proofs.Walked.{no_walks_are_shorter}
 use Rattle.wp_batch.specs.Batchings.{no_pairs}
-use Rattle.wp_duals.specs.Duals.{AreShares, units_of}
+use Rattle.wp_batch.specs.Duals.{AreShares, units_of}
 use Rattle.wp_search.specs.Branches.{bound_of, nodes_of}
 use Rattle.wp_search.specs.Counts.{own_nodes}
 use Rattle.wp_search.specs.Plans.{IsGoodPlan}

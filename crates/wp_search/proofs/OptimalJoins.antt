@@ -7,8 +7,8 @@ use Rattle.wp_batch.specs.Batchings.{IsBatching, IsCost, NoJoinGains, batch_at, 
 use Rattle.wp_batch.specs.Lengths.{IsLengthOf, batch_picks}
 use Rattle.wp_batch.specs.Waves.{WavePicks}
 use Rattle.wp_batch.proofs.Unions.{all_from_contained, same_shortest}
-use Rattle.wp_duals.proofs.Lengths.{picked_by_more, same_length}
-use Rattle.wp_duals.proofs.OrderSums.{all_of, in_all}
+use Rattle.wp_batch.proofs.FewerOrders.{picked_by_more, same_length}
+use Rattle.wp_batch.proofs.OrderSums.{all_of, in_all}
 use Rattle.wp_cert.specs.Bounds.{NoBatchingCostsLess}
 use Rattle.wp_cert.proofs.AscendingUnions.{IsUnion, union_of}
 

@@ -11,8 +11,8 @@ use Rattle.wp_pairs.specs.Permitted.{AreHeldBelow, IsPermitted, Pairing}
 use Rattle.wp_batch.specs.Lengths.{IsLengthOf}
 use Rattle.wp_batch.specs.Waves.{WavePicks}
 use Rattle.wp_batch.proofs.Unions.{all_from_contained}
-use Rattle.wp_duals.specs.Duals.{AreFeasible, IsTightFor, duals_of, greatest_dual}
-use Rattle.wp_duals.proofs.Lengths.{same_length}
+use Rattle.wp_batch.specs.Duals.{AreFeasible, IsTightFor, duals_of, greatest_dual}
+use Rattle.wp_batch.proofs.FewerOrders.{same_length}
 use Rattle.wp_price.specs.Slacks.{HasNoCandidate, IsLeastSlack, IsSlack}
 use Rattle.wp_search.specs.Raises.{AreDuals, AreListedTight, AreNoLower, IsRoom}
 use Rattle.wp_search.proofs.DualSums.{dual_in_batch, in_or_out, more_with, no_lower_batch, same_without}

@@ -17,7 +17,7 @@ use Rattle.wp_cert.specs.declared.tree.Node.{Node}
 use Rattle.wp_cert.specs.declared.tree.Node.TheVariants as node
 use Rattle.wp_cert.proofs.Alive.{HasBound as IsThere, right_has_bound}
 use Rattle.wp_cert.proofs.BoundsHold.{bounds_hold}
-use Rattle.wp_duals.specs.Duals.{AreShares, units_of}
+use Rattle.wp_batch.specs.Duals.{AreShares, units_of}
 use Rattle.wp_search.specs.Branches.{AreCutsWithin, HasBound, IsBranch, bound_of, nodes_of, own_bound, own_count, turns_left}
 use Rattle.wp_search.specs.Counts.{own_nodes}
 use Rattle.wp_search.specs.Plans.{HasShortMarks, IsSplitWithin}

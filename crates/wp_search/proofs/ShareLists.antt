@@ -6,7 +6,7 @@ use Rattle.std.proofs.lemmas.List.{get_or_append_left, get_or_push}
 use Rattle.std.proofs.lemmas.List.Elements.{All-nil, All-push}
 use Rattle.std.proofs.lemmas.List.Sums.{sum_by-le}
 use Rattle.wp_batch.specs.Waves.{WavePicks}
-use Rattle.wp_duals.specs.Duals.{AreShares, IsShare, greatest_dual}
+use Rattle.wp_batch.specs.Duals.{AreShares, IsShare, greatest_dual}
 use Rattle.wp_search.specs.Raises.{AreDuals}
 
 -- the share duals of the orders below this one

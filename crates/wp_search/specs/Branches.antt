@@ -6,7 +6,7 @@ use Rattle.wp_batch.specs.Waves.{WavePicks}
 use Rattle.wp_cert.specs.Trees.{IsRightOwn, lower_of, with_pair}
 use Rattle.wp_cert.specs.declared.tree.Node.{Node}
 use Rattle.wp_cert.specs.declared.tree.Node.TheVariants as node
-use Rattle.wp_duals.specs.Duals.{units_of}
+use Rattle.wp_batch.specs.Duals.{units_of}
 use Rattle.wp_price.specs.ShortMarks.{AreShortMarks}
 use Rattle.wp_search.specs.Raises.{AreDuals}
 use Rattle.wp_search.specs.declared.branch.Branch.{Branch}

@@ -10,7 +10,7 @@ use Rattle.wp_cert.specs.Walks.{ArePutIntoBatches, NoWalksAreShorter, order_poin
 use Rattle.wp_cert.specs.declared.tree.Node.{Node}
 use Rattle.wp_cert.specs.declared.tree.Node.TheVariants as node
 use Rattle.wp_cert.specs.declared.tree.Own.{Own}
-use Rattle.wp_duals.specs.Duals.{units_of}
+use Rattle.wp_batch.specs.Duals.{units_of}
 use Rattle.wp_price.specs.ShortMarks.{AreShortMarks}
 use Rattle.wp_search.specs.Counts.{own_nodes}
 use Rattle.wp_search.specs.Prices.{full, price}

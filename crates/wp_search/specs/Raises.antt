@@ -4,7 +4,7 @@ use Rattle.wp_pairs.specs.Permitted.{Pairing}
 use Rattle.wp_batch.specs.Batchings.{no_pairs}
 use Rattle.wp_batch.specs.Lengths.{IsLengthOf}
 use Rattle.wp_batch.specs.Waves.{WavePicks}
-use Rattle.wp_duals.specs.Duals.{IsTightFor, duals_of, greatest_dual}
+use Rattle.wp_batch.specs.Duals.{IsTightFor, duals_of, greatest_dual}
 
 -- one dual for each order, none above the greatest
 pub record AreDuals (orders : ℕ) (duals : List ℕ) : Type 0 where

@@ -2,7 +2,7 @@
 use Rattle.std.specs.Prelude.{◌≡◌, ℕ, ◌+◌, ◌-◌, ◌*◌, ◌<◌, ◌≤◌, ◌⊎◌, Bool, true, false, Some, length}
 use Rattle.wp_batch.specs.Batchings.{IsCost, no_pairs}
 use Rattle.wp_batch.specs.Waves.{WavePicks}
-use Rattle.wp_duals.specs.Duals.{units_of}
+use Rattle.wp_batch.specs.Duals.{units_of}
 use Rattle.wp_search.specs.Branches.{AreCutsWithin, IsBranch, bound_of, own_count, turns_left}
 use Rattle.wp_search.specs.Prices.{price}
 use Rattle.wp_search.specs.Turns.{IsProper}

@@ -4,8 +4,7 @@ ghost use Rattle.wp_search.specs.Raises.{AreDuals};
 
 use crate::items::{Item, VisitPlace, items_of, no_place, total_in, widened};
 use std::alloc::Global;
-use wp_batch::Wave;
-use wp_duals::total_of;
+use wp_batch::{Wave, total_of};
 use wp_master::Column;
 use wp_model::Memory;
 use wp_pairs::{Batch, Pairs};

@@ -1,5 +1,5 @@
 ghost use Rattle.std.specs.Prelude.{◌≡◌, ◌≤◌, ℕ, length, sum};
-ghost use Rattle.wp_duals.specs.Duals.{units_of};
+ghost use Rattle.wp_batch.specs.Duals.{units_of};
 ghost use Rattle.wp_search.specs.Branches.{HasBound, bound_of as least_of};
 ghost use Rattle.wp_search.specs.Raises.{AreDuals};
 ghost use Rattle.wp_cert.specs.Trees.{lower_of};

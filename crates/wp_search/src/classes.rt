@@ -1,7 +1,7 @@
 ghost use Rattle.std.specs.Prelude.{◌≡◌, IfOk, length, sum};
 ghost use Rattle.wp_pairs.specs.Permitted.{AllDecided};
 ghost use Rattle.wp_batch.specs.Batchings.{IsBatching, IsCost, IsListedByLeast};
-ghost use Rattle.wp_duals.specs.Duals.{AreTight, units_of};
+ghost use Rattle.wp_batch.specs.Duals.{AreTight, units_of};
 
 use std::alloc::Global;
 use wp_batch::{Batching, Wave};

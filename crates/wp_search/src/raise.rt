@@ -1,13 +1,12 @@
 ghost use Rattle.std.specs.Prelude.{◌≡◌, ◌≤◌, ◌<◌, ◌*◌, All, IfOk, OnErr, length, ℕ};
 ghost use Rattle.wp_batch.specs.Lengths.{IsLengthOf};
-ghost use Rattle.wp_duals.specs.Duals.{AreFeasible, IsTightFor, duals_of};
+ghost use Rattle.wp_batch.specs.Duals.{AreFeasible, IsTightFor, duals_of};
 ghost use Rattle.wp_pairs.specs.Permitted.{AreHeldBelow};
 ghost use Rattle.wp_search.specs.Raises.{AreDuals, AreListedTight, AreNoLower, IsRoom};
 
 use std::alloc::Global;
 use std::thread::Threads;
-use wp_batch::Wave;
-use wp_duals::sum_of;
+use wp_batch::{Wave, sum_of};
 use wp_model::Memory;
 use wp_outside::Gate;
 use wp_pairs::{Batch, Pairs};

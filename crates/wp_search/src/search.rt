@@ -1,6 +1,6 @@
 ghost use Rattle.std.specs.Prelude.{◌≡◌, ◌+◌, ◌<◌, ◌≤◌, ◌⊎◌, ◌^◌, ℕ, Bool, IfOk, OnOk, Some, length, sum};
 ghost use Rattle.wp_batch.specs.Batchings.{no_pairs};
-ghost use Rattle.wp_duals.specs.Duals.{AreShares, units_of};
+ghost use Rattle.wp_batch.specs.Duals.{AreShares, units_of};
 ghost use Rattle.wp_search.specs.Branches.{HasBound, IsBranch, bound_of as least_of};
 ghost use Rattle.wp_search.specs.Prices.{price};
 ghost use Rattle.wp_search.specs.Raises.{AreDuals};

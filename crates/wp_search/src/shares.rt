@@ -1,10 +1,9 @@
 ghost use Rattle.std.specs.Prelude.{◌≡◌, ◌≤◌, IfOk, length, sum};
-ghost use Rattle.wp_duals.specs.Duals.{AreShares, units_of};
+ghost use Rattle.wp_batch.specs.Duals.{AreShares, units_of};
 ghost use Rattle.wp_search.specs.Raises.{AreDuals};
 
 use std::alloc::Global;
-use wp_batch::Wave;
-use wp_duals::{share_of, total_of};
+use wp_batch::{Wave, share_of, total_of};
 use wp_model::Memory;
 
 /// The share duals of a wave's orders, in sixtieths of a unit, for a capacity from 1 on.

@@ -1,7 +1,7 @@
 ghost use Rattle.std.specs.Prelude.{◌≡◌, ◌<◌, ◌≤◌, ℕ, ◌++◌, ◌∷◌, [], ◌↔◌, IfOk, IsTrue, OnOk, Some, length, sum};
 ghost use Rattle.wp_cert.specs.Paths.{IsPath, pairing_of};
 ghost use Rattle.wp_cert.specs.Trees.{lower_of, with_pair};
-ghost use Rattle.wp_duals.specs.Duals.{AreFeasible, units_of};
+ghost use Rattle.wp_batch.specs.Duals.{AreFeasible, units_of};
 ghost use Rattle.wp_pairs.specs.Permitted.{AreUndecided};
 ghost use Rattle.wp_search.specs.Branches.{HasBound, IsBranch, IsCut, IsFreshSplit, IsLeaf, IsWorked, bound_of as least_of, own_bound};
 ghost use Rattle.wp_search.specs.Raises.{AreDuals};

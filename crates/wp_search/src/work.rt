@@ -1,6 +1,6 @@
 ghost use Rattle.std.specs.Prelude.{◌≡◌, ◌≤◌, ◌<◌, All, IfOk, IfSome, length, slice_index, sum};
 ghost use Rattle.wp_cert.specs.Trees.{IsRightOwn};
-ghost use Rattle.wp_duals.specs.Duals.{AreFeasible};
+ghost use Rattle.wp_batch.specs.Duals.{AreFeasible};
 ghost use Rattle.wp_pairs.specs.Permitted.{AreHeldBelow};
 ghost use Rattle.wp_price.specs.ShortMarks.{AreShortMarks};
 ghost use Rattle.wp_search.specs.Raises.{AreDuals};

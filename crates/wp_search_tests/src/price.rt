@@ -1,5 +1,5 @@
 ghost use Rattle.std.specs.Prelude.{◌≤◌, All, IfSome};
-ghost use Rattle.wp_duals.specs.Duals.{greatest_dual};
+ghost use Rattle.wp_batch.specs.Duals.{greatest_dual};
 
 use std::alloc::Global;
 use std::thread::Threads;

@@ -1,6 +1,6 @@
 ghost use Rattle.std.specs.Prelude.{◌≡◌, nat_le};
 ghost use Rattle.std.specs.List.{list_all};
-ghost use Rattle.wp_duals.specs.Duals.{greatest_dual};
+ghost use Rattle.wp_batch.specs.Duals.{greatest_dual};
 ghost use Rattle.wp_cert.specs.Text.{are_duals_within, is_node_within, is_order_of, is_slot_of, is_up_to, is_within};
 
 use crate::text::form::{Form, WrittenSlot};

@@ -4,14 +4,13 @@ ghost use Rattle.std.specs.Prelude.{◌≡◌, ◌≤◌, ◌<◌, ℕ, List, Al
 ghost use Rattle.wp_model.specs.Warehouse.{IsSlot};
 ghost use Rattle.wp_pairs.specs.Permitted.{AllDecided};
 ghost use Rattle.wp_batch.specs.Batchings.{IsBatching};
-ghost use Rattle.wp_duals.specs.Duals.{AreTight, IsTightFor};
+ghost use Rattle.wp_batch.specs.Duals.{AreTight, IsTightFor};
 
 use crate::classes::class_batching;
 use crate::cost::cost_of;
 use std::alloc::Global;
-use wp_batch::{Batching, Marks, Wave};
+use wp_batch::{Batching, Marks, Wave, sum_of};
 use wp_cert::{Duals, Own};
-use wp_duals::sum_of;
 use wp_graph::{Layout, Picks, Point};
 use wp_pairs::{Batch, Pairs};
 

@@ -1,6 +1,6 @@
 use Rattle.std.proofs.Common.{arith, ℕ, ◌<◌, ◌∙◌, length, length-set}
 use Rattle.std.proofs.lemmas.List.Elements.{All-weaker}
-use Rattle.wp_duals.specs.Visits.{IsLater}
+use Rattle.wp_batch.specs.Visits.{IsLater}
 use Rattle.wp_price.proofs.Reaches.{more_reaches}
 use Rattle.wp_price.proofs.item.reaches_of.Goals as goal
 

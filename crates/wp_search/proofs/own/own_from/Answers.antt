@@ -1,6 +1,6 @@
 use Rattle.std.proofs.Common.{◌≤◌, List, ℕ, ap, arith, length, subst, sym, ◌∙◌}
 use Rattle.std.specs.Prelude.{sum}
-use Rattle.wp_duals.specs.Duals.{AreFeasible}
+use Rattle.wp_batch.specs.Duals.{AreFeasible}
 use Rattle.wp_search.proofs.DualSums.{no_lower_sum}
 use Rattle.wp_search.proofs.Owns.{right_own}
 use Rattle.wp_search.proofs.own.own_from.Goals as goal

@@ -1,5 +1,5 @@
 use Rattle.std.proofs.Common.{List, ℕ, subst, sym}
-use Rattle.wp_duals.specs.Duals.{AreFeasible}
+use Rattle.wp_batch.specs.Duals.{AreFeasible}
 use Rattle.wp_search.proofs.own.own_of.Goals as goal
 
 pub own_from-requires-clause-feasible : goal.own_from-requires-clause-feasible

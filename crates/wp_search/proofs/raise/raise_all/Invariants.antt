@@ -1,5 +1,5 @@
 use Rattle.std.proofs.Common.{length}
-use Rattle.wp_duals.specs.Duals.{AreFeasible}
+use Rattle.wp_batch.specs.Duals.{AreFeasible}
 use Rattle.wp_search.specs.Raises.{AreDuals, AreListedTight, AreNoLower}
 use Rattle.wp_search.proofs.raise.raise_all.Given as goal
 

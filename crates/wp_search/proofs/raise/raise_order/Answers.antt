@@ -1,6 +1,6 @@
 use Rattle.std.proofs.Common.{◌+◌, ◌≤◌, ◌*◌, ◌<◌, ℕ, List, arith, length, set, subst, sym, ◌∙◌}
 use Rattle.std.proofs.lemmas.Grind.{get_or_default_zero}
-use Rattle.wp_duals.specs.Duals.{AreFeasible, IsTightFor, duals_of}
+use Rattle.wp_batch.specs.Duals.{AreFeasible, IsTightFor, duals_of}
 use Rattle.wp_search.specs.Raises.{AreDuals, IsRoom}
 use Rattle.wp_search.proofs.Raises.{found_some, raised_duals, raised_feasible, raised_tight, some_candidate}
 use Rattle.wp_search.proofs.raise.raise_order.Goals as goal

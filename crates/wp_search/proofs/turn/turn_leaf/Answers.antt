@@ -2,7 +2,7 @@ use Rattle.std.proofs.Common.{◌≡◌, ℕ, length, sum, ap, sym, ◌∙◌, s
 use Rattle.std.specs.Prelude.{Option}
 use Rattle.wp_pairs.specs.Permitted.{Pairing}
 use Rattle.wp_cert.specs.Paths.{pairing_of}
-use Rattle.wp_duals.specs.Duals.{AreFeasible}
+use Rattle.wp_batch.specs.Duals.{AreFeasible}
 use Rattle.wp_search.specs.Branches.{IsBranch, IsWorked}
 use Rattle.wp_search.specs.declared.branch.Branch.TheVariants.{Leaf}
 use Rattle.wp_search.specs.declared.work.Worked.{Worked}

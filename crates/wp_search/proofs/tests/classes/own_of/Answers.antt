@@ -1,5 +1,5 @@
 use Rattle.std.proofs.Common.{◌∙◌, List, ℕ, subst, sym}
-use Rattle.wp_duals.specs.Duals.{AreTight}
+use Rattle.wp_batch.specs.Duals.{AreTight}
 use Rattle.wp_search.proofs.tests.classes.own_of.Goals as goal
 
 pub returns-clause-tight : goal.returns-clause-tight

@@ -1,6 +1,0 @@
-pub mod OrderSums
-pub mod Lengths
-pub mod Ascending
-pub mod Visits
-pub mod Further
-pub mod ShareSums

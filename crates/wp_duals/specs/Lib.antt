@@ -1,3 +1,0 @@
-pub mod Duals
-pub mod Visits
-pub mod Reaches
