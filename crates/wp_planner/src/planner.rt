@@ -10,8 +10,9 @@ use wp_batch::Wave;
 use wp_graph::Layout;
 use wp_machine::WaveHolds;
 use wp_model::Memory;
+use wp_node::pays;
 use wp_outside::Gate;
-use wp_search::{Planned, pays, plan_wave};
+use wp_search::{Planned, plan_wave};
 use wp_tables::Stock;
 
 /// How many lengths are kept at most where the budget doesn't pay for duals of a node's own.

@@ -13,7 +13,7 @@ use Rattle.wp_batch.specs.Duals.{AreShares, units_of}
 use Rattle.wp_search.specs.Branches.{bound_of, nodes_of}
 use Rattle.wp_search.specs.Counts.{own_nodes}
 use Rattle.wp_search.specs.Plans.{IsGoodPlan}
-use Rattle.wp_search.specs.Prices.{full, price}
+use Rattle.wp_node.specs.Prices.{full, price}
 use Rattle.wp_search.specs.Searches.{HasEnded, IsSearch}
 use Rattle.wp_search.specs.declared.plan.Planned.{Planned}
 use Rattle.wp_search.specs.declared.plan.State.TheVariants as states

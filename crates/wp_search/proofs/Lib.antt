@@ -1,15 +1,8 @@
-pub mod DualSums
-pub mod Raises
-pub mod Rows
-pub mod ShareLists
 pub mod CostSums
-pub mod Owns
 pub mod Turns
 pub mod PathLengths
 pub mod OwnCounts
 pub mod WholeBatchings
-pub mod OrderTotals
-pub mod ClassBatchings
 pub mod OptimalJoins
 pub mod Searches
 pub mod GoodPlans

@@ -14,7 +14,7 @@ use Rattle.wp_cert.specs.Trees.{IsBoundOf, IsRight, dead, kept, leaf, split, wit
 use Rattle.wp_cert.specs.declared.tree.Node.{Node}
 use Rattle.wp_cert.specs.declared.tree.Node.TheVariants as node
 use Rattle.wp_search.specs.Counts.{has_own, own_nodes}
-use Rattle.wp_search.specs.Prices.{full, price}
+use Rattle.wp_node.specs.Prices.{full, price}
 use Rattle.wp_cert.proofs.PathSteps.{empty_path, longer_path}
 use Rattle.wp_search.proofs.PathLengths.{paths_are_short}
 

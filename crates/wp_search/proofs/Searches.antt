@@ -22,7 +22,7 @@ use Rattle.wp_search.specs.Branches.{AreCutsWithin, HasBound, IsBranch, bound_of
 use Rattle.wp_search.specs.Counts.{own_nodes}
 use Rattle.wp_search.specs.Plans.{HasShortMarks, IsSplitWithin}
 use Rattle.wp_search.specs.Plans.{kept as kept_marks, leaf as leaf_marks, dead as dead_marks, split as split_marks}
-use Rattle.wp_search.specs.Prices.{choose, price}
+use Rattle.wp_node.specs.Prices.{choose, price}
 use Rattle.wp_search.specs.Searches.{HasEnded, IsBest, IsOnward, IsSearch}
 use Rattle.wp_batch.proofs.Costs.{one_cost}
 use Rattle.wp_search.proofs.OptimalJoins.{optimal_joins}
@@ -34,7 +34,7 @@ use Rattle.wp_search.specs.declared.search.TreeSearch.{TreeSearch}
 use Rattle.wp_search.specs.declared.turn.LeafTurn.{LeafTurn}
 use Rattle.wp_search.specs.declared.turn.LeafTurn.TheVariants.{Onward, Settled, Spent, Worked as Made}
 use Rattle.wp_search.proofs.OwnCounts.{own_both, own_first}
-use Rattle.wp_search.proofs.Owns.{own_within}
+use Rattle.wp_node.proofs.Owns.{own_within}
 
 -- a subtree's nodes are a right tree, whatever nodes follow
 pub right_nodes : (wave : WavePicks) (pairing : Pairing) (above : ℕ) (branch : Branch) → IsBranch wave pairing above branch → (rest : List Node)

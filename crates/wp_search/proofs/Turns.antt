@@ -17,8 +17,8 @@ use Rattle.wp_search.specs.declared.branch.Cut.{Cut}
 use Rattle.wp_search.specs.declared.turn.LeafTurn.{LeafTurn}
 use Rattle.wp_search.specs.declared.turn.LeafTurn.TheVariants.{Onward, Settled, Spent, Worked as Made}
 use Rattle.wp_search.specs.declared.turn.TurnedBranch.{TurnedBranch}
-use Rattle.wp_search.specs.declared.work.Worked.{Worked}
-use Rattle.wp_search.proofs.Owns.{right_below}
+use Rattle.wp_node.specs.declared.work.Worked.{Worked}
+use Rattle.wp_node.proofs.Owns.{right_below}
 
 -- what is permitted with a further pair is permitted without it
 pub permitted_before : (pairing : Pairing) (new : OrderPair) (batch : List ℕ)

@@ -8,11 +8,11 @@ use Rattle.wp_cert.specs.declared.tree.Node.{Node}
 use Rattle.wp_cert.specs.declared.tree.Node.TheVariants as node
 use Rattle.wp_batch.specs.Duals.{units_of}
 use Rattle.wp_price.specs.ShortMarks.{AreShortMarks}
-use Rattle.wp_search.specs.Raises.{AreDuals}
+use Rattle.wp_node.specs.Raises.{AreDuals}
 use Rattle.wp_search.specs.declared.branch.Branch.{Branch}
 use Rattle.wp_search.specs.declared.branch.Branch.TheVariants.{Leaf, Dead, Split'}
 use Rattle.wp_search.specs.declared.branch.Cut.{Cut}
-use Rattle.wp_search.specs.declared.work.Worked.{Worked}
+use Rattle.wp_node.specs.declared.work.Worked.{Worked}
 
 -- the bound of duals that a node has of its own
 abbrev pub own_bound : Worked → ℕ

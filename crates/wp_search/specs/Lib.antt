@@ -1,8 +1,4 @@
-pub mod Prices
 pub mod Counts
-pub mod Raises
-pub mod Items
-pub mod Weights
 pub mod Plans
 pub mod Branches
 pub mod Turns

@@ -13,7 +13,7 @@ use Rattle.wp_cert.specs.declared.tree.Own.{Own}
 use Rattle.wp_batch.specs.Duals.{units_of}
 use Rattle.wp_price.specs.ShortMarks.{AreShortMarks}
 use Rattle.wp_search.specs.Counts.{own_nodes}
-use Rattle.wp_search.specs.Prices.{full, price}
+use Rattle.wp_node.specs.Prices.{full, price}
 use Rattle.wp_search.specs.declared.plan.Planned.{Planned}
 use Rattle.wp_search.specs.declared.plan.State.TheVariants as states
 

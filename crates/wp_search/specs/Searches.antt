@@ -4,7 +4,7 @@ use Rattle.wp_batch.specs.Batchings.{IsCost, no_pairs}
 use Rattle.wp_batch.specs.Waves.{WavePicks}
 use Rattle.wp_batch.specs.Duals.{units_of}
 use Rattle.wp_search.specs.Branches.{AreCutsWithin, IsBranch, bound_of, own_count, turns_left}
-use Rattle.wp_search.specs.Prices.{price}
+use Rattle.wp_node.specs.Prices.{price}
 use Rattle.wp_search.specs.Turns.{IsProper}
 use Rattle.wp_search.specs.declared.best.BestBatching.{BestBatching}
 use Rattle.wp_search.specs.declared.search.TreeSearch.{TreeSearch}

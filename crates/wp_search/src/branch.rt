@@ -1,11 +1,10 @@
 ghost use Rattle.std.specs.Prelude.{◌≡◌, ◌≤◌, ℕ, length, sum};
 ghost use Rattle.wp_batch.specs.Duals.{units_of};
 ghost use Rattle.wp_search.specs.Branches.{HasBound, bound_of as least_of};
-ghost use Rattle.wp_search.specs.Raises.{AreDuals};
+ghost use Rattle.wp_node.specs.Raises.{AreDuals};
 ghost use Rattle.wp_cert.specs.Trees.{lower_of};
 
-use crate::shares::bound_of;
-use crate::work::Worked;
+use wp_node::{Worked, bound_of};
 
 /// A subtree of the search.
 #[derive(Drop)]

@@ -4,10 +4,10 @@ ghost use Rattle.wp_search.specs.Branches.{nodes_of, stacked_nodes};
 ghost use Rattle.wp_search.specs.declared.branch.Branch.TheVariants as branches;
 
 use crate::branch::{Branch, Cut};
-use crate::work::Worked;
 use std::alloc::Global;
 use wp_cert::Node;
 use wp_model::Memory;
+use wp_node::Worked;
 
 // The node of a leaf.
 fn leaf_node(leaf: Option<Worked>) -> Node

@@ -8,12 +8,12 @@ use crate::branch::Branch;
 use crate::listing::list_nodes;
 use crate::plan::{Planned, State};
 use crate::search::{TreeSearch, search_on};
-use crate::shares::{bound_of, share_duals};
 use std::alloc::Global;
 use std::thread::Threads;
 use wp_batch::{Wave, merged_start};
 use wp_cert::{Nodes, Tree};
 use wp_model::Memory;
+use wp_node::{bound_of, share_duals};
 use wp_outside::Gate;
 
 // The state of a plan with this bound and this cost.

@@ -2,20 +2,19 @@ ghost use Rattle.std.specs.Prelude.{◌≡◌, ◌+◌, ◌<◌, ◌≤◌, ◌�
 ghost use Rattle.wp_batch.specs.Batchings.{no_pairs};
 ghost use Rattle.wp_batch.specs.Duals.{AreShares, units_of};
 ghost use Rattle.wp_search.specs.Branches.{HasBound, IsBranch, bound_of as least_of};
-ghost use Rattle.wp_search.specs.Prices.{price};
-ghost use Rattle.wp_search.specs.Raises.{AreDuals};
+ghost use Rattle.wp_node.specs.Prices.{price};
+ghost use Rattle.wp_node.specs.Raises.{AreDuals};
 ghost use Rattle.wp_search.specs.Searches.{HasEnded, IsBest, IsOnward, IsSearch, KeepsBest};
 ghost use Rattle.wp_search.specs.Turns.{IsFound, IsProper, IsTurned};
 
 use crate::best::{BestBatching, best_of, cheaper_of};
 use crate::branch::Branch;
-use crate::price::{pays, price_of};
-use crate::shares::bound_of;
 use crate::turn::{LeafTurn, Turner, take_turn};
 use std::alloc::Global;
 use std::thread::Threads;
 use wp_batch::{Batching, Wave};
 use wp_model::Memory;
+use wp_node::{bound_of, pays, price_of};
 use wp_outside::Gate;
 
 /// A search for a plan: its tree, the best batching that it knows, what it may spend, and what it has spent.

@@ -4,21 +4,18 @@ ghost use Rattle.wp_cert.specs.Trees.{lower_of, with_pair};
 ghost use Rattle.wp_batch.specs.Duals.{AreFeasible, units_of};
 ghost use Rattle.wp_pairs.specs.Permitted.{AreUndecided};
 ghost use Rattle.wp_search.specs.Branches.{HasBound, IsBranch, IsCut, IsFreshSplit, IsLeaf, IsWorked, bound_of as least_of, own_bound};
-ghost use Rattle.wp_search.specs.Raises.{AreDuals};
+ghost use Rattle.wp_node.specs.Raises.{AreDuals};
 ghost use Rattle.wp_search.specs.Turns.{IsTurned};
 ghost use Rattle.wp_search.specs.declared.branch.Branch.TheVariants as branches;
 
 use crate::branch::{Branch, Cut, lower_bound};
-use crate::choice::choose_pair;
-use crate::classes::class_batching;
-use crate::shares::bound_of;
 use crate::whole::better_batching;
-use crate::work::{Worked, work_node};
 use std::alloc::Global;
 use std::thread::Threads;
 use wp_batch::{Batching, Wave};
 use wp_cert::pairs_of;
 use wp_model::Memory;
+use wp_node::{Worked, bound_of, choose_pair, class_batching, work_node};
 use wp_outside::Gate;
 use wp_pairs::{Batch, OrderPair, Pairs};
 

@@ -6,12 +6,12 @@ ghost use Rattle.wp_pairs.specs.Permitted.{AllDecided};
 ghost use Rattle.wp_batch.specs.Batchings.{IsBatching};
 ghost use Rattle.wp_batch.specs.Duals.{AreTight, IsTightFor};
 
-use crate::classes::class_batching;
 use crate::cost::cost_of;
 use std::alloc::Global;
 use wp_batch::{Batching, Marks, Wave, sum_of};
 use wp_cert::{Duals, Own};
 use wp_graph::{Layout, Picks, Point};
+use wp_node::class_batching;
 use wp_pairs::{Batch, Pairs};
 
 /// One order.

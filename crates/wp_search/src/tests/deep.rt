@@ -2,10 +2,10 @@
 
 use crate::branch::{Branch, Cut};
 use crate::listing::list_nodes;
-use crate::work::Worked;
 use std::alloc::Global;
 use wp_batch::{Batching, Marks};
 use wp_cert::{Duals, Node, Own};
+use wp_node::Worked;
 
 /// How many splits stand below each other: one for each pair of 64 orders.
 const SPLITS: u32 = 2016;

@@ -1,5 +1,5 @@
 use Rattle.std.proofs.Common.{ℕ, ◌-◌, ◌≤◌, ◌<◌, ◌∙◌, length, sum, arith, inl, inr, refl, subst}
-use Rattle.wp_search.specs.Prices.{price}
+use Rattle.wp_node.specs.Prices.{price}
 use Rattle.wp_search.proofs.Searches.{not_paid, paid_onward, settled_cheaper, settled_ended, settled_proper, spent_ended, split_onward}
 use Rattle.wp_search.proofs.search.take_step.Goals as goal
 use Rattle.wp_search.proofs.search.take_step.Goals.{in-Worked, in-Onward, in-Spent, in-Settled}

@@ -5,7 +5,7 @@ use Rattle.wp_cert.specs.Paths.{pairing_of}
 use Rattle.wp_batch.specs.Duals.{AreFeasible}
 use Rattle.wp_search.specs.Branches.{IsBranch, IsWorked}
 use Rattle.wp_search.specs.declared.branch.Branch.TheVariants.{Leaf}
-use Rattle.wp_search.specs.declared.work.Worked.{Worked}
+use Rattle.wp_node.specs.declared.work.Worked.{Worked}
 use Rattle.wp_search.proofs.Turns.{worked_below, worked_turned}
 use Rattle.wp_search.proofs.turn.turn_leaf.Goals as goal
 

@@ -1,0 +1,18 @@
+use Rattle.std.proofs.Common.{arith, refl}
+use Rattle.wp_node.proofs.Raises.{found_some, no_slack_below, some_batch}
+use Rattle.wp_node.proofs.own.marks_of.Goals as goal
+
+pub unwrap-priced-requires : goal.unwrap-priced-requires
+unwrap-priced-requires g c =
+    found_some _ c.in_ok-least_slack.field-0 c.in_ok-least_slack.ensures.none
+    (some_batch c.args.pairs.now c.requires.held (omega (arith, c.requires.pairs, c.requires.some_orders)))
+
+pub unwrap-requires : goal.unwrap-requires
+unwrap-requires g c =
+    let least = rw c.unwrap-priced.ensures at c.in_ok-least_slack.ensures.least in
+    let marked = rw c.unwrap-priced.ensures at c.in_ok-least_slack.ensures.marked in
+    marked.1 (
+      refl,
+      no_slack_below c.args.wave.now c.args.pairs.now c.args.duals.now.items c.unwrap-priced.result.batch c.unwrap-priced.result.slack
+          c.requires.feasible least.candidate least.is,
+    )

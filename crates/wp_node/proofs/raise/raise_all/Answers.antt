@@ -1,0 +1,12 @@
+use Rattle.wp_node.proofs.DualSums.{no_lower_through}
+use Rattle.wp_node.proofs.Raises.{one_more_tight}
+use Rattle.wp_node.proofs.raise.raise_all.Goals as goal
+
+pub loop-order-preserved : goal.loop-order-preserved
+loop-order-preserved g c = record {
+  duals = c.raise_order.ensures.duals;
+  feasible = c.raise_order.ensures.feasible;
+  no_lower = no_lower_through _ c.loop-order.duals.items _ c.loop-order.invariant.no_lower c.raise_order.ensures.no_lower;
+  tight = rw c.in_ok-push.ensures.items (one_more_tight _ _ c.loop-order.duals.items _ _ _ _ c.raise_order.ensures.no_lower c.raise_order.ensures.feasible
+      c.loop-order.invariant.tight c.in_ok-raise_order.ensures.tight);
+}

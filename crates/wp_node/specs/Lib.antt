@@ -1,0 +1,4 @@
+pub mod Prices
+pub mod Raises
+pub mod Items
+pub mod Weights

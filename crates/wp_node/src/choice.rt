@@ -1,0 +1,227 @@
+ghost use Rattle.std.specs.Prelude.{IfNone, IfOk, IfSome};
+ghost use Rattle.wp_pairs.specs.Permitted.{AllDecided, AreUndecided};
+ghost use Rattle.wp_node.specs.Raises.{AreDuals};
+
+use crate::ascent::{GREATEST_DUAL, ascend_within, sum_all};
+use crate::bound::WHOLE;
+use crate::items::total_in;
+use crate::work::{Weighted, Worked};
+use std::alloc::Global;
+use wp_master::Column;
+use wp_model::Memory;
+use wp_pairs::{Batch, Pairs};
+
+/// How many pairs are tried at most.
+const MOST_TRIED: usize = 12;
+
+/// How many turns an ascent has by which a pair is tried.
+const TRY_TURNS: u64 = 24;
+
+/// What a child gains at least in the comparison of pairs: a tenth of a unit of length.
+const LEAST_GAIN: u64 = 6;
+
+/// Two orders, the lower first.
+#[derive(Clone, Copy)]
+struct Two {
+    first: u32,
+    second: u32,
+}
+
+// How many columns, by their weights, have both orders.
+fn share_of(weighted: &[Weighted], two: Two) -> u64 {
+    let mut share: u64 = 0;
+    for each in weighted {
+        let batch = each.column.batch;
+        if batch.has(two.first) && batch.has(two.second) {
+            share = share.saturating_add(each.weight);
+        }
+    }
+    share
+}
+
+// How far a share is from one half; None where it is nothing or all.
+fn distance_of(share: u64) -> Option<u64> {
+    if share == 0 || WHOLE <= share {
+        return None;
+    }
+    Some((2 * share).abs_diff(WHOLE))
+}
+
+// Adds the undecided pairs of an order and later ones that are shared in part, by how far from one half.
+fn add_shared(
+    pairs: &Pairs,
+    weighted: &[Weighted],
+    first: u32,
+    shared: &mut Vec<(u64, u32, u32)>,
+) -> Result<(), Memory> {
+    for second in first.saturating_add(1)..pairs.orders() {
+        if pairs.decided(first, second) {
+            continue;
+        }
+        if let Some(distance) = distance_of(share_of(weighted, Two { first, second })) {
+            shared.push((distance, first, second))?;
+        }
+    }
+    Ok(())
+}
+
+// The undecided pairs that are shared in part, those nearest to one half first.
+fn shared_pairs(
+    alloc: Global,
+    pairs: &Pairs,
+    weighted: &[Weighted],
+) -> Result<Vec<(u64, u32, u32)>, Memory> {
+    let mut shared = Vec::new(alloc);
+    for first in 0..pairs.orders() {
+        add_shared(pairs, weighted, first, &mut shared)?;
+    }
+    shared.sort()?;
+    Ok(shared)
+}
+
+// Whether a batch has both orders or none of two that go together, and not both of two that go apart.
+fn respects(batch: Batch, two: Two, together: bool) -> bool {
+    let first = batch.has(two.first);
+    let second = batch.has(two.second);
+    if together {
+        first == second
+    } else {
+        !(first && second)
+    }
+}
+
+// The columns that respect a pair.
+fn respecting(
+    alloc: Global,
+    weighted: &[Weighted],
+    two: Two,
+    together: bool,
+) -> Result<Vec<Column>, Memory> {
+    let mut columns = Vec::new(alloc);
+    for each in weighted {
+        if respects(each.column.batch, two, together) {
+            columns.push(each.column)?;
+        }
+    }
+    Ok(columns)
+}
+
+// What an order's dual may be raised by for some columns; None where none of them has the order.
+fn room_within(duals: &[u64], columns: &[Column], order: u32) -> Option<u64> {
+    let mut least = None;
+    for column in columns {
+        if column.batch.has(order) {
+            let most = column.length.saturating_mul(60);
+            let room = most.saturating_sub(total_in(duals, column.batch));
+            least = Some(least.map_or(room, |least: u64| least.min(room)));
+        }
+    }
+    least
+}
+
+// Raises duals, order by order, as far as some columns have room.
+fn raise_within(duals: &mut [u64], columns: &[Column]) {
+    for order in 0..64 {
+        if let Some(room) = room_within(duals, columns, order) {
+            raise_dual(duals, order as usize, room);
+        }
+    }
+}
+
+// Raises the dual of an order, up to the greatest.
+fn raise_dual(duals: &mut [u64], order: usize, room: u64) {
+    if order < duals.len() {
+        duals[order] = duals[order].saturating_add(room).min(GREATEST_DUAL);
+    }
+}
+
+// What the duals of a child come to more, by an ascent within the columns.
+fn gain_of(
+    alloc: Global,
+    orders: u32,
+    worked: &Worked,
+    two: Two,
+    together: bool,
+) -> Result<u64, Memory>
+    requires { AreDuals orders worked.now.own.duals }
+{
+    let columns = respecting(alloc, worked.weighted.as_slice(), two, together)?;
+    let mut duals = Vec::from_slice(alloc, worked.own.duals.as_slice())?;
+    let before = sum_all(duals.as_slice());
+    ascend_within(orders, duals.as_mut_slice(), columns.as_slice(), TRY_TURNS);
+    raise_within(duals.as_mut_slice(), columns.as_slice());
+    Ok(
+        sum_all(duals.as_slice())
+            .saturating_sub(before)
+            .max(LEAST_GAIN),
+    )
+}
+
+// What a pair gains: the product of what its children gain.
+fn score_of(alloc: Global, orders: u32, worked: &Worked, two: Two) -> Result<u64, Memory>
+    requires { AreDuals orders worked.now.own.duals }
+{
+    let together = gain_of(alloc, orders, worked, two, true)?;
+    let apart = gain_of(alloc, orders, worked, two, false)?;
+    Ok(together.saturating_mul(apart))
+}
+
+// Of the pairs that are tried the one that gains most, the first among equals.
+fn best_tried(
+    alloc: Global,
+    orders: u32,
+    worked: &Worked,
+    shared: &[(u64, u32, u32)],
+) -> Result<Option<Two>, Memory>
+    requires { AreDuals orders worked.now.own.duals }
+{
+    let mut best = None;
+    let mut most = 0;
+    for (_, first, second) in shared.iter().take(MOST_TRIED) {
+        let two = Two {
+            first: *first,
+            second: *second,
+        };
+        let score = score_of(alloc, orders, worked, two)?;
+        if score > most {
+            most = score;
+            best = Some(two);
+        }
+    }
+    Ok(best)
+}
+
+// Two orders, where they are undecided.
+fn undecided_two(pairs: &Pairs, two: Two) -> Option<(u32, u32)>
+    ensures { IfSome result (λ pair. AreUndecided pairs.now pair.0 pair.1) }
+{
+    if two.first < two.second
+        && two.second < pairs.orders()
+        && !pairs.decided(two.first, two.second)
+    {
+        return Some((two.first, two.second));
+    }
+    None
+}
+
+/// The pair of orders on which a node is split: of the undecided pairs that the columns of the node's linear program share most
+/// nearly by one half, the one whose two children gain most in a short ascent. Where no pair is shared in part it is the least
+/// undecided pair. None comes exactly where all pairs are decided.
+pub fn choose_pair(
+    alloc: Global,
+    pairs: &Pairs,
+    worked: &Worked,
+) -> Result<Option<(u32, u32)>, Memory>
+    requires duals { AreDuals pairs.now.orders worked.now.own.duals }
+    ensures some { IfOk result (λ found. IfSome found (λ pair. AreUndecided pairs.now pair.0 pair.1)) }
+    ensures none { IfOk result (λ found. IfNone found (AllDecided pairs.now)) }
+{
+    let orders = pairs.orders();
+    let shared = shared_pairs(alloc, pairs, worked.weighted.as_slice())?;
+    if let Some(two) = best_tried(alloc, orders, worked, shared.as_slice())? {
+        if let Some(pair) = undecided_two(pairs, two) {
+            return Ok(Some(pair));
+        }
+    }
+    Ok(pairs.undecided())
+}

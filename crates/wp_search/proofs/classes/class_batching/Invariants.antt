@@ -1,5 +1,0 @@
-use Rattle.wp_search.proofs.ClassBatchings.{AreClassesBelow}
-use Rattle.wp_search.proofs.classes.class_batching.Given as goal
-
-abbrev pub invariant-loop-order : goal.invariant-loop-order
-invariant-loop-order l = AreClassesBelow l.pairs l.batches.items l.order

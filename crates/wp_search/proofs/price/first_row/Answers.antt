@@ -1,5 +1,0 @@
-use Rattle.wp_search.proofs.Rows.{first_row_is}
-use Rattle.wp_search.proofs.price.first_row.Goals as goal
-
-pub returns : goal.returns
-returns c = first_row_is

@@ -1,6 +1,0 @@
-use Rattle.wp_search.proofs.ShareLists.{one_more_share}
-use Rattle.wp_search.proofs.shares.share_duals.Goals as goal
-
-pub loop-order-preserved : goal.loop-order-preserved
-loop-order-preserved c =
-    rw c.in_ok-push.ensures.items (one_more_share _ _ _ _ _ c.loop-order.invariant c.share_of.ensures.is c.share_of.ensures.small)
