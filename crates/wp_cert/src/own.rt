@@ -10,6 +10,16 @@ use crate::visit::visit;
 use wp_batch::{Wave, sum_of, total_of};
 use wp_pairs::{Batch, Pairs};
 
+/// What a node has of its own, to be tested: a wave, the node's pairs for as many orders, and a dual for each.
+#[derive(Clone, Copy)]
+pub struct TestedOwn<'a> {
+    pub wave: &'a Wave,
+    pub pairs: &'a Pairs,
+    pub own: &'a Own,
+    pub ghost as_many: { pairs.now.orders ≡ length wave.now.orders },
+    pub ghost count: { length own.now.duals ≡ pairs.now.orders },
+}
+
 // Whether there is one dual and one tight batch for each order.
 fn has_all(pairs: &Pairs, own: &Own) -> bool
     ensures { IsTrue result ↔ HasAll pairs.now own.now }
@@ -27,41 +37,36 @@ fn each_batch_has_a_length(wave: &Wave)
 }
 
 // Tests the marks of a node: all places that are visited pass, and no mark is left.
-fn test_marks(wave: &Wave, pairs: &Pairs, own: &Own) -> Result<(), CertWhy>
-    requires orders { pairs.now.orders ≡ length wave.now.orders }
-    requires count { length own.now.duals ≡ pairs.now.orders }
-    ensures ok { OnOk result (IsVisitOfAll wave.now pairs.now own.now.duals own.now.marks (Passed [])) }
-    ensures err { IfErr result (AreRefused wave.now pairs.now own.now) }
+fn test_marks(tested: &TestedOwn<'_>) -> Result<(), CertWhy>
+    ensures ok { OnOk result (IsVisitOfAll tested.now.wave.now tested.now.pairs.now tested.now.own.now.duals tested.now.own.now.marks (Passed [])) }
+    ensures err { IfErr result (AreRefused tested.now.wave.now tested.now.pairs.now tested.now.own.now) }
 {
-    each_batch_has_a_length(wave);
-    let end = visit(wave, pairs, own, Batch::empty(), 0, 0, 0)?;
-    if end < own.marks.len() {
+    each_batch_has_a_length(tested.wave);
+    let end = visit(tested, Batch::empty(), 0, 0, 0)?;
+    if end < tested.own.marks.len() {
         return Err(CertWhy::BadMarks);
     }
     Ok(())
 }
 
 // Whether a batch is tight for an order.
-fn is_tight(wave: &Wave, pairs: &Pairs, own: &Own, order: u32, batch: Batch) -> bool
-    requires orders { pairs.now.orders ≡ length wave.now.orders }
-    requires count { length own.now.duals ≡ pairs.now.orders }
-    ensures { IsTrue result ↔ IsTightFor wave.now pairs.now own.now.duals order batch }
+fn is_tight(tested: &TestedOwn<'_>, order: u32, batch: Batch) -> bool
+    ensures { IsTrue result ↔ IsTightFor tested.now.wave.now tested.now.pairs.now tested.now.own.now.duals order batch }
 {
-    if !pairs.permits(batch) || !batch.has(order) {
+    if !tested.pairs.permits(batch) || !batch.has(order) {
         return false;
     }
-    sum_of(own.duals.as_slice(), batch) == 60 * u128::from(wave.batch_length(batch))
+    sum_of(tested.own.duals.as_slice(), batch) == 60 * u128::from(tested.wave.batch_length(batch))
 }
 
 // The first order whose batch isn't tight for it. None comes exactly where all are.
-fn first_slack(wave: &Wave, pairs: &Pairs, own: &Own) -> Option<u32>
-    requires orders { pairs.now.orders ≡ length wave.now.orders }
-    requires all { HasAll pairs.now own.now }
-    ensures none { IfNone result ((order : ℕ) → order < pairs.now.orders → IsTightAt wave.now pairs.now own.now order) }
-    ensures some { IfSome result (IsFirstSlack wave.now pairs.now own.now) }
+fn first_slack(tested: &TestedOwn<'_>) -> Option<u32>
+    requires { HasAll tested.now.pairs.now tested.now.own.now }
+    ensures none { IfNone result ((order : ℕ) → order < tested.now.pairs.now.orders → IsTightAt tested.now.wave.now tested.now.pairs.now tested.now.own.now order) }
+    ensures some { IfSome result (IsFirstSlack tested.now.wave.now tested.now.pairs.now tested.now.own.now) }
 {
-    for order in 0..pairs.orders() {
-        if !is_tight(wave, pairs, own, order, *own.tight.at(order)) {
+    for order in 0..tested.pairs.orders() {
+        if !is_tight(tested, order, *tested.own.tight.at(order)) {
             return Some(order);
         }
     }
@@ -71,7 +76,7 @@ fn first_slack(wave: &Wave, pairs: &Pairs, own: &Own) -> Option<u32>
 /// Tests what a node has of its own, and tells the sum of its duals. The answer is otherwise the first rule that it breaks:
 /// `DualsLength`, `SumLow`, `NotFeasible` or `BadMarks`, `NotTight`.
 pub fn test_own(wave: &Wave, pairs: &Pairs, own: &Own, above: u128) -> Result<u128, CertWhy>
-    requires orders { pairs.now.orders ≡ length wave.now.orders }
+    requires { pairs.now.orders ≡ length wave.now.orders }
     ensures ok { OnOk result (IsRightOwn wave.now pairs.now above own.now) }
     ensures total { IfOk result (λ total. total ≡ sum own.now.duals) }
     ensures err { IfErr result (IsBrokenOwn wave.now pairs.now above own.now) }
@@ -79,12 +84,13 @@ pub fn test_own(wave: &Wave, pairs: &Pairs, own: &Own, above: u128) -> Result<u1
     if !has_all(pairs, own) {
         return Err(CertWhy::DualsLength);
     }
+    let tested = TestedOwn { wave, pairs, own };
     let total = total_of(own.duals.as_slice());
     if total < above {
         return Err(CertWhy::SumLow);
     }
-    test_marks(wave, pairs, own)?;
-    match first_slack(wave, pairs, own) {
+    test_marks(&tested)?;
+    match first_slack(&tested) {
         Some(order) => Err(CertWhy::NotTight(order)),
         None => Ok(total),
     }

@@ -6,7 +6,8 @@ ghost use Rattle.wp_cert.specs.Visited.{HasEachLength, IsNoLess, ReachesTooMuch,
 ghost use Rattle.wp_batch.specs.Duals.{duals_of};
 ghost use Rattle.wp_batch.specs.Visits.{AddsItem, IsItem, IsVisit, Passed, Place};
 
-use crate::tree::{CertWhy, Own};
+use crate::own::TestedOwn;
+use crate::tree::CertWhy;
 use wp_batch::{Wave, is_later, reach_of, sum_of};
 use wp_pairs::{Batch, Pairs};
 
@@ -55,54 +56,46 @@ fn length_for(wave: &Wave, place: Batch, known: u64, sum: u128, more: u128) -> u
 }
 
 // Whether a place of this sum of duals, which isn't entered, stands for all batches that have more orders after it.
-fn stands_for_more(
-    wave: &Wave,
-    pairs: &Pairs,
-    duals: &[u64],
-    place: Batch,
-    from: u32,
-    sum: u128,
-    known: u64,
-) -> bool
-    requires lengths { HasEachLength wave.now }
-    requires orders { All (λ order. order < length wave.now.orders) place }
-    requires count { length duals.now ≡ pairs.now.orders }
-    requires fits { length place ≤ pairs.now.capacity }
-    requires sum { sum ≡ duals_of duals.now place }
-    requires least { IsNoLess wave.now place known }
-    ensures yes { IsTrue result → StandsForMore wave.now pairs.now duals.now place from }
-    ensures no { result ≡ false → ReachesTooMuch wave.now pairs.now duals.now place from }
+fn stands_for_more(tested: &TestedOwn<'_>, place: Batch, from: u32, sum: u128, known: u64) -> bool
+    requires lengths { HasEachLength tested.now.wave.now }
+    requires orders { All (λ order. order < length tested.now.wave.now.orders) place }
+    requires fits { length place ≤ tested.now.pairs.now.capacity }
+    requires sum { sum ≡ duals_of tested.now.own.now.duals place }
+    requires least { IsNoLess tested.now.wave.now place known }
+    ensures yes { IsTrue result → StandsForMore tested.now.wave.now tested.now.pairs.now tested.now.own.now.duals place from }
+    ensures no { result ≡ false → ReachesTooMuch tested.now.wave.now tested.now.pairs.now tested.now.own.now.duals place from }
 {
-    let reach = reach_of(pairs, duals, place, from);
-    covers(length_for(wave, place, known, sum, reach), sum, reach)
+    let reach = reach_of(tested.pairs, tested.own.duals.as_slice(), place, from);
+    covers(
+        length_for(tested.wave, place, known, sum, reach),
+        sum,
+        reach,
+    )
 }
 
 /// Visits a place whose later items begin from an order on, with the marks from this place of them on. The answer is where
 /// the marks go on; or the first refusal, `NotFeasible` with a batch that has too much in duals, or `BadMarks`. The
 /// length of the place is no less than a known number, and the place is measured only where that number isn't enough.
 pub fn visit(
-    wave: &Wave,
-    pairs: &Pairs,
-    own: &Own,
+    tested: &TestedOwn<'_>,
     place: Batch,
     from: u32,
     next: u64,
     known: u64,
 ) -> Result<u64, CertWhy>
-    requires lengths { HasEachLength wave.now }
-    requires orders { pairs.now.orders ≡ length wave.now.orders }
-    requires count { length own.now.duals ≡ pairs.now.orders }
-    requires known { All (λ order. order < pairs.now.orders) place }
-    requires fits { length place ≤ pairs.now.capacity }
-    requires from { from ≤ pairs.now.orders }
-    requires next { next ≤ length own.now.marks }
-    requires least { IsNoLess wave.now place known }
-    ensures ok { IfOk result (λ end. IsVisit wave.now pairs.now own.now.duals (Place place from) (drop next own.now.marks) (Passed (drop end own.now.marks))) }
-    ensures within { IfOk result (λ end. end ≤ length own.now.marks) }
-    ensures err { IfErr result (IsRefusedVisit wave.now pairs.now own.now.duals (Place place from) (drop next own.now.marks)) }
+    requires lengths { HasEachLength tested.now.wave.now }
+    requires known { All (λ order. order < tested.now.pairs.now.orders) place }
+    requires fits { length place ≤ tested.now.pairs.now.capacity }
+    requires from { from ≤ tested.now.pairs.now.orders }
+    requires next { next ≤ length tested.now.own.now.marks }
+    requires least { IsNoLess tested.now.wave.now place known }
+    ensures ok { IfOk result (λ end. IsVisit tested.now.wave.now tested.now.pairs.now tested.now.own.now.duals (Place place from) (drop next tested.now.own.now.marks)
+        (Passed (drop end tested.now.own.now.marks))) }
+    ensures within { IfOk result (λ end. end ≤ length tested.now.own.now.marks) }
+    ensures err { IfErr result (IsRefusedVisit tested.now.wave.now tested.now.pairs.now tested.now.own.now.duals (Place place from) (drop next tested.now.own.now.marks)) }
 {
-    let duals = own.duals.as_slice();
-    let sum = sum_of(duals, place);
+    let TestedOwn { wave, pairs, own } = *tested;
+    let sum = sum_of(own.duals.as_slice(), place);
     let length = length_for(wave, place, known, sum, 0);
     if !covers(length, sum, 0) {
         return Err(CertWhy::NotFeasible(place));
@@ -111,7 +104,7 @@ pub fn visit(
         return Err(CertWhy::BadMarks);
     }
     if !own.marks.at(next) {
-        if !stands_for_more(wave, pairs, duals, place, from, sum, length) {
+        if !stands_for_more(tested, place, from, sum, length) {
             return Err(CertWhy::BadMarks);
         }
         return Ok(next + 1);
@@ -119,7 +112,7 @@ pub fn visit(
     let mut after = next + 1;
     for item in from..pairs.orders() {
         if let Some(batch) = child_of(pairs, place, item) {
-            after = visit(wave, pairs, own, batch, item + 1, after, length)?;
+            after = visit(tested, batch, item + 1, after, length)?;
         }
     }
     Ok(after)

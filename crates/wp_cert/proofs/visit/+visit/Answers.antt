@@ -11,60 +11,57 @@ use Rattle.wp_cert.proofs.visit.+visit.Goals.{in-Some+in_ok-after, in_default}
 
 pub returns-then-not-covers-clause-err : goal.returns-then-not-covers-clause-err
 returns-then-not-covers-clause-err t c =
-    let sum = rw c.as_slice-duals.ensures at c.sum_of-sum.ensures in
+    let sum = rw c.as_slice.ensures at c.sum_of-sum.ensures in
     let short = c.covers.ensures.no c.if-not-covers.true in
     too_much (c.length_for-length.ensures.exact short) (omega (arith, short, sum))
 
 pub returns-then-next-len-clause-err : goal.returns-then-next-len-clause-err
 returns-then-next-len-clause-err t c =
-    let sum = rw c.as_slice-duals.ensures at c.sum_of-sum.ensures in
-    let within = within_known c.args.wave.now c.args.own.now.duals c.args.place _ _ c.requires.lengths c.requires.orders c.requires.known
+    let sum = rw c.as_slice.ensures at c.sum_of-sum.ensures in
+    let within = within_known c.args.tested.now.wave.now c.args.tested.now.own.now.duals c.args.place _ _ c.requires.lengths c.args.tested.now.as_many c.requires.known
     c.length_for-length.ensures.least (omega (arith, c.covers.ensures.yes c.if-not-covers.false, sum)) in
-    let none : drop c.args.next c.args.own.now.marks ≡ [] =
-    drop_all c.args.next c.args.own.now.marks (omega (arith, c.if-next-len.true, c.len.ensures)) in rw none (missing within)
+    let none : drop c.args.next c.args.tested.now.own.now.marks ≡ [] =
+    drop_all c.args.next c.args.tested.now.own.now.marks (omega (arith, c.if-next-len.true, c.len.ensures)) in rw none (missing within)
 
 pub returns-then-not-stands_for_more-clause-err : goal.returns-then-not-stands_for_more-clause-err
 returns-then-not-stands_for_more-clause-err t c =
-    let sum = rw c.as_slice-duals.ensures at c.sum_of-sum.ensures in
-    let within = within_known c.args.wave.now c.args.own.now.duals c.args.place _ _ c.requires.lengths c.requires.orders c.requires.known
+    let sum = rw c.as_slice.ensures at c.sum_of-sum.ensures in
+    let within = within_known c.args.tested.now.wave.now c.args.tested.now.own.now.duals c.args.place _ _ c.requires.lengths c.args.tested.now.as_many c.requires.known
     c.length_for-length.ensures.least (omega (arith, c.covers.ensures.yes c.if-not-covers.false, sum)) in
-    let reached = rw c.as_slice-duals.ensures at (c.stands_for_more.ensures.no c.if-not-stands_for_more.true) in
-    let mark = mark_first c.args.own.now.marks c.args.next false (c.at.ensures ∙ ap (λ (b : Bool). Some b) c.if-not-at.true) in
+    let reached = c.stands_for_more.ensures.no c.if-not-stands_for_more.true in
+    let mark = mark_first c.args.tested.now.own.now.marks c.args.next false (c.at.ensures ∙ ap (λ (b : Bool). Some b) c.if-not-at.true) in
     rw mark (unsound within reached.long reached.reaches reached.above)
 
 pub returns-then-not-at-clause-ok : goal.returns-then-not-at-clause-ok
 returns-then-not-at-clause-ok t c =
-    let stands = rw c.as_slice-duals.ensures at (c.stands_for_more.ensures.yes c.if-not-stands_for_more.false) in
-    let mark = mark_first c.args.own.now.marks c.args.next false (c.at.ensures ∙ ap (λ (b : Bool). Some b) c.if-not-at.true) in
+    let stands = c.stands_for_more.ensures.yes c.if-not-stands_for_more.false in
+    let mark = mark_first c.args.tested.now.own.now.marks c.args.next false (c.at.ensures ∙ ap (λ (b : Bool). Some b) c.if-not-at.true) in
     rw mark (pruned stands.long stands.reaches stands.within)
 
 pub visit-requires : goal.visit-requires
 visit-requires t c =
     let child = c.in-Some.ensures.permitted in
-    let least = no_less_with_more c.args.wave.now c.args.place c.in-Some.batch _ _ c.requires.lengths c.requires.orders c.requires.known
+    let least = no_less_with_more c.args.tested.now.wave.now c.args.place c.in-Some.batch _ _ c.requires.lengths c.args.tested.now.as_many c.requires.known
     (λ order has. (c.in-Some.ensures.adds.orders order).1 (inl has)) c.length_for-length.ensures.least in
     let last = c.orders-item-end.ensures.value in (
       omega (arith, c.decreases, c.loop-item-test.true, c.loop-item.auto.item, last),
       (
         c.requires.lengths,
-        (
-          c.requires.orders,
-          (c.requires.count, (child.known, (child.fits, (omega (arith, c.loop-item-test.true, last), (c.loop-item.invariant.within, least))))),
-        ),
+        (child.known, (child.fits, (omega (arith, c.loop-item-test.true, last), (c.loop-item.invariant.within, least)))),
       ),
     )
 
 pub returns-in_err-after-clause-err : goal.returns-in_err-after-clause-err
 returns-in_err-after-clause-err t c =
-    let sum = rw c.as_slice-duals.ensures at c.sum_of-sum.ensures in
-    let within = within_known c.args.wave.now c.args.own.now.duals c.args.place _ _ c.requires.lengths c.requires.orders c.requires.known
+    let sum = rw c.as_slice.ensures at c.sum_of-sum.ensures in
+    let within = within_known c.args.tested.now.wave.now c.args.tested.now.own.now.duals c.args.place _ _ c.requires.lengths c.args.tested.now.as_many c.requires.known
     c.length_for-length.ensures.least (omega (arith, c.covers.ensures.yes c.if-not-covers.false, sum)) in
-    let mark = mark_first c.args.own.now.marks c.args.next true (c.at.ensures ∙ ap (λ (b : Bool). Some b) c.if-not-at.false) in
+    let mark = mark_first c.args.tested.now.own.now.marks c.args.next true (c.at.ensures ∙ ap (λ (b : Bool). Some b) c.if-not-at.false) in
     let p = err_from_is_err_and c.from_residual.result c.from_residual.ensures.1 in
-    let child = refused_child c.args.wave.now c.args.pairs.now c.args.own.now.duals c.args.place c.in-Some.batch c.loop-item.item
-    (drop c.loop-item.after c.args.own.now.marks) c.in_err-after.field-0.0 c.in-Some.ensures.item c.in-Some.ensures.adds c.in-Some.ensures.permitted
+    let child = refused_child c.args.tested.now.wave.now c.args.tested.now.pairs.now c.args.tested.now.own.now.duals c.args.place c.in-Some.batch c.loop-item.item
+    (drop c.loop-item.after c.args.tested.now.own.now.marks) c.in_err-after.field-0.0 c.in-Some.ensures.item c.in-Some.ensures.adds c.in-Some.ensures.permitted
     c.in_err-after.ensures.err in
-    rw (p.1, p.2) (rw mark (refused_so _ _ _ (Children c.args.place c.loop-item.item) _ (drop c.loop-item.after c.args.own.now.marks) _ c.in_err-after.field-0.0
+    rw (p.1, p.2) (rw mark (refused_so _ _ _ (Children c.args.place c.loop-item.item) _ (drop c.loop-item.after c.args.tested.now.own.now.marks) _ c.in_err-after.field-0.0
     (λ visit is. entered within (c.loop-item.invariant.chain visit is)) child))
 
 pub loop-item-preserved : goal.loop-item-preserved
@@ -82,9 +79,9 @@ loop-item-preserved t c = elim c.match-child_of.branch [
 
 pub returns-clause-ok : goal.returns-clause-ok
 returns-clause-ok t c =
-    let sum = rw c.as_slice-duals.ensures at c.sum_of-sum.ensures in
-    let within = within_known c.args.wave.now c.args.own.now.duals c.args.place _ _ c.requires.lengths c.requires.orders c.requires.known
+    let sum = rw c.as_slice.ensures at c.sum_of-sum.ensures in
+    let within = within_known c.args.tested.now.wave.now c.args.tested.now.own.now.duals c.args.place _ _ c.requires.lengths c.args.tested.now.as_many c.requires.known
     c.length_for-length.ensures.least (omega (arith, c.covers.ensures.yes c.if-not-covers.false, sum)) in
-    let mark = mark_first c.args.own.now.marks c.args.next true (c.at.ensures ∙ ap (λ (b : Bool). Some b) c.if-not-at.false) in
-    rw mark (entered within (c.loop-item.invariant.chain (Passed (drop c.loop-item.after c.args.own.now.marks))
+    let mark = mark_first c.args.tested.now.own.now.marks c.args.next true (c.at.ensures ∙ ap (λ (b : Bool). Some b) c.if-not-at.false) in
+    rw mark (entered within (c.loop-item.invariant.chain (Passed (drop c.loop-item.after c.args.tested.now.own.now.marks))
     (all_added (omega (arith, c.loop-item-test.false, c.orders-item-end.ensures.value)))))

@@ -3,11 +3,11 @@ use Rattle.wp_batch.specs.Visits.{Children, IsVisit, Visit}
 use Rattle.wp_cert.proofs.visit.+visit.Given as goal
 
 abbrev pub decreases-visit : goal.decreases-visit
-decreases-visit l = l.pairs.now.orders - l.from
+decreases-visit l = l.tested.now.pairs.now.orders - l.from
 
 abbrev pub invariant-loop-item : goal.invariant-loop-item
 invariant-loop-item l = record {
-  within : l.after ≤ length l.own.marks;
-  chain : (visit : Visit) → IsVisit l.wave l.pairs l.own.duals (Children l.place l.item) (drop l.after l.own.marks) visit
-      → IsVisit l.wave l.pairs l.own.duals (Children l.place l.from) (drop (l.next + 1) l.own.marks) visit;
+  within : l.after ≤ length l.tested.own.now.marks;
+  chain : (visit : Visit) → IsVisit l.tested.wave.now l.tested.pairs.now l.tested.own.now.duals (Children l.place l.item) (drop l.after l.tested.own.now.marks) visit
+      → IsVisit l.tested.wave.now l.tested.pairs.now l.tested.own.now.duals (Children l.place l.from) (drop (l.next + 1) l.tested.own.now.marks) visit;
 }

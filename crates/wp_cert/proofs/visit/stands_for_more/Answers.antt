@@ -7,6 +7,6 @@ returns-clause-yes c = λ yes.
       total = own.0;
       reach = c.reach_of-reach.result;
       long = own.1;
-      reaches = c.reach_of-reach.ensures;
+      reaches = rw c.as_slice.ensures at c.reach_of-reach.ensures;
       within = omega (arith, c.covers.ensures.yes yes, c.length_for.ensures.least own.0 own.1, c.requires.sum);
     }
