@@ -11,7 +11,7 @@ use crate::tree::{CertFault, CertWhy, Node, Nodes, Tree};
 use crate::way::{Met, NodeStep, Way};
 use std::alloc::Global;
 use wp_batch::{Wave, shares_of};
-use wp_pairs::OrderPair;
+use wp_pairs::{Capacity, OrderPair};
 
 /// What a tree shows: its bound, which it has not where all of its leaves are dead; and the place of the node after it.
 #[derive(Clone, Copy)]
@@ -32,12 +32,10 @@ fn fault_at(at: u32, why: CertWhy) -> CertFault
 }
 
 // Tests a node, whose subtrees aren't looked at, and tells what it leads to.
-fn test_node(wave: &Wave, capacity: u32, way: &Way, node: &Node) -> Result<NodeStep, CertWhy>
-    requires some { 1 ≤ capacity }
-    requires most { capacity ≤ 8 }
-    requires path { IsPath (length wave.now.orders) capacity way.now.path.items }
-    ensures ok { IfOk result (IsStep wave.now (pairing_of (length wave.now.orders) capacity way.now.path.items) way.now.above node.now) }
-    ensures err { IfErr result (IsBrokenHere wave.now (pairing_of (length wave.now.orders) capacity way.now.path.items) way.now.above node.now) }
+fn test_node(wave: &Wave, capacity: Capacity, way: &Way, node: &Node) -> Result<NodeStep, CertWhy>
+    requires { IsPath (length wave.now.orders) capacity.most way.now.path.items }
+    ensures ok { IfOk result (IsStep wave.now (pairing_of (length wave.now.orders) capacity.most way.now.path.items) way.now.above node.now) }
+    ensures err { IfErr result (IsBrokenHere wave.now (pairing_of (length wave.now.orders) capacity.most way.now.path.items) way.now.above node.now) }
 {
     match node {
         Node::Leaf(own) => {
@@ -63,19 +61,17 @@ fn test_node(wave: &Wave, capacity: u32, way: &Way, node: &Node) -> Result<NodeS
 // Tests the node that is due, and goes on from it. After an error nothing is said of the way.
 fn check_node(
     wave: &Wave,
-    capacity: u32,
+    capacity: Capacity,
     nodes: &Nodes,
     way: &mut Way,
     at: u32,
 ) -> Result<Met, CertFault>
-    requires some { 1 ≤ capacity }
-    requires most { capacity ≤ 8 }
     requires at { at < length nodes.now }
-    requires path { IsPath (length wave.now.orders) capacity way.old.path.items }
+    requires path { IsPath (length wave.now.orders) capacity.most way.old.path.items }
     requires even { length way.old.path.items ≡ length way.old.notes.items }
-    ensures ok { IfOk result (λ met. (shares : ℕ) → IsWay wave.now capacity nodes.now shares way.old.path.items way.old.notes.items way.old.above at
-        → IsMet wave.now capacity nodes.now shares (at + 1) way.new met) }
-    ensures err { IfErr result (IsRefusedFrom wave.now (pairing_of (length wave.now.orders) capacity way.old.path.items) way.old.above nodes.now at) }
+    ensures ok { IfOk result (λ met. (shares : ℕ) → IsWay wave.now capacity.most nodes.now shares way.old.path.items way.old.notes.items way.old.above at
+        → IsMet wave.now capacity.most nodes.now shares (at + 1) way.new met) }
+    ensures err { IfErr result (IsRefusedFrom wave.now (pairing_of (length wave.now.orders) capacity.most way.old.path.items) way.old.above nodes.now at) }
 {
     let gone = match test_node(wave, capacity, way, nodes.at(at)) {
         Ok(step) => way.go_on(step),
@@ -91,15 +87,13 @@ fn check_node(
 fn check_root(
     alloc: Global,
     wave: &Wave,
-    capacity: u32,
+    capacity: Capacity,
     nodes: &Nodes,
     above: u128,
 ) -> Result<Shown, CertFault>
-    requires some { 1 ≤ capacity }
-    requires most { capacity ≤ 8 }
-    ensures ok { IfOk result (λ shown. IsRight wave.now (pairing_of (length wave.now.orders) capacity []) above nodes.now
+    ensures ok { IfOk result (λ shown. IsRight wave.now (pairing_of (length wave.now.orders) capacity.most []) above nodes.now
         (drop shown.next nodes.now) shown.bound) }
-    ensures err { IfErr result (IsRefusedFrom wave.now (pairing_of (length wave.now.orders) capacity []) above nodes.now 0) }
+    ensures err { IfErr result (IsRefusedFrom wave.now (pairing_of (length wave.now.orders) capacity.most []) above nodes.now 0) }
 {
     let mut way = Way::to_root(alloc, above);
     for at in 0..nodes.len() {
@@ -125,6 +119,7 @@ pub fn check(alloc: Global, wave: &Wave, capacity: u32, tree: &Tree) -> Result<u
     ensures bound { IfOk result (NoBatchingCostsLess wave.now capacity) }
     ensures refused { IfErr result (λ fault. (fault.why ≡ why.Memory → ⊥) → IsFirstBroken wave.now capacity tree.now.nodes fault) }
 {
+    let capacity = Capacity { most: capacity };
     let above = shares_of(wave, capacity);
     let shown = check_root(alloc, wave, capacity, &tree.nodes, above)?;
     if shown.next < tree.nodes.len() {

@@ -10,7 +10,7 @@ use crate::own::test_own;
 use crate::path::{is_dead, is_open, pairs_of};
 use crate::tree::{CertWhy, Own};
 use wp_batch::Wave;
-use wp_pairs::OrderPair;
+use wp_pairs::{Capacity, OrderPair};
 
 /// Sixtieths in whole units, rounded up.
 pub fn units_of(sixtieths: u128) -> u128
@@ -27,17 +27,15 @@ pub fn units_of(sixtieths: u128) -> u128
 /// Tests a leaf that isn't dead, and tells its bound.
 pub fn test_leaf(
     wave: &Wave,
-    capacity: u32,
+    capacity: Capacity,
     path: &Vec<OrderPair>,
     above: u128,
     own: &Option<Own>,
 ) -> Result<u128, CertWhy>
-    requires some { 1 ≤ capacity }
-    requires most { capacity ≤ 8 }
-    requires path { IsPath (length wave.now.orders) capacity path.now.items }
+    requires { IsPath (length wave.now.orders) capacity.most path.now.items }
     ensures ok { IfOk result (λ bound. (rest : List NodeData)
-        → IsRight wave.now (pairing_of (length wave.now.orders) capacity path.now.items) above (node.Leaf own.now ∷ rest) rest (Some bound)) }
-    ensures err { IfErr result (IsBrokenHere wave.now (pairing_of (length wave.now.orders) capacity path.now.items) above (node.Leaf own.now)) }
+        → IsRight wave.now (pairing_of (length wave.now.orders) capacity.most path.now.items) above (node.Leaf own.now ∷ rest) rest (Some bound)) }
+    ensures err { IfErr result (IsBrokenHere wave.now (pairing_of (length wave.now.orders) capacity.most path.now.items) above (node.Leaf own.now)) }
 {
     match own {
         None => Ok(units_of(above)),
@@ -52,17 +50,15 @@ pub fn test_leaf(
 /// Tests a dead leaf.
 pub fn test_dead(
     wave: &Wave,
-    capacity: u32,
+    capacity: Capacity,
     path: &Vec<OrderPair>,
     above: u128,
     order: u32,
 ) -> Result<(), CertWhy>
-    requires some { 1 ≤ capacity }
-    requires most { capacity ≤ 8 }
-    requires path { IsPath (length wave.now.orders) capacity path.now.items }
+    requires { IsPath (length wave.now.orders) capacity.most path.now.items }
     ensures ok { OnOk result ((rest : List NodeData)
-        → IsRight wave.now (pairing_of (length wave.now.orders) capacity path.now.items) above (node.Dead order ∷ rest) rest None) }
-    ensures err { IfErr result (IsBrokenHere wave.now (pairing_of (length wave.now.orders) capacity path.now.items) above (node.Dead order)) }
+        → IsRight wave.now (pairing_of (length wave.now.orders) capacity.most path.now.items) above (node.Dead order ∷ rest) rest None) }
+    ensures err { IfErr result (IsBrokenHere wave.now (pairing_of (length wave.now.orders) capacity.most path.now.items) above (node.Dead order)) }
 {
     let pairs = pairs_of(wave.orders(), capacity, path);
     if !is_dead(&pairs, order) {
@@ -74,19 +70,17 @@ pub fn test_dead(
 /// Tests a split but for its subtrees, and tells the sum of its duals.
 pub fn test_split(
     wave: &Wave,
-    capacity: u32,
+    capacity: Capacity,
     path: &Vec<OrderPair>,
     above: u128,
     first: u32,
     second: u32,
     own: &Option<Own>,
 ) -> Result<u128, CertWhy>
-    requires some { 1 ≤ capacity }
-    requires most { capacity ≤ 8 }
-    requires path { IsPath (length wave.now.orders) capacity path.now.items }
+    requires { IsPath (length wave.now.orders) capacity.most path.now.items }
     ensures few { OnOk result (length wave.now.orders ≤ 64) }
-    ensures ok { IfOk result (IsRightSplit wave.now (pairing_of (length wave.now.orders) capacity path.now.items) above first second own.now) }
-    ensures err { IfErr result (IsBrokenHere wave.now (pairing_of (length wave.now.orders) capacity path.now.items) above (node.Split first second own.now)) }
+    ensures ok { IfOk result (IsRightSplit wave.now (pairing_of (length wave.now.orders) capacity.most path.now.items) above first second own.now) }
+    ensures err { IfErr result (IsBrokenHere wave.now (pairing_of (length wave.now.orders) capacity.most path.now.items) above (node.Split first second own.now)) }
 {
     match own {
         None => Err(CertWhy::SplitKept),

@@ -2,18 +2,16 @@ ghost use Rattle.std.specs.Prelude.{◌≡◌, ◌<◌, ◌≤◌, ◌↔◌, �
 ghost use Rattle.wp_pairs.specs.Permitted.{AreUndecided, IsDead};
 ghost use Rattle.wp_cert.specs.Paths.{IsPath, pairing_of};
 
-use wp_pairs::{Batch, OrderPair, Pairs};
+use wp_pairs::{Batch, Capacity, OrderPair, Pairs};
 
 /// The pairs of a path, added one after the other.
-pub fn pairs_of(orders: u32, capacity: u32, path: &Vec<OrderPair>) -> Pairs
+pub fn pairs_of(orders: u32, capacity: Capacity, path: &Vec<OrderPair>) -> Pairs
     requires some_orders { 1 ≤ orders }
     requires most_orders { orders ≤ 64 }
-    requires some_capacity { 1 ≤ capacity }
-    requires most_capacity { capacity ≤ 8 }
-    requires path { IsPath orders capacity path.now.items }
-    ensures { result ≡ pairing_of orders capacity path.now.items }
+    requires path { IsPath orders capacity.most path.now.items }
+    ensures { result ≡ pairing_of orders capacity.most path.now.items }
 {
-    let mut pairs = Pairs::new(orders, capacity);
+    let mut pairs = Pairs::new(orders, capacity.most);
     for k in 0..path.len() {
         let pair = path[k];
         pairs.add(u32::from(pair.first), u32::from(pair.second), pair.together);

@@ -7,86 +7,59 @@ ghost use Rattle.wp_price.specs.ShortMarks.{AreShortMarks};
 ghost use Rattle.wp_node.specs.Raises.{AreDuals};
 
 use crate::raise::raise_all;
-use std::alloc::Global;
 use std::thread::Threads;
-use wp_batch::{Batching, Marks, Wave, total_of};
+use wp_batch::{Batching, Marks, PairedWave, total_of};
 use wp_cert::{Duals, Own};
 use wp_model::Memory;
 use wp_outside::Gate;
-use wp_pairs::Pairs;
-use wp_price::least_slack;
+use wp_price::{Workers, least_slack_by};
 
 /// Whether duals are feasible.
 pub fn are_feasible<R: Threads + Sync, G: Gate>(
-    rt: &R,
-    alloc: Global,
-    wave: &Wave,
-    pairs: &Pairs,
+    workers: &Workers<'_, R, G>,
+    paired: &PairedWave<'_>,
     duals: &Vec<u64>,
-    workers: u32,
-    gate: &G,
 ) -> Result<bool, Memory>
-    requires some_orders { 1 ≤ length wave.now.orders }
-    requires pairs { pairs.now.orders ≡ length wave.now.orders }
-    requires held { AreHeldBelow pairs.now pairs.now.orders }
-    requires duals { AreDuals (length wave.now.orders) duals.now.items }
-    requires some_workers { 1 ≤ workers }
-    requires most_workers { workers ≤ 16 }
-    ensures { IfOk result (λ feasible. IsTrue feasible → AreFeasible wave.now pairs.now duals.now.items) }
+    requires held { AreHeldBelow paired.now.pairs.now paired.now.pairs.now.orders }
+    requires duals { AreDuals (length paired.now.wave.now.orders) duals.now.items }
+    ensures { IfOk result (λ feasible. IsTrue feasible → AreFeasible paired.now.wave.now paired.now.pairs.now duals.now.items) }
 {
-    let priced = least_slack(rt, alloc, wave, pairs, duals, None, workers, gate)?.unwrap();
+    let priced = least_slack_by(workers, paired, duals, None)?.unwrap();
     Ok(priced.slack >= 0)
 }
 
 // The short marks of feasible duals.
 fn marks_of<R: Threads + Sync, G: Gate>(
-    rt: &R,
-    alloc: Global,
-    wave: &Wave,
-    pairs: &Pairs,
+    workers: &Workers<'_, R, G>,
+    paired: &PairedWave<'_>,
     duals: &Vec<u64>,
-    workers: u32,
-    gate: &G,
 ) -> Result<Marks, Memory>
-    requires some_orders { 1 ≤ length wave.now.orders }
-    requires pairs { pairs.now.orders ≡ length wave.now.orders }
-    requires held { AreHeldBelow pairs.now pairs.now.orders }
-    requires duals { AreDuals (length wave.now.orders) duals.now.items }
-    requires feasible { AreFeasible wave.now pairs.now duals.now.items }
-    requires some_workers { 1 ≤ workers }
-    requires most_workers { workers ≤ 16 }
-    ensures pass { IfOk result (λ marks. IsVisitOfAll wave.now pairs.now duals.now.items marks (Passed [])) }
-    ensures short { IfOk result (λ marks. AreShortMarks wave.now pairs.now duals.now.items marks) }
+    requires held { AreHeldBelow paired.now.pairs.now paired.now.pairs.now.orders }
+    requires duals { AreDuals (length paired.now.wave.now.orders) duals.now.items }
+    requires feasible { AreFeasible paired.now.wave.now paired.now.pairs.now duals.now.items }
+    ensures pass { IfOk result (λ marks. IsVisitOfAll paired.now.wave.now paired.now.pairs.now duals.now.items marks (Passed [])) }
+    ensures short { IfOk result (λ marks. AreShortMarks paired.now.wave.now paired.now.pairs.now duals.now.items marks) }
 {
-    let priced = least_slack(rt, alloc, wave, pairs, duals, None, workers, gate)?.unwrap();
+    let priced = least_slack_by(workers, paired, duals, None)?.unwrap();
     Ok(priced.marks.unwrap())
 }
 
 // What a node has of its own, from feasible duals on: they are raised until they are tight.
 fn own_from<R: Threads + Sync, G: Gate>(
-    rt: &R,
-    alloc: Global,
-    wave: &Wave,
-    pairs: &Pairs,
+    workers: &Workers<'_, R, G>,
+    paired: &PairedWave<'_>,
     feasible: &[u64],
-    workers: u32,
-    gate: &G,
 ) -> Result<Own, Memory>
-    requires some_orders { 1 ≤ length wave.now.orders }
-    requires most_orders { length wave.now.orders ≤ 64 }
-    requires pairs { pairs.now.orders ≡ length wave.now.orders }
-    requires held { AreHeldBelow pairs.now pairs.now.orders }
-    requires duals { AreDuals (length wave.now.orders) feasible.now }
-    requires feasible { AreFeasible wave.now pairs.now feasible.now }
-    requires some_workers { 1 ≤ workers }
-    requires most_workers { workers ≤ 16 }
-    ensures right { IfOk result (IsRightOwn wave.now pairs.now (sum feasible.now)) }
-    ensures duals { IfOk result (λ own. AreDuals (length wave.now.orders) own.duals) }
-    ensures short { IfOk result (λ own. AreShortMarks wave.now pairs.now own.duals own.marks) }
+    requires held { AreHeldBelow paired.now.pairs.now paired.now.pairs.now.orders }
+    requires duals { AreDuals (length paired.now.wave.now.orders) feasible.now }
+    requires feasible { AreFeasible paired.now.wave.now paired.now.pairs.now feasible.now }
+    ensures right { IfOk result (IsRightOwn paired.now.wave.now paired.now.pairs.now (sum feasible.now)) }
+    ensures duals { IfOk result (λ own. AreDuals (length paired.now.wave.now.orders) own.duals) }
+    ensures short { IfOk result (λ own. AreShortMarks paired.now.wave.now paired.now.pairs.now own.duals own.marks) }
 {
-    let mut duals = Vec::from_slice(alloc, feasible)?;
-    let tight = raise_all(rt, alloc, wave, pairs, &mut duals, workers, gate)?;
-    let marks = marks_of(rt, alloc, wave, pairs, &duals, workers, gate)?;
+    let mut duals = Vec::from_slice(workers.alloc, feasible)?;
+    let tight = raise_all(workers, paired, &mut duals)?;
+    let marks = marks_of(workers, paired, &duals)?;
     Ok(Own {
         duals: Duals::of(duals),
         marks,
@@ -97,33 +70,24 @@ fn own_from<R: Threads + Sync, G: Gate>(
 /// What a node has of its own, from duals that are tried first: they are taken where they are feasible, and raised come to no
 /// less than those above the node. Else those above are raised.
 pub fn own_of<R: Threads + Sync, G: Gate>(
-    rt: &R,
-    alloc: Global,
-    wave: &Wave,
-    pairs: &Pairs,
+    workers: &Workers<'_, R, G>,
+    paired: &PairedWave<'_>,
     above: &[u64],
     tried: &Vec<u64>,
-    workers: u32,
-    gate: &G,
 ) -> Result<Own, Memory>
-    requires some_orders { 1 ≤ length wave.now.orders }
-    requires most_orders { length wave.now.orders ≤ 64 }
-    requires pairs { pairs.now.orders ≡ length wave.now.orders }
-    requires held { AreHeldBelow pairs.now pairs.now.orders }
-    requires duals { AreDuals (length wave.now.orders) above.now }
-    requires feasible { AreFeasible wave.now pairs.now above.now }
-    requires tried { AreDuals (length wave.now.orders) tried.now.items }
-    requires some_workers { 1 ≤ workers }
-    requires most_workers { workers ≤ 16 }
-    ensures right { IfOk result (IsRightOwn wave.now pairs.now (sum above.now)) }
-    ensures duals { IfOk result (λ own. AreDuals (length wave.now.orders) own.duals) }
-    ensures short { IfOk result (λ own. AreShortMarks wave.now pairs.now own.duals own.marks) }
+    requires held { AreHeldBelow paired.now.pairs.now paired.now.pairs.now.orders }
+    requires duals { AreDuals (length paired.now.wave.now.orders) above.now }
+    requires feasible { AreFeasible paired.now.wave.now paired.now.pairs.now above.now }
+    requires tried { AreDuals (length paired.now.wave.now.orders) tried.now.items }
+    ensures right { IfOk result (IsRightOwn paired.now.wave.now paired.now.pairs.now (sum above.now)) }
+    ensures duals { IfOk result (λ own. AreDuals (length paired.now.wave.now.orders) own.duals) }
+    ensures short { IfOk result (λ own. AreShortMarks paired.now.wave.now paired.now.pairs.now own.duals own.marks) }
 {
-    if are_feasible(rt, alloc, wave, pairs, tried, workers, gate)? {
-        let own = own_from(rt, alloc, wave, pairs, tried.as_slice(), workers, gate)?;
+    if are_feasible(workers, paired, tried)? {
+        let own = own_from(workers, paired, tried.as_slice())?;
         if total_of(above) <= total_of(own.duals.as_slice()) {
             return Ok(own);
         }
     }
-    own_from(rt, alloc, wave, pairs, above, workers, gate)
+    own_from(workers, paired, above)
 }

@@ -4,13 +4,12 @@ ghost use Rattle.wp_batch.specs.Duals.{AreFeasible, IsTightFor, duals_of};
 ghost use Rattle.wp_pairs.specs.Permitted.{AreHeldBelow};
 ghost use Rattle.wp_node.specs.Raises.{AreDuals, AreListedTight, AreNoLower, IsRoom};
 
-use std::alloc::Global;
 use std::thread::Threads;
-use wp_batch::{Wave, sum_of};
+use wp_batch::{PairedWave, Wave, sum_of};
 use wp_model::Memory;
 use wp_outside::Gate;
-use wp_pairs::{Batch, Pairs};
-use wp_price::least_slack;
+use wp_pairs::Batch;
+use wp_price::{Workers, least_slack_by};
 
 // What a batch may have more in duals, which are within sixty times its length.
 fn room_of(wave: &Wave, duals: &[u64], batch: Batch) -> u64
@@ -26,58 +25,44 @@ fn room_of(wave: &Wave, duals: &[u64], batch: Batch) -> u64
 // Raises the dual of an order as far as duals stay feasible, and tells a batch that is tight for it then. Where memory runs
 // out the duals stay as they were.
 fn raise_order<R: Threads + Sync, G: Gate>(
-    rt: &R,
-    alloc: Global,
-    wave: &Wave,
-    pairs: &Pairs,
+    workers: &Workers<'_, R, G>,
+    paired: &PairedWave<'_>,
     duals: &mut Vec<u64>,
     order: u32,
-    workers: u32,
-    gate: &G,
 ) -> Result<Batch, Memory>
-    requires pairs { pairs.now.orders ≡ length wave.now.orders }
-    requires held { AreHeldBelow pairs.now pairs.now.orders }
-    requires duals { AreDuals (length wave.now.orders) duals.old.items }
-    requires feasible { AreFeasible wave.now pairs.now duals.old.items }
-    requires known { order < length wave.now.orders }
-    requires some_workers { 1 ≤ workers }
-    requires most_workers { workers ≤ 16 }
-    ensures duals { AreDuals (length wave.now.orders) duals.new.items }
-    ensures feasible { AreFeasible wave.now pairs.now duals.new.items }
+    requires held { AreHeldBelow paired.now.pairs.now paired.now.pairs.now.orders }
+    requires duals { AreDuals (length paired.now.wave.now.orders) duals.old.items }
+    requires feasible { AreFeasible paired.now.wave.now paired.now.pairs.now duals.old.items }
+    requires known { order < length paired.now.wave.now.orders }
+    ensures duals { AreDuals (length paired.now.wave.now.orders) duals.new.items }
+    ensures feasible { AreFeasible paired.now.wave.now paired.now.pairs.now duals.new.items }
     ensures no_lower { AreNoLower duals.old.items duals.new.items }
-    ensures tight { IfOk result (IsTightFor wave.now pairs.now duals.new.items order) }
+    ensures tight { IfOk result (IsTightFor paired.now.wave.now paired.now.pairs.now duals.new.items order) }
     ensures err { OnErr result (duals.new.items ≡ duals.old.items) }
 {
-    let priced = least_slack(rt, alloc, wave, pairs, duals, Some(order), workers, gate)?.unwrap();
-    duals[order as usize] += room_of(wave, duals.as_slice(), priced.batch);
+    let priced = least_slack_by(workers, paired, duals, Some(order))?.unwrap();
+    duals[order as usize] += room_of(paired.wave, duals.as_slice(), priced.batch);
     Ok(priced.batch)
 }
 
 /// Raises feasible duals, order by order, until each order has a batch that is tight for it, and tells those batches. Where
 /// memory runs out the duals are feasible still, and none is lower than before.
 pub fn raise_all<R: Threads + Sync, G: Gate>(
-    rt: &R,
-    alloc: Global,
-    wave: &Wave,
-    pairs: &Pairs,
+    workers: &Workers<'_, R, G>,
+    paired: &PairedWave<'_>,
     duals: &mut Vec<u64>,
-    workers: u32,
-    gate: &G,
 ) -> Result<Vec<Batch>, Memory>
-    requires pairs { pairs.now.orders ≡ length wave.now.orders }
-    requires held { AreHeldBelow pairs.now pairs.now.orders }
-    requires duals { AreDuals (length wave.now.orders) duals.old.items }
-    requires feasible { AreFeasible wave.now pairs.now duals.old.items }
-    requires some_workers { 1 ≤ workers }
-    requires most_workers { workers ≤ 16 }
-    ensures duals { AreDuals (length wave.now.orders) duals.new.items }
-    ensures feasible { AreFeasible wave.now pairs.now duals.new.items }
+    requires held { AreHeldBelow paired.now.pairs.now paired.now.pairs.now.orders }
+    requires duals { AreDuals (length paired.now.wave.now.orders) duals.old.items }
+    requires feasible { AreFeasible paired.now.wave.now paired.now.pairs.now duals.old.items }
+    ensures duals { AreDuals (length paired.now.wave.now.orders) duals.new.items }
+    ensures feasible { AreFeasible paired.now.wave.now paired.now.pairs.now duals.new.items }
     ensures no_lower { AreNoLower duals.old.items duals.new.items }
-    ensures tight { IfOk result (λ tight. AreListedTight wave.now pairs.now duals.new.items (length wave.now.orders) tight.items) }
+    ensures tight { IfOk result (λ tight. AreListedTight paired.now.wave.now paired.now.pairs.now duals.new.items (length paired.now.wave.now.orders) tight.items) }
 {
-    let mut tight = Vec::new(alloc);
-    for order in 0..wave.orders() {
-        tight.push(raise_order(rt, alloc, wave, pairs, duals, order, workers, gate)?)?;
+    let mut tight = Vec::new(workers.alloc);
+    for order in 0..paired.wave.orders() {
+        tight.push(raise_order(workers, paired, duals, order)?)?;
     }
     Ok(tight)
 }

@@ -5,11 +5,11 @@ ghost use Rattle.wp_node.specs.Raises.{AreDuals};
 use std::alloc::Global;
 use wp_batch::{Wave, share_of, total_of};
 use wp_model::Memory;
+use wp_pairs::Capacity;
 
-/// The share duals of a wave's orders, in sixtieths of a unit, for a capacity from 1 on.
-pub fn share_duals(alloc: Global, wave: &Wave, capacity: u32) -> Result<Vec<u64>, Memory>
-    requires { 1 ≤ capacity }
-    ensures shares { IfOk result (λ duals. AreShares wave.now capacity duals.items) }
+/// The share duals of a wave's orders, in sixtieths of a unit.
+pub fn share_duals(alloc: Global, wave: &Wave, capacity: Capacity) -> Result<Vec<u64>, Memory>
+    ensures shares { IfOk result (λ duals. AreShares wave.now capacity.most duals.items) }
     ensures duals { IfOk result (λ duals. AreDuals (length wave.now.orders) duals.items) }
 {
     let mut duals = Vec::new(alloc);

@@ -13,12 +13,13 @@ use crate::own::own_of;
 use crate::visit::{FEW, PARTS, visit};
 use std::alloc::Global;
 use std::thread::Threads;
-use wp_batch::Wave;
+use wp_batch::{PairedWave, Wave};
 use wp_cert::Own;
 use wp_master::Column;
 use wp_model::Memory;
 use wp_outside::Gate;
 use wp_pairs::{Batch, Pairs};
+use wp_price::Workers;
 
 /// How many columns for each order a node hands on.
 const HANDED_ON: usize = 3;
@@ -245,34 +246,27 @@ fn worked_of(alloc: Global, own: Own, weighted: Vec<Weighted>) -> Result<Worked,
 
 /// The work at one node of the search, whose pairs leave no order dead. Its duals come to no less than those above it, and
 /// where the linear program over all its permitted batches has an answer, to that, but for what is lost in rounding down to
-/// sixtieths. The columns that it begins with are taken from the batches that are handed to it. The workers, 1 to 16, and the
-/// gate that they pass are handed to the pricing.
+/// sixtieths. The columns that it begins with are taken from the batches that are handed to it. The workers are handed to the
+/// pricing.
 pub fn work_node<R: Threads + Sync, G: Gate>(
-    rt: &R,
-    alloc: Global,
-    wave: &Wave,
-    pairs: &Pairs,
+    workers: &Workers<'_, R, G>,
+    paired: &PairedWave<'_>,
     above: &[u64],
     columns: &[Batch],
-    workers: u32,
-    gate: &G,
 ) -> Result<Worked, Memory>
-    requires some { 1 ≤ pairs.now.capacity }
-    requires pairs { pairs.now.orders ≡ length wave.now.orders }
-    requires held { AreHeldBelow pairs.now pairs.now.orders }
-    requires duals { AreDuals (length wave.now.orders) above.now }
-    requires feasible { AreFeasible wave.now pairs.now above.now }
-    requires some_workers { 1 ≤ workers }
-    requires most_workers { workers ≤ 16 }
-    ensures right { IfOk result (λ worked. IsRightOwn wave.now pairs.now (sum above.now) worked.own) }
-    ensures duals { IfOk result (λ worked. AreDuals (length wave.now.orders) worked.own.duals) }
-    ensures short { IfOk result (λ worked. AreShortMarks wave.now pairs.now worked.own.duals worked.own.marks) }
+    requires held { AreHeldBelow paired.now.pairs.now paired.now.pairs.now.orders }
+    requires duals { AreDuals (length paired.now.wave.now.orders) above.now }
+    requires feasible { AreFeasible paired.now.wave.now paired.now.pairs.now above.now }
+    ensures right { IfOk result (λ worked. IsRightOwn paired.now.wave.now paired.now.pairs.now (sum above.now) worked.own) }
+    ensures duals { IfOk result (λ worked. AreDuals (length paired.now.wave.now.orders) worked.own.duals) }
+    ensures short { IfOk result (λ worked. AreShortMarks paired.now.wave.now paired.now.pairs.now worked.own.duals worked.own.marks) }
 {
-    let orders = wave.orders();
+    let PairedWave { wave, pairs } = *paired;
+    let alloc = workers.alloc;
     let first = first_columns(alloc, wave, pairs, above, columns)?;
     let priced = price_columns(alloc, wave, pairs, first)?;
     let tried = tried_duals(alloc, wave, pairs, above, &priced.solved)?;
-    let weighted = handed_on(alloc, orders, &priced)?;
-    let own = own_of(rt, alloc, wave, pairs, above, &tried, workers, gate)?;
+    let weighted = handed_on(alloc, wave.orders(), &priced)?;
+    let own = own_of(workers, paired, above, &tried)?;
     worked_of(alloc, own, weighted)
 }

@@ -2,10 +2,12 @@
 #![tactic(auto)]
 
 mod batch;
+mod capacity;
 mod pair;
 mod pairs;
 mod rows;
 
 pub use batch::Batch;
+pub use capacity::Capacity;
 pub use pair::OrderPair;
 pub use pairs::Pairs;

@@ -12,6 +12,7 @@ use wp_machine::WaveHolds;
 use wp_model::Memory;
 use wp_node::pays;
 use wp_outside::Gate;
+use wp_pairs::Capacity;
 use wp_search::{Planned, plan_wave};
 use wp_tables::Stock;
 
@@ -35,14 +36,14 @@ pub struct WavePlan {
 }
 
 // Up to how many orders the batches have of which no more than so many lengths are to be kept.
-fn orders_within(wave: &Wave, capacity: u32, most: u64) -> u32
-    requires { capacity ≤ 8 }
-    ensures { result ≤ capacity }
+fn orders_within(wave: &Wave, capacity: Capacity, most: u64) -> u32
+    ensures { result ≤ capacity.most }
 {
     let visits = u64::from(4 * wave.orders() + 4);
     let mut kept = 0;
-    for size in 1..capacity + 1 {
-        if pays(wave.orders(), size, most.saturating_mul(visits)) {
+    for size in 1..capacity.most + 1 {
+        let within = Capacity { most: size };
+        if pays(wave.orders(), within, most.saturating_mul(visits)) {
             kept = size;
         }
     }
@@ -52,14 +53,13 @@ fn orders_within(wave: &Wave, capacity: u32, most: u64) -> u32
 // Up to how many orders the batches have whose lengths are kept while a wave is planned: those of all batches are asked for again
 // and again where the budget pays for duals of a node's own. Where it doesn't, the start asks for the lengths of batches of few
 // orders more often than it takes to keep them, as long as these aren't too many.
-fn kept_orders(wave: &Wave, terms: &Terms) -> u32
-    requires { terms.now.capacity ≤ 8 }
-    ensures { result ≤ terms.now.capacity }
+fn kept_orders(wave: &Wave, capacity: Capacity, budget: u64) -> u32
+    ensures { result ≤ capacity.most }
 {
-    if pays(wave.orders(), terms.capacity, terms.budget) {
-        terms.capacity
+    if pays(wave.orders(), capacity, budget) {
+        capacity.most
     } else {
-        orders_within(wave, terms.capacity, MOST_KEPT)
+        orders_within(wave, capacity, MOST_KEPT)
     }
 }
 
@@ -80,7 +80,10 @@ pub fn plan_of<R: Threads + Sync, G: Gate>(
     ensures { IfOk result (IsPlanOf layout.now stock.now released.now terms.now) }
 {
     let mut wave = wave_of(alloc, layout, stock, released)?;
-    let kept = kept_orders(&wave, terms);
+    let capacity = Capacity {
+        most: terms.capacity,
+    };
+    let kept = kept_orders(&wave, capacity, terms.budget);
     wave.keep_lengths(alloc, kept)?;
     let planned = plan_wave(
         rt,

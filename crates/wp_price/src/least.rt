@@ -6,10 +6,9 @@ ghost use Rattle.wp_price.specs.Searches.{AreItemsSearched, IsAt, IsBeaten, IsRa
 ghost use Rattle.wp_price.specs.Slacks.{HasNoCandidate, IsCandidate};
 
 use crate::best::{LeastBatch, better_of};
-use crate::crew::Crew;
 use crate::place::Place;
 use crate::search::SlackSearch;
-use std::alloc::Global;
+use crate::workers::Workers;
 use std::thread::Threads;
 use wp_model::Memory;
 use wp_outside::Gate;
@@ -102,48 +101,42 @@ impl SlackSearch<'_> {
         self.child_of(&root, self.joined_to(order).least()?)
     }
 
-    /// The best of all permitted batches, or of those that have an order where one is given, found by a crew.
+    /// The best of all permitted batches, or of those that have an order where one is given, found by workers.
     pub fn best<R: Threads + Sync, G: Gate>(
         &self,
-        alloc: Global,
-        crew: &Crew<'_, R, G>,
+        workers: &Workers<'_, R, G>,
         through: Option<u32>,
     ) -> Result<Option<LeastBatch>, Memory>
-        requires through { IfSome through (λ order. order < self.now.pairing.orders) }
-        requires workers { crew.now.workers ≤ 16 }
+        requires { IfSome through (λ order. order < self.now.pairing.orders) }
         ensures candidate { IfOk result (λ found. IfSome found (λ best. IsCandidate self.now.pairing through best.batch)) }
         ensures is { IfOk result (λ found. IfSome found (λ best. IsRaised self.now best.batch best.raised)) }
         ensures all { IfOk result (λ found. (batch : List ℕ) → IsCandidate self.now.pairing through batch → IsBeaten self.now found batch) }
     {
         match through {
-            None => self.best_of_all(alloc, crew),
-            Some(order) => self.best_with(alloc, crew, order),
+            None => self.best_of_all(workers),
+            Some(order) => self.best_with(workers, order),
         }
     }
 
     // The best of all permitted batches.
     fn best_of_all<R: Threads + Sync, G: Gate>(
         &self,
-        alloc: Global,
-        crew: &Crew<'_, R, G>,
+        workers: &Workers<'_, R, G>,
     ) -> Result<Option<LeastBatch>, Memory>
-        requires { crew.now.workers ≤ 16 }
         ensures candidate { IfOk result (λ found. IfSome found (λ best. IsPermitted self.now.pairing best.batch)) }
         ensures is { IfOk result (λ found. IfSome found (λ best. IsRaised self.now best.batch best.raised)) }
         ensures all { IfOk result (λ found. (batch : List ℕ) → IsPermitted self.now.pairing batch → IsBeaten self.now found batch) }
     {
-        self.search_below(alloc, crew, &self.root(), None)
+        self.search_below(workers, &self.root(), None)
     }
 
     // The best of all permitted batches that have an order.
     fn best_with<R: Threads + Sync, G: Gate>(
         &self,
-        alloc: Global,
-        crew: &Crew<'_, R, G>,
+        workers: &Workers<'_, R, G>,
         order: u32,
     ) -> Result<Option<LeastBatch>, Memory>
-        requires order { order < self.now.pairing.orders }
-        requires workers { crew.now.workers ≤ 16 }
+        requires { order < self.now.pairing.orders }
         ensures candidate { IfOk result (λ found. IfSome found (λ best. IsCandidate self.now.pairing (Some order) best.batch)) }
         ensures is { IfOk result (λ found. IfSome found (λ best. IsRaised self.now best.batch best.raised)) }
         ensures all { IfOk result (λ found. (batch : List ℕ) → IsCandidate self.now.pairing (Some order) batch → IsBeaten self.now found batch) }
@@ -151,6 +144,6 @@ impl SlackSearch<'_> {
         let Some(place) = self.place_through(order) else {
             return Ok(None);
         };
-        self.search_below(alloc, crew, &place, Some(self.best_at(&place)))
+        self.search_below(workers, &place, Some(self.best_at(&place)))
     }
 }

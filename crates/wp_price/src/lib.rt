@@ -2,7 +2,6 @@
 #![tactic(auto)]
 
 mod best;
-mod crew;
 mod item;
 mod least;
 mod marking;
@@ -15,4 +14,5 @@ mod short;
 mod workers;
 
 pub use priced::Priced;
-pub use pricing::least_slack;
+pub use pricing::{least_slack, least_slack_by};
+pub use workers::Workers;

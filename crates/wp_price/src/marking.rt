@@ -4,8 +4,8 @@ ghost use Rattle.wp_price.specs.ItemMarks.{AddsAllItems, AddsItemMarks, AreItemM
 ghost use Rattle.wp_price.specs.Searches.{AreSharesOf, IsNoChild};
 ghost use Rattle.wp_price.specs.ShortMarks.{AreShortMarks};
 
-use crate::crew::Crew;
 use crate::search::SlackSearch;
+use crate::workers::Workers;
 use std::alloc::Global;
 use std::marker::Model;
 use std::thread;
@@ -149,36 +149,32 @@ impl SlackSearch<'_> {
     // Puts the short marks of the subtrees of all first items behind others: workers find them beside each other.
     fn push_all_items<R: Threads + Sync, G: Gate>(
         &self,
-        alloc: Global,
-        crew: &Crew<'_, R, G>,
+        workers: &Workers<'_, R, G>,
         marks: &mut Marks,
     ) -> Result<(), Memory>
-        requires { crew.now.workers ≤ 16 }
         ensures { OnOk result (AddsAllItems self.now marks.old marks.new) }
     {
-        let shares = self.shares_of(alloc, crew, &self.root())?;
-        let found = self.marks_of_shares(crew.rt, alloc, shares.as_slice())?;
+        let shares = self.shares_of(workers, &self.root())?;
+        let found = self.marks_of_shares(workers.rt, workers.alloc, shares.as_slice())?;
         self.push_items(shares.as_slice(), found.as_slice(), marks)
     }
 
-    /// The short marks, found by a crew: the mark of the place of no order, and where it is entered the marks of the subtrees of
+    /// The short marks, found by workers: the mark of the place of no order, and where it is entered the marks of the subtrees of
     /// its first items, in their order.
     pub fn all_marks<R: Threads + Sync, G: Gate>(
         &self,
-        alloc: Global,
-        crew: &Crew<'_, R, G>,
+        workers: &Workers<'_, R, G>,
     ) -> Result<Marks, Memory>
-        requires { crew.now.workers ≤ 16 }
         ensures { IfOk result (AreShortMarks self.now.wave self.now.pairing self.now.duals) }
     {
-        let mut marks = Marks::new(alloc);
+        let mut marks = Marks::new(workers.alloc);
         let root = self.root();
         if self.is_closed(&root, self.whole_reach()) {
             marks.push(false)?;
             return Ok(marks);
         }
         marks.push(true)?;
-        self.push_all_items(alloc, crew, &mut marks)?;
+        self.push_all_items(workers, &mut marks)?;
         Ok(marks)
     }
 }

@@ -4,26 +4,24 @@ ghost use Rattle.wp_batch.specs.Visits.{IsVisitOfAll, Passed};
 ghost use Rattle.wp_price.specs.ShortMarks.{AreShortMarks};
 ghost use Rattle.wp_price.specs.Slacks.{HasNoCandidate, IsLeastSlack};
 
-use crate::crew::Crew;
 use crate::priced::Priced;
 use crate::search::SlackSearch;
+use crate::workers::Workers;
 use std::alloc::Global;
 use std::thread::Threads;
-use wp_batch::{Marks, Wave};
+use wp_batch::{Marks, PairedWave, Wave};
 use wp_model::Memory;
 use wp_outside::Gate;
 use wp_pairs::Pairs;
 
 // The short marks, where no order is given and the least slack isn't below 0.
 fn marks_of<R: Threads + Sync, G: Gate>(
-    alloc: Global,
+    workers: &Workers<'_, R, G>,
     search: &SlackSearch<'_>,
-    crew: &Crew<'_, R, G>,
     through: Option<u32>,
     slack: i64,
 ) -> Result<Option<Marks>, Memory>
-    requires workers { crew.now.workers ≤ 16 }
-    requires feasible { through ≡ None → pos 0 ≤ℤ slack → AreFeasible search.now.wave search.now.pairing search.now.duals }
+    requires { through ≡ None → pos 0 ≤ℤ slack → AreFeasible search.now.wave search.now.pairing search.now.duals }
     ensures marked { IfOk result (λ marks. IsSome marks ↔ ((through ≡ None) × (pos 0 ≤ℤ slack))) }
     ensures short { IfOk result (λ marks. IfSome marks (AreShortMarks search.now.wave search.now.pairing search.now.duals)) }
     ensures pass { IfOk result (λ marks. IfSome marks (λ marks.
@@ -32,18 +30,16 @@ fn marks_of<R: Threads + Sync, G: Gate>(
     if through.is_some() || slack < 0 {
         return Ok(None);
     }
-    Ok(Some(search.all_marks(alloc, crew)?))
+    Ok(Some(search.all_marks(workers)?))
 }
 
 // The batch of least slack of a search, of those with an order where one is given, and the short marks.
 fn price<R: Threads + Sync, G: Gate>(
-    alloc: Global,
+    workers: &Workers<'_, R, G>,
     search: &SlackSearch<'_>,
-    crew: &Crew<'_, R, G>,
     through: Option<u32>,
 ) -> Result<Option<Priced>, Memory>
-    requires workers { crew.now.workers ≤ 16 }
-    requires through { IfSome through (λ order. order < search.now.pairing.orders) }
+    requires { IfSome through (λ order. order < search.now.pairing.orders) }
     ensures none { IfOk result (λ found. IfNone found (HasNoCandidate search.now.pairing through)) }
     ensures least { IfOk result (λ found. IfSome found (λ priced.
         IsLeastSlack search.now.wave search.now.pairing search.now.duals through priced.batch priced.slack)) }
@@ -53,12 +49,12 @@ fn price<R: Threads + Sync, G: Gate>(
     ensures pass { IfOk result (λ found. IfSome found (λ priced. IfSome priced.marks (λ marks.
         IsVisitOfAll search.now.wave search.now.pairing search.now.duals marks (Passed [])))) }
 {
-    let found = search.best(alloc, crew, through)?;
+    let found = search.best(workers, through)?;
     let Some(best) = found else {
         return Ok(None);
     };
     let slack = search.slack_of(best.batch);
-    let marks = marks_of(alloc, search, crew, through, slack)?;
+    let marks = marks_of(workers, search, through, slack)?;
     Ok(Some(Priced {
         batch: best.batch,
         slack,
@@ -74,6 +70,29 @@ fn price<R: Threads + Sync, G: Gate>(
 /// Up to so many workers, 1 to 16, search the subtrees of the first items. No more take part than there are batches for; but where no
 /// order is given and there are two workers and two first items, at least two search beside each other. A worker passes the gate
 /// by its own number, 1 at first, before it searches the subtree of a first item. The answer doesn't depend on the workers.
+pub fn least_slack_by<R: Threads + Sync, G: Gate>(
+    workers: &Workers<'_, R, G>,
+    paired: &PairedWave<'_>,
+    duals: &Vec<u64>,
+    through: Option<u32>,
+) -> Result<Option<Priced>, Memory>
+    requires count { length duals.now.items ≡ length paired.now.wave.now.orders }
+    requires duals { All (λ dual. dual ≤ greatest_dual) duals.now.items }
+    requires through { IfSome through (λ order. order < length paired.now.wave.now.orders) }
+    ensures none { IfOk result (λ found. IfNone found (HasNoCandidate paired.now.pairs.now through)) }
+    ensures least { IfOk result (λ found. IfSome found (λ priced.
+        IsLeastSlack paired.now.wave.now paired.now.pairs.now duals.now.items through priced.batch priced.slack)) }
+    ensures marked { IfOk result (λ found. IfSome found (λ priced. IsSome priced.marks ↔ ((through ≡ None) × (pos 0 ≤ℤ priced.slack)))) }
+    ensures short { IfOk result (λ found. IfSome found (λ priced.
+        IfSome priced.marks (AreShortMarks paired.now.wave.now paired.now.pairs.now duals.now.items))) }
+    ensures pass { IfOk result (λ found. IfSome found (λ priced. IfSome priced.marks (λ marks.
+        IsVisitOfAll paired.now.wave.now paired.now.pairs.now duals.now.items marks (Passed [])))) }
+{
+    let search = SlackSearch::of(workers.alloc, paired, duals)?;
+    price(workers, &search, through)
+}
+
+/// The same for a wave, its pairs and workers that are handed in one by one: up to so many workers, 1 to 16.
 pub fn least_slack<R: Threads + Sync, G: Gate>(
     rt: &R,
     alloc: Global,
@@ -98,7 +117,11 @@ pub fn least_slack<R: Threads + Sync, G: Gate>(
     ensures pass { IfOk result (λ found. IfSome found (λ priced. IfSome priced.marks (λ marks.
         IsVisitOfAll wave.now pairs.now duals.now.items marks (Passed [])))) }
 {
-    let search = SlackSearch::of(alloc, wave, pairs, duals)?;
-    let crew = Crew { rt, workers, gate };
-    price(alloc, &search, &crew, through)
+    let workers = Workers {
+        rt,
+        alloc,
+        number: workers,
+        gate,
+    };
+    least_slack_by(&workers, &PairedWave::of(wave, pairs), duals, through)
 }

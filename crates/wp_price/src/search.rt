@@ -12,7 +12,7 @@ use crate::item::{Item, few_sum, item_of, whole_reach};
 use crate::place::Place;
 use std::alloc::Global;
 use std::marker::Model;
-use wp_batch::Wave;
+use wp_batch::{PairedWave, Wave};
 use wp_model::Memory;
 use wp_pairs::{Batch, Pairs};
 
@@ -63,20 +63,20 @@ impl<'a> SlackSearch<'a> {
     /// A search with these duals.
     pub fn of(
         alloc: Global,
-        wave: &'a Wave,
-        pairs: &'a Pairs,
+        paired: &PairedWave<'a>,
         duals: &'a Vec<u64>,
     ) -> Result<SlackSearch<'a>, Memory>
-        requires orders { pairs.now.orders ≡ length wave.now.orders }
-        requires count { length duals.now.items ≡ pairs.now.orders }
+        requires count { length duals.now.items ≡ length paired.now.wave.now.orders }
         requires duals { All (λ dual. dual ≤ greatest_dual) duals.now.items }
-        ensures { IfOk result (λ search. search ≡ record { wave = wave.now; pairing = pairs.now; duals = duals.now.items }) }
+        ensures { IfOk result (λ search. search ≡ record { wave = paired.now.wave.now; pairing = paired.now.pairs.now; duals = duals.now.items }) }
     {
+        let PairedWave { wave, pairs } = *paired;
+        let items = items_of(alloc, pairs, duals.as_slice())?;
         Ok(SlackSearch {
             wave,
             pairs,
             duals,
-            items: items_of(alloc, pairs, duals.as_slice())?,
+            items,
         })
     }
 }

@@ -4,7 +4,6 @@ ghost use Rattle.wp_pairs.specs.Permitted.{IsPermitted};
 ghost use Rattle.wp_price.specs.Searches.{AreItemsSearched, AreSharesOf, AreSharesSearched, InShare, IsAt, IsBeaten, IsNoChild, IsSearched};
 
 use crate::best::{LeastBatch, best_of};
-use crate::crew::Crew;
 use crate::place::Place;
 use crate::search::SlackSearch;
 use crate::share::deal;
@@ -14,6 +13,18 @@ use std::thread::Threads;
 use wp_model::Memory;
 use wp_outside::{Gate, Moment};
 use wp_pairs::Batch;
+
+/// Who searches: up to so many workers, 1 to 16, each in a thread of its own but for one, and the gate that they pass. The
+/// allocator gives the memory for what they make.
+#[derive(Drop)]
+pub struct Workers<'a, R, G> {
+    pub rt: &'a R,
+    pub alloc: Global,
+    pub number: u32,
+    pub gate: &'a G,
+    pub ghost some: { 1 ≤ number },
+    pub ghost most: { number ≤ 16 },
+}
 
 /// How many batches a worker is worth: to begin a thread takes as long as to search some thousand batches.
 const BATCHES_FOR_ONE: u64 = 4_000;
@@ -69,8 +80,7 @@ impl SlackSearch<'_> {
     // Searches all shares, each by a worker of its own. The workers are numbered from 1 on.
     fn search_shares<R: Threads + Sync, G: Gate>(
         &self,
-        alloc: Global,
-        crew: &Crew<'_, R, G>,
+        workers: &Workers<'_, R, G>,
         place: &Place,
         best: &Option<LeastBatch>,
         shares: &[Batch],
@@ -81,10 +91,10 @@ impl SlackSearch<'_> {
         ensures searched { IfOk result (λ found. AreSharesSearched self.now place.now.batch shares.now best.now found.items) }
     {
         let search = self;
-        let gate = crew.gate;
+        let gate = workers.gate;
         let found = thread::map_indices(
-            crew.rt,
-            alloc,
+            workers.rt,
+            workers.alloc,
             shares.len(),
             &|worker: usize| -> Option<LeastBatch>
                 requires { worker < length shares.now × (length shares.now ≤ 16) × IsAt search.now place.now }
@@ -109,39 +119,35 @@ impl SlackSearch<'_> {
         workers.min(firsts.len()).min(worth).max(1)
     }
 
-    /// The first items of a place, dealt out to the workers of a crew.
+    /// The first items of a place, dealt out to workers.
     pub fn shares_of<R, G>(
         &self,
-        alloc: Global,
-        crew: &Crew<'_, R, G>,
+        workers: &Workers<'_, R, G>,
         place: &Place,
     ) -> Result<Vec<Batch>, Memory>
-        requires workers { crew.now.workers ≤ 16 }
-        requires place { IsAt self.now place.now }
+        requires { IsAt self.now place.now }
         ensures few { IfOk result (λ shares. length shares.items ≤ 16) }
         ensures all { IfOk result (λ shares. AreSharesOf self.now place.now.batch shares.items) }
     {
         let firsts = self.first_items(place);
-        let workers = self.workers_for(place, firsts, crew.workers);
-        deal(alloc, self.orders(), firsts, workers)
+        let taking_part = self.workers_for(place, firsts, workers.number);
+        deal(workers.alloc, self.orders(), firsts, taking_part)
     }
 
     /// The best of the best batch so far and all batches that extend a place. The subtrees of the place's first items are searched by
-    /// the workers of a crew beside each other.
+    /// workers beside each other.
     pub fn search_below<R: Threads + Sync, G: Gate>(
         &self,
-        alloc: Global,
-        crew: &Crew<'_, R, G>,
+        workers: &Workers<'_, R, G>,
         place: &Place,
         best: Option<LeastBatch>,
     ) -> Result<Option<LeastBatch>, Memory>
-        requires workers { crew.now.workers ≤ 16 }
         requires place { IsAt self.now place.now }
         requires known { IsPermitted self.now.pairing place.now.batch → IsBeaten self.now best place.now.batch }
         ensures { IfOk result (IsSearched self.now place.now.batch 0 best) }
     {
-        let shares = self.shares_of(alloc, crew, place)?;
-        let found = self.search_shares(alloc, crew, place, &best, shares.as_slice())?;
+        let shares = self.shares_of(workers, place)?;
+        let found = self.search_shares(workers, place, &best, shares.as_slice())?;
         Ok(best_of(best, found.as_slice()))
     }
 }

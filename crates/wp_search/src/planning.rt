@@ -7,7 +7,7 @@ use crate::best::best_of;
 use crate::branch::Branch;
 use crate::listing::list_nodes;
 use crate::plan::{Planned, State};
-use crate::search::{TreeSearch, search_on};
+use crate::search::{SearchRoot, TreeSearch, search_on};
 use std::alloc::Global;
 use std::thread::Threads;
 use wp_batch::{Wave, merged_start};
@@ -15,6 +15,8 @@ use wp_cert::{Nodes, Tree};
 use wp_model::Memory;
 use wp_node::{bound_of, share_duals};
 use wp_outside::Gate;
+use wp_pairs::Capacity;
+use wp_price::Workers;
 
 // The state of a plan with this bound and this cost.
 fn state_of(bound: u64, cost: u64) -> State
@@ -81,7 +83,13 @@ pub fn plan_wave<R: Threads + Sync, G: Gate>(
     requires most_workers { workers ≤ 16 }
     ensures { IfOk result (IsGoodPlan wave.now capacity budget) }
 {
-    let shares = share_duals(alloc, wave, capacity)?;
+    let workers = Workers {
+        rt,
+        alloc,
+        number: workers,
+        gate,
+    };
+    let shares = share_duals(alloc, wave, Capacity { most: capacity })?;
     let batching = merged_start(alloc, wave, capacity)?;
     let start = TreeSearch {
         tree: Branch::Leaf(None),
@@ -89,16 +97,12 @@ pub fn plan_wave<R: Threads + Sync, G: Gate>(
         budget,
         spent: 0,
     };
-    let search = search_on(
-        rt,
-        alloc,
+    let root = SearchRoot {
         wave,
-        capacity,
-        shares.as_slice(),
-        start,
-        workers,
-        gate,
-    )?;
+        capacity: Capacity { most: capacity },
+        shares: shares.as_slice(),
+    };
+    let search = search_on(&workers, &root, start)?;
     let orders = wave.orders();
     let above = bound_of(orders, shares.as_slice());
     let bound = search.tree.bound(orders, above).unwrap();

@@ -10,12 +10,21 @@ ghost use Rattle.wp_search.specs.Turns.{IsFound, IsProper, IsTurned};
 use crate::best::{BestBatching, best_of, cheaper_of};
 use crate::branch::Branch;
 use crate::turn::{LeafTurn, Turner, take_turn};
-use std::alloc::Global;
 use std::thread::Threads;
 use wp_batch::{Batching, Wave};
 use wp_model::Memory;
 use wp_node::{bound_of, pays, price_of};
 use wp_outside::Gate;
+use wp_pairs::Capacity;
+use wp_price::Workers;
+
+/// What a search is over: a wave and a capacity, and the share duals, which stand above the root of its tree.
+#[derive(Clone, Copy)]
+pub struct SearchRoot<'a> {
+    pub wave: &'a Wave,
+    pub capacity: Capacity,
+    pub shares: &'a [u64],
+}
 
 /// A search for a plan: its tree, the best batching that it knows, what it may spend, and what it has spent.
 #[derive(Drop)]
@@ -39,39 +48,34 @@ fn turn_at_root<R: Threads + Sync, G: Gate>(
     shares: &[u64],
     search: &mut TreeSearch,
 ) -> Result<LeafTurn, Memory>
-    requires some { 1 ≤ turner.now.capacity }
-    requires most { turner.now.capacity ≤ 8 }
-    requires shares { AreShares turner.now.wave.now turner.now.capacity shares.now }
+    requires shares { AreShares turner.now.wave.now turner.now.capacity.most shares.now }
     requires duals { AreDuals (length turner.now.wave.now.orders) shares.now }
-    requires tree { IsBranch turner.now.wave.now (no_pairs (length turner.now.wave.now.orders) turner.now.capacity) (sum shares.now) search.old.tree }
+    requires tree { IsBranch turner.now.wave.now (no_pairs (length turner.now.wave.now.orders) turner.now.capacity.most) (sum shares.now) search.old.tree }
     requires bound { least_of (units_of (sum shares.now)) search.old.tree ≡ Some turner.now.least }
-    requires some_workers { 1 ≤ turner.now.workers }
-    requires most_workers { turner.now.workers ≤ 16 }
-    ensures turned { IfOk result (IsTurned turner.now.wave.now (no_pairs (length turner.now.wave.now.orders) turner.now.capacity) (sum shares.now)
+    ensures turned { IfOk result (IsTurned turner.now.wave.now (no_pairs (length turner.now.wave.now.orders) turner.now.capacity.most) (sum shares.now)
         turner.now.pays turner.now.least search.old.tree search.new.tree) }
     ensures best { OnOk result (search.new.best ≡ search.old.best) }
     ensures budget { OnOk result (search.new.budget ≡ search.old.budget) }
     ensures spent { OnOk result (search.new.spent ≡ search.old.spent) }
 {
-    let mut path = Vec::new(turner.alloc);
+    let mut path = Vec::new(turner.workers.alloc);
     let columns = search.best.batching.as_slice();
     take_turn(turner, &mut path, shares, columns, &mut search.tree)
 }
 
 // A search after a node was paid for, at which a batching was found, or none.
-fn paid(wave: &Wave, capacity: u32, search: TreeSearch, found: Option<Batching>) -> TreeSearch
-    requires capacity { capacity ≤ 8 }
-    requires pays { search.spent + price (length wave.now.orders) capacity ≤ search.budget }
-    requires best { IsBest wave.now capacity search.best }
-    requires found { IsFound wave.now capacity found }
-    ensures best { IsBest wave.now capacity result.best }
+fn paid(wave: &Wave, capacity: Capacity, search: TreeSearch, found: Option<Batching>) -> TreeSearch
+    requires pays { search.spent + price (length wave.now.orders) capacity.most ≤ search.budget }
+    requires best { IsBest wave.now capacity.most search.best }
+    requires found { IsFound wave.now capacity.most found }
+    ensures best { IsBest wave.now capacity.most result.best }
     ensures kept { KeepsBest search.best result.best }
     ensures tree { result.tree ≡ search.tree }
     ensures budget { result.budget ≡ search.budget }
-    ensures spent { result.spent ≡ search.spent + price (length wave.now.orders) capacity }
+    ensures spent { result.spent ≡ search.spent + price (length wave.now.orders) capacity.most }
 {
     let spent = search.spent + price_of(wave.orders(), capacity) as u64;
-    let best = cheaper_of(wave, capacity, search.best, found);
+    let best = cheaper_of(wave, capacity.most, search.best, found);
     TreeSearch {
         tree: search.tree,
         best,
@@ -81,9 +85,9 @@ fn paid(wave: &Wave, capacity: u32, search: TreeSearch, found: Option<Batching>)
 }
 
 // A search whose best batching is this.
-fn settled(wave: &Wave, capacity: u32, search: TreeSearch, batching: Batching) -> TreeSearch
-    requires { IsProper wave.now capacity batching }
-    ensures best { IsBest wave.now capacity result.best }
+fn settled(wave: &Wave, capacity: Capacity, search: TreeSearch, batching: Batching) -> TreeSearch
+    requires { IsProper wave.now capacity.most batching }
+    ensures best { IsBest wave.now capacity.most result.best }
     ensures same { result.best.batching ≡ batching }
     ensures tree { result.tree ≡ search.tree }
     ensures budget { result.budget ≡ search.budget }
@@ -91,7 +95,7 @@ fn settled(wave: &Wave, capacity: u32, search: TreeSearch, batching: Batching) -
 {
     TreeSearch {
         tree: search.tree,
-        best: best_of(wave, capacity, batching),
+        best: best_of(wave, capacity.most, batching),
         budget: search.budget,
         spent: search.spent,
     }
@@ -99,37 +103,30 @@ fn settled(wave: &Wave, capacity: u32, search: TreeSearch, batching: Batching) -
 
 // A turn of the search, whose tree has this bound, which the best batching costs more than.
 fn take_step<R: Threads + Sync, G: Gate>(
-    rt: &R,
-    alloc: Global,
-    wave: &Wave,
-    capacity: u32,
-    shares: &[u64],
+    workers: &Workers<'_, R, G>,
+    root: &SearchRoot<'_>,
     mut search: TreeSearch,
     bound: u64,
-    workers: u32,
-    gate: &G,
 ) -> Result<SearchStep, Memory>
-    requires some { 1 ≤ capacity }
-    requires most { capacity ≤ 8 }
-    requires shares { AreShares wave.now capacity shares.now }
-    requires duals { AreDuals (length wave.now.orders) shares.now }
-    requires search { IsSearch wave.now capacity (sum shares.now) search }
-    requires bound { least_of (units_of (sum shares.now)) search.tree ≡ Some bound }
-    requires some_workers { 1 ≤ workers }
-    requires most_workers { workers ≤ 16 }
-    ensures onward { IfOk result (λ step. IsOnward wave.now capacity (sum shares.now) search step.search step.goes_on) }
+    requires shares { AreShares root.now.wave.now root.now.capacity.most root.now.shares.now }
+    requires duals { AreDuals (length root.now.wave.now.orders) root.now.shares.now }
+    requires search { IsSearch root.now.wave.now root.now.capacity.most (sum root.now.shares.now) search }
+    requires bound { least_of (units_of (sum root.now.shares.now)) search.tree ≡ Some bound }
+    ensures onward { IfOk result (λ step. IsOnward root.now.wave.now root.now.capacity.most (sum root.now.shares.now) search step.search step.goes_on) }
     ensures kept { IfOk result (λ step. bound < search.best.cost → KeepsBest search.best step.search.best) }
 {
+    let SearchRoot {
+        wave,
+        capacity,
+        shares,
+    } = *root;
     let pays = pays(wave.orders(), capacity, search.budget - search.spent);
     let turner = Turner {
-        rt,
-        alloc,
+        workers,
         wave,
         capacity,
         least: bound,
         pays,
-        workers,
-        gate,
     };
     let turn = turn_at_root(&turner, shares, &mut search)?;
     Ok(match turn {
@@ -153,41 +150,29 @@ fn take_step<R: Threads + Sync, G: Gate>(
 }
 
 /// Searches until the best batching costs the tree's bound, or the budget doesn't pay for a further node: of the leaves whose
-/// bound is the least the first takes a turn. Above the root stand the share duals. The workers, 1 to 16, and the gate that they
-/// pass are handed to the pricing.
+/// bound is the least the first takes a turn. Above the root stand the share duals.
 pub fn search_on<R: Threads + Sync, G: Gate>(
-    rt: &R,
-    alloc: Global,
-    wave: &Wave,
-    capacity: u32,
-    shares: &[u64],
+    workers: &Workers<'_, R, G>,
+    root: &SearchRoot<'_>,
     start: TreeSearch,
-    workers: u32,
-    gate: &G,
 ) -> Result<TreeSearch, Memory>
-    requires some { 1 ≤ capacity }
-    requires most { capacity ≤ 8 }
-    requires shares { AreShares wave.now capacity shares.now }
-    requires duals { AreDuals (length wave.now.orders) shares.now }
-    requires start { IsSearch wave.now capacity (sum shares.now) start }
-    requires some_workers { 1 ≤ workers }
-    requires most_workers { workers ≤ 16 }
-    ensures search { IfOk result (IsSearch wave.now capacity (sum shares.now)) }
+    requires shares { AreShares root.now.wave.now root.now.capacity.most root.now.shares.now }
+    requires duals { AreDuals (length root.now.wave.now.orders) root.now.shares.now }
+    requires start { IsSearch root.now.wave.now root.now.capacity.most (sum root.now.shares.now) start }
+    ensures search { IfOk result (IsSearch root.now.wave.now root.now.capacity.most (sum root.now.shares.now)) }
     ensures budget { IfOk result (λ search. search.budget ≡ start.budget) }
-    ensures ended { IfOk result (HasEnded wave.now capacity (sum shares.now)) }
+    ensures ended { IfOk result (HasEnded root.now.wave.now root.now.capacity.most (sum root.now.shares.now)) }
     ensures kept { IfOk result (λ search. KeepsBest start.best search.best) }
 {
-    let orders = wave.orders();
-    let above = bound_of(orders, shares);
+    let orders = root.wave.orders();
+    let above = bound_of(orders, root.shares);
     let mut search = start;
     loop {
         let bound = search.tree.bound(orders, above).unwrap();
         if search.best.cost <= bound {
             return Ok(search);
         }
-        let step = take_step(
-            rt, alloc, wave, capacity, shares, search, bound, workers, gate,
-        )?;
+        let step = take_step(workers, root, search, bound)?;
         if !step.goes_on {
             return Ok(step.search);
         }

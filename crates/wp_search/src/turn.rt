@@ -12,26 +12,23 @@ use crate::branch::{Branch, Cut, lower_bound};
 use crate::whole::better_batching;
 use std::alloc::Global;
 use std::thread::Threads;
-use wp_batch::{Batching, Wave};
+use wp_batch::{Batching, PairedWave, Wave};
 use wp_cert::pairs_of;
 use wp_model::Memory;
 use wp_node::{Worked, bound_of, choose_pair, class_batching, work_node};
 use wp_outside::Gate;
-use wp_pairs::{Batch, OrderPair, Pairs};
+use wp_pairs::{Batch, Capacity, OrderPair, Pairs};
+use wp_price::Workers;
 
-/// What stays the same in a turn: the wave and the capacity, 1 to 8; the bound of the leaf that takes
-/// it, which is the least; whether the budget pays for a node; and the workers, 1 to 16, with the
-/// gate that they pass.
+/// What stays the same in a turn: the workers, the wave and the capacity; the bound of the leaf that takes it, which is the
+/// least; and whether the budget pays for a node.
 #[derive(Clone, Copy)]
 pub struct Turner<'a, R, G> {
-    pub rt: &'a R,
-    pub alloc: Global,
+    pub workers: &'a Workers<'a, R, G>,
     pub wave: &'a Wave,
-    pub capacity: u32,
+    pub capacity: Capacity,
     pub least: u64,
     pub pays: bool,
-    pub workers: u32,
-    pub gate: &'a G,
 }
 
 /// What a turn did at a leaf.
@@ -61,12 +58,9 @@ fn turn_kept<R: Threads + Sync, G: Gate>(
     above: &[u64],
     columns: &[Batch],
 ) -> Result<TurnedBranch, Memory>
-    requires some { 1 ≤ pairs.now.capacity }
     requires pairs { pairs.now.orders ≡ length turner.now.wave.now.orders }
     requires duals { AreDuals (length turner.now.wave.now.orders) above.now }
     requires feasible { AreFeasible turner.now.wave.now pairs.now above.now }
-    requires some_workers { 1 ≤ turner.now.workers }
-    requires most_workers { turner.now.workers ≤ 16 }
     ensures { IfOk result (λ turned. IsTurned turner.now.wave.now pairs.now (sum above.now) turner.now.pays (units_of (sum above.now))
         (branches.Leaf None) turned.branch turned.turn) }
 {
@@ -82,18 +76,14 @@ fn turn_kept<R: Threads + Sync, G: Gate>(
             turn: LeafTurn::Spent,
         });
     }
-    let worked = work_node(
-        turner.rt,
-        turner.alloc,
-        turner.wave,
+    let _orders = turner.wave.orders();
+    let paired = PairedWave {
+        wave: turner.wave,
         pairs,
-        above,
-        columns,
-        turner.workers,
-        turner.gate,
-    )?;
+    };
+    let worked = work_node(turner.workers, &paired, above, columns)?;
     let found = better_batching(
-        turner.alloc,
+        turner.workers.alloc,
         turner.wave,
         pairs.capacity(),
         worked.whole.as_slice(),
@@ -134,21 +124,24 @@ fn turn_worked<R: Threads + Sync, G: Gate>(
     pairs: &Pairs,
     worked: Worked,
 ) -> Result<TurnedBranch, Memory>
-    requires some { 1 ≤ pairs.now.capacity }
     requires pairs { pairs.now.orders ≡ length turner.now.wave.now.orders }
     requires worked { IsWorked turner.now.wave.now pairs.now 0 worked }
-    requires some_workers { 1 ≤ turner.now.workers }
-    requires most_workers { turner.now.workers ≤ 16 }
     ensures { IfOk result (λ turned. (above : ℕ) → above ≤ sum worked.own.duals
         → IsTurned turner.now.wave.now pairs.now above turner.now.pays (own_bound worked) (branches.Leaf (Some worked)) turned.branch turned.turn) }
 {
-    match choose_pair(turner.alloc, pairs, &worked)? {
+    match choose_pair(turner.workers.alloc, pairs, &worked)? {
         Some((first, second)) => Ok(TurnedBranch {
-            branch: split_on(turner.alloc, turner.wave.orders(), first, second, worked)?,
+            branch: split_on(
+                turner.workers.alloc,
+                turner.wave.orders(),
+                first,
+                second,
+                worked,
+            )?,
             turn: LeafTurn::Onward,
         }),
         None => {
-            let batching = class_batching(turner.alloc, turner.wave, pairs, &worked.own)?;
+            let batching = class_batching(turner.workers.alloc, turner.wave, pairs, &worked.own)?;
             Ok(TurnedBranch {
                 branch: Branch::Leaf(Some(worked)),
                 turn: LeafTurn::Settled(batching),
@@ -165,17 +158,13 @@ fn turn_leaf<R: Threads + Sync, G: Gate>(
     columns: &[Batch],
     leaf: Option<Worked>,
 ) -> Result<TurnedBranch, Memory>
-    requires some { 1 ≤ turner.now.capacity }
-    requires most { turner.now.capacity ≤ 8 }
-    requires path { IsPath (length turner.now.wave.now.orders) turner.now.capacity path.now.items }
+    requires path { IsPath (length turner.now.wave.now.orders) turner.now.capacity.most path.now.items }
     requires duals { AreDuals (length turner.now.wave.now.orders) above.now }
-    requires feasible { AreFeasible turner.now.wave.now (pairing_of (length turner.now.wave.now.orders) turner.now.capacity path.now.items) above.now }
-    requires leaf { IsBranch turner.now.wave.now (pairing_of (length turner.now.wave.now.orders) turner.now.capacity path.now.items) (sum above.now)
+    requires feasible { AreFeasible turner.now.wave.now (pairing_of (length turner.now.wave.now.orders) turner.now.capacity.most path.now.items) above.now }
+    requires leaf { IsBranch turner.now.wave.now (pairing_of (length turner.now.wave.now.orders) turner.now.capacity.most path.now.items) (sum above.now)
         (branches.Leaf leaf) }
-    requires some_workers { 1 ≤ turner.now.workers }
-    requires most_workers { turner.now.workers ≤ 16 }
     ensures { IfOk result (λ turned. (least : ℕ) → least_of (units_of (sum above.now)) (branches.Leaf leaf) ≡ Some least
-        → IsTurned turner.now.wave.now (pairing_of (length turner.now.wave.now.orders) turner.now.capacity path.now.items) (sum above.now)
+        → IsTurned turner.now.wave.now (pairing_of (length turner.now.wave.now.orders) turner.now.capacity.most path.now.items) (sum above.now)
         turner.now.pays least (branches.Leaf leaf) turned.branch turned.turn) }
 {
     let pairs = pairs_of(turner.wave.orders(), turner.capacity, path);
@@ -195,18 +184,14 @@ fn turn_in_place<R: Threads + Sync, G: Gate>(
     columns: &[Batch],
     branch: &mut Branch,
 ) -> Result<LeafTurn, Memory>
-    requires some { 1 ≤ turner.now.capacity }
-    requires most { turner.now.capacity ≤ 8 }
-    requires path { IsPath (length turner.now.wave.now.orders) turner.now.capacity path.now.items }
+    requires path { IsPath (length turner.now.wave.now.orders) turner.now.capacity.most path.now.items }
     requires duals { AreDuals (length turner.now.wave.now.orders) above.now }
-    requires feasible { AreFeasible turner.now.wave.now (pairing_of (length turner.now.wave.now.orders) turner.now.capacity path.now.items) above.now }
+    requires feasible { AreFeasible turner.now.wave.now (pairing_of (length turner.now.wave.now.orders) turner.now.capacity.most path.now.items) above.now }
     requires leaf { IsLeaf branch.old }
-    requires branch { IsBranch turner.now.wave.now (pairing_of (length turner.now.wave.now.orders) turner.now.capacity path.now.items) (sum above.now)
+    requires branch { IsBranch turner.now.wave.now (pairing_of (length turner.now.wave.now.orders) turner.now.capacity.most path.now.items) (sum above.now)
         branch.old }
     requires least { least_of (units_of (sum above.now)) branch.old ≡ Some turner.now.least }
-    requires some_workers { 1 ≤ turner.now.workers }
-    requires most_workers { turner.now.workers ≤ 16 }
-    ensures { IfOk result (IsTurned turner.now.wave.now (pairing_of (length turner.now.wave.now.orders) turner.now.capacity path.now.items)
+    ensures { IfOk result (IsTurned turner.now.wave.now (pairing_of (length turner.now.wave.now.orders) turner.now.capacity.most path.now.items)
         (sum above.now) turner.now.pays turner.now.least branch.old branch.new) }
 {
     match branch {
@@ -272,17 +257,13 @@ pub fn take_turn<R: Threads + Sync, G: Gate>(
     columns: &[Batch],
     branch: &mut Branch,
 ) -> Result<LeafTurn, Memory>
-    requires some { 1 ≤ turner.now.capacity }
-    requires most { turner.now.capacity ≤ 8 }
-    requires path { IsPath (length turner.now.wave.now.orders) turner.now.capacity path.old.items }
+    requires path { IsPath (length turner.now.wave.now.orders) turner.now.capacity.most path.old.items }
     requires duals { AreDuals (length turner.now.wave.now.orders) above.now }
-    requires feasible { AreFeasible turner.now.wave.now (pairing_of (length turner.now.wave.now.orders) turner.now.capacity path.old.items) above.now }
-    requires branch { IsBranch turner.now.wave.now (pairing_of (length turner.now.wave.now.orders) turner.now.capacity path.old.items) (sum above.now)
+    requires feasible { AreFeasible turner.now.wave.now (pairing_of (length turner.now.wave.now.orders) turner.now.capacity.most path.old.items) above.now }
+    requires branch { IsBranch turner.now.wave.now (pairing_of (length turner.now.wave.now.orders) turner.now.capacity.most path.old.items) (sum above.now)
         branch.old }
     requires least { least_of (units_of (sum above.now)) branch.old ≡ Some turner.now.least }
-    requires some_workers { 1 ≤ turner.now.workers }
-    requires most_workers { turner.now.workers ≤ 16 }
-    ensures turned { IfOk result (IsTurned turner.now.wave.now (pairing_of (length turner.now.wave.now.orders) turner.now.capacity path.old.items)
+    ensures turned { IfOk result (IsTurned turner.now.wave.now (pairing_of (length turner.now.wave.now.orders) turner.now.capacity.most path.old.items)
         (sum above.now) turner.now.pays turner.now.least branch.old branch.new) }
     ensures path { OnOk result (path.new.items ≡ path.old.items) }
 {
@@ -314,18 +295,14 @@ fn take_turn_below<R: Threads + Sync, G: Gate>(
     worked: &Worked,
     branch: &mut Branch,
 ) -> Result<LeafTurn, Memory>
-    requires some { 1 ≤ turner.now.capacity }
-    requires most { turner.now.capacity ≤ 8 }
-    requires path { IsPath (length turner.now.wave.now.orders) turner.now.capacity path.old.items }
-    requires pair { AreUndecided (pairing_of (length turner.now.wave.now.orders) turner.now.capacity path.old.items) pair.first pair.second }
-    requires worked { IsWorked turner.now.wave.now (pairing_of (length turner.now.wave.now.orders) turner.now.capacity path.old.items) 0 worked.now }
+    requires path { IsPath (length turner.now.wave.now.orders) turner.now.capacity.most path.old.items }
+    requires pair { AreUndecided (pairing_of (length turner.now.wave.now.orders) turner.now.capacity.most path.old.items) pair.first pair.second }
+    requires worked { IsWorked turner.now.wave.now (pairing_of (length turner.now.wave.now.orders) turner.now.capacity.most path.old.items) 0 worked.now }
     requires branch { IsBranch turner.now.wave.now
-        (pairing_of (length turner.now.wave.now.orders) turner.now.capacity (path.old.items ++ pair ∷ [])) (sum worked.now.own.duals) branch.old }
+        (pairing_of (length turner.now.wave.now.orders) turner.now.capacity.most (path.old.items ++ pair ∷ [])) (sum worked.now.own.duals) branch.old }
     requires least { least_of (own_bound worked.now) branch.old ≡ Some turner.now.least }
-    requires some_workers { 1 ≤ turner.now.workers }
-    requires most_workers { turner.now.workers ≤ 16 }
     ensures turned { IfOk result (IsTurned turner.now.wave.now
-        (pairing_of (length turner.now.wave.now.orders) turner.now.capacity (path.old.items ++ pair ∷ [])) (sum worked.now.own.duals)
+        (pairing_of (length turner.now.wave.now.orders) turner.now.capacity.most (path.old.items ++ pair ∷ [])) (sum worked.now.own.duals)
         turner.now.pays turner.now.least branch.old branch.new) }
     ensures path { OnOk result (path.new.items ≡ path.old.items) }
 {

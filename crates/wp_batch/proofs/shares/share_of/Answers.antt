@@ -1,4 +1,4 @@
-use Rattle.std.proofs.Common.{◌≡◌, ◌<◌, ◌*◌, ◌/◌, ℕ, List, arith, ap, subst, ◌∙◌, ⊎_elim, length}
+use Rattle.std.proofs.Common.{◌≡◌, ◌<◌, ◌*◌, ◌/◌, ℕ, List, arith, ap, subst, ⊎_elim, length}
 use Rattle.wp_batch.proofs.Unions.{all_from_contained}
 use Rattle.wp_batch.specs.Lengths.{IsLengthOf}
 use Rattle.wp_pairs.proofs.Members.{contains_none}

@@ -3,7 +3,7 @@ use Rattle.wp_batch.proofs.ShareSums.{all_shares, more_shares, no_shares}
 use Rattle.wp_batch.proofs.shares.shares_of.Goals as goal
 
 pub loop-order-init : goal.loop-order-init
-loop-order-init c = record { below = no_shares c.args.wave.now c.args.capacity; small = omega arith }
+loop-order-init c = record { below = no_shares c.args.wave.now c.args.capacity.most; small = omega arith }
 
 pub loop-order-preserved : goal.loop-order-preserved
 loop-order-preserved c = record {

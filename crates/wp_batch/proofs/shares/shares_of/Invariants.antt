@@ -3,4 +3,4 @@ use Rattle.wp_batch.proofs.ShareSums.{AreSharesBelow}
 use Rattle.wp_batch.proofs.shares.shares_of.Given as goal
 
 abbrev pub invariant-loop-order : goal.invariant-loop-order
-invariant-loop-order l = record { below : AreSharesBelow l.wave l.capacity l.order l.total; small : l.total ≤ l.order * 2 ^ 34 }
+invariant-loop-order l = record { below : AreSharesBelow l.wave l.capacity.most l.order l.total; small : l.total ≤ l.order * 2 ^ 34 }

@@ -5,10 +5,10 @@ use Rattle.wp_node.proofs.own.are_feasible.Goals as goal
 
 pub unwrap-priced-requires : goal.unwrap-priced-requires
 unwrap-priced-requires g c =
-    found_some _ c.in_ok-least_slack.field-0 c.in_ok-least_slack.ensures.none
-    (some_batch c.args.pairs.now c.requires.held (omega (arith, c.requires.pairs, c.requires.some_orders)))
+    found_some _ c.in_ok-least_slack_by.field-0 c.in_ok-least_slack_by.ensures.none
+    (some_batch c.args.paired.now.pairs.now c.requires.held (omega (arith, c.args.paired.now.as_many, c.args.paired.now.some)))
 
 pub returns : goal.returns
 returns g c =
-    let least = rw c.unwrap-priced.ensures at c.in_ok-least_slack.ensures.least in λ told.
-    feasible_from c.args.wave.now c.args.pairs.now c.args.duals.now.items c.unwrap-priced.result.batch c.unwrap-priced.result.slack least (grind (arith, ints))
+    let least = rw c.unwrap-priced.ensures at c.in_ok-least_slack_by.ensures.least in λ told.
+    feasible_from c.args.paired.now.wave.now c.args.paired.now.pairs.now c.args.duals.now.items c.unwrap-priced.result.batch c.unwrap-priced.result.slack least (grind (arith, ints))

@@ -4,15 +4,15 @@ use Rattle.wp_node.proofs.own.marks_of.Goals as goal
 
 pub unwrap-priced-requires : goal.unwrap-priced-requires
 unwrap-priced-requires g c =
-    found_some _ c.in_ok-least_slack.field-0 c.in_ok-least_slack.ensures.none
-    (some_batch c.args.pairs.now c.requires.held (omega (arith, c.requires.pairs, c.requires.some_orders)))
+    found_some _ c.in_ok-least_slack_by.field-0 c.in_ok-least_slack_by.ensures.none
+    (some_batch c.args.paired.now.pairs.now c.requires.held (omega (arith, c.args.paired.now.as_many, c.args.paired.now.some)))
 
 pub unwrap-requires : goal.unwrap-requires
 unwrap-requires g c =
-    let least = rw c.unwrap-priced.ensures at c.in_ok-least_slack.ensures.least in
-    let marked = rw c.unwrap-priced.ensures at c.in_ok-least_slack.ensures.marked in
+    let least = rw c.unwrap-priced.ensures at c.in_ok-least_slack_by.ensures.least in
+    let marked = rw c.unwrap-priced.ensures at c.in_ok-least_slack_by.ensures.marked in
     marked.1 (
       refl,
-      no_slack_below c.args.wave.now c.args.pairs.now c.args.duals.now.items c.unwrap-priced.result.batch c.unwrap-priced.result.slack
+      no_slack_below c.args.paired.now.wave.now c.args.paired.now.pairs.now c.args.duals.now.items c.unwrap-priced.result.batch c.unwrap-priced.result.slack
           c.requires.feasible least.candidate least.is,
     )

@@ -5,8 +5,8 @@ use Rattle.wp_node.proofs.raise.raise_all.Given as goal
 
 abbrev pub invariant-loop-order : goal.invariant-loop-order
 invariant-loop-order g l = record {
-  duals : AreDuals (length l.wave.orders) l.duals.items;
-  feasible : AreFeasible l.wave l.pairs l.duals.items;
+  duals : AreDuals (length l.paired.wave.now.orders) l.duals.items;
+  feasible : AreFeasible l.paired.wave.now l.paired.pairs.now l.duals.items;
   no_lower : AreNoLower l.initial.duals.items l.duals.items;
-  tight : AreListedTight l.wave l.pairs l.duals.items l.order l.tight.items;
+  tight : AreListedTight l.paired.wave.now l.paired.pairs.now l.duals.items l.order l.tight.items;
 }

@@ -4,8 +4,8 @@ use Rattle.wp_price.specs.Slacks.{IsLeastSlack}
 use Rattle.wp_price.proofs.LeastSlacks.{feasible_of_least, least_of_best}
 use Rattle.wp_price.proofs.pricing.price.Goals as goal
 
-pub marks_of-requires-clause-feasible : goal.marks_of-requires-clause-feasible
-marks_of-requires-clause-feasible g c = λ _ _ none low.
+pub marks_of-requires-after_bounds : goal.marks_of-requires-after_bounds
+marks_of-requires-after_bounds g c = λ _ _ none low.
     let fits : SFits w64 c.slack_of-slack.result = search rules in
     let least = least_of_best c.args.search.now c.args.through c.in-Some.best c.slack_of-slack.result c.slack_of-slack.ensures.small
     (rw c.in-Some.is at c.in_ok-found.ensures.candidate) (rw c.in-Some.is at c.in_ok-found.ensures.is) (rw c.in-Some.is at c.in_ok-found.ensures.all) c.slack_of-slack.ensures.is in

@@ -9,5 +9,5 @@ pub take_turn-requires-clause-feasible : goal.take_turn-requires-clause-feasible
 take_turn-requires-clause-feasible g c κs within =
     let turner = c.args.turner.now in
     let wave = turner.wave.now in
-    subst (λ (pairs : List OrderPair). AreFeasible wave (pairing_of (length wave.orders) turner.capacity pairs) c.args.shares.now)
-    (sym c.new-path.ensures.items) (shares_feasible wave turner.capacity c.args.shares.now c.requires.some c.requires.shares)
+    subst (λ (pairs : List OrderPair). AreFeasible wave (pairing_of (length wave.orders) turner.capacity.most pairs) c.args.shares.now)
+    (sym c.new-path.ensures.items) (shares_feasible wave turner.capacity.most c.args.shares.now turner.capacity.some c.requires.shares)

@@ -13,18 +13,18 @@ pub turn_kept-requires-clause-feasible : goal.turn_kept-requires-clause-feasible
 turn_kept-requires-clause-feasible g c κs within =
     let turner = c.args.turner.now in
     let wave = turner.wave.now in
-    let pairing = pairing_of (length wave.orders) turner.capacity c.args.path.now.items in
+    let pairing = pairing_of (length wave.orders) turner.capacity.most c.args.path.now.items in
     let same : c.pairs_of-pairs.result ≡ pairing = c.pairs_of-pairs.ensures
-    ∙ ap (λ (n : ℕ). pairing_of n turner.capacity c.args.path.now.items) c.orders.ensures.value in
+    ∙ ap (λ (n : ℕ). pairing_of n turner.capacity.most c.args.path.now.items) c.orders.ensures.value in
     subst (λ (p : Pairing). AreFeasible wave p c.args.above.now) (sym same) c.requires.feasible
 
 pub turn_worked-requires-clause-worked : goal.turn_worked-requires-clause-worked
 turn_worked-requires-clause-worked g c κs within =
     let turner = c.args.turner.now in
     let wave = turner.wave.now in
-    let pairing = pairing_of (length wave.orders) turner.capacity c.args.path.now.items in
+    let pairing = pairing_of (length wave.orders) turner.capacity.most c.args.path.now.items in
     let same : c.pairs_of-pairs.result ≡ pairing = c.pairs_of-pairs.ensures
-    ∙ ap (λ (n : ℕ). pairing_of n turner.capacity c.args.path.now.items) c.orders.ensures.value in
+    ∙ ap (λ (n : ℕ). pairing_of n turner.capacity.most c.args.path.now.items) c.orders.ensures.value in
     subst (λ (p : Pairing). IsWorked wave p 0 c.in-Some.worked) (sym same)
     (worked_below wave _ 0 (sum c.args.above.now) c.in-Some.worked (omega arith)
     (subst (λ (l : Option Worked). IsBranch wave pairing
@@ -34,9 +34,9 @@ pub returns-in-Some : goal.returns-in-Some
 returns-in-Some g c =
     let turner = c.args.turner.now in
     let wave = turner.wave.now in
-    let pairing = pairing_of (length wave.orders) turner.capacity c.args.path.now.items in
+    let pairing = pairing_of (length wave.orders) turner.capacity.most c.args.path.now.items in
     let same : c.pairs_of-pairs.result ≡ pairing = c.pairs_of-pairs.ensures
-    ∙ ap (λ (n : ℕ). pairing_of n turner.capacity c.args.path.now.items) c.orders.ensures.value in
+    ∙ ap (λ (n : ℕ). pairing_of n turner.capacity.most c.args.path.now.items) c.orders.ensures.value in
     let is : IsWorked wave pairing (sum c.args.above.now) c.in-Some.worked =
     subst (λ (l : Option Worked). IsBranch wave pairing
     (sum c.args.above.now) (Leaf l)) c.in-Some.is c.requires.leaf in

@@ -1,0 +1,26 @@
+ghost use Rattle.std.specs.Prelude.{◌≡◌, ◌≤◌, length};
+
+use crate::wave::Wave;
+use wp_pairs::Pairs;
+
+/// A wave, which has 1 to 64 orders, and pairs for as many.
+#[derive(Clone, Copy)]
+pub struct PairedWave<'a> {
+    pub wave: &'a Wave,
+    pub pairs: &'a Pairs,
+    pub ghost as_many: { pairs.now.orders ≡ length wave.now.orders },
+    pub ghost some: { 1 ≤ length wave.now.orders },
+    pub ghost few: { length wave.now.orders ≤ 64 },
+}
+
+impl<'a> PairedWave<'a> {
+    /// A wave with pairs for its orders.
+    pub fn of(wave: &'a Wave, pairs: &'a Pairs) -> PairedWave<'a>
+        requires { pairs.now.orders ≡ length wave.now.orders }
+        ensures wave { result.wave.now ≡ wave.now }
+        ensures pairs { result.pairs.now ≡ pairs.now }
+    {
+        let _orders = wave.orders();
+        PairedWave { wave, pairs }
+    }
+}
