@@ -137,7 +137,7 @@ fn a_pivot_leads_to_the_next_table(rt: HostRuntime) {
     assert_eq!(rt; wrong_table(rt.alloc()), None);
 }
 
-/// A pivot's row and place, or none, and in the table of three pairs then: the first place at which the last row is below 0, and two rows
+/// A pivot's row and place, or none, and in the table of three pairs then: the lowest place of the last row below 0, and two rows
 /// and a place, with whether the first precedes the other over its entry there.
 type Choice = (
     Option<(usize, usize)>,

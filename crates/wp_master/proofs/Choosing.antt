@@ -1,10 +1,10 @@
 -- Rows over their entries at a place, compared place by place.
 use Rattle.std.proofs.Common.{◌≡◌, ◌≢◌, ◌⊎◌, ⊎_elim, ℕ, ◌<◌, ◌≤◌, ℤ, ◌<ℤ◌, arith, sym, subst, ◌∙◌}
-use Rattle.std.proofs.Common.{◌+◌, true}
+use Rattle.std.proofs.Common.{◌+◌, true, pos, ◌≤ℤ◌, Option, None, Some, IfSome, IfNone}
 use Rattle.std.specs.Int.Signed.{lt_z}
 use Rattle.std.proofs.lemmas.Int.{ints}
-use Rattle.wp_master.specs.Choices.{AgreeBefore, Precedes, scaled_entry}
-use Rattle.wp_master.specs.Pivots.{Table}
+use Rattle.wp_master.specs.Choices.{AgreeBefore, HasRisen, IsRisingBefore, IsRisingPlace, Precedes, scaled_entry}
+use Rattle.wp_master.specs.Pivots.{Table, entry_of}
 
 pub order_of : (a b : ℕ) → (a < b) ⊎ ((b < a) ⊎ (a ≡ b))
 order_of a b = grind arith
@@ -53,3 +53,20 @@ tested_below a b passed = omega (arith, ints, passed)
 
 pub below_tests : (a b : ℤ) → a <ℤ b → lt_z a b ≡ true
 below_tests a b less = grind (arith, ints)
+
+-- the place that was found of all
+pub rising_is_found : (table : Table) (last before : ℕ) (best : Option ℕ) → table.rows ≡ last + 1 → before ≡ table.width
+    → IsRisingBefore table last before best
+    → IfSome best (λ place. IsRisingPlace table place)
+rising_is_found table last before None rows all is = tt
+rising_is_found table last before (Some place) rows all is =
+    record { row = last; last = rows; not_first = is.0; within = omega (arith, is.1, all); below = is.2 }
+
+-- none was found
+pub risen_is_found : (table : Table) (last before : ℕ) (best : Option ℕ) → table.rows ≡ last + 1 → before ≡ table.width
+    → IsRisingBefore table last before best
+    → IfNone best (HasRisen table)
+risen_is_found table last before None rows all is = λ row place at some within.
+    let same : last ≡ row = omega (arith, rows, at) in
+    subst (λ (r : ℕ). pos 0 ≤ℤ entry_of table r place) same (is place some (omega (arith, within, all)))
+risen_is_found table last before (Some place) rows all is = tt

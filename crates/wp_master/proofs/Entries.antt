@@ -5,9 +5,8 @@ use Rattle.std.specs.Int.{w128}
 use Rattle.std.specs.Prelude.{slice_index_or}
 use Rattle.std.proofs.lemmas.Int.{ints}
 use Rattle.std.proofs.lemmas.List.{get_or_append_left, get_or_push}
-use Rattle.wp_master.specs.Pivots.{AreStartEntries, AreWhole, AreWide, AreWideEntries, IsEntry, IsStart}
-use Rattle.wp_master.specs.Pivots.{IsStartEntry, IsTwofoldOf, IsWideFor, Table, exchange_of, last_row, places}
-use Rattle.wp_master.specs.Pools.{ColumnPool}
+use Rattle.wp_master.specs.Pivots.{AreWhole, AreWide, AreWideEntries, IsEntry}
+use Rattle.wp_master.specs.Pivots.{IsTwofoldOf, IsWideFor, Table, exchange_of}
 use Rattle.std.proofs.lemmas.Nat.{div-mul-add, mod-mul-add}
 
 -- the difference of two products of equal factors
@@ -70,17 +69,6 @@ by_row P rows width xs count each i j low in_row =
     let at = each (i * width + j) (omega (arith, within_rows rows width i j low in_row, count)) in
     subst (λ (n : ℕ). P i n x) (mod-mul-add i width j in_row)
     (subst (λ (n : ℕ). P n ((i * width + j) % width) x) (div-mul-add i width j in_row) at)
-
--- a table with the entries of the start table, over 1, is the start table
-pub started : (pool : ColumnPool) (table : Table) → table.rows ≡ last_row pool + 1 → table.width ≡ places pool → table.denominator ≡ pos 1
-    → length table.entries ≡ table.rows * table.width → AreStartEntries pool table.width table.entries → IsStart pool table
-started pool table rows width denominator count each = record {
-  rows = rows;
-  width = width;
-  entries = λ i j low in_row.
-      by_row (IsStartEntry pool) table.rows table.width table.entries count each i j (omega (arith, rows, low)) (omega (arith, width, in_row));
-  denominator = denominator;
-}
 
 pub one_times : (x : ℤ) → pos 1 *ℤ x ≡ x
 one_times x = omega (arith, ints)

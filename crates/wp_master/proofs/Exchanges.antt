@@ -35,7 +35,7 @@ put_is before after row place entry is known within rows width denominator same 
     }
 
 -- an entry stays where the pivot is the denominator and its row has 0 at the pivot's place
-same_kept : (d p own beside above : ℤ) → p ≡ d → beside ≡ pos 0 → d *ℤ own ≡ (p *ℤ own) -ℤ (beside *ℤ above)
+pub same_kept : (d p own beside above : ℤ) → p ≡ d → beside ≡ pos 0 → d *ℤ own ≡ (p *ℤ own) -ℤ (beside *ℤ above)
 same_kept d p own beside above e f =
     let one = ap (λ (x : ℤ). x *ℤ own) e in
     let three = ap (λ (x : ℤ). x *ℤ above) f ∙ *ℤ_comm (pos 0) above in

@@ -8,6 +8,7 @@ pub mod Products
 pub mod Quotients
 pub mod Entries
 pub mod Exchanges
+pub mod Spots
 pub mod Choosing
 pub mod Ratios
 pub mod Leaving
@@ -19,5 +20,6 @@ pub mod Above
 pub mod Gathered
 pub mod Runs
 pub mod Held
+pub mod Stored
 pub mod Covered
 pub mod Pairs

@@ -14,6 +14,11 @@ pub record IsRisingPlace (table : Table) (place : ℕ) : Type 0 where
 abbrev pub HasRisen : Table → Type 0
 HasRisen table = (row place : ℕ) → table.rows ≡ row + 1 → 1 ≤ place → place < table.width → pos 0 ≤ℤ entry_of table row place
 
+-- of the places before one, but for the first, one at which a row is below 0, or none where it is nowhere below 0
+abbrev pub IsRisingBefore : Table → ℕ → ℕ → Option ℕ → Type 0
+IsRisingBefore table row before None = (place : ℕ) → 1 ≤ place → place < before → pos 0 ≤ℤ entry_of table row place
+IsRisingBefore table row before (Some place) = (1 ≤ place) × (place < before) × (entry_of table row place <ℤ pos 0)
+
 -- the entry of a row times the entry of another row at a place
 abbrev pub scaled_entry : Table → ℕ → ℕ → ℕ → ℕ → ℤ
 scaled_entry table row j other place = entry_of table row j *ℤ entry_of table other place

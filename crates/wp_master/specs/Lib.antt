@@ -1,6 +1,7 @@
 pub mod Pools
 pub mod Pivots
 pub mod Exchanges
+pub mod Spots
 pub mod Choices
 pub mod Bases
 pub mod Minors

@@ -1,24 +1,39 @@
 ghost use Rattle.std.specs.Prelude.{◌≡◌, ◌<◌, ◌≤◌, ◌+◌, ◌↔◌, IfOk, IfErr, IfSome, IfNone, IsTrue};
-ghost use Rattle.wp_master.specs.Choices.{HasRisen, IsLeaving, IsRisingPlace, Precedes, scaled_entry};
+ghost use Rattle.wp_master.specs.Choices.{HasRisen, IsLeaving, IsRisingBefore, IsRisingPlace, Precedes, scaled_entry};
 ghost use Rattle.wp_master.specs.Pivots.{AreWideEntries};
 
 use crate::table::Table;
 use crate::wide::{TooWide, product};
 
 impl Table {
-    /// The first place, but for the first of all, at which the last row is below 0. None comes exactly where there is none.
+    // Of two places, the one at which the last row is lower, where it is below 0 there.
+    fn lower_place(&self, best: Option<usize>, last: usize, place: usize) -> Option<usize>
+        requires last { self.now.rows ≡ last + 1 }
+        requires not_first { 1 ≤ place }
+        requires within { place < self.now.width }
+        requires best { IsRisingBefore self.now last place best }
+        ensures { IsRisingBefore self.now last (place + 1) result }
+    {
+        let entry = self.entry(last, place);
+        let lower = match best {
+            None => entry < 0,
+            Some(known) => entry < self.entry(last, known),
+        };
+        if lower { Some(place) } else { best }
+    }
+
+    /// A place, but for the first of all, at which the last row is lowest, where it is below 0. None comes exactly where it is nowhere below 0.
     pub fn rising_place(&self) -> Option<usize>
         requires { 0 < self.now.rows }
         ensures some { IfSome result (λ place. IsRisingPlace self.now place) }
         ensures none { IfNone result (HasRisen self.now) }
     {
         let last = self.rows() - 1;
+        let mut best = None;
         for place in 1..self.width() {
-            if self.entry(last, place) < 0 {
-                return Some(place);
-            }
+            best = self.lower_place(best, last, place);
         }
-        None
+        best
     }
 
     // The entry of a row times the entry of another row at a place.

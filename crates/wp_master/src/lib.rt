@@ -5,10 +5,13 @@
 mod choice;
 mod column;
 mod fault;
+mod grid;
 mod master;
 mod pair;
 mod pool;
 mod run;
+mod spot;
+mod start;
 mod table;
 mod wide;
 

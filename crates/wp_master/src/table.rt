@@ -1,99 +1,67 @@
-ghost use Rattle.std.specs.Prelude.{◌≡◌, ◌≢◌, ◌≤◌, ◌<◌, ◌+◌, ◌*◌, ◌/◌, ◌%◌, ℤ, ◌*ℤ◌, ◌-ℤ◌, ◌<ℤ◌, pos, IfOk, IfErr, IsTrue, length};
-ghost use Rattle.wp_master.specs.Exchanges.{AreExchanged, IsPut, IsRowExchanged, IsRowWhole, IsRowWide};
-ghost use Rattle.wp_master.specs.Pivots.{AreStartEntries, AreWhole, AreWideEntries, IsPivot, IsStart, IsStartEntry, IsWideFor, entry_of, last_row, places};
+ghost use Rattle.std.specs.Prelude.{◌≡◌, ◌≤◌, ◌<◌, ◌+◌, ℤ, ◌<ℤ◌, pos, IfOk, IfErr, IfSome, IfNone, IsTrue, ◌↔◌, length};
+ghost use Rattle.wp_master.specs.Pivots.{AreWhole, AreWideEntries, IsPivot, IsStart, entry_of};
+ghost use Rattle.wp_master.specs.Spots.{IsNowhere, spot_of};
+ghost use Rattle.wp_master.specs.declared.spot.Spot.TheVariants as spot;
 
+use crate::grid::{Grid, unit_entry};
 use crate::pool::Pool;
-use crate::wide::{TooWide, cross};
+use crate::spot::Spot;
+use crate::start::{start_grid, start_spots};
+use crate::wide::TooWide;
 use std::alloc::Global;
 use std::marker::Model;
 use wp_model::Memory;
 
 /// Whole numbers over one denominator, in rows of one width. Contracts see the number of rows, the width, each entry by its row and
-/// place, and the denominator, which is above 0.
+/// place, and the denominator, which is above 0. Each row but the last has its unit column at some place: the denominator in that row and
+/// 0 in all others. These columns aren't stored.
 #[derive(Drop)]
 pub struct Table {
-    rows: usize,
-    width: usize,
-    entries: Vec<i128>,
-    denominator: i128,
+    stored: Grid,
+    spots: Vec<Spot>,
+    spare: usize,
 }
 
 impl Model for Table {
-    ghost use Rattle.wp_master.specs.Pivots.{IsTable, Table as Shown};
+    ghost use Rattle.wp_master.specs.Pivots.{Table as Shown};
+    ghost use Rattle.wp_master.specs.Spots.{AreSpots, shown};
 
     ghost Value = { Shown };
 
-    ghost view = { λ t. record { rows = t.rows; width = t.width; entries = t.entries.items; denominator = t.denominator } };
+    ghost view = { λ t. shown t.stored t.spots.items };
 
-    ghost invariant = { λ t. IsTable (record { rows = t.rows; width = t.width; entries = t.entries.items; denominator = t.denominator }) };
+    ghost invariant = { λ t. AreSpots t.stored.rows t.stored.width t.spots.items t.spare };
 }
 
-// The entry of a column's row in the start table.
-fn column_entry(pool: &Pool, row: usize, place: usize) -> i128
-    requires row { row < length pool.now.columns }
-    requires place { place < places pool.now }
-    ensures { IsStartEntry pool.now row place result }
+// The spot of a place.
+fn spot_at(spots: &[Spot], place: usize) -> Spot
+    requires { place < length spots.now }
+    ensures { result ≡ spot_of spots.now place }
 {
-    let column = pool.column(row);
-    if place == 0 {
-        return i128::from(column.length);
-    }
-    if place <= pool.len() {
-        return if place - 1 == row { 1 } else { 0 };
-    }
-    let order = (place - 1 - pool.len()) as u32;
-    if column.batch.has(order) { 1 } else { 0 }
+    spots[place]
 }
 
-// An entry of the start table.
-fn start_entry(pool: &Pool, row: usize, place: usize) -> i128
-    requires row { row ≤ last_row pool.now }
-    requires place { place < places pool.now }
-    ensures { IsStartEntry pool.now row place result }
+// Whether a spot is that of a row's unit column.
+fn is_basic(at: Spot, row: usize) -> bool
+    ensures { IsTrue result ↔ (at ≡ spot.Basic row) }
 {
-    if row < pool.len() {
-        return column_entry(pool, row, place);
+    match at {
+        Spot::Stored(_) => false,
+        Spot::Basic(own) => own == row,
     }
-    if place <= pool.len() { 0 } else { -1 }
 }
 
-// The quotient of a number and a denominator, of which it is a multiple.
-fn divided(value: i128, denominator: i128) -> i128
-    requires above { pos 0 <ℤ denominator }
-    requires whole { (x : ℤ) × (denominator *ℤ x ≡ value) }
-    ensures { denominator *ℤ result ≡ value }
+// The place that has the unit column of a row.
+fn basic_place(spots: &[Spot], row: usize) -> Option<usize>
+    ensures some { IfSome result (λ place. (place < length spots.now) × (spot_of spots.now place ≡ spot.Basic row)) }
+    ensures none { IfNone result (IsNowhere spots.now row (length spots.now)) }
 {
-    value / denominator
-}
-
-// Whether a pivot plainly leaves an entry as it is.
-fn stays(pivot: i128, own: i128, beside: i128, above: i128, denominator: i128) -> bool
-    ensures { IsTrue result → denominator *ℤ own ≡ (pivot *ℤ own) -ℤ (beside *ℤ above) }
-{
-    if beside != 0 && above != 0 {
-        return false;
+    for place in 0..spots.len() {
+        if is_basic(spot_at(spots, place), row) {
+            return Some(place);
+        }
     }
-    own == 0 || pivot == denominator
-}
-
-// What an entry becomes by a pivot: pivot * own - beside * above over the denominator.
-fn exchanged(
-    pivot: i128,
-    own: i128,
-    beside: i128,
-    above: i128,
-    denominator: i128,
-) -> Result<i128, TooWide>
-    requires above_0 { pos 0 <ℤ denominator }
-    requires whole { (x : ℤ) × (denominator *ℤ x ≡ (pivot *ℤ own) -ℤ (beside *ℤ above)) }
-    ensures is { IfOk result (λ entry. denominator *ℤ entry ≡ (pivot *ℤ own) -ℤ (beside *ℤ above)) }
-    ensures wide { IfErr result (λ wide. IsWideFor pivot own beside above wide.left wide.right) }
-{
-    if stays(pivot, own, beside, above, denominator) {
-        return Ok(own);
-    }
-    let value = cross(pivot, own, beside, above)?;
-    Ok(divided(value, denominator))
+    None
 }
 
 impl Table {
@@ -101,14 +69,15 @@ impl Table {
     pub fn rows(&self) -> usize
         ensures { result ≡ self.now.rows }
     {
-        self.rows
+        self.stored.rows()
     }
 
     /// The number of places in each row, above 0.
     pub fn width(&self) -> usize
-        ensures { result ≡ self.now.width }
+        ensures value { result ≡ self.now.width }
+        ensures above { 0 < result }
     {
-        self.width
+        self.spots.len()
     }
 
     /// The denominator of all entries, above 0.
@@ -116,7 +85,7 @@ impl Table {
         ensures value { result ≡ self.now.denominator }
         ensures above { pos 0 <ℤ result }
     {
-        self.denominator
+        self.stored.denominator()
     }
 
     /// An entry, by its row and place.
@@ -125,64 +94,15 @@ impl Table {
         requires place { place < self.now.width }
         ensures { result ≡ entry_of self.now row place }
     {
-        self.entries[row * self.width + place]
-    }
-
-    // Puts an entry into a row at a place.
-    fn put(&mut self, row: usize, place: usize, entry: i128)
-        requires row { row < self.old.rows }
-        requires place { place < self.old.width }
-        ensures { IsPut self.old row place entry self.new }
-    {
-        self.entries[row * self.width + place] = entry;
-    }
-
-    // Exchanges the entries of a row other than the pivot's.
-    fn exchange_row(&mut self, i: usize, row: usize, place: usize) -> Result<(), TooWide>
-        requires i { i < self.old.rows }
-        requires row { row < self.old.rows }
-        requires place { place < self.old.width }
-        requires other { i ≢ row }
-        requires whole { IsRowWhole self.old row place i }
-        ensures exchanged { IfOk result (λ _. IsRowExchanged self.old self.new row place i self.old.width) }
-        ensures wide { IfErr result (λ wide. IsRowWide self.old row place i wide.left wide.right) }
-    {
-        let pivot = self.entry(row, place);
-        let beside = self.entry(i, place);
-        if beside == 0 && pivot == self.denominator {
-            return Ok(());
+        match spot_at(self.spots.as_slice(), place) {
+            Spot::Stored(slot) => self.stored.entry(row, slot),
+            Spot::Basic(own) => unit_entry(self.stored.denominator(), own, row),
         }
-        for j in 0..self.width {
-            let own = self.entry(i, j);
-            let above = self.entry(row, j);
-            self.put(
-                i,
-                j,
-                exchanged(pivot, own, beside, above, self.denominator)?,
-            );
-        }
-        Ok(())
-    }
-
-    // Exchanges the entries of all rows but the pivot's.
-    fn exchange(&mut self, row: usize, place: usize) -> Result<(), TooWide>
-        requires row { row < self.old.rows }
-        requires place { place < self.old.width }
-        requires whole { AreWhole self.old row place }
-        ensures exchanged { IfOk result (λ _. AreExchanged self.old self.new row place self.old.rows) }
-        ensures wide { IfErr result (λ wide. AreWideEntries self.old wide.left wide.right) }
-    {
-        for i in 0..self.rows {
-            if i != row {
-                self.exchange_row(i, row, place)?;
-            }
-        }
-        Ok(())
     }
 
     /// The table after a pivot on the entry in a row at a place. An `Err` names two entries, or twice an entry and an entry, whose product
     /// leaves an `i128`.
-    pub fn pivot(mut self, row: usize, place: usize) -> Result<Table, TooWide>
+    pub fn pivot(self, row: usize, place: usize) -> Result<Table, TooWide>
         requires not_last { row + 1 < self.rows }
         requires not_first { 1 ≤ place }
         requires within { place < self.width }
@@ -191,46 +111,40 @@ impl Table {
         ensures made { IfOk result (λ next. IsPivot row place self next) }
         ensures wide { IfErr result (λ wide. AreWideEntries self wide.left wide.right) }
     {
-        self.exchange(row, place)?;
-        self.denominator = self.entry(row, place);
-        Ok(self)
+        let Table {
+            mut stored,
+            mut spots,
+            spare,
+        } = self;
+        let Spot::Stored(slot) = spot_at(spots.as_slice(), place) else {
+            return Ok(Table {
+                stored,
+                spots,
+                spare,
+            });
+        };
+        let leaving = basic_place(spots.as_slice(), row).unwrap();
+        stored.lay_unit(spare, row);
+        let stored = stored.pivot(row, slot)?;
+        spots[leaving] = Spot::Stored(spare);
+        spots[place] = Spot::Basic(row);
+        Ok(Table {
+            stored,
+            spots,
+            spare: slot,
+        })
     }
-}
 
-// The entries of the start table.
-fn start_entries(
-    alloc: Global,
-    pool: &Pool,
-    width: usize,
-    count: usize,
-) -> Result<Vec<i128>, Memory>
-    requires width { width ≡ places pool.now }
-    requires count { count ≡ (last_row pool.now + 1) * width }
-    ensures count { IfOk result (λ entries. length entries.items ≡ count) }
-    ensures each { IfOk result (λ entries. AreStartEntries pool.now width entries.items) }
-{
-    let mut entries = Vec::new(alloc);
-    for at in 0..count {
-        entries.push(start_entry(pool, at / width, at % width))?;
-    }
-    Ok(entries)
-}
-
-impl Table {
     /// The start table of a pool: a row per column, and a last row. `Memory` comes only where memory is wanting.
     pub fn start(alloc: Global, pool: &Pool) -> Result<Table, Memory>
         ensures { IfOk result (λ table. IsStart pool.now table) }
     {
-        let rows = pool.len() + 1;
-        let width = rows + pool.orders() as usize;
-        let Some(count) = rows.checked_mul(width) else {
-            return Err(Memory);
-        };
+        let spots = start_spots(alloc, pool)?;
+        let stored = start_grid(alloc, pool)?;
         Ok(Table {
-            rows,
-            width,
-            entries: start_entries(alloc, pool, width, count)?,
-            denominator: 1,
+            stored,
+            spots,
+            spare: pool.orders() as usize + 1,
         })
     }
 }

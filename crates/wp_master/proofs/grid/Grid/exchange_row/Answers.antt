@@ -4,7 +4,7 @@ use Rattle.std.proofs.lemmas.Int.{to_z-of_z}
 use Rattle.std.proofs.lemmas.Result.{err_from_is_err_and}
 use Rattle.wp_master.specs.Exchanges.{IsPut}
 use Rattle.wp_master.proofs.Exchanges.{are_operands, operands_more, operands_whole, operands_wide}
-use Rattle.wp_master.proofs.table.Table.exchange_row.Goals as goal
+use Rattle.wp_master.proofs.grid.Grid.exchange_row.Goals as goal
 
 pub exchanged-requires-clause-whole : goal.exchanged-requires-clause-whole
 exchanged-requires-clause-whole c =

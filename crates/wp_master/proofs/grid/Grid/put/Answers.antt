@@ -3,7 +3,7 @@ use Rattle.std.specs.Int.{w128}
 use Rattle.std.proofs.lemmas.Int.{to_z-of_z}
 use Rattle.wp_master.proofs.Exchanges.{put_is}
 use Rattle.wp_master.specs.Pivots.{IsTable, Table}
-use Rattle.wp_master.proofs.table.Table.put.Goals as goal
+use Rattle.wp_master.proofs.grid.Grid.put.Goals as goal
 
 pub returns : goal.returns
 returns c =

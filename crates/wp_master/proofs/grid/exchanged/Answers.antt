@@ -4,7 +4,7 @@ use Rattle.std.proofs.lemmas.Int.{to_z-of_z}
 use Rattle.std.proofs.lemmas.Result.{err_from_is_err_and}
 use Rattle.wp_master.proofs.Entries.{same_exchange}
 use Rattle.wp_master.proofs.Products.{wide_along}
-use Rattle.wp_master.proofs.table.exchanged.Goals as goal
+use Rattle.wp_master.proofs.grid.exchanged.Goals as goal
 
 pub returns-in_err-value-clause-wide : goal.returns-in_err-value-clause-wide
 returns-in_err-value-clause-wide c =

@@ -2,7 +2,7 @@ use Rattle.std.proofs.Common.{◌∙◌, ◌*ℤ◌, ℤ, ap, sym, subst, of_z, 
 use Rattle.std.specs.Int.{w128}
 use Rattle.std.proofs.lemmas.Int.{to_z-of_z}
 use Rattle.wp_master.proofs.Quotients.{above_bits, factor_fits, quotient_of_bits}
-use Rattle.wp_master.proofs.table.divided.Goals as goal
+use Rattle.wp_master.proofs.grid.divided.Goals as goal
 
 pub nonzero_div-result : goal.nonzero_div-result
 nonzero_div-result c =

@@ -3,8 +3,8 @@ use Rattle.std.proofs.lemmas.Result.{err_from_is_err_and}
 use Rattle.wp_master.specs.Exchanges.{AreExchanged}
 use Rattle.wp_master.specs.Pivots.{Table}
 use Rattle.wp_master.proofs.Exchanges.{row_is_whole, row_is_wide, row_left_out, rows_more}
-use Rattle.wp_master.proofs.table.Table.exchange.Goals as goal
-use Rattle.wp_master.proofs.table.Table.exchange.Goals.{then-i-row+in_ok-exchange_row, else-i-row}
+use Rattle.wp_master.proofs.grid.Grid.exchange.Goals as goal
+use Rattle.wp_master.proofs.grid.Grid.exchange.Goals.{then-i-row+in_ok-exchange_row, else-i-row}
 
 pub exchange_row-requires-clause-whole : goal.exchange_row-requires-clause-whole
 exchange_row-requires-clause-whole c =

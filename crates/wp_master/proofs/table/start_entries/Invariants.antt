@@ -1,6 +1,0 @@
-use Rattle.std.proofs.Common.{◌≡◌, length}
-use Rattle.wp_master.specs.Pivots.{AreStartEntries}
-use Rattle.wp_master.proofs.table.start_entries.Given as goal
-
-abbrev pub invariant-loop-at : goal.invariant-loop-at
-invariant-loop-at l = record { count : length l.entries.items ≡ l.at; each : AreStartEntries l.pool l.width l.entries.items }
