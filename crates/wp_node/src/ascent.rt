@@ -12,8 +12,8 @@ use wp_pairs::{Batch, Pairs};
 /// The greatest dual, in sixtieths of a unit of length.
 pub const GREATEST_DUAL: u64 = 1_000_000_000_000;
 
-/// How many turns an ascent has at least; where there are more orders than 20 it has about three for each order.
-const LEAST_TURNS: u64 = 64;
+/// How many turns an ascent has.
+const TURNS: u64 = 60;
 
 // Raises each dual by a step, up to the greatest.
 fn raise_each(orders: u32, duals: &mut [u64], step: u64)
@@ -91,6 +91,15 @@ fn lower_from(
     }
 }
 
+// Lowers the duals of the batches of some items, up to a capacity.
+fn lower_each(wave: &Wave, orders: u32, duals: &mut [u64], items: &[Item], capacity: u32)
+    requires items { AreItems (length wave.now.orders) items.now }
+    requires duals { AreDuals orders duals.old }
+    ensures { AreDuals orders duals.new }
+{
+    lower_from(wave, orders, duals, items, &no_place(), 0, capacity);
+}
+
 // The step of a turn, of which so many are left: from an eighth of the mean dual down, as the square of the turns that are left.
 fn step_of(orders: u32, total: u64, turns: u64, left: u64) -> u64 {
     let turns = turns.max(1);
@@ -114,19 +123,27 @@ pub fn ascend(alloc: Global, wave: &Wave, pairs: &Pairs, duals: &mut [u64]) -> R
     let orders = wave.orders();
     let items = items_of(alloc, pairs, duals)?;
     let total = sum_all(duals);
-    let turns = (3 * u64::from(orders) + 2).max(LEAST_TURNS);
-    for done in 0..turns {
-        raise_each(orders, duals, step_of(orders, total, turns, turns - done));
-        lower_from(
-            wave,
-            orders,
-            duals,
-            items.as_slice(),
-            &no_place(),
-            0,
-            pairs.capacity(),
-        );
+    for done in 0..TURNS {
+        raise_each(orders, duals, step_of(orders, total, TURNS, TURNS - done));
+        lower_each(wave, orders, duals, items.as_slice(), pairs.capacity());
     }
+    Ok(())
+}
+
+/// Lowers duals of up to 64 orders so that no permitted batch has too much: batch by batch, those of one that has.
+pub fn lower_all(alloc: Global, wave: &Wave, pairs: &Pairs, duals: &mut [u64]) -> Result<(), Memory>
+    requires pairs { pairs.now.orders ≡ length wave.now.orders }
+    requires duals { AreDuals (length wave.now.orders) duals.old }
+    ensures { AreDuals (length wave.now.orders) duals.new }
+{
+    let items = items_of(alloc, pairs, duals)?;
+    lower_each(
+        wave,
+        wave.orders(),
+        duals,
+        items.as_slice(),
+        pairs.capacity(),
+    );
     Ok(())
 }
 

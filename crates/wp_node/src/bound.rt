@@ -27,11 +27,13 @@ pub struct Solved {
     pub weights: Vec<u64>,
 }
 
-/// Columns, and the answer of the linear program over them, if it has one: a weight for each, in their order.
+/// Columns, and the answer of the linear program over them, if it has one: a weight for each, in their order. Where all are
+/// priced, no permitted batch has a slack below 0 under the duals of the answer, but for what is lost in rounding.
 #[derive(Drop)]
 pub struct PricedColumns {
     pub columns: Vec<Column>,
     pub solved: Option<Solved>,
+    pub all_priced: bool,
 }
 
 // A number over a denominator, times a scale, rounded down; 0 where it is out of range.
@@ -114,7 +116,7 @@ fn trimmed(
 }
 
 /// Column generation: from some columns on the linear program over the columns is solved, and the permitted batches whose
-/// slack is below 0 are added, until there is none.
+/// slack is below 0 are added, until there is none. After the last round the program has the answer over the columns so far.
 pub fn price_columns(
     alloc: Global,
     wave: &Wave,
@@ -127,18 +129,25 @@ pub fn price_columns(
     let mut columns = columns;
     for _ in 0..MOST_ROUNDS {
         let Some(found) = solve_over(alloc, wave, columns.as_slice())? else {
-            break;
+            return Ok(PricedColumns {
+                columns,
+                solved: None,
+                all_priced: false,
+            });
         };
         if !add_priced(alloc, wave, pairs, &mut columns, found.duals.as_slice())? {
             return Ok(PricedColumns {
                 columns,
                 solved: Some(found),
+                all_priced: true,
             });
         }
         columns = trimmed(alloc, wave.orders(), columns, found.duals.as_slice())?;
     }
+    let solved = solve_over(alloc, wave, columns.as_slice())?;
     Ok(PricedColumns {
         columns,
-        solved: None,
+        solved,
+        all_priced: false,
     })
 }

@@ -6,7 +6,7 @@ ghost use Rattle.wp_price.specs.ShortMarks.{AreShortMarks};
 ghost use Rattle.wp_node.specs.Raises.{AreDuals};
 ghost use Rattle.wp_node.specs.Weights.{IsWeighted};
 
-use crate::ascent::{GREATEST_DUAL, ascend};
+use crate::ascent::{GREATEST_DUAL, ascend, lower_all};
 use crate::bound::{PricedColumns, Solved, WHOLE, price_columns};
 use crate::columns::{add_alone, add_finds, permitted_columns, ranked};
 use crate::own::own_of;
@@ -114,23 +114,44 @@ fn first_columns(
     Ok(columns)
 }
 
+// The duals of an answer of the linear program, rounded down; where not all is priced they are lowered until no permitted batch
+// has too much.
+fn solved_duals(
+    alloc: Global,
+    wave: &Wave,
+    pairs: &Pairs,
+    above: &[u64],
+    parts: &[u64],
+    all_priced: bool,
+) -> Result<Vec<u64>, Memory>
+    requires pairs { pairs.now.orders ≡ length wave.now.orders }
+    requires duals { AreDuals (length wave.now.orders) above.now }
+    ensures { IfOk result (λ duals. AreDuals (length wave.now.orders) duals.items) }
+{
+    let mut duals = Vec::from_slice(alloc, above)?;
+    round_down(wave.orders(), duals.as_mut_slice(), parts);
+    if !all_priced {
+        lower_all(alloc, wave, pairs, duals.as_mut_slice())?;
+    }
+    Ok(duals)
+}
+
 // The duals to be tried: those of the linear program, or where it has no answer those of an ascent.
 fn tried_duals(
     alloc: Global,
     wave: &Wave,
     pairs: &Pairs,
     above: &[u64],
-    solved: &Option<Solved>,
+    priced: &PricedColumns,
 ) -> Result<Vec<u64>, Memory>
     requires pairs { pairs.now.orders ≡ length wave.now.orders }
     requires duals { AreDuals (length wave.now.orders) above.now }
     ensures { IfOk result (λ duals. AreDuals (length wave.now.orders) duals.items) }
 {
-    match solved {
+    match &priced.solved {
         Some(found) => {
-            let mut duals = Vec::from_slice(alloc, above)?;
-            round_down(wave.orders(), duals.as_mut_slice(), found.duals.as_slice());
-            Ok(duals)
+            let parts = found.duals.as_slice();
+            solved_duals(alloc, wave, pairs, above, parts, priced.all_priced)
         }
         None => ascended(alloc, wave, pairs, above),
     }
@@ -265,7 +286,7 @@ pub fn work_node<R: Threads + Sync, G: Gate>(
     let alloc = workers.alloc;
     let first = first_columns(alloc, wave, pairs, above, columns)?;
     let priced = price_columns(alloc, wave, pairs, first)?;
-    let tried = tried_duals(alloc, wave, pairs, above, &priced.solved)?;
+    let tried = tried_duals(alloc, wave, pairs, above, &priced)?;
     let weighted = handed_on(alloc, wave.orders(), &priced)?;
     let own = own_of(workers, paired, above, &tried)?;
     worked_of(alloc, own, weighted)
