@@ -4,7 +4,7 @@ use Rattle.std.proofs.Common.{◌≡◌, ◌⊎◌, ⊎_elim, ℕ, ◌+◌, ◌*
 use Rattle.std.proofs.Common.{subst, sym, ◌∙◌, ap}
 use Rattle.std.proofs.Math.IntN.{*ℤ_comm}
 use Rattle.std.proofs.lemmas.Int.{ints}
-use Rattle.std.specs.Int.{w128}
+use Rattle.std.specs.Int.{w128, w64}
 use Rattle.wp_master.proofs.Numbers.{product_of_product}
 use Rattle.wp_master.specs.Pivots.{IsTwofoldOf, IsWideFor}
 
@@ -65,3 +65,20 @@ pub right_twice_fits : (x y : ℤ) → FitsSigned w128 (x *ℤ y) → (FitsSigne
 right_twice_fits x y fits leaves =
     let small = small_factor (up x + down x) (up y + down y) (2 ^ 127) (omega arith) (large_of x leaves) (size_of_product x y fits) in
     omega (arith, ints, small)
+
+times_most : (m n k : ℕ) → m ≤ k → n ≤ k → m * n ≤ k * k
+times_most m n k less few = grind arith
+
+-- the product of two numbers of 64 bits fits 128 bits
+pub narrow_fits : (x y : ℤ) → FitsSigned w64 x → FitsSigned w64 y → FitsSigned w128 (x *ℤ y)
+narrow_fits (pos a) (pos b) f g = let most = times_most a b (2 ^ 63) (omega (arith, ints, f)) (omega (arith, ints, g)) in omega (arith, ints, most)
+narrow_fits (pos a) (negsuc b) f g =
+    let most = times_most a (b + 1) (2 ^ 63) (omega (arith, ints, f)) (omega (arith, ints, g)) in omega (arith, ints, most)
+narrow_fits (negsuc a) (pos b) f g =
+    let most = times_most (a + 1) b (2 ^ 63) (omega (arith, ints, f)) (omega (arith, ints, g)) in omega (arith, ints, most)
+narrow_fits (negsuc a) (negsuc b) f g =
+    let most = times_most (a + 1) (b + 1) (2 ^ 63) (omega (arith, ints, f)) (omega (arith, ints, g)) in omega (arith, ints, most)
+
+-- and of the same numbers
+pub narrow_fits_along : (x y a b : ℤ) → FitsSigned w64 x → FitsSigned w64 y → a ≡ x → b ≡ y → FitsSigned w128 (a *ℤ b)
+narrow_fits_along x y a b f g p q = fits_along (x *ℤ y) (a *ℤ b) (ap (λ (t : ℤ). t *ℤ y) (sym p) ∙ ap (λ (t : ℤ). a *ℤ t) (sym q)) (narrow_fits x y f g)

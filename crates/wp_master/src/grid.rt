@@ -32,6 +32,9 @@ fn divided(value: i128, denominator: i128) -> i128
     requires whole { (x : ℤ) × (denominator *ℤ x ≡ value) }
     ensures { denominator *ℤ result ≡ value }
 {
+    if denominator == 1 {
+        return value;
+    }
     value / denominator
 }
 

@@ -9,11 +9,21 @@ pub struct TooWide {
     pub right: i128,
 }
 
+// The product of two numbers of 64 bits, which needs no test.
+fn narrow_product(left: i64, right: i64) -> i128
+    ensures { result ≡ left *ℤ right }
+{
+    i128::from(left) * i128::from(right)
+}
+
 // The product of two numbers, or the two where it leaves an `i128`.
 pub(crate) fn product(left: i128, right: i128) -> Result<i128, TooWide>
     ensures is { IfOk result (λ value. value ≡ left *ℤ right) }
     ensures wide { IfErr result (λ wide. (wide.left ≡ left) × (wide.right ≡ right) × (FitsSigned w128 (left *ℤ right) → ⊥)) }
 {
+    if let (Ok(one), Ok(other)) = (i64::try_from(left), i64::try_from(right)) {
+        return Ok(narrow_product(one, other));
+    }
     match left.checked_mul(right) {
         Some(value) => Ok(value),
         None => Err(TooWide { left, right }),
