@@ -2,7 +2,8 @@ ghost use Rattle.std.specs.Prelude.{◌≡◌, ◌≤◌, ◌<◌, All, length};
 ghost use Rattle.wp_node.specs.Items.{AreItems};
 ghost use Rattle.wp_node.specs.Raises.{AreDuals};
 
-use crate::items::{Item, VisitPlace, items_of, no_place, total_in, widened};
+use crate::items::{Item, VisitPlace, Visited, items_of, no_place, total_in, widened};
+use crate::reach::Reaches;
 use std::alloc::Global;
 use wp_batch::{Wave, total_of};
 use wp_master::Column;
@@ -41,63 +42,81 @@ fn take_off(orders: u32, duals: &mut [u64], batch: Batch, each: u64, excess: u64
     left
 }
 
-// Lowers the duals of a batch's orders, where they are above sixty times its length: each by the same part, as far as it goes.
-fn lower(orders: u32, duals: &mut [u64], batch: Batch, length: u64)
+// Takes an excess off the duals of a batch's orders: off each the same part, as far as it goes.
+fn lower_by(orders: u32, duals: &mut [u64], batch: Batch, excess: u64)
     requires { AreDuals orders duals.old }
     ensures { AreDuals orders duals.new }
 {
-    let excess = total_in(duals, batch).saturating_sub(length.saturating_mul(60));
-    if excess == 0 {
-        return;
-    }
     let part = excess.div_ceil(u64::from(batch.len().max(1)));
     let left = take_off(orders, duals, batch, part, excess);
     take_off(orders, duals, batch, left, left);
 }
 
-// Lowers the duals of the batches that widen a place by items from one on.
+// Lowers the duals of a batch's orders, where they are above sixty times its length, and tells what they are then.
+fn lower(orders: u32, duals: &mut [u64], batch: Batch, length: u64) -> u64
+    requires { AreDuals orders duals.old }
+    ensures { AreDuals orders duals.new }
+{
+    let total = total_in(duals, batch);
+    let most = length.saturating_mul(60);
+    if most < total {
+        lower_by(orders, duals, batch, total - most);
+    }
+    total.min(most)
+}
+
+// Lowers the duals of the batches that widen a place by items from one on. Those that have a batch are left out, where what it
+// has and what later orders add is no more than sixty times its length: no batch of them has too much.
 fn lower_from(
-    wave: &Wave,
+    visited: &Visited<'_>,
     orders: u32,
     duals: &mut [u64],
-    items: &[Item],
     place: &VisitPlace,
     first: usize,
     room: u32,
 )
-    requires items { AreItems (length wave.now.orders) items.now }
-    requires place { All (λ order. order < length wave.now.orders) place.now.batch }
+    requires items { AreItems (length visited.now.wave.now.orders) visited.now.items.now }
+    requires place { All (λ order. order < length visited.now.wave.now.orders) place.now.batch }
     requires duals { AreDuals orders duals.old }
     ensures { AreDuals orders duals.new }
 {
     if room == 0 {
         return;
     }
-    for index in first..items.len() {
-        let item = items[index];
+    for index in first..visited.items.len() {
+        let item = visited.items[index];
         if let Some(wider) = widened(place, &item, room) {
-            let length = wave.batch_length(wider.batch);
-            lower(orders, duals, wider.batch, length);
-            lower_from(
-                wave,
-                orders,
-                duals,
-                items,
-                &wider,
-                index + 1,
-                room - item.size,
-            );
+            let length = visited.wave.batch_length(wider.batch);
+            let total = lower(orders, duals, wider.batch, length);
+            let left = room - item.size;
+            let most = total.saturating_add(visited.reaches.above(item.least, left));
+            if length.saturating_mul(60) < most {
+                lower_from(visited, orders, duals, &wider, index + 1, left);
+            }
         }
     }
 }
 
 // Lowers the duals of the batches of some items, up to a capacity.
-fn lower_each(wave: &Wave, orders: u32, duals: &mut [u64], items: &[Item], capacity: u32)
+fn lower_each(
+    alloc: Global,
+    wave: &Wave,
+    duals: &mut [u64],
+    items: &[Item],
+    capacity: u32,
+) -> Result<(), Memory>
     requires items { AreItems (length wave.now.orders) items.now }
-    requires duals { AreDuals orders duals.old }
-    ensures { AreDuals orders duals.new }
+    requires duals { AreDuals (length wave.now.orders) duals.old }
+    ensures { AreDuals (length wave.now.orders) duals.new }
 {
-    lower_from(wave, orders, duals, items, &no_place(), 0, capacity);
+    let reaches = Reaches::of(alloc, duals)?;
+    let visited = Visited {
+        wave,
+        items,
+        reaches: &reaches,
+    };
+    lower_from(&visited, wave.orders(), duals, &no_place(), 0, capacity);
+    Ok(())
 }
 
 // The step of a turn, of which so many are left: from an eighth of the mean dual down, as the square of the turns that are left.
@@ -125,7 +144,7 @@ pub fn ascend(alloc: Global, wave: &Wave, pairs: &Pairs, duals: &mut [u64]) -> R
     let total = sum_all(duals);
     for done in 0..TURNS {
         raise_each(orders, duals, step_of(orders, total, TURNS, TURNS - done));
-        lower_each(wave, orders, duals, items.as_slice(), pairs.capacity());
+        lower_each(alloc, wave, duals, items.as_slice(), pairs.capacity())?;
     }
     Ok(())
 }
@@ -137,14 +156,7 @@ pub fn lower_all(alloc: Global, wave: &Wave, pairs: &Pairs, duals: &mut [u64]) -
     ensures { AreDuals (length wave.now.orders) duals.new }
 {
     let items = items_of(alloc, pairs, duals)?;
-    lower_each(
-        wave,
-        wave.orders(),
-        duals,
-        items.as_slice(),
-        pairs.capacity(),
-    );
-    Ok(())
+    lower_each(alloc, wave, duals, items.as_slice(), pairs.capacity())
 }
 
 // Lowers the duals of each column where it has too much.

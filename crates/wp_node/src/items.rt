@@ -1,18 +1,29 @@
 ghost use Rattle.std.specs.Prelude.{◌≡◌, ◌≤◌, ◌<◌, All, IfOk, IfSome, length, ℕ};
 ghost use Rattle.wp_node.specs.Items.{AreItems};
 
+use crate::reach::Reaches;
 use std::alloc::Global;
+use wp_batch::Wave;
 use wp_model::Memory;
 use wp_pairs::{Batch, Pairs};
 
-/// An item of a visit: orders that are to go together, how many they are, what they have in duals, and the orders that are
-/// parted from them.
+/// An item of a visit: orders that are to go together, the least of them, how many they are, what they have in duals, and the
+/// orders that are parted from them.
 #[derive(Clone, Copy)]
 pub struct Item {
     pub class: Batch,
+    pub least: u32,
     pub size: u32,
     pub sum: u64,
     pub parted: Batch,
+}
+
+/// What is visited: the batches of a wave's items, of which those are left out that later orders don't reach.
+#[derive(Clone, Copy)]
+pub struct Visited<'a> {
+    pub wave: &'a Wave,
+    pub items: &'a [Item],
+    pub reaches: &'a Reaches,
 }
 
 /// A place of a visit: a batch, what its orders have in duals, and the orders that are parted from them.
@@ -52,6 +63,7 @@ fn item_of(pairs: &Pairs, duals: &[u64], order: u32) -> Option<Item>
     }
     Some(Item {
         class,
+        least: order,
         size: class.len(),
         sum: total_in(duals, class),
         parted: pairs.parted_from(order),

@@ -12,6 +12,7 @@ mod items;
 mod own;
 mod price;
 mod raise;
+mod reach;
 mod shares;
 mod visit;
 mod work;

@@ -1,7 +1,8 @@
 ghost use Rattle.std.specs.Prelude.{◌≡◌, ◌<◌, All, length};
 ghost use Rattle.wp_node.specs.Items.{AreItems};
 
-use crate::items::{Item, VisitPlace, items_of, no_place, widened};
+use crate::items::{VisitPlace, Visited, items_of, no_place, widened};
+use crate::reach::Reaches;
 use std::alloc::Global;
 use wp_batch::Wave;
 use wp_model::Memory;
@@ -75,8 +76,8 @@ fn keep(kept: &mut Vec<Find>, find: &Find) {
     }
 }
 
-// Keeps a place, if its slack is below the limit.
-fn keep_place(wave: &Wave, place: &VisitPlace, finds: &mut Finds)
+// Keeps a place, if its slack is below the limit, and tells its slack.
+fn keep_place(wave: &Wave, place: &VisitPlace, finds: &mut Finds) -> u64
     requires { All (λ order. order < length wave.now.orders) place.now.batch }
 {
     let batch = place.batch;
@@ -90,28 +91,26 @@ fn keep_place(wave: &Wave, place: &VisitPlace, finds: &mut Finds)
         };
         keep(&mut finds.kept, &find);
     }
+    slack
 }
 
-// Keeps the places that widen a place by items from one on.
-fn visit_from(
-    wave: &Wave,
-    items: &[Item],
-    place: &VisitPlace,
-    first: usize,
-    room: u32,
-    finds: &mut Finds,
-)
-    requires items { AreItems (length wave.now.orders) items.now }
-    requires place { All (λ order. order < length wave.now.orders) place.now.batch }
+// Keeps the places that widen a place by items from one on. Those that have a place are left out, where its slack less what later
+// orders add isn't below the limit: none of theirs is.
+fn visit_from(visited: &Visited<'_>, place: &VisitPlace, first: usize, room: u32, finds: &mut Finds)
+    requires items { AreItems (length visited.now.wave.now.orders) visited.now.items.now }
+    requires place { All (λ order. order < length visited.now.wave.now.orders) place.now.batch }
 {
     if room == 0 {
         return;
     }
-    for index in first..items.len() {
-        let item = items[index];
+    for index in first..visited.items.len() {
+        let item = visited.items[index];
         if let Some(wider) = widened(place, &item, room) {
-            keep_place(wave, &wider, finds);
-            visit_from(wave, items, &wider, index + 1, room - item.size, finds);
+            let slack = keep_place(visited.wave, &wider, finds);
+            let left = room - item.size;
+            if slack.saturating_sub(visited.reaches.above(item.least, left)) < finds.limit {
+                visit_from(visited, &wider, index + 1, left, finds);
+            }
         }
     }
 }
@@ -128,18 +127,17 @@ pub fn visit(
     requires { pairs.now.orders ≡ length wave.now.orders }
 {
     let items = items_of(alloc, pairs, duals)?;
+    let reaches = Reaches::of(alloc, duals)?;
     let mut kept = Vec::new(alloc);
     for _ in 0..FEW * pairs.orders() as usize {
         kept.push(no_find(limit))?;
     }
     let mut finds = Finds { kept, limit };
-    visit_from(
+    let visited = Visited {
         wave,
-        items.as_slice(),
-        &no_place(),
-        0,
-        pairs.capacity(),
-        &mut finds,
-    );
+        items: items.as_slice(),
+        reaches: &reaches,
+    };
+    visit_from(&visited, &no_place(), 0, pairs.capacity(), &mut finds);
     Ok(finds.kept)
 }
