@@ -4,7 +4,7 @@ use Rattle.std.proofs.lemmas.Bool.{cases_eq}
 use Rattle.std.proofs.lemmas.List.Elements.{All-contains}
 use Rattle.std.proofs.lemmas.List.{get_or-set_other, get_or-set_same, length-set}
 use Rattle.wp_pairs.specs.Permitted.{IsPermitted}
-use Rattle.wp_batch.specs.declared.improve.Split.{Split}
+use Rattle.wp_batch.specs.declared.split.Split.{Split}
 use Rattle.wp_batch.specs.Batchings.{IsBatching, batch_at, no_pairs}
 use Rattle.wp_batch.specs.Splits.{CanReplace}
 use Rattle.wp_batch.proofs.Joining.{permitted_alone}

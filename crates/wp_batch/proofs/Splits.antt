@@ -6,7 +6,7 @@ use Rattle.std.proofs.lemmas.List.Elements.{All-contains}
 use Rattle.std.proofs.lemmas.List.{get_or_default}
 use Rattle.std.proofs.lemmas.Option.{get_or_from_slice_get, slice_get_within}
 use Rattle.wp_batch.specs.Batchings.{batch_at}
-use Rattle.wp_batch.specs.declared.improve.Split.{Split}
+use Rattle.wp_batch.specs.declared.split.Split.{Split}
 use Rattle.wp_batch.specs.Splits.{CanReplace, DividesInto, IsDivided, IsSplit}
 use Rattle.wp_batch.proofs.Unions.{all_from_contained, nothing_in}
 

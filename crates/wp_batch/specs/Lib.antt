@@ -8,3 +8,4 @@ pub mod Splits
 pub mod Duals
 pub mod Visits
 pub mod Reaches
+pub mod Walks

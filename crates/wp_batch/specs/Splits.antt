@@ -2,7 +2,7 @@
 use Rattle.std.specs.Prelude.{ℕ, ◌<◌, ◌≤◌, ◌⊎◌, ◌↔◌, List, Contains, length}
 use Rattle.wp_pairs.specs.Batches.{IsBatch}
 use Rattle.wp_batch.specs.Batchings.{batch_at}
-use Rattle.wp_batch.specs.declared.improve.Split.{Split}
+use Rattle.wp_batch.specs.declared.split.Split.{Split}
 
 -- each order of a batch is in one of two others, and none is in both
 pub record IsDivided (union : List ℕ) (split : Split) : Type 0 where

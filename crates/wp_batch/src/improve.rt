@@ -3,6 +3,11 @@ ghost use Rattle.wp_batch.specs.Batchings.{IsBatching, IsCost};
 ghost use Rattle.wp_batch.specs.Joins.{CostNoMore};
 ghost use Rattle.wp_batch.specs.Splits.{CanReplace, DividesInto, IsDivided, IsFit, IsSplit};
 
+use crate::changes::Changes;
+use crate::instance::Instance;
+use crate::moves::{Pair, best_move};
+use crate::seen::SeenLengths;
+use crate::split::{Split, is_fit, replace, split_of};
 use crate::wave::Wave;
 use wp_pairs::Batch;
 
@@ -12,12 +17,11 @@ const MOST_IN_TWO: u32 = 10;
 /// How often all pairs of batches are gone through at most.
 const MOST_ROUNDS: u32 = 16;
 
-/// Two batches, and the sum of their lengths.
-#[derive(Clone, Copy)]
-struct Split {
-    left: Batch,
-    right: Batch,
-    total: u64,
+/// What batches are improved with: the lengths that were seen, and which batches have changed.
+#[derive(Drop)]
+struct Improver<'a> {
+    seen: SeenLengths<'a>,
+    changes: Changes,
 }
 
 /// Two batches, and what is still to go into one of them.
@@ -81,14 +85,6 @@ fn divide(union: Batch, choice: u32) -> Option<Split>
     })
 }
 
-// Whether a batch has an order, and no more than the capacity.
-fn is_fit(capacity: u32, batch: Batch) -> bool
-    ensures { IsTrue result → IsFit capacity batch }
-{
-    let orders = batch.len();
-    1 <= orders && orders <= capacity
-}
-
 // A batch divided by a choice, if both parts fit.
 fn fitting_split(capacity: u32, union: Batch, choice: u32) -> Option<Split>
     ensures { IfSome result (IsSplit capacity union) }
@@ -103,14 +99,14 @@ fn fitting_split(capacity: u32, union: Batch, choice: u32) -> Option<Split>
     Some(split)
 }
 
-// A batch divided by a choice, if both parts fit and cost less than this.
-fn lesser_split(wave: &Wave, capacity: u32, union: Batch, choice: u32, least: u64) -> Option<Split>
-    requires { All (λ order. order < length wave.now.orders) union }
+// A division with what it costs, if that is less than this.
+fn costing_less(wave: &Wave, capacity: u32, union: Batch, split: Split, least: u64) -> Option<Split>
+    requires known { All (λ order. order < length wave.now.orders) union }
+    requires split { IsSplit capacity union split }
     ensures split { IfSome result (IsSplit capacity union) }
     ensures total { IfSome result (λ split. IsCost wave.now (split.left ∷ split.right ∷ []) split.total) }
     ensures less { IfSome result (λ split. split.total < least) }
 {
-    let split = fitting_split(capacity, union, choice)?;
     let total = wave
         .batch_length(split.left)
         .saturating_add(wave.batch_length(split.right));
@@ -122,6 +118,17 @@ fn lesser_split(wave: &Wave, capacity: u32, union: Batch, choice: u32, least: u6
         right: split.right,
         total,
     })
+}
+
+// A batch divided by a choice, if both parts fit and cost less than this.
+fn lesser_split(wave: &Wave, capacity: u32, union: Batch, choice: u32, least: u64) -> Option<Split>
+    requires { All (λ order. order < length wave.now.orders) union }
+    ensures split { IfSome result (IsSplit capacity union) }
+    ensures total { IfSome result (λ split. IsCost wave.now (split.left ∷ split.right ∷ []) split.total) }
+    ensures less { IfSome result (λ split. split.total < least) }
+{
+    let split = fitting_split(capacity, union, choice)?;
+    costing_less(wave, capacity, union, split, least)
 }
 
 // How many ways there are to divide so many orders, the last one being on the right.
@@ -150,130 +157,114 @@ fn best_split(wave: &Wave, capacity: u32, union: Batch, most: u64) -> Option<Spl
     best
 }
 
-// Puts two batches in place of two others.
-fn replace(
-    orders: u32,
-    capacity: u32,
-    batches: &mut Vec<Batch>,
-    left: usize,
-    right: usize,
-    split: Split,
-)
-    requires batching { IsBatching orders capacity batches.old.items }
-    requires split { CanReplace capacity batches.old.items left right split }
-    ensures batching { IsBatching orders capacity batches.new.items }
-    ensures count { length batches.new.items ≡ length batches.old.items }
-    ensures items { batches.new.items ≡ set (set batches.old.items left split.left) right split.right }
+// The orders of two batches put into two anew, if that costs less than this: the cheapest division of all where they have at most
+// ten orders together, or else that to which the cheapest move leads.
+fn cheaper_split(improver: &mut Improver<'_>, wave: &Wave, pair: &Pair, most: u64) -> Option<Split>
+    requires { All (λ order. order < length wave.now.orders) pair.now.union }
+    ensures split { IfSome result (IsSplit pair.now.capacity pair.now.union) }
+    ensures total { IfSome result (λ split. IsCost wave.now (split.left ∷ split.right ∷ []) split.total) }
+    ensures less { IfSome result (λ split. split.total < most) }
 {
-    batches[left] = split.left;
-    batches[right] = split.right;
+    if pair.union.len() <= MOST_IN_TWO {
+        return best_split(wave, pair.capacity, pair.union, most);
+    }
+    let split = split_of(pair.capacity, pair.union, pair.left, pair.right)?;
+    let at_most = Split {
+        left: split.left,
+        right: split.right,
+        total: most,
+    };
+    let found = best_move(&mut improver.seen, pair, at_most);
+    costing_less(wave, pair.capacity, pair.union, found, most)
 }
 
-// Divides the orders of two batches anew, where that costs less.
+// Puts the orders of two batches into two anew, where that costs less.
 fn improve_pair(
-    wave: &Wave,
-    orders: u32,
-    capacity: u32,
+    improver: &mut Improver<'_>,
+    instance: &Instance<'_>,
     batches: &mut Vec<Batch>,
     left: usize,
     right: usize,
 ) -> bool
-    requires orders { orders ≡ length wave.now.orders }
-    requires batching { IsBatching orders capacity batches.old.items }
+    requires batching { IsBatching (length instance.now.wave.now.orders) instance.now.capacity batches.old.items }
     requires order { left < right }
     requires within { right < length batches.old.items }
-    ensures batching { IsBatching orders capacity batches.new.items }
+    ensures batching { IsBatching (length instance.now.wave.now.orders) instance.now.capacity batches.new.items }
     ensures count { length batches.new.items ≡ length batches.old.items }
-    ensures no_dearer { CostNoMore wave.now batches.old.items batches.new.items }
+    ensures no_dearer { CostNoMore instance.now.wave.now batches.old.items batches.new.items }
 {
     let one = batches[left];
     let other = batches[right];
-    let most = wave
+    let most = instance
+        .wave
         .batch_length(one)
-        .saturating_add(wave.batch_length(other));
-    match best_split(wave, capacity, one.union(other), most) {
+        .saturating_add(instance.wave.batch_length(other));
+    let pair = Pair {
+        capacity: instance.capacity,
+        union: one.union(other),
+        left: one,
+        right: other,
+    };
+    match cheaper_split(improver, instance.wave, &pair, most) {
         Some(split) => {
-            replace(orders, capacity, batches, left, right, split);
+            replace(instance.capacity, batches, left, right, split);
             true
         }
         None => false,
     }
 }
 
-/// Divides the orders of two batches by a choice, if both parts fit.
-pub fn shake_pair(
-    orders: u32,
-    capacity: u32,
-    batches: &mut Vec<Batch>,
-    left: usize,
-    right: usize,
-    choice: u32,
-)
-    requires batching { IsBatching orders capacity batches.old.items }
-    requires order { left < right }
-    requires within { right < length batches.old.items }
-    ensures batching { IsBatching orders capacity batches.new.items }
-    ensures count { length batches.new.items ≡ length batches.old.items }
-{
-    let union = batches[left].union(batches[right]);
-    if let Some(split) = fitting_split(capacity, union, choice) {
-        replace(orders, capacity, batches, left, right, split);
-    }
-}
-
-// Improves a batch with each one before it, and tells whether any was improved.
+// Improves a batch with each one before it, but for pairs of which none has changed since they were looked at.
 fn improve_with(
-    wave: &Wave,
-    orders: u32,
-    capacity: u32,
+    improver: &mut Improver<'_>,
+    instance: &Instance<'_>,
     batches: &mut Vec<Batch>,
     right: usize,
-) -> bool
-    requires orders { orders ≡ length wave.now.orders }
-    requires batching { IsBatching orders capacity batches.old.items }
+)
+    requires batching { IsBatching (length instance.now.wave.now.orders) instance.now.capacity batches.old.items }
     requires within { right < length batches.old.items }
-    ensures batching { IsBatching orders capacity batches.new.items }
+    ensures batching { IsBatching (length instance.now.wave.now.orders) instance.now.capacity batches.new.items }
     ensures count { length batches.new.items ≡ length batches.old.items }
-    ensures no_dearer { CostNoMore wave.now batches.old.items batches.new.items }
+    ensures no_dearer { CostNoMore instance.now.wave.now batches.old.items batches.new.items }
 {
-    let mut improved = false;
     for left in 0..right {
-        if improve_pair(wave, orders, capacity, batches, left, right) {
-            improved = true;
+        if improver.changes.is_fresh(left, right)
+            && improve_pair(improver, instance, batches, left, right)
+        {
+            improver.changes.change(left, right);
         }
     }
-    improved
 }
 
-// Improves all pairs of batches once, and tells whether any was improved.
-fn improve_once(wave: &Wave, orders: u32, capacity: u32, batches: &mut Vec<Batch>) -> bool
-    requires orders { orders ≡ length wave.now.orders }
-    requires batching { IsBatching orders capacity batches.old.items }
-    ensures batching { IsBatching orders capacity batches.new.items }
+// Improves all pairs of batches once, but for those of which none has changed since they were looked at.
+fn improve_once(improver: &mut Improver<'_>, instance: &Instance<'_>, batches: &mut Vec<Batch>)
+    requires batching { IsBatching (length instance.now.wave.now.orders) instance.now.capacity batches.old.items }
+    ensures batching { IsBatching (length instance.now.wave.now.orders) instance.now.capacity batches.new.items }
     ensures count { length batches.new.items ≡ length batches.old.items }
-    ensures no_dearer { CostNoMore wave.now batches.old.items batches.new.items }
+    ensures no_dearer { CostNoMore instance.now.wave.now batches.old.items batches.new.items }
 {
-    let mut improved = false;
     for right in 0..batches.len() {
-        if improve_with(wave, orders, capacity, batches, right) {
-            improved = true;
-        }
+        improve_with(improver, instance, batches, right);
     }
-    improved
 }
 
-/// Divides the orders of two batches anew as long as that costs less, for all pairs that have
-/// at most ten orders together, 16 times at most.
-pub fn improve(wave: &Wave, orders: u32, capacity: u32, batches: &mut Vec<Batch>)
-    requires orders { orders ≡ length wave.now.orders }
-    requires batching { IsBatching orders capacity batches.old.items }
-    ensures batching { IsBatching orders capacity batches.new.items }
+/// Puts the orders of two batches into two anew as long as that costs less, for all pairs, 16 times at most. Where two have at
+/// most ten orders together, all divisions of these are tried; or else one order goes to the other batch, two change places, or
+/// two of one batch and one of the other do.
+pub fn improve(seen: SeenLengths<'_>, instance: &Instance<'_>, batches: &mut Vec<Batch>)
+    requires batching { IsBatching (length instance.now.wave.now.orders) instance.now.capacity batches.old.items }
+    ensures batching { IsBatching (length instance.now.wave.now.orders) instance.now.capacity batches.new.items }
     ensures count { length batches.new.items ≡ length batches.old.items }
-    ensures no_dearer { CostNoMore wave.now batches.old.items batches.new.items }
+    ensures no_dearer { CostNoMore instance.now.wave.now batches.old.items batches.new.items }
 {
+    let mut improver = Improver {
+        seen,
+        changes: Changes::none(),
+    };
     for _ in 0..MOST_ROUNDS {
-        if !improve_once(wave, orders, capacity, batches) {
+        if !improver.changes.begin_round() {
             return;
         }
+        improve_once(&mut improver, instance, batches);
     }
 }

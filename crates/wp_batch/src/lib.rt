@@ -4,22 +4,30 @@
 #![tactic(auto)]
 
 mod batching;
+mod changes;
+mod draws;
 mod improve;
+mod instance;
 mod lengths;
 mod listing;
 mod marks;
 mod merge;
+mod moves;
+mod near;
 mod paired;
 mod places;
 mod reach;
+mod seen;
 mod shares;
+mod split;
 mod starts;
 mod sums;
+mod walk;
 mod wave;
 
 pub use batching::Batching;
 pub use marks::Marks;
-pub use merge::{joined, merged_start};
+pub use merge::{improved, joined, merged_start, start_after};
 pub use paired::PairedWave;
 pub use reach::{is_later, reach_of, take_best};
 pub use shares::{share_of, shares_of};

@@ -4,8 +4,10 @@ ghost use Rattle.wp_batch.specs.Joins.{AreKnown, CanJoin, CostNoMore, IsBestBelo
 
 use crate::batching::Batching;
 use crate::improve::improve;
+use crate::instance::Instance;
 use crate::listing::listed;
-use crate::starts::best_of_starts;
+use crate::seen::SeenLengths;
+use crate::starts::best_of_walks;
 use crate::wave::Wave;
 use std::alloc::Global;
 use wp_model::Memory;
@@ -124,8 +126,8 @@ fn join_batches(wave: &Wave, orders: u32, capacity: u32, batches: &mut Vec<Batch
     batches.remove(join.right);
 }
 
-// Joins batches by the greatest saving, until no join saves.
-fn merge(wave: &Wave, orders: u32, capacity: u32, batches: &mut Vec<Batch>)
+/// Joins batches by the greatest saving, until no join saves.
+pub fn merge(wave: &Wave, orders: u32, capacity: u32, batches: &mut Vec<Batch>)
     requires orders { orders ≡ length wave.now.orders }
     requires batching { IsBatching orders capacity batches.old.items }
     requires listed { IsListedByLeast batches.old.items }
@@ -179,10 +181,47 @@ pub fn joined(
 
 /// A batching of a wave's orders with at most so many in each batch, 1 to 8, in which no two batches that fit into one cost
 /// less as one. Batches are listed by their least orders. Orders that begin alone are joined by the greatest saving, as long
-/// as some join saves (Clarke and Wright, 1964). Then the orders of each two batches are divided anew, where that costs
-/// less; so are those of other starts, drawn in the same way on every call. The cheapest is kept, and joins that save then
-/// are made.
+/// as some join saves (Clarke and Wright, 1964). Then moves between two batches are drawn in one round, in the same way on
+/// every call, and the cheapest batching that they come past is improved by moves and joins that save.
 pub fn merged_start(alloc: Global, wave: &Wave, capacity: u32) -> Result<Batching, Memory>
+    requires some { 1 ≤ capacity }
+    requires most { capacity ≤ 8 }
+    ensures batching { IfOk result (IsBatching (length wave.now.orders) capacity) }
+    ensures listed { IfOk result IsListedByLeast }
+    ensures joined { IfOk result (NoJoinGains wave.now capacity) }
+{
+    start_after(alloc, wave, capacity, 1)
+}
+
+/// The batching of a wave to which batches of a batching lead by moves between two of them, and joins, that save. Batches are
+/// listed by their least orders, and no two that fit into one cost less as one.
+pub fn improved(
+    alloc: Global,
+    wave: &Wave,
+    capacity: u32,
+    batches: &[Batch],
+) -> Result<Batching, Memory>
+    requires some { 1 ≤ capacity }
+    requires most { capacity ≤ 8 }
+    requires batching { IsBatching (length wave.now.orders) capacity batches.now }
+    ensures batching { IfOk result (IsBatching (length wave.now.orders) capacity) }
+    ensures listed { IfOk result IsListedByLeast }
+    ensures joined { IfOk result (NoJoinGains wave.now capacity) }
+{
+    let instance = Instance { wave, capacity };
+    let mut better = Vec::from_slice(alloc, batches)?;
+    let seen = SeenLengths::of(alloc, wave, capacity)?;
+    improve(seen, &instance, &mut better);
+    joined(alloc, wave, capacity, better.as_slice())
+}
+
+/// Such a start as `merged_start` gives, but that moves are drawn in so many rounds.
+pub fn start_after(
+    alloc: Global,
+    wave: &Wave,
+    capacity: u32,
+    rounds: u32,
+) -> Result<Batching, Memory>
     requires some { 1 ≤ capacity }
     requires most { capacity ≤ 8 }
     ensures batching { IfOk result (IsBatching (length wave.now.orders) capacity) }
@@ -192,7 +231,7 @@ pub fn merged_start(alloc: Global, wave: &Wave, capacity: u32) -> Result<Batchin
     let orders = wave.orders();
     let mut batches = singles(alloc, orders, capacity)?;
     merge(wave, orders, capacity, &mut batches);
-    improve(wave, orders, capacity, &mut batches);
-    let best = best_of_starts(alloc, wave, orders, capacity, batches.as_slice())?;
-    joined(alloc, wave, capacity, best.as_slice())
+    let instance = Instance { wave, capacity };
+    let best = best_of_walks(alloc, &instance, rounds, batches.as_slice())?;
+    improved(alloc, wave, capacity, best.as_slice())
 }

@@ -1,44 +1,31 @@
-ghost use Rattle.std.specs.Prelude.{◌≡◌, ◌<◌, ◌⊎◌, IfOk, length};
+ghost use Rattle.std.specs.Prelude.{◌≡◌, ◌<◌, ◌≤◌, ◌⊎◌, IfOk, length};
 ghost use Rattle.wp_batch.specs.Batchings.{IsBatching};
 ghost use Rattle.wp_batch.specs.Joins.{AreKnown, CostLess, TellsCost};
+ghost use Rattle.wp_batch.specs.Walks.{IsWalk};
 
-use crate::improve::{improve, shake_pair};
+use crate::draws::Draws;
+use crate::instance::Instance;
+use crate::listing::listed;
+use crate::merge::merge;
+use crate::near::Nearness;
+use crate::seen::SeenLengths;
+use crate::walk::{Mover, Walk};
 use crate::wave::Wave;
 use std::alloc::Global;
 use wp_model::Memory;
 use wp_pairs::Batch;
 
-/// How many other starts are tried at most.
-const MOST_STARTS: u32 = 64;
+/// How many stages a round has. The heat falls from stage to stage.
+const STAGES: u32 = 32;
 
-/// How many lengths all other starts together may take.
-const MOST_LENGTHS: u32 = 1_000_000;
+/// How many moves are drawn in a stage for each order.
+const MOVES: u32 = 100;
 
-/// The state from which starts are drawn.
+/// The heat in the first stage of a round: the mean of what a move may cost more.
+const HEAT: u64 = 20;
+
+/// The state from which moves are drawn.
 const FIRST_STATE: u64 = 1;
-
-// The state after a state, of a linear congruential generator (Knuth, 1981).
-fn next_state(state: u64) -> u64 {
-    state
-        .wrapping_mul(6364136223846793005)
-        .wrapping_add(1442695040888963407)
-}
-
-// How many other starts are tried: as many as take no more lengths than all together may, at 16 rounds each.
-fn count_starts(orders: u32, capacity: u32) -> u32 {
-    if capacity < 1 || 8 < capacity || 64 < orders {
-        return 0;
-    }
-    let batches = orders.div_ceil(capacity);
-    let divisions = if capacity < 5 {
-        1 << (2 * capacity)
-    } else {
-        1024
-    };
-    let pairs = batches.saturating_mul(batches);
-    let work = pairs.saturating_mul(divisions).saturating_mul(8).max(1);
-    (MOST_LENGTHS / work).min(MOST_STARTS)
-}
 
 // The sum of the lengths of the batches, as far as a word of 64 bits goes.
 fn cost_of(wave: &Wave, batches: &[Batch]) -> u64
@@ -52,51 +39,98 @@ fn cost_of(wave: &Wave, batches: &[Batch]) -> u64
     sum
 }
 
-// Divides each batch but the first with a drawn one before it, as drawn, and gives the state after the draws.
-fn shake(orders: u32, capacity: u32, batches: &mut Vec<Batch>, first: u64) -> u64
-    requires { IsBatching orders capacity batches.old.items }
-    ensures batching { IsBatching orders capacity batches.new.items }
-    ensures count { length batches.new.items ≡ length batches.old.items }
-{
-    let mut state = first;
-    for right in 1..batches.len() {
-        state = next_state(state);
-        let left = (state >> 33) % right as u64;
-        state = next_state(state);
-        shake_pair(
-            orders,
-            capacity,
-            batches,
-            left as usize,
-            right,
-            (state >> 33) as u32,
-        );
-    }
-    state
+// The heat in a stage of a round.
+fn heat_in(stage: u32) -> u64 {
+    HEAT * u64::from(STAGES.saturating_sub(stage)) / u64::from(STAGES)
 }
 
-/// The cheapest of some batches and of what drawn divisions of their orders are improved to. The batches stay where none is
-/// cheaper. The draws are the same on every call.
-pub fn best_of_starts(
+// What moves are drawn and weighed with, at first.
+fn mover_of<'a>(alloc: Global, instance: &Instance<'a>) -> Result<Mover<'a>, Memory> {
+    let mut seen = SeenLengths::of(alloc, instance.wave, instance.capacity)?;
+    let nearness = Nearness::of(alloc, &mut seen, instance.wave.orders())?;
+    Ok(Mover {
+        seen,
+        nearness,
+        draws: Draws::from_state(FIRST_STATE),
+    })
+}
+
+// The batches of a walk once more, but that those are joined of which two together cost less.
+fn joined_again(
     alloc: Global,
-    wave: &Wave,
-    orders: u32,
-    capacity: u32,
+    instance: &Instance<'_>,
     batches: &[Batch],
 ) -> Result<Vec<Batch>, Memory>
-    requires orders { orders ≡ length wave.now.orders }
-    requires batching { IsBatching orders capacity batches.now }
-    ensures batching { IfOk result (λ best. IsBatching orders capacity best.items) }
-    ensures kept { IfOk result (λ best. (best.items ≡ batches.now) ⊎ CostLess wave.now batches.now best.items) }
+    requires { IsBatching (length instance.now.wave.now.orders) instance.now.capacity batches.now }
+    ensures { IfOk result (λ again. IsBatching (length instance.now.wave.now.orders) instance.now.capacity again.items) }
+{
+    let orders = instance.wave.orders();
+    let mut again = listed(alloc, orders, instance.capacity, batches)?;
+    merge(instance.wave, orders, instance.capacity, &mut again);
+    Ok(again)
+}
+
+// A walk of one stage from some batches on.
+fn walk_from(
+    alloc: Global,
+    instance: &Instance<'_>,
+    mover: &mut Mover<'_>,
+    batches: &[Batch],
+    stage: u32,
+) -> Result<Walk, Memory>
+    requires { IsBatching (length instance.now.wave.now.orders) instance.now.capacity batches.now }
+    ensures { IfOk result (IsWalk (length instance.now.wave.now.orders) instance.now.capacity) }
+{
+    let start = joined_again(alloc, instance, batches)?;
+    let mut walk = Walk::from(alloc, instance, &mut mover.seen, start)?;
+    let moves = MOVES * instance.wave.orders();
+    mover.walk_on(instance, &mut walk, heat_in(stage), moves);
+    Ok(walk)
+}
+
+// The cheapest batching that a walk comes past in one round: stage by stage, and joined in between.
+fn best_of_round(
+    alloc: Global,
+    instance: &Instance<'_>,
+    mover: &mut Mover<'_>,
+    batches: &[Batch],
+) -> Result<Vec<Batch>, Memory>
+    requires { IsBatching (length instance.now.wave.now.orders) instance.now.capacity batches.now }
+    ensures { IfOk result (λ best. IsBatching (length instance.now.wave.now.orders) instance.now.capacity best.items) }
 {
     let mut best = Vec::from_slice(alloc, batches)?;
-    let mut least = cost_of(wave, best.as_slice());
-    let mut state = FIRST_STATE;
-    for _ in 0..count_starts(orders, capacity) {
-        let mut other = Vec::from_slice(alloc, best.as_slice())?;
-        state = shake(orders, capacity, &mut other, state);
-        improve(wave, orders, capacity, &mut other);
-        let total = cost_of(wave, other.as_slice());
+    let mut at = Vec::from_slice(alloc, batches)?;
+    let mut least = u64::MAX;
+    for stage in 0..STAGES {
+        let walk = walk_from(alloc, instance, mover, at.as_slice(), stage)?;
+        at = walk.batches;
+        if walk.least < least {
+            least = walk.least;
+            best = walk.best;
+        }
+    }
+    Ok(best)
+}
+
+/// The cheapest of some batches and of those that a walk comes past, in so many rounds: simulated annealing (Kirkpatrick, Gelatt
+/// and Vecchi, 1983), each round from the best so far on. The batches stay where none is cheaper. The draws are the same on
+/// every call.
+pub fn best_of_walks(
+    alloc: Global,
+    instance: &Instance<'_>,
+    rounds: u32,
+    batches: &[Batch],
+) -> Result<Vec<Batch>, Memory>
+    requires batching { IsBatching (length instance.now.wave.now.orders) instance.now.capacity batches.now }
+    ensures batching { IfOk result (λ best. IsBatching (length instance.now.wave.now.orders) instance.now.capacity best.items) }
+    ensures kept { IfOk result (λ best. (best.items ≡ batches.now) ⊎ CostLess instance.now.wave.now batches.now best.items) }
+{
+    let mut mover = mover_of(alloc, instance)?;
+    let mut best = Vec::from_slice(alloc, batches)?;
+    let mut least = cost_of(instance.wave, best.as_slice());
+    for _ in 0..rounds {
+        let other = best_of_round(alloc, instance, &mut mover, best.as_slice())?;
+        let total = cost_of(instance.wave, other.as_slice());
         if total < least {
             least = total;
             best = other;

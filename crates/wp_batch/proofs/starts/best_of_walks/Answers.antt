@@ -1,15 +1,15 @@
 use Rattle.std.proofs.Common.{inr}
 use Rattle.wp_batch.proofs.Costs.{cheaper_taken}
-use Rattle.wp_batch.proofs.starts.best_of_starts.Goals as goal
-use Rattle.wp_batch.proofs.starts.best_of_starts.Goals.{then-total-least, else-total-least}
+use Rattle.wp_batch.proofs.starts.best_of_walks.Goals as goal
+use Rattle.wp_batch.proofs.starts.best_of_walks.Goals.{then-total-least, else-total-least}
 
 pub loop-preserved : goal.loop-preserved
 loop-preserved c =
     let total = rw c.as_slice-in-loop-2.ensures.value at c.cost_of-total.ensures in elim c.if-total-least.branch [
       | then-total-least w ↦ record {
-        batching = rw w.best-is c.improve.ensures.batching;
+        batching = rw w.best-is c.in_ok-other.ensures;
         told = rw (w.best-is, w.least-is) total;
-        kept = inr (rw w.best-is (cheaper_taken c.args.wave.now c.args.batches.now c.loop.best.items c.improve.new.batches.items c.loop.least
+        kept = inr (rw w.best-is (cheaper_taken c.args.instance.now.wave.now c.args.batches.now c.loop.best.items c.in_ok-other.other.items c.loop.least
             c.cost_of-total.result c.loop.invariant.told total w.if-total-least.true c.loop.invariant.kept));
       }
       | else-total-least w ↦ record {
