@@ -35,7 +35,7 @@ pub struct Weighted {
 }
 
 /// What a node of the search has of its own; the columns that its children begin with, and their weights in its linear program;
-/// and batches that may be a batching of the wave (none: empty).
+/// and the batches to which its solution is rounded, which are tested before they are taken for a batching.
 #[derive(Drop)]
 pub struct Worked {
     pub own: Own,
@@ -168,22 +168,57 @@ fn less(batch: Batch, taken: Batch) -> Batch {
     rest
 }
 
-// The columns that are taken whole, each less the orders of those before it. There is none where some column is taken in part.
-fn whole_of(alloc: Global, weighted: &[Weighted]) -> Result<Vec<Batch>, Memory> {
-    let mut whole = Vec::new(alloc);
-    let mut taken = Batch::empty();
-    for each in weighted {
-        if each.weight == WHOLE {
-            let rest = less(each.column.batch, taken);
-            taken = taken.union(each.column.batch);
-            if rest.len() > 0 {
-                whole.push(rest)?;
-            }
-        } else if each.weight > 0 {
-            return Ok(Vec::new(alloc));
+// Columns by their weights, the heaviest first.
+fn by_weight(alloc: Global, weighted: &[Weighted]) -> Result<Vec<(u64, usize)>, Memory> {
+    let mut ranks = Vec::new(alloc);
+    for (place, each) in weighted.iter().enumerate() {
+        if each.weight > 0 {
+            ranks.push((u64::MAX - each.weight, place))?;
         }
     }
-    Ok(whole)
+    ranks.sort()?;
+    Ok(ranks)
+}
+
+// What of a column is taken beside orders that are taken already: a whole column less these, or a column in part that has none.
+fn taken_of(each: &Weighted, taken: Batch) -> Batch {
+    let batch = each.column.batch;
+    if each.weight < WHOLE && batch.meets(taken) {
+        return Batch::empty();
+    }
+    less(batch, taken)
+}
+
+// The heaviest columns that don't meet, one after the other.
+fn heaviest_of(
+    alloc: Global,
+    weighted: &[Weighted],
+    taken: &mut Batch,
+) -> Result<Vec<Batch>, Memory> {
+    let ranks = by_weight(alloc, weighted)?;
+    let mut batches = Vec::new(alloc);
+    for (_, place) in ranks.iter() {
+        if let Some(each) = weighted.get(*place) {
+            let batch = taken_of(each, *taken);
+            if batch.len() > 0 {
+                *taken = taken.union(batch);
+                batches.push(batch)?;
+            }
+        }
+    }
+    Ok(batches)
+}
+
+// A solution rounded: the heaviest columns that don't meet, and each order that is in none of them alone.
+fn rounded(alloc: Global, orders: u32, weighted: &[Weighted]) -> Result<Vec<Batch>, Memory> {
+    let mut taken = Batch::empty();
+    let mut batches = heaviest_of(alloc, weighted, &mut taken)?;
+    for order in 0..orders.min(64) {
+        if !taken.has(order) {
+            batches.push(Batch::empty().with(order))?;
+        }
+    }
+    Ok(batches)
 }
 
 // A number by its place, 0 where there is none.
@@ -252,11 +287,16 @@ fn batches_of(alloc: Global, weighted: &[Weighted]) -> Result<Vec<Batch>, Memory
 }
 
 // What a node's children begin with, beside what it has of its own.
-fn worked_of(alloc: Global, own: Own, weighted: Vec<Weighted>) -> Result<Worked, Memory>
+fn worked_of(
+    alloc: Global,
+    orders: u32,
+    own: Own,
+    weighted: Vec<Weighted>,
+) -> Result<Worked, Memory>
     ensures { IfOk result (λ worked. worked.own ≡ own) }
 {
     let columns = batches_of(alloc, weighted.as_slice())?;
-    let whole = whole_of(alloc, weighted.as_slice())?;
+    let whole = rounded(alloc, orders, weighted.as_slice())?;
     Ok(Worked {
         own,
         columns,
@@ -289,5 +329,5 @@ pub fn work_node<R: Threads + Sync, G: Gate>(
     let tried = tried_duals(alloc, wave, pairs, above, &priced)?;
     let weighted = handed_on(alloc, wave.orders(), &priced)?;
     let own = own_of(workers, paired, above, &tried)?;
-    worked_of(alloc, own, weighted)
+    worked_of(alloc, wave.orders(), own, weighted)
 }

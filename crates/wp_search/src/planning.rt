@@ -10,13 +10,19 @@ use crate::plan::{Planned, State};
 use crate::search::{SearchRoot, TreeSearch, search_on};
 use std::alloc::Global;
 use std::thread::Threads;
-use wp_batch::{Wave, merged_start};
+use wp_batch::{Wave, start_after};
 use wp_cert::{Nodes, Tree};
 use wp_model::Memory;
 use wp_node::{bound_of, share_duals};
 use wp_outside::Gate;
 use wp_pairs::Capacity;
 use wp_price::Workers;
+
+/// How much of the budget makes one more round of moves.
+const BUDGET_FOR_ONE: u64 = 200_000;
+
+/// For how many orders there is one more round at most.
+const ORDERS_FOR_ONE: u32 = 3;
 
 // The state of a plan with this bound and this cost.
 fn state_of(bound: u64, cost: u64) -> State
@@ -63,6 +69,11 @@ fn plan_of(alloc: Global, search: TreeSearch, bound: u64) -> Result<Planned, Mem
     })
 }
 
+// In how many rounds moves are drawn for a start: one, and more the more the budget is, up to one for each three orders.
+fn rounds_of(orders: u32, budget: u64) -> u32 {
+    1 + (budget / BUDGET_FOR_ONE).min(u64::from(orders / ORDERS_FOR_ONE)) as u32
+}
+
 /// A good plan of a wave for a capacity, 1 to 8, and a budget, 0 to 10 ^ 18. The search is that of branch and price (Ryan and
 /// Foster, 1981): of the leaves of its tree whose bound is the least the first takes a turn, until that bound is the cost of
 /// the best batching, or the budget doesn't pay for the leaf's own duals. The workers, 1 to 16, and the gate that they pass are
@@ -90,7 +101,8 @@ pub fn plan_wave<R: Threads + Sync, G: Gate>(
         gate,
     };
     let shares = share_duals(alloc, wave, Capacity { most: capacity })?;
-    let batching = merged_start(alloc, wave, capacity)?;
+    let rounds = rounds_of(wave.orders(), budget);
+    let batching = start_after(alloc, wave, capacity, rounds)?;
     let start = TreeSearch {
         tree: Branch::Leaf(None),
         best: best_of(wave, capacity, batching),

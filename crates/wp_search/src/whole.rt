@@ -3,7 +3,7 @@ ghost use Rattle.wp_batch.specs.Batchings.{IsBatching};
 ghost use Rattle.wp_search.specs.Turns.{IsFound};
 
 use std::alloc::Global;
-use wp_batch::{Batching, Wave, joined};
+use wp_batch::{Batching, Wave, improved};
 use wp_model::Memory;
 use wp_pairs::{Batch, Pairs};
 
@@ -39,8 +39,8 @@ pub fn is_batching(orders: u32, capacity: u32, batches: &[Batch]) -> bool
     has_all(orders, covered)
 }
 
-/// The batching that batches are, but that those are joined of which two together cost less. None comes where they are no
-/// batching of the wave within the capacity, 1 to 8. `Memory` comes only where memory is wanting.
+/// The batching that batches are, improved by moves and joins that save. None comes where they are no batching of the wave within
+/// the capacity, 1 to 8. `Memory` comes only where memory is wanting.
 pub fn better_batching(
     alloc: Global,
     wave: &Wave,
@@ -54,5 +54,5 @@ pub fn better_batching(
     if !is_batching(wave.orders(), capacity, batches) {
         return Ok(None);
     }
-    Ok(Some(joined(alloc, wave, capacity, batches)?))
+    Ok(Some(improved(alloc, wave, capacity, batches)?))
 }
