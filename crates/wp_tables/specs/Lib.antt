@@ -6,6 +6,8 @@ pub mod Fields
 pub mod StockFile
 pub mod OrderFile
 pub mod DeskFile
+pub mod Keyed
+pub mod Keys
 pub mod Stock
 pub mod Orders
 pub mod Scripts

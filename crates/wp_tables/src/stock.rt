@@ -4,7 +4,8 @@ ghost use Rattle.std.specs.List.{list_any};
 ghost use Rattle.csv.specs.Records.{fields_of};
 ghost use Rattle.wp_model.specs.TableLines.{MayJoin, add_line, article_in, empty_stock, lies_at, places_named};
 ghost use Rattle.wp_model.specs.Tables.{IsReadStock, places_of, row_number_from};
-ghost use Rattle.wp_tables.specs.Reading.{Reads, at_row, made_by, table_of};
+ghost use Rattle.wp_tables.specs.Keys.{IsHashUnder, IsStockKey, made_of};
+ghost use Rattle.wp_tables.specs.Reading.{Reads, ReadsBy, at_row, made_by, table_of};
 ghost use Rattle.wp_tables.specs.RecordsLeft.{IsReading, kept_left};
 ghost use Rattle.wp_tables.specs.StockFile.{article_with_room, free_location, is_inside, line_of_three, stock_after, stock_heading, stock_line_of, stock_said};
 
@@ -27,7 +28,8 @@ fn is_inside(layout: &Layout, location: &Location) -> bool
     (1..=layout.aisles()).contains(&location.aisle) && (1..=layout.slots()).contains(&location.slot)
 }
 
-/// The stock that the lines read so far make, and for each article the number of its rows.
+/// The stock that the lines read so far make, and for each article the number of its rows. Contracts see that stock and
+/// the key under which its articles are hashed.
 #[derive(Drop)]
 struct StockSoFar {
     rows: BTreeMap<Location, StockRow>,
@@ -37,12 +39,14 @@ struct StockSoFar {
 
 impl Model for StockSoFar {
     ghost use Rattle.std.specs.Prelude.{◌≡◌, map};
+    ghost use Rattle.indexmap.specs.IndexSet.{hasher_of};
     ghost use Rattle.wp_model.specs.Opening as opening;
+    ghost use Rattle.wp_tables.specs.Keyed.{Keyed};
     ghost use Rattle.wp_tables.specs.Stock.{IsKeptStock, by_location};
 
-    ghost Value = { opening.Stock };
+    ghost Value = { Keyed opening.Stock };
 
-    ghost view = { λ s. record { rows = map (λ e. e.1) s.rows.entries; articles = s.articles.keys } };
+    ghost view = { λ s. record { made = record { rows = map (λ e. e.1) s.rows.entries; articles = s.articles.keys }; key = hasher_of s.articles } };
 
     ghost invariant = { λ s. (s.rows.entries ≡ by_location (map (λ e. e.1) s.rows.entries)) × IsKeptStock
         (record { rows = map (λ e. e.1) s.rows.entries; articles = s.articles.keys }) s.places.items };
@@ -65,7 +69,8 @@ fn count_at(counts: &mut Vec<u32>, place: usize) -> Result<(), Memory>
 
 impl StockSoFar {
     fn new(alloc: Global, key: FileKey) -> StockSoFar
-        ensures { result ≡ empty_stock }
+        ensures made { result.made ≡ empty_stock }
+        ensures key { result.key ≡ key }
     {
         StockSoFar {
             rows: BTreeMap::new(alloc),
@@ -75,19 +80,19 @@ impl StockSoFar {
     }
 
     fn has_row_at(&self, location: &Location) -> bool
-        ensures { result ≡ list_any (lies_at location.now) self.now.rows }
+        ensures { result ≡ list_any (lies_at location.now) self.now.made.rows }
     {
         self.rows.contains_key(location)
     }
 
     fn len(&self) -> usize
-        ensures { result ≡ length self.now.rows }
+        ensures { result ≡ length self.now.made.rows }
     {
         self.rows.len()
     }
 
     fn places_of(&self, article: &Name) -> u32
-        ensures { result ≡ places_named self.now article.now }
+        ensures { result ≡ places_named self.now.made article.now }
     {
         match self.articles.get_index_of(article) {
             Some(article) => self.places[article],
@@ -96,7 +101,7 @@ impl StockSoFar {
     }
 
     fn read_location(&self, layout: &Layout, field: &[u8]) -> Result<Location, Why>
-        ensures { result ≡ free_location layout.now self.now field.now }
+        ensures { result ≡ free_location layout.now self.now.made field.now }
     {
         let location = read_location(field)?;
         if !is_inside(layout, &location) {
@@ -109,7 +114,7 @@ impl StockSoFar {
     }
 
     fn read_article(&self, field: &[u8]) -> Result<Name, Why>
-        ensures { result ≡ article_with_room self.now field.now }
+        ensures { result ≡ article_with_room self.now.made field.now }
     {
         let article = read_name(field)?;
         if self.places_of(&article) >= MOST_PLACES {
@@ -125,7 +130,7 @@ impl StockSoFar {
         article: &[u8],
         on_hand: &[u8],
     ) -> Result<StockLine, Why>
-        ensures { result ≡ line_of_three layout.now self.now (location.now, article.now, on_hand.now) }
+        ensures { result ≡ line_of_three layout.now self.now.made (location.now, article.now, on_hand.now) }
     {
         let location = self.read_location(layout, location)?;
         let article = self.read_article(article)?;
@@ -138,8 +143,8 @@ impl StockSoFar {
     }
 
     fn read_line(&self, layout: &Layout, fields: &ByteRecord) -> Result<StockLine, Why>
-        ensures line { result ≡ stock_line_of layout.now self.now (fields_of fields.now) }
-        ensures joins { IfOk result (MayJoin self.now) }
+        ensures line { result ≡ stock_line_of layout.now self.now.made (fields_of fields.now) }
+        ensures joins { IfOk result (MayJoin self.now.made) }
     {
         if self.len() >= MOST_ROWS {
             return Err(Why::TooManyRows);
@@ -149,8 +154,9 @@ impl StockSoFar {
     }
 
     fn add(self, line: StockLine) -> Result<StockSoFar, Memory>
-        requires { MayJoin self line }
-        ensures { IfOk result (λ stock. stock ≡ add_line self line) }
+        requires { MayJoin self.made line }
+        ensures made { IfOk result (λ stock. stock.made ≡ add_line self.made line) }
+        ensures key { IfOk result (λ stock. stock.key ≡ self.key) }
     {
         let StockSoFar {
             mut rows,
@@ -173,7 +179,8 @@ impl StockSoFar {
     }
 
     fn with(self, layout: &Layout, row: u64, fields: &ByteRecord) -> Result<StockSoFar, RowFault>
-        ensures { Reads result (at_row row (stock_after layout.now self (fields_of fields.now))) }
+        ensures made { ReadsBy made_of result (at_row row (stock_after layout.now self.made (fields_of fields.now))) }
+        ensures key { IfOk result (λ stock. stock.key ≡ self.key) }
     {
         match self.read_line(layout, fields) {
             Ok(line) => Ok(self.add(line)?),
@@ -182,8 +189,9 @@ impl StockSoFar {
     }
 
     fn finish(self, alloc: Global) -> Result<Stock, Memory>
-        ensures stock { IfOk result (λ stock. stock ≡ self) }
-        ensures read { IsReadStock self }
+        requires { IsStockKey self.made self.key }
+        ensures stock { IfOk result (λ stock. stock ≡ self.made) }
+        ensures read { IsReadStock self.made }
     {
         let StockSoFar {
             rows,
@@ -199,7 +207,8 @@ impl StockSoFar {
 }
 
 /// The stock of a warehouse: its rows in the order of their locations, and its articles in the order of their
-/// first appearance in the stock file. Rows and articles are numbered from 0. Contracts see the two lists.
+/// first appearance in the stock file. Rows and articles are numbered from 0. Contracts see the two lists. The articles
+/// are hashed under the digest of a file that says this stock.
 #[derive(Drop)]
 pub struct Stock {
     rows: Vec<StockRow>,
@@ -208,15 +217,17 @@ pub struct Stock {
 }
 
 impl Model for Stock {
-    ghost use Rattle.std.specs.Prelude.{map};
+    ghost use Rattle.indexmap.specs.IndexSet.{hasher_of};
     ghost use Rattle.wp_model.specs.Opening as opening;
+    ghost use Rattle.wp_tables.specs.Keys.{IsStockKey};
     ghost use Rattle.wp_tables.specs.Stock.{IsKeptStock};
 
     ghost Value = { opening.Stock };
 
     ghost view = { λ s. record { rows = s.rows.items; articles = s.articles.keys } };
 
-    ghost invariant = { λ s. IsKeptStock (record { rows = s.rows.items; articles = s.articles.keys }) s.places.items };
+    ghost invariant = { λ s. IsKeptStock (record { rows = s.rows.items; articles = s.articles.keys }) s.places.items
+        × IsStockKey (record { rows = s.rows.items; articles = s.articles.keys }) (hasher_of s.articles) };
 }
 
 impl Stock {
@@ -290,9 +301,18 @@ impl Stock {
         }
     }
 
+    /// The key under which the articles are hashed: the digest of a file that says this stock.
+    pub fn key(&self) -> FileKey
+        ensures { IsStockKey self.now result }
+    {
+        *self.articles.hasher()
+    }
+
     /// The hash of a name under the key that comes from the bytes of the file.
-    pub fn hash_of(&self, name: Name) -> u64 {
-        self.articles.hasher().hash_one(name)
+    pub fn hash_of(&self, name: Name) -> u64
+        ensures { IsHashUnder (IsStockKey self.now) name result }
+    {
+        self.key().hash_one(name)
     }
 }
 
@@ -303,7 +323,8 @@ fn read_rows(
     records: &mut Records,
 ) -> Result<StockSoFar, RowFault>
     requires { IsReading records.old }
-    ensures { Reads result (made_by (stock_after layout.now) empty_stock (kept_left records.old)) }
+    ensures made { ReadsBy made_of result (made_by (stock_after layout.now) empty_stock (kept_left records.old)) }
+    ensures key { IfOk result (λ stock. stock.key ≡ key) }
 {
     let mut fields = ByteRecord::new(alloc);
     let mut stock = StockSoFar::new(alloc, key);

@@ -8,9 +8,10 @@ use Rattle.wp_tables.proofs.orders.read_lines.Given as goal
 -- the records that are left make of the orders so far what all records make
 abbrev pub invariant-loop-orders : goal.invariant-loop-orders
 invariant-loop-orders l =
-    (made_by (orders_after l.stock.articles) [] (kept_left l.fn.records) ≡ made_by (orders_after l.stock.articles) l.orders (kept_left l.records))
+    (made_by (orders_after l.stock.articles) [] (kept_left l.fn.records) ≡ made_by (orders_after l.stock.articles) l.orders.made (kept_left l.records))
     × IsReading l.records
-    × AreReadOrders l.stock.articles l.orders
+    × AreReadOrders l.stock.articles l.orders.made
+    × (l.orders.key ≡ l.fn.key)
 
 abbrev pub decreases-loop-orders : goal.decreases-loop-orders
 decreases-loop-orders l = length (kept_left l.records)

@@ -9,7 +9,7 @@ returns-in-Ok c =
     let facts = c.binary_search_by_key.ensures in
     let by_key = facts.position (λ row. row.location) (answers_always _ _ _ (λ f a r g called. search rules)) in
     let found = rw c.in-Ok.is at (searched _ cmp_is c.deref.result.now c.args.location _
-    (rw (← c.deref.ensures.value) at c.self.invariant.read.rise) facts.bound by_key) in
+    (rw (← c.deref.ensures.value) at c.self.invariant.0.read.rise) facts.bound by_key) in
     rw (← c.self.view_is, ← c.deref.ensures.value) found
 
 pub returns-in-Err : goal.returns-in-Err
@@ -17,5 +17,5 @@ returns-in-Err c =
     let facts = c.binary_search_by_key.ensures in
     let by_key = facts.position (λ row. row.location) (answers_always _ _ _ (λ f a r g called. search rules)) in
     let found = rw c.in-Err.is at (searched _ cmp_is c.deref.result.now c.args.location _
-    (rw (← c.deref.ensures.value) at c.self.invariant.read.rise) facts.bound by_key) in
+    (rw (← c.deref.ensures.value) at c.self.invariant.0.read.rise) facts.bound by_key) in
     rw (← c.self.view_is, ← c.deref.ensures.value) found

@@ -27,8 +27,8 @@ invariant_of-result c =
       }),
     )
 
-pub returns : goal.returns
-returns c =
+pub returns-clause-made : goal.returns-clause-made
+returns-clause-made c =
     let may = rw (← c.self.view_is) at c.requires in
     let entries = rw c.self.invariant.0 at c.in_ok-insert.ensures.entries in
     let put = entries ∙ put_by_location _ cmp_is _ (map (λ e. e.1) c.self.inside.rows.entries) may.free in

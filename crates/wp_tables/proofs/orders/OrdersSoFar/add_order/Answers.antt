@@ -2,7 +2,7 @@ use Rattle.std.proofs.Common.{◌∙◌, ◌∷◌, [], ap, sym, length, arith, 
 use Rattle.wp_model.proofs.NameEq.{joins}
 use Rattle.wp_model.proofs.RowLists.{join_new}
 use Rattle.wp_tables.proofs.Parts.{parts_known, parts_length, parts_new}
-use Rattle.wp_tables.proofs.orders.Orders.add_order.Goals as goal
+use Rattle.wp_tables.proofs.orders.OrdersSoFar.add_order.Goals as goal
 
 pub invariant_of-self-2 : goal.invariant_of-self-2
 invariant_of-self-2 c =
@@ -15,8 +15,8 @@ invariant_of-self-2 c =
     let longer = ap length keys ∙ length-append names (c.args.line.order ∷ []) in
     (omega (arith, ap length c.in_ok-push-2.ensures.items ∙ length-append lines (c.push.new.self ∷ []), longer, c.self.invariant.0), omega (arith, longer, few))
 
-pub returns : goal.returns
-returns c =
+pub returns-clause-made : goal.returns-clause-made
+returns-clause-made c =
     let names = c.self.inside.names.keys in
     let lines = c.self.inside.lines.items in
     let new = sym (parts_known names lines c.args.line.order c.self.invariant.0) ∙ rw (← c.self.view_is) at c.requires.new in

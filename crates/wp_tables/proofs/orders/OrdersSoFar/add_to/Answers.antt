@@ -1,6 +1,6 @@
 use Rattle.std.proofs.Common.{sym, arith}
 use Rattle.wp_tables.proofs.Parts.{item_at, order_there, parts_added}
-use Rattle.wp_tables.proofs.orders.Orders.add_to.Goals as goal
+use Rattle.wp_tables.proofs.orders.OrdersSoFar.add_to.Goals as goal
 
 pub index_mut-requires : goal.index_mut-requires
 index_mut-requires c =
@@ -8,8 +8,8 @@ index_mut-requires c =
     (rw (← c.self.view_is) at c.requires) in
     omega (arith, there.1)
 
-pub returns : goal.returns
-returns c =
+pub returns-clause-made : goal.returns-clause-made
+returns-clause-made c =
     let names = c.self.inside.names.keys in
     let lines = c.self.inside.lines.items in
     let there = order_there names lines c.args.line.order c.args.order c.self.invariant.0 (rw (← c.self.view_is) at c.requires) in

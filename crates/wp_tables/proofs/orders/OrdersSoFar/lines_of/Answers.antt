@@ -1,7 +1,7 @@
 use Rattle.std.proofs.Common.{◌∙◌, sym, ap, length, arith}
 use Rattle.wp_model.proofs.NameEq.{found_there, not_there, number_found}
 use Rattle.wp_tables.proofs.Parts.{item_at, parts_known, parts_lines, parts_no_lines}
-use Rattle.wp_tables.proofs.orders.Orders.lines_of.Goals as goal
+use Rattle.wp_tables.proofs.orders.OrdersSoFar.lines_of.Goals as goal
 
 pub index-requires : goal.index-requires
 index-requires c =

@@ -1,7 +1,8 @@
-use Rattle.std.proofs.Common.{◌∙◌, sym}
+use Rattle.std.proofs.Common.{◌∙◌, ap, sym}
 use Rattle.wp_model.proofs.NameEq.{not_there, number_found}
+use Rattle.wp_tables.specs.Keys.{made_of}
 use Rattle.wp_tables.proofs.Parts.{names_back, parts_known}
-use Rattle.wp_tables.proofs.orders.Orders.add.Goals as goal
+use Rattle.wp_tables.proofs.orders.OrdersSoFar.add.Goals as goal
 
 pub add_to-requires : goal.add_to-requires
 add_to-requires c =
@@ -14,5 +15,5 @@ add_order-requires c =
     let names = c.self.inside.names.keys in
     let none = sym (number_found c.args.line.order names) ∙ sym c.get_index_of.ensures.index ∙ c.in-None.is in
     let unknown = parts_known names c.self.inside.lines.items c.args.line.order c.self.invariant.0 ∙ not_there c.args.line.order names none in
-    let new = rw c.self.view_is at unknown in
+    let new = rw (ap made_of c.self.view_is) at unknown in
     record { new = new; room = c.requires new }
