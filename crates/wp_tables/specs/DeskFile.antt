@@ -101,12 +101,7 @@ desk_read field = and_then (ok_or (number_of 18 field) why.BadNumber) (λ n. if 
 -- the command submits a wave
 abbrev pub is_submission : Command → Bool
 is_submission (command.Submit wave orders) = true
-is_submission (command.Allot wave) = false
-is_submission (command.Release wave) = false
-is_submission (command.Cancel wave) = false
-is_submission (command.Pick wave order location quantity) = false
-is_submission (command.Missing wave order location quantity) = false
-is_submission (command.Receive location article quantity) = false
+is_submission other = false
 
 -- how many of the desks' commands submit a wave
 abbrev pub submissions : List DeskCommand → ℕ
@@ -130,9 +125,8 @@ command_in desk text arguments = and_then (desk_read desk) (λ d. and_then (word
 
 -- the command of a desk that fields write
 abbrev pub command_in_fields : Record → Result DeskCommand Why
-command_in_fields [] = Err why.Columns
-command_in_fields (a ∷ []) = Err why.Columns
 command_in_fields (desk ∷ text ∷ arguments) = and_then (texts_of (desk ∷ text ∷ arguments)) (λ texts. command_in desk text arguments)
+command_in_fields other = Err why.Columns
 
 -- the command of a desk that a record writes, after these commands; or the first test that the record fails
 abbrev pub command_after : List DeskCommand → Record → Result DeskCommand Why

@@ -26,22 +26,8 @@ why_text why.Memory = codes "memory"
 
 -- there was no memory
 abbrev pub wants_memory : Why → Bool
-wants_memory why.Columns = false
-wants_memory why.NotUtf8 = false
-wants_memory why.BadName = false
-wants_memory why.BadNumber = false
-wants_memory why.OutOfRange = false
-wants_memory why.UnknownLocation = false
-wants_memory why.LocationTwice = false
-wants_memory why.UnknownArticle = false
-wants_memory why.UnknownCommand = false
-wants_memory why.DeskNumber = false
-wants_memory why.TooManyRows = false
-wants_memory why.TooManyPlaces = false
-wants_memory why.TooManyOrders = false
-wants_memory why.TooManyLines = false
-wants_memory why.TooManyWaves = false
 wants_memory why.Memory = true
+wants_memory other = false
 
 -- the record's number, and why it isn't read
 abbrev pub row_fault_text : RowFault → List ℕ

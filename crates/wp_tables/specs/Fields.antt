@@ -24,26 +24,18 @@ Four A = A × A × A × A
 
 -- the one field
 abbrev pub one_of : Record → Result (List ℕ) Why
-one_of [] = Err why.Columns
 one_of (a ∷ []) = Ok a
-one_of (a ∷ b ∷ rest) = Err why.Columns
+one_of other = Err why.Columns
 
 -- the three fields
 abbrev pub three_of : Record → Result (Three (List ℕ)) Why
-three_of [] = Err why.Columns
-three_of (a ∷ []) = Err why.Columns
-three_of (a ∷ b ∷ []) = Err why.Columns
 three_of (a ∷ b ∷ c ∷ []) = Ok (a, b, c)
-three_of (a ∷ b ∷ c ∷ d ∷ rest) = Err why.Columns
+three_of other = Err why.Columns
 
 -- the four fields
 abbrev pub four_of : Record → Result (Four (List ℕ)) Why
-four_of [] = Err why.Columns
-four_of (a ∷ []) = Err why.Columns
-four_of (a ∷ b ∷ []) = Err why.Columns
-four_of (a ∷ b ∷ c ∷ []) = Err why.Columns
 four_of (a ∷ b ∷ c ∷ d ∷ []) = Ok (a, b, c, d)
-four_of (a ∷ b ∷ c ∷ d ∷ e ∷ rest) = Err why.Columns
+four_of other = Err why.Columns
 
 -- the fields, where each is text
 abbrev pub texts_of : Record → Result Record Why
