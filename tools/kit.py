@@ -78,3 +78,9 @@ def take_library(rt, kept, crate, jobs):
         if status:
             raise Missing(f'{crate.name} is not proved:\n{said[-2000:]}')
     kept.is_built(crate)
+
+
+def take_libraries(rt, kept, crates):
+    """Puts the library of each of these crates, which are listed lowest first, into the copy's out/."""
+    for it in crates:
+        take_library(rt, kept, it, min(4, rt.processors()))
