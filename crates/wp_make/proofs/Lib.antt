@@ -8,3 +8,5 @@ pub mod OrdersRead
 pub mod DesksRead
 pub mod LayoutRead
 pub mod DaySaid
+pub mod Lengths
+pub mod DayShort

@@ -66,7 +66,8 @@ made_line aisles state some most = record {
   most = omega (arith, draw_below (state_after 3 state) 5 (lit< tt));
 }
 
-few_lines : (state : ℕ) → line_count state ≤ 3
+-- an order has three lines at most
+pub few_lines : (state : ℕ) → line_count state ≤ 3
 few_lines state = omega (arith, draw_below (state_after 1 state) 3 (lit< tt))
 
 has_room : (count lines : ℕ) (orders : List Order) → count < most_file_orders → lines < most_lines → HasOrders count lines orders

@@ -1,8 +1,9 @@
 -- The texts of a made input.
-use Rattle.std.specs.Prelude.{ℕ, ◌+◌, ◌/◌, List, [], ◌∷◌, ◌++◌}
+use Rattle.std.specs.Prelude.{ℕ, ◌+◌, ◌/◌, ◌≤◌, List, [], ◌∷◌, ◌++◌, length}
 use Rattle.std.specs.List.{flat_map}
 use Rattle.wp_layout.specs.LayoutText.{layout_text}
 use Rattle.wp_model.specs.Journal.{line}
+use Rattle.wp_model.specs.Limits.{most_file_bytes}
 use Rattle.wp_model.specs.TableLines.{Record}
 use Rattle.wp_model.specs.Warehouse.{Layout}
 use Rattle.wp_tables.specs.DeskFile.{desks_heading}
@@ -19,6 +20,13 @@ pub record Texts : Type 0 where
   pub stock : List ℕ
   pub orders : List ℕ
   pub desks : List ℕ
+
+-- none is longer than a file may be
+pub record AreShort (texts : Texts) : Type 0 where
+  pub layout : length texts.layout ≤ most_file_bytes
+  pub stock : length texts.stock ≤ most_file_bytes
+  pub orders : length texts.orders ≤ most_file_bytes
+  pub desks : length texts.desks ≤ most_file_bytes
 
 -- those of an input
 abbrev pub texts_of : Input → Texts

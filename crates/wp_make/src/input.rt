@@ -1,7 +1,7 @@
 ghost use Rattle.std.specs.Prelude.{◌≡◌, IfOk};
 ghost use Rattle.wp_make.specs.Accepted.{AreAccepted};
 ghost use Rattle.wp_make.specs.Sizes.{IsSize};
-ghost use Rattle.wp_make.specs.Texts.{made_texts, texts_of};
+ghost use Rattle.wp_make.specs.Texts.{AreShort, made_texts, texts_of};
 
 use crate::desks::made_desks_text;
 use crate::layout::made_layout_text;
@@ -32,11 +32,12 @@ pub struct Input {
 /// The input of a size that is drawn from a number. In the layout the depot lies in the middle, and each slot has a row on
 /// its left with 1,000,000 units of an article of its own. Each order has 1 to 3 lines, drawn one after the other. The
 /// orders are cut into waves in their order; each wave is submitted and released by one desk, and the desks take turns. The
-/// readers of files accept the texts. An `Err` comes from a want of memory alone.
+/// readers of files accept the texts, none of which is longer than a file may be. An `Err` comes from a want of memory alone.
 pub fn make(alloc: Global, number: u64, size: Size) -> Result<Input, Memory>
     requires { IsSize size }
     ensures texts { IfOk result (λ input. texts_of input ≡ made_texts number size) }
     ensures accepted { IfOk result (λ input. AreAccepted (texts_of input)) }
+    ensures short { IfOk result (λ input. AreShort (texts_of input)) }
 {
     let layout = made_layout_text(alloc, size.aisles)?;
     let stock = made_stock_text(alloc, size.aisles)?;
