@@ -7,6 +7,7 @@ ghost use Rattle.wp_outside.specs.declared.files.FileFault.TheVariants.{Failed, 
 use crate::count::Count;
 use crate::files::FileFault;
 use std::io::Read;
+use std::marker::Model;
 use std::rt::Files as FileSystem;
 use std::{fs, io};
 
@@ -44,16 +45,26 @@ pub trait Opens {
         ensures short { ¬ IsErrOf result FileFault.TooLong };
 }
 
-/// The files that a runtime opens, and how often that failed. They tell nothing else.
+/// The files that a runtime opens, and how often that failed. They tell nothing else, and contracts see that number.
 #[derive(Drop)]
 pub struct SystemFiles<'a, R: FileSystem> {
     rt: &'a R,
     faults: Count,
 }
 
+impl<'a, R: FileSystem> Model for SystemFiles<'a, R> {
+    ghost use Rattle.std.specs.Prelude.{ℕ};
+
+    ghost Value = { ℕ };
+
+    ghost view = { λ s. s.faults };
+}
+
 impl<'a, R: FileSystem> SystemFiles<'a, R> {
-    /// The files of this runtime.
-    pub fn of(rt: &'a R) -> SystemFiles<'a, R> {
+    /// The files of this runtime, of which none has failed yet.
+    pub fn of(rt: &'a R) -> SystemFiles<'a, R>
+        ensures { result ≡ 0 }
+    {
         SystemFiles {
             rt,
             faults: Count::zero(),
@@ -62,8 +73,8 @@ impl<'a, R: FileSystem> SystemFiles<'a, R> {
 
     // Want of memory is told as it is, and every other error is counted as a fault.
     fn fault_of(&mut self, error: &io::Error) -> FileFault
-        ensures rises { self.old.faults ≤ self.new.faults }
-        ensures failed { result ≡ Failed → self.old.faults < self.new.faults }
+        ensures rises { self.old ≤ self.new }
+        ensures failed { result ≡ Failed → self.old < self.new }
         ensures short { result ≢ TooLong }
     {
         if error.kind() == io::ErrorKind::OutOfMemory {
@@ -81,7 +92,7 @@ impl<'a, R: FileSystem> Opens for SystemFiles<'a, R> {
 
     ghost holds = { λ _ _. None };
 
-    ghost faults = { λ s _. s.faults };
+    ghost faults = { λ s _. s };
 
     fn open(&mut self, name: &str) -> Result<R::File, FileFault> {
         match fs::open(self.rt, name) {
