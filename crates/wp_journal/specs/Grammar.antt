@@ -17,29 +17,18 @@ is_u64 n = nat_lt n (2 ^ 64)
 
 -- a reply names names, places and lost units are within the bounds of a command's, and the other numbers are any
 abbrev pub is_line_reply : Reply → Bool
-is_line_reply reply.Submitted = true
-is_line_reply reply.Allotted = true
-is_line_reply reply.Released = true
-is_line_reply reply.Cancelled = true
-is_line_reply reply.Picked = true
-is_line_reply reply.Received = true
 is_line_reply (reply.Refilled units) = is_plain_quantity units
 is_line_reply (reply.Lost article units) = is_name article && is_plain_quantity units
-is_line_reply reply.NoOrders = true
 is_line_reply (reply.WaveFull orders) = is_u32 orders
-is_line_reply reply.KnownWave = true
 is_line_reply (reply.UnknownOrder order) = is_name order
 is_line_reply (reply.OrderTwice order) = is_name order
 is_line_reply (reply.OrderTaken order wave) = is_name order && is_name wave
-is_line_reply reply.UnknownWave = true
-is_line_reply (reply.WrongState state) = true
 is_line_reply (reply.Short article wanted free) = is_name article && (is_u64 wanted && is_u64 free)
-is_line_reply reply.Picking = true
 is_line_reply (reply.NotHeld location) = is_plain_location location
 is_line_reply (reply.TooMuch held) = is_u32 held
-is_line_reply reply.NoRow = true
 is_line_reply (reply.OtherArticle article) = is_name article
 is_line_reply (reply.TooMany on_hand) = is_u32 on_hand
+is_line_reply other = true
 
 -- an entry of the journal: its number and its desk are within the limits, its command is plain, and its reply is one
 abbrev pub is_line_entry : Entry → Bool
