@@ -126,16 +126,12 @@ ComesTo (make numbers) said output = IsSummary numbers output
 
 -- what a job holds against its files isn't right, and this is found
 abbrev pub IsWrong : JobNames → Said → Finding → Type 0
-IsWrong (plan names) said found = ⊥
-IsWrong (check names) said (finding.Journal fault) = ⊥
 IsWrong (check names) said (finding.Certificate fault) = IsRefusedCertificate said.layout said.certificate fault
-IsWrong (audit names) said (finding.Certificate fault) = ⊥
 IsWrong (audit names) said (finding.Journal fault) = Shows said.opening said.journal (Err fault)
-IsWrong (make numbers) said found = ⊥
+IsWrong other said found = ⊥
 
 -- it is right
 abbrev pub IsRight : JobNames → Said → Type 0
-IsRight (plan names) said = ⊤
 IsRight (check names) said = (bound : ℕ) × TellsBound said.layout said.certificate bound
 IsRight (audit names) said = (entries : ℕ) × IsJournalOf said.opening said.journal entries
-IsRight (make numbers) said = ⊤
+IsRight other said = ⊤

@@ -29,9 +29,8 @@ made_terms numbers = record { capacity = numbers.capacity; budget = numbers.budg
 -- good plans of waves that went out, one by one
 abbrev pub AreGoodPlans : Layout → Stock → Terms → List WaveHolds → List WavePlan → Type 0
 AreGoodPlans layout stock terms [] [] = ⊤
-AreGoodPlans layout stock terms [] (plan ∷ plans) = ⊥
-AreGoodPlans layout stock terms (released ∷ more) [] = ⊥
 AreGoodPlans layout stock terms (released ∷ more) (plan ∷ plans) = IsPlanOf layout stock released terms plan × AreGoodPlans layout stock terms more plans
+AreGoodPlans layout stock terms other others = ⊥
 
 -- the plans of the waves that went out
 abbrev pub plans_of : List Sent → List WavePlan
