@@ -9,14 +9,16 @@ use wp_pairs::Batch;
 /// How many orders lie near an order, at most.
 const MOST_NEAR: u32 = 24;
 
-/// The length that the tour of an order counts more, where it is asked how much of it another one saves.
-const GROUND: u64 = 200;
+/// How many sixteenths of the mean length the tour of an order counts more, where it is asked how much of it another one saves.
+const GROUND: u64 = 9;
 
 /// What one order has to do with another: how much longer a tour past both is than one past the first alone, and which orders
 /// save most of their tours beside it.
 #[derive(Drop)]
 pub struct Nearness {
     orders: u32,
+    // the mean length of the tours past single orders
+    mean: u64,
     // for each two orders, what the second adds to the first
     added: Vec<u64>,
     // for each order those that lie near it, as many for each
@@ -57,21 +59,32 @@ fn added_of(alloc: Global, seen: &mut SeenLengths<'_>, orders: u32) -> Result<Ve
     Ok(added)
 }
 
-// How much of an order's tour is not saved beside another one, in parts of 1,000.
-fn left_over(seen: &mut SeenLengths<'_>, added: u64, second: u32) -> u64
+// The mean length of the tours past single orders.
+fn mean_of(seen: &mut SeenLengths<'_>, orders: u32) -> u64 {
+    let mut sum: u64 = 0;
+    for order in 0..orders.min(64) {
+        sum = sum.saturating_add(seen.length_of(batch_of(order, order)));
+    }
+    sum / u64::from(orders.max(1))
+}
+
+// How much of an order's tour is not saved beside another one, in parts of 1,000, where the tour counts for so much more.
+fn left_over(seen: &mut SeenLengths<'_>, more: u64, added: u64, second: u32) -> u64
     requires { second < 64 }
 {
     let alone = seen.length_of(batch_of(second, second));
     let saved = alone.saturating_sub(added).saturating_mul(1_000);
-    1_000 - (saved / alone.saturating_add(GROUND).max(1)).min(1_000)
+    1_000 - (saved / alone.saturating_add(more).max(1)).min(1_000)
 }
 
 impl Nearness {
     /// What the orders of a wave of so many have to do with each other.
     pub fn of(alloc: Global, seen: &mut SeenLengths<'_>, orders: u32) -> Result<Nearness, Memory> {
+        let mean = mean_of(seen, orders);
         let added = added_of(alloc, seen, orders)?;
         let mut nearness = Nearness {
             orders,
+            mean,
             added,
             near: Vec::new(alloc),
         };
@@ -88,10 +101,11 @@ impl Nearness {
         seen: &mut SeenLengths<'_>,
         first: u32,
     ) -> Result<(), Memory> {
+        let more = self.mean.saturating_mul(GROUND) / 16;
         let mut ranks: Vec<(u64, u32)> = Vec::new(alloc);
         for second in 0..self.orders.min(64) {
             if second != first {
-                let rank = left_over(seen, self.added_to(first, second), second);
+                let rank = left_over(seen, more, self.added_to(first, second), second);
                 ranks.push((rank, second))?;
             }
         }
@@ -109,6 +123,11 @@ impl Nearness {
             Some(added) => *added,
             None => 0,
         }
+    }
+
+    /// The mean length of the tours past single orders.
+    pub fn mean(&self) -> u64 {
+        self.mean
     }
 
     /// How many orders lie near each.

@@ -21,8 +21,12 @@ const STAGES: u32 = 32;
 /// How many moves are drawn in a stage for each order.
 const MOVES: u32 = 100;
 
-/// The heat in the first stage of a round: the mean of what a move may cost more.
-const HEAT: u64 = 20;
+/// Which part of the mean length of the orders' tours the heat is in the first stage of a round: the mean of what a move may
+/// cost more.
+const HEAT_PART: u64 = 18;
+
+/// In how many steps the heat falls to nothing in the last stages of a round.
+const HEAT_STEPS: u64 = 20;
 
 /// The state from which moves are drawn.
 const FIRST_STATE: u64 = 1;
@@ -39,9 +43,11 @@ fn cost_of(wave: &Wave, batches: &[Batch]) -> u64
     sum
 }
 
-// The heat in a stage of a round.
-fn heat_in(stage: u32) -> u64 {
-    HEAT * u64::from(STAGES.saturating_sub(stage)) / u64::from(STAGES)
+// The heat in a stage of a round, in thousandths of a unit of length, where the orders' tours have this mean length.
+fn heat_in(mean: u64, stage: u32) -> u64 {
+    let first = mean.saturating_mul(1_000) / HEAT_PART;
+    let steps = HEAT_STEPS * u64::from(STAGES.saturating_sub(stage)) / u64::from(STAGES);
+    first.saturating_mul(steps) / HEAT_STEPS
 }
 
 // What moves are drawn and weighed with, at first.
@@ -84,7 +90,8 @@ fn walk_from(
     let start = joined_again(alloc, instance, batches)?;
     let mut walk = Walk::from(alloc, instance, &mut mover.seen, start)?;
     let moves = MOVES * instance.wave.orders();
-    mover.walk_on(instance, &mut walk, heat_in(stage), moves);
+    let heat = heat_in(mover.nearness.mean(), stage);
+    mover.walk_on(instance, &mut walk, heat, moves);
     Ok(walk)
 }
 

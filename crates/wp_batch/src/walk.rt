@@ -217,10 +217,10 @@ impl Mover<'_> {
         (total <= limit).then_some(total)
     }
 
-    // How much more than before a move may cost.
+    // How much more than before a move may cost, where the heat is told in thousandths of a unit of length.
     fn draw_allowance(&mut self, heat: u64) -> u64 {
         let drawn = ALLOWANCES[self.draws.below(64) as usize];
-        heat.saturating_mul(drawn) / 1_000
+        heat.saturating_mul(drawn) / 1_000_000
     }
 
     // One move, if it costs at most as much more as is drawn.
