@@ -1,0 +1,162 @@
+"""What a plan printed, part by part. Lines of kinds that aren't known here are passed over, so that later kinds break nothing."""
+
+from collections import namedtuple
+
+from .trouble import Trouble, read_bytes
+
+Entry = namedtuple('Entry', 'number desk command reply')  # the command and the reply are lists of words
+Pick = namedtuple('Pick', 'location article quantity order')
+Refill = namedtuple('Refill', 'entry wave order location quantity')
+Row = namedtuple('Row', 'location article on_hand free held')
+Picker = namedtuple('Picker', 'number load batches')
+Crew = namedtuple('Crew', 'longest least pickers')
+
+
+class Batch:
+    """A batch of a wave: its orders, its tour point by point, its picks as they are printed, and the words of its rules, if any."""
+
+    def __init__(self, number, length, orders):
+        self.number, self.length, self.orders = number, length, orders
+        self.tour, self.picks, self.rules = [], [], None
+
+    def walk(self):
+        """The picks in the order in which the tour first comes to their slots: for each such slot its picks."""
+        first = {}
+        for place, point in enumerate(self.tour):
+            first.setdefault(point, place)
+        stops = {}
+        for pick in self.picks:
+            stops.setdefault(slot_of(pick.location), []).append(pick)
+        for slot in stops:
+            if slot not in first:
+                raise Trouble('batch %d picks at %d-%d, where its tour does not come' % (self.number, *slot))
+        return [(slot, stops[slot]) for slot in sorted(stops, key=first.get)]
+
+
+class Wave:
+    """A wave's sheet. `units` is the size of its carts, where they have one, and `root` the words of its bracket, if any."""
+
+    def __init__(self, name, facts, state):
+        self.name, self.state = name, state[0] if state else ''
+        self.cancelled = state[1:] == ['cancelled', 'later']
+        self.entry, self.size, self.capacity = facts['entry'], facts['orders'], facts['capacity']
+        self.cost, self.bound, self.units = facts['cost'], facts['bound'], facts.get('units')
+        self.batches, self.certificate, self.root = [], None, None
+
+    def gap(self):
+        """By how many percent a better batching could be cheaper at most."""
+        return 100 * (self.cost - self.bound) / self.cost if self.cost else 0.0
+
+    def orders(self):
+        return [order for batch in self.batches for order in batch.orders]
+
+
+class Output:
+    """A day: the journal's entries, the sheets, the refills, the crew, if there is one, and the rows of the stock."""
+
+    def __init__(self):
+        self.entries, self.waves, self.refills, self.rows, self.crew = [], [], [], [], None
+
+    def refused(self):
+        return [entry for entry in self.entries if entry.reply[0] == 'refused']
+
+    def wave(self, name):
+        for wave in self.waves:
+            if wave.name == name:
+                return wave
+        raise Trouble('no wave %s went out in this day; %s did' % (name, ', '.join(wave.name for wave in self.waves) or 'none'))
+
+
+def slot_of(location):
+    aisle, slot, _ = location.split('-')
+    return int(aisle), int(slot)
+
+
+def _facts(words):
+    """The pairs of a name and a number at the beginning of some words, and the words behind them."""
+    facts, place = {}, 0
+    while place + 1 < len(words) and words[place + 1].isdigit():
+        facts[words[place]] = int(words[place + 1])
+        place += 2
+    return facts, words[place:]
+
+
+class _Reader:
+    """Reads an output line by line."""
+
+    def __init__(self):
+        self.day, self.part = Output(), None
+
+    def line(self, text):
+        words = text.split(' ')
+        if self.part is None:
+            self.outside(text, words)
+        elif text == 'end %s' % self.part:
+            self.part = None
+        else:
+            getattr(self, self.part)(text, words)
+
+    def outside(self, text, words):
+        if text in ('journal', 'refills', 'stock'):
+            self.part = text
+        elif words[0] == 'wave':
+            facts, state = _facts(words[2:])
+            self.day.waves.append(Wave(words[1], facts, state))
+            self.part = 'wave'
+        elif words[0] == 'crew':
+            facts, _ = _facts(words[1:])
+            self.day.crew = Crew(facts['longest'], facts['least'], [])
+            self.part = 'crew'
+
+    def journal(self, text, words):
+        told, arrow, reply = text.partition(' -> ')
+        if not arrow:
+            raise ValueError
+        number, desk, *command = told.split(' ')
+        self.day.entries.append(Entry(int(number), int(desk), command, reply.split(' ')))
+
+    def wave(self, text, words):
+        wave = self.day.waves[-1]
+        if words[0] == 'batch':
+            wave.batches.append(Batch(int(words[1]), int(words[3]), words[5:]))
+        elif words[0] == 'tour':
+            wave.batches[-1].tour = [tuple(map(int, point.split('-'))) for point in words[1:]]
+        elif words[0] == 'pick':
+            wave.batches[-1].picks.append(Pick(words[1], words[2], int(words[3]), words[4]))
+        elif words[0] == 'rules':
+            wave.batches[-1].rules = words[1:]
+        elif words[0] == 'certificate':
+            wave.certificate = words[1]
+        elif words[0] == 'root':
+            wave.root = words[1:]
+
+    def refills(self, text, words):
+        if words[0] == 'refill':
+            self.day.refills.append(Refill(int(words[1]), words[2], words[3], words[4], int(words[5])))
+
+    def crew(self, text, words):
+        if words[0] == 'picker':
+            self.day.crew.pickers.append(Picker(int(words[1]), int(words[3]), words[5:]))
+
+    def stock(self, text, words):
+        self.day.rows.append(Row(words[0], words[1], *map(int, words[2:5])))
+
+
+def read_output(path):
+    """The day that a file has, which a plan has printed. A dash is standard input."""
+    data = read_bytes(path)
+    lines = data.decode('utf-8', 'replace').replace('\r\n', '\n').split('\n')
+    first = lines[0].lstrip('\ufeff')
+    if first.startswith(('refused ', 'read fault ')):
+        raise Trouble('%s is no plan: it says "%s". docs/FORMATS.md and tools/explain say what to do about it' % (path, first))
+    if first != 'journal':
+        raise Trouble('%s is no output of `waveplan plan`: its first line is not "journal"' % path)
+    if lines[-2:] != ['end', '']:
+        raise Trouble('%s is cut off: its last line is not "end". The run that wrote it did not end with status 0' % path)
+    reader = _Reader()
+    for number, line in enumerate([first, *lines[1:-2]], 1):
+        try:
+            reader.line(line)
+        except (ValueError, IndexError, KeyError, TypeError):
+            raise Trouble('line %d of %s is not as a plan prints it: %s' % (number, path, line[:80])) from None
+    return reader.day
