@@ -1,0 +1,82 @@
+"""The words of the command line, as docs/FORMATS.md has them."""
+
+import re
+from collections import namedtuple
+
+from .refusals import Refusal
+
+FILES = {
+    'plan': ('layout', 'stock', 'orders', 'desks'),
+    'check': ('layout', 'certificate'),
+    'audit': ('layout', 'stock', 'orders', 'journal'),
+    'make': (),
+}
+PLAN_NUMBERS = {'capacity': (1, 8), 'budget': (0, 10 ** 18), 'workers': (1, 16)}
+NUMBERS = {
+    'plan': PLAN_NUMBERS,
+    'check': {},
+    'audit': {},
+    'make': {'number': (0, 2 ** 64 - 1), 'aisles': (1, 64), 'orders': (1, 10000), 'desks': (1, 8), 'wave': (1, 64), **PLAN_NUMBERS},
+}
+GIVEN = {'budget': 2000000, 'workers': 1}
+MOST_WAVES = 500
+NUMBER = re.compile(r'\+?[0-9]+')
+
+# A mode with the names of its files and its numbers, by their options.
+Job = namedtuple('Job', 'mode files numbers')
+
+
+def _bad(option=None, text=None):
+    raise Refusal(1, 'refused words bad-words', option, text)
+
+
+def _is_option(word):
+    return word.startswith('-') and word != '-'
+
+
+def _options(known, words):
+    """The options that words give, each with its value."""
+    found, left = {}, list(words)
+    while left:
+        word = left.pop(0)
+        if word == '--':
+            if left:
+                _bad(None, left[0])
+            break
+        name, equals, value = word[2:].partition('=')
+        if not word.startswith('--') or name not in known or name in found:
+            _bad(name if name in known else None, word)
+        if not equals:
+            if not left or _is_option(left[0]):
+                _bad(name)
+            value = left.pop(0)
+        found[name] = value
+    return found
+
+
+def _number(name, text, bounds):
+    low, high = bounds
+    if not NUMBER.fullmatch(text) or not low <= int(text) <= high:
+        _bad(name, text)
+    return int(text)
+
+
+def read_words(words):
+    """The job that words say."""
+    if not words:
+        raise Refusal(1, 'refused words no-mode')
+    for word in words:
+        if any('\udc80' <= letter <= '\udcff' for letter in word):
+            _bad(None, word)
+    mode = words[0]
+    if mode not in FILES:
+        raise Refusal(1, 'refused words unknown-mode', None, mode)
+    found = _options({*FILES[mode], *NUMBERS[mode]}, words[1:])
+    for name in (*FILES[mode], *NUMBERS[mode]):
+        if name not in found and name not in GIVEN:
+            _bad(name)
+    numbers = {name: _number(name, found[name], bounds) if name in found else GIVEN[name] for name, bounds in NUMBERS[mode].items()}
+    waves = -(-numbers['orders'] // numbers['wave']) if mode == 'make' else 0
+    if waves > MOST_WAVES:
+        raise Refusal(1, 'refused words too-many-waves %d' % waves)
+    return Job(mode, {name: found[name] for name in FILES[mode]}, numbers)
