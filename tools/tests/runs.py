@@ -1,0 +1,72 @@
+"""Runs of the scripts and of the program, for the tests beside this file."""
+
+import functools
+import os
+import subprocess
+import sys
+import tempfile
+from pathlib import Path
+
+TOOLS = Path(__file__).resolve().parent.parent
+TOP = TOOLS.parent
+EXAMPLES = TOP / 'examples'
+PROGRAM = os.environ.get('WAVEPLAN_PROGRAM')
+FILES = ('layout.json', 'stock.csv', 'orders.csv', 'desks.csv')
+
+
+class Done:
+    """How a script ended: its status, and what it wrote."""
+
+    def __init__(self, done):
+        self.status, self.bytes = done.returncode, done.stdout
+        self.output, self.errors = done.stdout.decode('utf-8', 'replace'), done.stderr.decode('utf-8', 'replace')
+
+
+def script(name, *words, given=b'', folder=None):
+    """Runs a script of tools/."""
+    words = [sys.executable, str(TOOLS / name), *map(str, words)]
+    return Done(subprocess.run(words, input=given, stdout=subprocess.PIPE, stderr=subprocess.PIPE, cwd=folder, timeout=170))
+
+
+def waveplan(*words, folder=None):
+    """Runs the program."""
+    return Done(subprocess.run([PROGRAM, *map(str, words)], stdin=subprocess.DEVNULL, stdout=subprocess.PIPE, stderr=subprocess.PIPE, cwd=folder, timeout=170))
+
+
+def put(folder, files):
+    """Writes texts or bytes into a folder, and gives the folder."""
+    folder = Path(folder)
+    folder.mkdir(parents=True, exist_ok=True)
+    for name, content in files.items():
+        (folder / name).write_bytes(content.encode() if isinstance(content, str) else content)
+    return folder
+
+
+def options(folder, names=FILES):
+    """The options of a plan over the files of a folder."""
+    return [word for name in names for word in ('--' + name.split('.')[0], str(Path(folder) / name))]
+
+
+def planned(folder, *more):
+    """Plans the day of a folder, and gives the run."""
+    return waveplan('plan', *options(folder), *more)
+
+
+@functools.lru_cache(maxsize=None)
+def shelf():
+    """A folder for the files of all tests, which goes with the process."""
+    return tempfile.TemporaryDirectory()
+
+
+@functools.lru_cache(maxsize=None)
+def day_of(example, *more):
+    """The path of the output of an example day."""
+    done = planned(EXAMPLES / example, *more)
+    assert done.status == 0, done.errors
+    path = Path(shelf().name) / ('%s%s.txt' % (example, ''.join(more)))
+    path.write_bytes(done.bytes)
+    return path
+
+
+def example_day():
+    return day_of('one-day', '--capacity', '3')

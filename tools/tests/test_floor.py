@@ -1,0 +1,220 @@
+"""Tests of the scripts that read a plan's output: sheets, tables, JSON, comparing, going on."""
+
+import csv
+import io
+import json
+import re
+import unittest
+import xml.etree.ElementTree as ElementTree
+from pathlib import Path
+
+import runs
+from floor import drawing, output, warehouse
+
+DAY = runs.EXAMPLES / 'one-day'
+LATER = '''journal
+0 1 submit W1 O1 -> submitted
+1 1 release W1 -> released
+2 1 submit W2 O2 -> refused over-cart O2 9
+3 1 strange W1 -> refused odd
+end journal
+wave W1 entry 1 orders 1 capacity 2 units 8 cost 2 bound 1 open
+batch 1 length 2 orders O1
+tour 1-0 1-1 1-0
+pick 1-1-L A 2 O1
+rules s-shape 2 0 return 2 0 largest-gap 2 0
+extra 7
+certificate {"capacity":2}
+root 1 2 over 1 open
+end wave
+unknown line
+refills
+end refills
+crew longest 2 least 2
+picker 1 load 2 batches W1/1
+picker 2 load 0 batches
+end crew
+stock
+1-1-L A 5 3 2
+end stock
+end
+'''
+SMALL = '{"version":2,"aisles":1,"slots":4,"pitch":2,"clearance":1,"spacings":[],"depot":1,"end":"front"}'
+
+
+def sheets(day, layout=DAY / 'layout.json', *more):
+    return runs.script('sheets', '--layout', layout, *more, day)
+
+
+class Sheets(unittest.TestCase):
+    @classmethod
+    def setUpClass(cls):
+        cls.day = runs.example_day()
+        cls.page = sheets(cls.day).output
+
+    def section(self, title):
+        return self.page.split(title)[1].split('</section>')[0]
+
+    def test_picks_stand_in_the_order_of_the_walk(self):
+        stops = re.findall(r'<td class="big">(\S+?)</td>', self.section('Wave MON-08.00, cart 1 of 3'))
+        tour = output.read_output(str(self.day)).waves[0].batches[0].tour
+        firsts = [tour.index(output.slot_of(stop)) for stop in stops]
+        self.assertEqual(sorted(firsts), firsts)
+        self.assertEqual('14-5-L', stops[0])
+
+    def test_each_pick_has_its_page_and_a_box(self):
+        held = [pick for wave in output.read_output(str(self.day)).waves if not wave.cancelled for batch in wave.batches for pick in batch.picks]
+        self.assertEqual(len(held) + 1, self.page.count('class="box"'))  # and one refill
+        for pick in held:
+            self.assertIn('<td class="big">%s</td><td>%s</td><td class="right big">%d</td>' % (pick.location, pick.article, pick.quantity), self.page)
+
+    def test_a_wave_that_was_cancelled_has_no_page(self):
+        self.assertIn('Cancelled later', self.page)
+        self.assertNotIn('Wave MON-10.00, cart', self.page)
+
+    def test_the_first_page_tells_what_was_refused_and_what_is_short(self):
+        self.assertIn('too little is free', self.page)
+        self.assertIn('<td>DRUM-DR2400</td><td class="right">1</td><td class="right">0</td>', self.page)
+
+    def test_it_needs_no_other_file_and_no_network(self):
+        self.assertIsNone(re.search(r'(?:src|href)="(?!#)|url\(|@import|<script', self.page))
+
+    def test_each_drawing_is_well_formed(self):
+        drawings = re.findall(r'<svg xmlns.*?</svg>', self.page)
+        self.assertEqual(5, len(drawings))
+        for each in drawings:
+            ElementTree.fromstring(each)
+
+    def test_one_drawing_alone(self):
+        done = sheets(self.day, DAY / 'layout.json', '--drawing', 'MON-08.00', '2')
+        self.assertEqual(0, done.status)
+        root = ElementTree.fromstring(done.output)
+        texts = [each.text for each in root.iter('{http://www.w3.org/2000/svg}text')]
+        self.assertLessEqual({'20', 'depot', '6'}, set(texts))
+
+    def test_an_open_wave_tells_the_budget_of_a_node(self):
+        day = runs.day_of('one-day', '--capacity', '3', '--budget', '0')
+        self.assertRegex(sheets(day).output, 'A budget of 2&#8239;048 pays for a node')
+
+    def test_later_kinds_of_lines_are_shown_or_passed_over(self):
+        folder = runs.put(Path(runs.shelf().name) / 'later', {'day.txt': LATER, 'layout.json': SMALL})
+        done = sheets(folder / 'day.txt', folder / 'layout.json')
+        self.assertEqual('', done.errors)
+        for text in ('2 units of 8 that the cart holds', 's-shape 2 0', 'W1/1', 'more units than a cart holds'):
+            self.assertIn(text, done.output)
+
+    def test_what_is_no_output_is_told(self):
+        for text, why in (('refused stock row 1 columns\n', 'no plan: it says'), ('journal\nend journal\n', 'cut off'), ('bound 68\n', 'no output of')):
+            done = runs.script('sheets', '--layout', DAY / 'layout.json', '-', given=text.encode())
+            self.assertEqual(2, done.status)
+            self.assertIn(why, done.errors)
+
+    def test_the_layout_of_another_day_is_told(self):
+        done = sheets(self.day, runs.EXAMPLES / 'one-wave' / 'layout.json')
+        self.assertEqual(2, done.status)
+        self.assertIn('is it the layout of this day?', done.errors)
+        self.assertEqual(2, sheets(self.day, DAY / 'stock.csv').status)
+
+    def test_numbers_of_stops_do_not_cover_each_other(self):
+        self.assertEqual([0, 13, 26], drawing.spread([12, 13, 14], 0, 100))
+        places = drawing.spread([1, 1, 1, 50, 51, 99], 0, 100)
+        self.assertTrue(all(right - left >= drawing.LABEL - 0.001 for left, right in zip(places, places[1:])))
+        self.assertTrue(0 <= places[0] and places[-1] <= 100)
+
+    def test_a_way_is_drawn_by_its_corners(self):
+        self.assertEqual([(1, 0), (1, 2), (1, 0), (2, 0)], drawing.corners([(1, 0), (1, 1), (1, 2), (1, 1), (1, 0), (2, 0)]))
+
+    def test_a_depot_at_the_back_lies_above(self):
+        layout = warehouse.Layout(3, 4, 2, 1, (5, 20), 2, True)
+        scale = drawing.Scale(layout)
+        self.assertLess(scale.y(5), scale.y(0))
+        self.assertEqual((2, 5), layout.depot_point())
+        self.assertAlmostEqual(4 * (scale.x(2) - scale.x(1)), scale.x(3) - scale.x(2))
+
+
+class Tables(unittest.TestCase):
+    def test_the_tables_have_all_that_is_printed(self):
+        folder = Path(runs.shelf().name) / 'tables'
+        self.assertEqual(0, runs.script('to-csv', runs.example_day(), folder).status)
+        day = output.read_output(str(runs.example_day()))
+        tables = {path.stem: list(csv.DictReader(io.StringIO(path.read_bytes().decode()))) for path in folder.iterdir()}
+        self.assertEqual({'journal', 'waves', 'batches', 'picks', 'refills', 'stock'}, set(tables))
+        self.assertEqual([len(day.entries), 3, 8, 1, len(day.rows)], [len(tables[name]) for name in ('journal', 'waves', 'batches', 'refills', 'stock')])
+        self.assertEqual(sum(len(batch.picks) for wave in day.waves for batch in wave.batches), len(tables['picks']))
+        self.assertEqual(('1', '14-5-L'), (tables['picks'][0]['place'], tables['picks'][0]['location']))
+        self.assertEqual(('refused', 'short', 'DRUM-DR2400 1 0'), tuple(tables['journal'][8][name] for name in ('reply', 'reason', 'about')))
+        self.assertTrue((folder / 'stock.csv').read_bytes().endswith(b'\r\n'))
+
+    def test_the_object_has_all_that_is_printed(self):
+        found = json.loads(runs.script('to-json', runs.example_day()).output)
+        self.assertEqual([12, 3, 1], [len(found[name]) for name in ('journal', 'waves', 'refills')])
+        self.assertEqual({'place': 1, 'location': '14-5-L', 'article': 'PAPER-A3-80G', 'quantity': 12, 'order': 'SO-10235'}, found['waves'][0]['batches'][0]['picks'][0])
+        later = json.loads(runs.script('to-json', '-', given=LATER.encode()).output)
+        self.assertEqual((8, '1 2 over 1 open', 2), (later['waves'][0]['units'], later['waves'][0]['root'], len(later['crew']['pickers'])))
+
+    def test_two_plans_are_compared(self):
+        one = runs.example_day()
+        self.assertEqual((0, 'no difference\n'), (lambda done: (done.status, done.output))(runs.script('compare', one, one)))
+        done = runs.script('compare', one, runs.day_of('one-day', '--capacity', '1'))
+        self.assertEqual(1, done.status)
+        self.assertRegex(done.output, r'MON-08.00 cost: 74300, and \d+ \(\+')
+        self.assertRegex(done.output, 'only in the second: batch of SO-10231')
+        changed = Path(runs.shelf().name) / 'changed.txt'
+        changed.write_text(one.read_text().replace('refused short DRUM-DR2400 1 0', 'refused short DRUM-DR2400 2 0'))
+        self.assertIn('release MON-13.00: refused short DRUM-DR2400 1 0, and refused short DRUM-DR2400 2 0', runs.script('compare', one, changed).output)
+
+
+class GoingOn(unittest.TestCase):
+    def replayed(self, records):
+        folder = runs.put(Path(runs.shelf().name) / 'again', {'desks.csv': records, **{name: (DAY / name).read_bytes() for name in runs.FILES[:3]}})
+        return runs.planned(folder, '--capacity', '3')
+
+    def test_a_day_is_played_again_to_the_same_output(self):
+        done = self.replayed(runs.script('continue', runs.example_day()).output)
+        self.assertEqual(runs.example_day().read_bytes(), done.bytes)
+
+    def test_a_day_of_three_desks_is_played_again(self):
+        folder, day = runs.EXAMPLES / 'three-desks', runs.day_of('three-desks', '--capacity', '2')
+        again = runs.put(Path(runs.shelf().name) / 'three', {'desks.csv': runs.script('continue', day).output, **{
+            name: (folder / name).read_bytes() for name in runs.FILES[:3]}})
+        one_desk = re.sub(r'^(\d+) [1-8] ', r'\1 1 ', day.read_text(), flags=re.MULTILINE)
+        self.assertEqual(one_desk, runs.planned(again, '--capacity', '2').output)
+
+    def test_a_wave_that_is_confirmed_is_done(self):
+        records = runs.script('continue', runs.example_day()).output
+        for batch in ('1', '2', '3'):
+            records += runs.script('confirm', runs.example_day(), 'MON-08.00', batch).output
+        done = self.replayed(records)
+        self.assertNotIn('refused not-held', done.output)
+        self.assertIn('pick MON-08.00 SO-10232 6-13-R 1 -> picked', done.output)
+        self.assertIn('refused wrong-state done', self.replayed(records + '1,cancel,MON-08.00\n').output)
+        whole = runs.script('confirm', runs.example_day(), 'MON-08.00', '--desk', '2').output
+        self.assertEqual(sorted(records.splitlines()[13:]), sorted(whole.replace('2,pick', '1,pick').splitlines()))
+
+    def test_what_can_not_be_picked_is_told(self):
+        for words, why in (('MON-10.00', 'cancelled later'), ('MON-09.00', 'no wave'), ('MON-08.00 4', 'no batch 4')):
+            done = runs.script('confirm', runs.example_day(), *words.split())
+            self.assertEqual(2, done.status)
+            self.assertIn(why, done.errors)
+
+    def test_the_closing_stock_is_read_again(self):
+        layout = DAY / 'layout.json'
+        for flag, drum in (('--on-hand', 6), ('--free', 5)):
+            stock = runs.script('closing-stock', runs.example_day(), flag).output
+            self.assertIn('5-36-R,DRUM-DR2400,%d\n' % drum, stock)
+            folder = runs.put(Path(runs.shelf().name) / 'next', {'stock.csv': stock, 'desks.csv': 'desk,command,arguments\n', 'layout.json': layout.read_bytes(),
+                                                                'orders.csv': (DAY / 'orders.csv').read_bytes()})
+            self.assertEqual(0, runs.planned(folder, '--capacity', '3').status)
+
+
+class Helping(unittest.TestCase):
+    def test_each_script_says_how_it_is_used(self):
+        for name in ('sheets', 'to-csv', 'to-json', 'compare', 'import', 'explain', 'continue', 'confirm', 'closing-stock', 'second-opinion'):
+            done = runs.script(name, '--help')
+            self.assertEqual((0, ''), (done.status, done.errors), name)
+            self.assertRegex(done.output, '(?s)usage: tools/%s.*(?:not|[Nn]othing).*proved' % name)
+            self.assertEqual(2, runs.script(name).status, name)
+
+
+if __name__ == '__main__':
+    unittest.main()

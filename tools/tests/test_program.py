@@ -1,0 +1,117 @@
+"""Tests with the program: made days and example days judged by the second opinion, and faults planted behind the program that `tools/fuzz` is to find."""
+
+import re
+import sys
+import unittest
+from pathlib import Path
+
+import runs
+from opinion import making
+
+# Stands between a script and the program, and changes what it answers.
+PLANTED = '''#!%(python)s -SE
+import re, subprocess, sys
+done = subprocess.run([%(program)r, *sys.argv[1:]], stdin=subprocess.DEVNULL, stdout=subprocess.PIPE)
+sys.stdout.buffer.write(re.sub(%(pattern)r, lambda found: %(new)s, done.stdout, flags=re.MULTILINE))
+sys.stdout.flush()
+sys.exit(%(status)s)
+'''
+
+# Each fault: its name, the mode in which it shows, what is looked for, what stands in its place, and the status.
+FAULTS = [
+    ('costs one too high', 'plan', rb'cost (\d+)', 'b"cost %d" % (int(found[1]) + 1)', 'done.returncode'),
+    ('tours that leave the depot', 'plan', rb'^(tour .*) \S+$', 'found[1]', 'done.returncode'),
+    ('picks of one unit more', 'plan', rb'^(pick \S+ \S+) (\d+)', 'b"%s %d" % (found[1], int(found[2]) + 1)', 'done.returncode'),
+    ('a stock that is one off', 'plan', rb'^(\S+ \S+) (\d+) (\d+) (\d+)$', 'b"%s %d %s %s" % (found[1], int(found[2]) + 1, found[3], found[4])', 'done.returncode'),
+    ('refusals that name the wrong row', 'plan', rb'^(refused \S+ row) (\d+)', 'b"%s %d" % (found[1], int(found[2]) + 1)', 'done.returncode'),
+    ('a check that takes every broken tree', 'check', rb'^refused certificate node.*$', 'b"bound 51"', '0 if done.returncode == 6 else done.returncode'),
+    ('an audit that takes every journal', 'audit', rb'^refused journal .*$', 'b"audit 1 entries"', '0 if done.returncode == 6 else done.returncode'),
+    ('a summary with a unit more', 'make', rb'units (\d+)', 'b"units %d" % (int(found[1]) + 1)', 'done.returncode'),
+]
+
+
+class Days(unittest.TestCase):
+    def judged(self, folder, day, *more):
+        return runs.script('second-opinion', *runs.options(folder), *more, day)
+
+    def test_example_days_are_right(self):
+        for example, capacity in (('one-day', '3'), ('one-wave', '2'), ('three-desks', '2')):
+            done = self.judged(runs.EXAMPLES / example, runs.day_of(example, '--capacity', capacity), '--capacity', capacity)
+            self.assertEqual((0, ''), (done.status, done.errors), done.output)
+
+    def test_the_plan_of_another_capacity_is_wrong(self):
+        done = self.judged(runs.EXAMPLES / 'one-day', runs.example_day(), '--capacity', '2')
+        self.assertEqual(1, done.status)
+        self.assertIn('the capacity is 3', done.output)
+
+    def test_a_made_day_of_2000_orders(self):
+        folder = runs.put(Path(runs.shelf().name) / 'made', making.files(1, 60, 2000, 4, 20))
+        done = runs.planned(folder, '--capacity', '3', '--budget', '120000')
+        self.assertEqual(0, done.status)
+        (folder / 'day.txt').write_bytes(done.bytes)
+        judged = self.judged(folder, folder / 'day.txt', '--capacity', '3')
+        self.assertEqual(0, judged.status, judged.output)
+        self.assertRegex(judged.output, r'right: 200 entries, 100 sheets with 7\d\d batches')
+        made = runs.waveplan(*'make --number 1 --aisles 60 --orders 2000 --desks 4 --wave 20 --capacity 3 --budget 120000'.split())
+        costs = [int(found) for found in re.findall(r'^wave .* cost (\d+)', done.output, re.MULTILINE)]
+        self.assertIn('cost %d bound' % sum(costs), made.output)
+        self.floor(folder)
+
+    def floor(self, folder):
+        """The scripts for the floor over the great day."""
+        page = runs.script('sheets', '--layout', folder / 'layout.json', folder / 'day.txt')
+        self.assertEqual((0, ''), (page.status, page.errors))
+        self.assertEqual(page.output.count('<section id="cart-'), len(re.findall('^batch ', (folder / 'day.txt').read_text(), re.MULTILINE)))
+        for words in (('to-csv', folder / 'day.txt', folder / 'tables'), ('to-json', folder / 'day.txt'), ('compare', folder / 'day.txt', folder / 'day.txt'),
+                      ('continue', folder / 'day.txt'), ('closing-stock', folder / 'day.txt', '--free')):
+            self.assertEqual(0, runs.script(*words).status, words)
+        for kind in ('stock', 'orders', 'desks'):
+            self.assertEqual((folder / (kind + '.csv')).read_text(), runs.script('import', kind, folder / (kind + '.csv')).output)
+
+    def test_days_of_one_slot_and_of_one_aisle(self):
+        for name, size, capacity in (('slot', (3, 1, 9, 1, 9), '4'), ('aisles', (5, 4, 12, 3, 6), '8')):
+            folder = runs.put(Path(runs.shelf().name) / name, making.files(*size))
+            done = runs.planned(folder, '--capacity', capacity)
+            self.assertEqual(0, done.status, done.output)
+            (folder / 'day.txt').write_bytes(done.bytes)
+            self.assertEqual(0, self.judged(folder, folder / 'day.txt').status)
+
+    def test_a_check_and_an_audit_are_judged(self):
+        folder = runs.EXAMPLES / 'one-certificate'
+        options = ('--layout', folder / 'layout.json', '--certificate', folder / 'certificate.json', '-')
+        self.assertEqual(0, runs.script('second-opinion', *options, given=b'bound 68\n').status)
+        self.assertEqual(1, runs.script('second-opinion', *options, given=b'bound 69\n').status)
+        day = runs.EXAMPLES / 'one-day'
+        options = (*runs.options(day, runs.FILES[:3]), '--journal', runs.example_day(), '-')
+        self.assertEqual(0, runs.script('second-opinion', *options, given=b'audit 12 entries\n').status)
+        self.assertEqual(1, runs.script('second-opinion', *options, given=b'audit 11 entries\n').status)
+
+    def test_a_refusal_is_judged(self):
+        day = runs.EXAMPLES / 'one-day'
+        options = ('--layout', day / 'stock.csv', *runs.options(day)[2:], '-')
+        self.assertEqual(0, runs.script('second-opinion', *options, given=b'refused layout not-json\n').status)
+        self.assertEqual(1, runs.script('second-opinion', *options, given=b'refused layout not-object\n').status)
+
+
+class Fuzzing(unittest.TestCase):
+    def fuzzed(self, program, mode, count):
+        return runs.script('fuzz', program, '--mode', mode, '--runs', count)
+
+    def test_nothing_is_wrong_with_the_program(self):
+        for mode in ('plan', 'check', 'audit', 'make', 'words'):
+            done = self.fuzzed(runs.PROGRAM, mode, 60)
+            self.assertEqual(0, done.status, done.output + done.errors)
+
+    def test_each_planted_fault_is_found(self):
+        for place, (name, mode, pattern, new, status) in enumerate(FAULTS):
+            with self.subTest(name):
+                program = Path(runs.shelf().name) / ('planted-%d' % place)
+                program.write_text(PLANTED % {'python': sys.executable, 'program': runs.PROGRAM, 'pattern': pattern, 'new': new, 'status': status})
+                program.chmod(0o755)
+                done = self.fuzzed(program, mode, 30)
+                self.assertEqual(1, done.status, done.output + done.errors)
+                self.assertRegex(done.output, 'wrong: %s run' % mode)
+
+
+if __name__ == '__main__':
+    unittest.main()
