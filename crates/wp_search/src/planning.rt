@@ -19,10 +19,10 @@ use wp_pairs::Capacity;
 use wp_price::Workers;
 
 /// How much of the budget makes one more round of moves.
-const BUDGET_FOR_ONE: u64 = 200_000;
+const BUDGET_FOR_ONE: u64 = 500_000;
 
 /// For how many orders there is one more round at most.
-const ORDERS_FOR_ONE: u32 = 3;
+const ORDERS_FOR_ONE: u32 = 6;
 
 // The state of a plan with this bound and this cost.
 fn state_of(bound: u64, cost: u64) -> State
@@ -69,7 +69,7 @@ fn plan_of(alloc: Global, search: TreeSearch, bound: u64) -> Result<Planned, Mem
     })
 }
 
-// In how many rounds moves are drawn for a start: one, and more the more the budget is, up to one for each three orders.
+// In how many rounds moves are drawn for a start: one, and more the more the budget is, up to one for each six orders.
 fn rounds_of(orders: u32, budget: u64) -> u32 {
     1 + (budget / BUDGET_FOR_ONE).min(u64::from(orders / ORDERS_FOR_ONE)) as u32
 }

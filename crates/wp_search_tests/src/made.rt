@@ -34,28 +34,45 @@ fn plans_of_made_waves_have_high_bounds(rt: HostRuntime) {
     assert_eq!(rt; wrong_bound(&rt, rt.alloc()), None);
 }
 
-/// Waves of which a node's linear program takes a cheaper batching whole than the start is: the state from which each is drawn, how many
-/// orders it has, and the capacity.
-const TAKEN_WHOLE: &[(u64, u32, u32)] = &[(10, 12, 3), (17, 8, 2)];
-
-/// Whether a plan whose tree is one node is proven, and costs less than the start, which is the plan for no budget.
-fn is_taken_whole<R: Threads + Sync>(
-    rt: &R,
-    alloc: Global,
+/// A wave of which a node's solution gives a cheaper batching than the start is: the state from which it is drawn, how many
+/// orders it has, the capacity, and how many nodes the tree of its plan has.
+struct Rounded {
     state: u64,
     orders: u32,
     capacity: u32,
-) -> Option<bool> {
-    let wave = made_wave(alloc, &mut Draws::from_state(state), orders)?;
-    let start = checked_plan(rt, alloc, &wave, capacity, 0, 1)?.cost;
-    let planned = checked_plan(rt, alloc, &wave, capacity, 2_000_000, 1)?;
-    let is_one_node = planned.tree.nodes.as_slice().len() == 1;
-    Some(is_one_node && planned.state == State::Proven && planned.cost < start)
+    nodes: usize,
 }
 
-fn not_taken<R: Threads + Sync>(rt: &R, alloc: Global) -> Option<usize> {
-    for (place, (state, orders, capacity)) in TAKEN_WHOLE.iter().enumerate() {
-        if is_taken_whole(rt, alloc, *state, *orders, *capacity) != Some(true) {
+const ROUNDED: &[Rounded] = &[
+    Rounded {
+        state: 35,
+        orders: 12,
+        capacity: 5,
+        nodes: 1,
+    },
+    Rounded {
+        state: 26,
+        orders: 30,
+        capacity: 2,
+        nodes: 3,
+    },
+];
+
+/// A budget that pays for nodes of these waves, and for no more than the one round of moves that a start has without any.
+const FEW_NODES: u64 = 199_999;
+
+/// Whether a plan is proven with so many nodes, and costs less than the start, which is the plan for no budget.
+fn is_cheaper_by_nodes<R: Threads + Sync>(rt: &R, alloc: Global, row: &Rounded) -> Option<bool> {
+    let wave = made_wave(alloc, &mut Draws::from_state(row.state), row.orders)?;
+    let start = checked_plan(rt, alloc, &wave, row.capacity, 0, 1)?.cost;
+    let planned = checked_plan(rt, alloc, &wave, row.capacity, FEW_NODES, 1)?;
+    let count = planned.tree.nodes.as_slice().len();
+    Some(count == row.nodes && planned.state == State::Proven && planned.cost < start)
+}
+
+fn no_cheaper<R: Threads + Sync>(rt: &R, alloc: Global) -> Option<usize> {
+    for (place, row) in ROUNDED.iter().enumerate() {
+        if is_cheaper_by_nodes(rt, alloc, row) != Some(true) {
             return Some(place);
         }
     }
@@ -63,8 +80,8 @@ fn not_taken<R: Threads + Sync>(rt: &R, alloc: Global) -> Option<usize> {
 }
 
 #[test]
-fn batches_that_a_linear_program_takes_whole_are_a_batching(rt: HostRuntime) {
-    assert_eq!(rt; not_taken(&rt, rt.alloc()), None);
+fn the_solution_of_a_node_gives_a_cheaper_batching_than_the_start(rt: HostRuntime) {
+    assert_eq!(rt; no_cheaper(&rt, rt.alloc()), None);
 }
 
 /// Whether the next wave of so many orders is proven with the greatest budget, and the check accepts its tree.
