@@ -4,6 +4,7 @@
 mod not_all;
 mod pass;
 mod passes;
+mod patience;
 mod receipt;
 mod rule;
 mod turn;

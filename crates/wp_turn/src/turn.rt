@@ -6,6 +6,7 @@ ghost use Rattle.wp_turn.specs.Dealt.{Deals};
 use crate::not_all::NotAll;
 use crate::pass::Pass;
 use crate::passes::Passes;
+use crate::patience::{LOOKS_AT_PLACE, LOOKS_BEFORE, MOST_LOOKS, sleep_after};
 use crate::receipt::Receipt;
 use crate::rule::{Both, Come, Commit, DrawNumber, DrawPlace, HandOn, Look, OneHistory, Start};
 use crate::turned::Turned;
@@ -164,7 +165,9 @@ impl<V: Turned> Turn<V> {
             made,
         } = pass;
         let shared = &self.table.shared;
+        self.wait_until_free(rt);
         let place = shared.fetch_add::<DrawPlace<V>>(&mut seat, 1, 1);
+        let mut looks = 0;
         'turns: for _ in rt.forever() {
             let due = shared.load::<Come<V>>(&mut seat, 0);
             if due == place {
@@ -180,9 +183,35 @@ impl<V: Turned> Turn<V> {
                 };
                 return (pass, Receipt { number, out });
             }
-            yield_now();
+            self.rest(rt, looks, LOOKS_AT_PLACE);
+            looks = looks.saturating_add(1);
         }
         unreachable!()
+    }
+
+    // Waits until nobody seems to be at a place, as long as its looks last.
+    fn wait_until_free<R: Wait>(&self, rt: &R) {
+        for looks in 0..MOST_LOOKS {
+            if self.is_free() {
+                return;
+            }
+            self.rest(rt, looks, LOOKS_BEFORE);
+        }
+    }
+
+    // Whether nobody seems to be at a place. Loads without a seat prove nothing, and nothing rests on the answer.
+    fn is_free(&self) -> bool {
+        let shared = &self.table.shared;
+        shared.peek(1) == shared.peek(0)
+    }
+
+    // What who waits does between two looks: it yields its processor, and sleeps once it has looked often enough. The word
+    // of caller numbers stands still after the opening, so a sleep on it ends with its time.
+    fn rest<R: Wait>(&self, rt: &R, looks: u32, awake: u32) {
+        match sleep_after(looks, awake) {
+            None => yield_now(),
+            Some(time) => self.table.shared.park_timeout(rt, 2, self.made, time),
+        }
     }
 
     /// The history that is seen begins with the one that the pass had seen; nothing else of the pass changes.
