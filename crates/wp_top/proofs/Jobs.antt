@@ -4,8 +4,6 @@ use Rattle.std.specs.Prelude.{IfOk, OnOk}
 use Rattle.wp_desk.specs.declared.day_run.DayRun.{DayRun}
 use Rattle.wp_journal.specs.Journals.{IsJournalOf}
 use Rattle.wp_machine.specs.declared.outcome.WaveHolds.{WaveHolds}
-use Rattle.wp_make.specs.Accepted.{Day, Say}
-use Rattle.wp_make.specs.Texts.{made_texts}
 use Rattle.wp_model.specs.Opening.{Opening}
 use Rattle.wp_model.specs.Warehouse.{Layout}
 use Rattle.wp_outside.specs.Outside.{FilesTold, NoneFalls, SameBytes}
@@ -16,8 +14,8 @@ use Rattle.wp_top.specs.Ends.{HasRead, IsOutput, among, of_run}
 use Rattle.wp_top.specs.Planned.{IsToldOf}
 use Rattle.wp_top.specs.Runs.{IsHistoryOf, IsSummary, IsWrong, audit_line}
 use Rattle.wp_top.specs.Sheets.{terms_of}
-use Rattle.wp_top.specs.Stops.{HasRightText, IsDay, IsRead, StopsAt, StopsFor, of_file, of_journal, opening_files, opening_said}
-use Rattle.wp_top.specs.Summaries.{AreGoodPlans, made_terms, plans_of, size_of, summary_of}
+use Rattle.wp_top.specs.Stops.{HasRightText, IsDay, IsMadeDay, IsRead, StopsAt, StopsFor, of_file, of_journal, opening_files, opening_said}
+use Rattle.wp_top.specs.Summaries.{AreGoodPlans, made_terms, plans_of, summary_of}
 use Rattle.wp_top.specs.Texts.{File, Said, file_of, files_of, nothing_said, said_with, scripts_in, text_in}
 use Rattle.wp_top.specs.declared.complaint.Complaint.TheVariants as complaint
 use Rattle.wp_top.specs.declared.complaint.Stop.{Stop}
@@ -126,7 +124,7 @@ make_is old new numbers output unread summary = record {
 }
 
 -- the summary of a made day
-pub summary_is : (numbers : MakeNumbers) (day : Day) (run : DayRun (Option WavePlan)) (output : List ℕ) → Say (made_texts numbers.number (size_of numbers)) day
+pub summary_is : (numbers : MakeNumbers) (day : Said) (run : DayRun (Option WavePlan)) (output : List ℕ) → IsMadeDay numbers day
     → IsHistoryOf day.opening day.scripts run.machine → IsToldOf day.layout (made_terms numbers) run
     → output ≡ summary_of numbers run.machine (plans_of run.plans.items) → IsSummary numbers output
 summary_is numbers day run output says answers told is =

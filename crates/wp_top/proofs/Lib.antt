@@ -8,6 +8,7 @@ pub mod SheetsGrow
 pub mod DayTexts
 pub mod Output
 pub mod MadeDays
+pub mod MadeFiles
 pub mod Jobs
 pub mod Checks
 pub mod Statuses

@@ -1,70 +1,24 @@
 -- What a made day comes to.
-use Rattle.std.proofs.Common.{◌≡◌, ◌∙◌, refl, sym, ap, ap₂, subst, ℕ, ◌+◌, Bool, true, false, List, [], ◌∷◌, ◌++◌, length, length-append, Some, Result, Ok, Err, true≢false}
-use Rattle.std.specs.Prelude.{◌≢◌, if◌then◌else◌, count_by, take, slice_get}
+use Rattle.std.proofs.Common.{◌≡◌, ◌∙◌, refl, sym, ap, ap₂, ℕ, ◌+◌, Bool, List, [], ◌∷◌, ◌++◌, length, length-append, Some}
+use Rattle.std.specs.Prelude.{if◌then◌else◌, count_by, take, slice_get}
 use Rattle.std.specs.List.{flat_map}
 use Rattle.std.proofs.lemmas.List.Concat.{flat_map-cons}
 use Rattle.std.proofs.lemmas.List.Elements.{All-head, All-tail, filter_map-append}
 use Rattle.std.proofs.lemmas.List.Sums.{sum_by-append, sum_by-cons}
-use Rattle.wp_layout.specs.LayoutFile.{layout_said}
-use Rattle.wp_layout.specs.declared.fault.LayoutFault.{LayoutFault}
-use Rattle.wp_layout.specs.declared.fault.LayoutFault.TheVariants as layout_fault
 use Rattle.wp_machine.proofs.Outcomes.{holds_come_with_released}
 use Rattle.wp_machine.specs.Outcome.{outcome_of, outcomes_from, released_in, released_of, tells_holds}
 use Rattle.wp_machine.specs.declared.outcome.Outcome.{Outcome}
 use Rattle.wp_machine.specs.declared.outcome.Outcome.TheVariants as outcome
-use Rattle.wp_make.specs.Accepted.{AreAccepted}
-use Rattle.wp_make.specs.Texts.{Texts}
 use Rattle.wp_model.specs.History.{History, IsLegal, IsLegalFrom}
-use Rattle.wp_model.specs.Opening.{Opening, Order, Stock}
+use Rattle.wp_model.specs.Opening.{Opening, Stock}
 use Rattle.wp_model.specs.State.{State, opening_state}
 use Rattle.wp_model.specs.Step.{says_released, step}
 use Rattle.wp_model.specs.Warehouse.{Layout}
 use Rattle.wp_model.specs.declared.entry.Entry.{Entry}
 use Rattle.wp_planner.specs.declared.planner.Terms.{Terms}
-use Rattle.wp_tables.specs.OrderFile.{orders_said}
-use Rattle.wp_tables.specs.StockFile.{stock_said}
 use Rattle.wp_top.specs.Planned.{ArePlanned, IsPlanned, Sent, waves_of}
-use Rattle.wp_top.specs.Stops.{lacks_memory}
 use Rattle.wp_top.specs.Summaries.{AreGoodPlans, is_proven, plans_of, proven_plans, releases, total_bound, total_cost}
 use Rattle.wp_top.proofs.Writing.{take_more}
-
--- a fault of a text that is accepted is want of memory
-pub layout_lacks_memory : (fault : LayoutFault) (given said : Result Layout LayoutFault) (layout : Layout) → given ≡ Err fault → said ≡ Ok layout
-    → (given ≢ Err layout_fault.Memory → given ≡ said) → lacks_memory fault ≡ true
-layout_lacks_memory fault given said layout is accepted exact = cases (lacks_memory fault) refl
-  where
-    is_memory : given ≡ Err layout_fault.Memory → fault ≡ layout_fault.Memory
-    is_memory same = let faults : Err fault ≡ Err layout_fault.Memory = sym is ∙ same in cc faults
-
-    cases : (b : Bool) → lacks_memory fault ≡ b → b ≡ true
-    cases true wants = refl
-    cases false wants =
-        let refused : given ≡ said = exact (λ same. true≢false (sym (ap lacks_memory (is_memory same)) ∙ wants)) in
-        let both : Err fault ≡ Ok layout = sym is ∙ (refused ∙ accepted) in absurd (cc both)
-
-pub wanting : {A F : Type 0} (b : Bool) (fault : F) (said : Result A F) (value : A) → said ≡ Ok value → (b ≡ false → said ≡ Err fault) → b ≡ true
-wanting true fault said value accepted exact = refl
-wanting false fault said value accepted exact = absurd (cc (sym accepted ∙ exact refl))
-
--- in the layout that was read, accepted texts have the stock of their day,
-stock_of_day : (texts : Texts) (layout : Layout) (accepted : AreAccepted texts) → layout_said texts.layout ≡ Ok layout
-    → stock_said layout texts.stock ≡ Ok accepted.0.opening.stock
-stock_of_day texts layout (day, says) read =
-    let both : Ok day.layout ≡ Ok layout = sym says.layout ∙ read in
-    let same : day.layout ≡ layout = cc both in subst (λ (l : Layout). stock_said l texts.stock ≡ Ok day.opening.stock) same says.stock
-
--- so the readers accept it,
-pub stock_accepted : (texts : Texts) (layout : Layout) → AreAccepted texts → layout_said texts.layout ≡ Ok layout
-    → (stock : Stock) × (stock_said layout texts.stock ≡ Ok stock)
-stock_accepted texts layout accepted read = (accepted.0.opening.stock, stock_of_day texts layout accepted read)
-
--- and the orders for the stock that was read
-pub orders_accepted : (texts : Texts) (layout : Layout) (stock : Stock) → AreAccepted texts → layout_said texts.layout ≡ Ok layout
-    → stock_said layout texts.stock ≡ Ok stock → (orders : List Order) × (orders_said stock texts.orders ≡ Ok orders)
-orders_accepted texts layout stock (day, says) read stocked =
-    let both : Ok day.opening.stock ≡ Ok stock = sym (stock_of_day texts layout (day, says) read) ∙ stocked in
-    let same : day.opening.stock ≡ stock = cc both in
-    (day.opening.orders, subst (λ (s : Stock). orders_said s texts.orders ≡ Ok day.opening.orders) same says.orders)
 
 -- a step tells one wave that goes out, or none
 one_or_none : (told : Outcome) → length (released_in told) ≡ (if tells_holds told then 1 else 0)

@@ -9,7 +9,6 @@ use Rattle.wp_cert.specs.Walks.{NoWalksAreShorter, order_points}
 use Rattle.wp_cert.specs.declared.tree.CertFault.{CertFault}
 use Rattle.wp_cert.specs.declared.tree.Node.{Node}
 use Rattle.wp_journal.specs.Journals.{IsJournalOf, Shows}
-use Rattle.wp_make.specs.Accepted.{Day, Say}
 use Rattle.wp_make.specs.Texts.{made_texts}
 use Rattle.wp_model.specs.History.{History, IsLegal, Script, part_of, script_of}
 use Rattle.wp_model.specs.Journal.{line, number_after_space}
@@ -20,8 +19,8 @@ use Rattle.wp_model.specs.Warehouse.{Layout}
 use Rattle.wp_top.specs.Sections.{output_of}
 use Rattle.wp_top.specs.Sheets.{AreSheets, terms_of}
 use Rattle.wp_machine.specs.Outcome.{released_of}
-use Rattle.wp_top.specs.Summaries.{AreGoodPlans, made_terms, size_of, summary_of}
-use Rattle.wp_top.specs.Texts.{Said}
+use Rattle.wp_top.specs.Summaries.{AreGoodPlans, made_files, made_terms, size_of, summary_of}
+use Rattle.wp_top.specs.Texts.{Said, Say}
 use Rattle.wp_top.specs.declared.complaint.Finding.{Finding}
 use Rattle.wp_top.specs.declared.complaint.Finding.TheVariants as finding
 use Rattle.wp_planner.specs.declared.planner.WavePlan.{WavePlan}
@@ -52,9 +51,9 @@ pub record IsPlan (names : PlanNames) (said : Said) (output : List ℕ) : Type 0
 
 -- What a make promises where it ends with status 0, in the words in which it is promised.
 pub record IsSummary (numbers : MakeNumbers) (output : List ℕ) : Type 0 where
-  -- the made input says a day, and this is one history of its opening and of its scripts;
-  pub day : Day
-  pub says : Say (made_texts numbers.number (size_of numbers)) day
+  -- the made files say a day, and this is one history of its opening and of its scripts;
+  pub day : Said
+  pub says : Say (made_files (made_texts numbers.number (size_of numbers))) day
   pub history : History
   pub answers : IsHistoryOf day.opening day.scripts history
   -- each released wave has a good plan

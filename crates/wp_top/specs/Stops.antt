@@ -1,5 +1,5 @@
 -- What comes of the files, one after the other, why a job stops, and how a run ends. The code is held against these; what they come to is in Promise.
-use Rattle.std.specs.Prelude.{◌≡◌, ◌⊎◌, ℕ, ◌+◌, ◌<◌, ⊤, Bool, true, false, List, [], ◌∷◌, Option, Vec, Result, Ok, Err, if◌then◌else◌}
+use Rattle.std.specs.Prelude.{◌≡◌, ◌⊎◌, ℕ, ◌+◌, ◌<◌, ⊤, Bool, true, false, List, [], ◌∷◌, ◌++◌, codes, map, Option, Vec, Result, Ok, Err, if◌then◌else◌}
 use Rattle.std.specs.declared.alloc.Global.{Global}
 use Rattle.wp_cert.specs.declared.tree.CertFault.{CertFault}
 use Rattle.wp_cert.specs.declared.tree.CertWhy.{CertWhy}
@@ -8,6 +8,7 @@ use Rattle.wp_journal.specs.Journals.{Shows}
 use Rattle.wp_journal.specs.declared.verdict.AuditFault.{AuditFault}
 use Rattle.wp_layout.specs.declared.fault.LayoutFault.{LayoutFault}
 use Rattle.wp_layout.specs.declared.fault.LayoutFault.TheVariants as layout_fault
+use Rattle.wp_make.specs.Texts.{made_texts}
 use Rattle.wp_model.specs.History.{History, Script}
 use Rattle.wp_model.specs.Opening.{Opening}
 use Rattle.wp_model.specs.Warehouse.{Layout}
@@ -18,7 +19,8 @@ use Rattle.wp_planner.specs.declared.planner.Terms.{Terms}
 use Rattle.wp_top.specs.Sections.{output_of}
 use Rattle.wp_top.specs.Sheets.{AreSheets}
 use Rattle.wp_machine.specs.Outcome.{released_of}
-use Rattle.wp_top.specs.Texts.{File, IsHeld, Said, file_of, nothing_said, scripts_in, text_in}
+use Rattle.wp_top.specs.Summaries.{made_files, size_of}
+use Rattle.wp_top.specs.Texts.{File, HaveSaid, IsHeld, IsTold, ReadFile, Said, Say, file_of, nothing_said, scripts_in, text_in}
 use Rattle.wp_top.specs.declared.complaint.Complaint.TheVariants as complaint
 use Rattle.wp_top.specs.declared.complaint.Finding.TheVariants as finding
 use Rattle.wp_top.specs.declared.complaint.Stop.{Stop}
@@ -31,6 +33,7 @@ use Rattle.wp_top.specs.declared.input.Refusal.{Refusal}
 use Rattle.wp_top.specs.declared.status.Status.{Status}
 use Rattle.wp_top.specs.declared.status.Status.TheVariants as status
 use Rattle.wp_words.specs.Reading.{wants_memory}
+use Rattle.wp_words.specs.Words.{MakeNumbers}
 use Rattle.wp_words.specs.declared.fault.WordsFault.{WordsFault}
 
 -- the text of a file that isn't too long
@@ -91,6 +94,28 @@ opening_files layout stock orders = file_of input.Layout layout ∷ file_of inpu
 -- what they say
 abbrev pub opening_said : Layout → Opening → Said
 opening_said layout opening = record nothing_said { layout = layout; opening = opening }
+
+-- what they say with the scripts of a desk file
+abbrev pub day_said : Layout → Opening → List Script → Said
+day_said layout opening scripts = record (opening_said layout opening) { scripts = scripts }
+
+-- the files of a made day, by the names by which they are read
+abbrev pub day_files : List File
+day_files = opening_files (codes "layout") (codes "stock") (codes "orders") ++ file_of input.Desks (codes "desks") ∷ []
+
+-- the texts of files, each beside the name of its file
+abbrev pub beside_names : List ReadFile → List (List ℕ × List ℕ)
+beside_names files = map (λ read. (read.file.name, read.text)) files
+
+-- this is the day that the files say which are made of these numbers
+abbrev pub IsMadeDay : MakeNumbers → Said → Type 0
+IsMadeDay numbers day = Say (made_files (made_texts numbers.number (size_of numbers))) day
+
+-- the files of a made day are told, none is refused, and together they say the day that is made of these numbers
+pub record HoldMadeDay (holds : List ℕ → Option (List ℕ)) (numbers : MakeNumbers) : Type 0 where
+  pub day : Said
+  pub made : IsMadeDay numbers day
+  pub told : HaveSaid (IsTold holds) day_files day
 
 -- the output of a history and of the sheets of its waves, each with a good plan
 pub record IsTextOf (layout : Layout) (terms : Terms) (history : History) (output : List ℕ) : Type 0 where

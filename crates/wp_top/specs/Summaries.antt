@@ -1,7 +1,8 @@
--- The summary of a made day.
+-- A made day, and its summary.
 use Rattle.std.specs.Prelude.{ℕ, ⊤, Bool, true, false, List, [], ◌∷◌, ◌++◌, codes, count_by, length}
 use Rattle.std.specs.List.{filter_map, sum_by}
 use Rattle.wp_machine.specs.declared.outcome.WaveHolds.{WaveHolds}
+use Rattle.wp_make.specs.Texts.{Texts}
 use Rattle.wp_make.specs.declared.input.Size.{Size}
 use Rattle.wp_model.specs.History.{History, state_after}
 use Rattle.wp_model.specs.Journal.{line, number_after_space}
@@ -16,6 +17,9 @@ use Rattle.wp_planner.specs.declared.planner.WavePlan.{WavePlan}
 use Rattle.wp_search.specs.declared.plan.State.{State}
 use Rattle.wp_search.specs.declared.plan.State.TheVariants as states
 use Rattle.wp_top.specs.Planned.{Sent}
+use Rattle.wp_top.specs.Texts.{ReadFile, file_of}
+use Rattle.wp_top.specs.declared.input.Input.{Input}
+use Rattle.wp_top.specs.declared.input.Input.TheVariants as input
 use Rattle.wp_words.specs.Words.{MakeNumbers}
 
 -- how large a day the words of a make ask for
@@ -25,6 +29,16 @@ size_of numbers = record { aisles = numbers.aisles; orders = numbers.orders; des
 -- and how its waves are to be planned
 abbrev pub made_terms : MakeNumbers → Terms
 made_terms numbers = record { capacity = numbers.capacity; budget = numbers.budget; workers = numbers.workers }
+
+-- a file of a made day: which it is, the name by which it is read, and its text
+abbrev pub made_file : Input → List ℕ → List ℕ → ReadFile
+made_file kind name text = record { file = file_of kind name; text = text }
+
+-- the files of made texts, one after the other
+abbrev pub made_files : Texts → List ReadFile
+made_files texts =
+    made_file input.Layout (codes "layout") texts.layout ∷ made_file input.Stock (codes "stock") texts.stock
+    ∷ made_file input.Orders (codes "orders") texts.orders ∷ made_file input.Desks (codes "desks") texts.desks ∷ []
 
 -- good plans of waves that went out, one by one
 abbrev pub AreGoodPlans : Layout → Stock → Terms → List WaveHolds → List WavePlan → Type 0

@@ -1,39 +1,29 @@
 //! The mode `make`.
-ghost use Rattle.std.specs.Prelude.{◌≡◌, List, Ok, true, IfOk, IfErr};
-ghost use Rattle.wp_layout.specs.LayoutFile.{layout_said};
-ghost use Rattle.wp_make.specs.Accepted.{AreAccepted, Day as MadeDay, Say};
-ghost use Rattle.wp_make.specs.Texts.{made_texts, texts_of};
-ghost use Rattle.wp_model.specs.History.{Script};
-ghost use Rattle.wp_model.specs.Opening.{Order, Stock as Articles};
-ghost use Rattle.wp_model.specs.Tables.{AreReadOrders, AreReadScripts, IsReadOpening, IsReadStock};
-ghost use Rattle.wp_model.specs.Warehouse.{Layout as Block};
+ghost use Rattle.std.specs.Prelude.{◌≡◌, ◌+◌, ◌∷◌, ◌++◌, [], Some, IfOk, IfErr, codes, map, string_bytes, vec_len};
+ghost use Rattle.wp_make.specs.Texts.{texts_of};
+ghost use Rattle.wp_model.specs.Tables.{IsReadOpening};
+ghost use Rattle.wp_outside.specs.InMemory.{bytes_or_empty};
 ghost use Rattle.wp_planner.specs.Released.{LiesIn};
-ghost use Rattle.wp_tables.specs.DeskFile.{scripts_said};
-ghost use Rattle.wp_tables.specs.Faults.{wants_memory};
-ghost use Rattle.wp_tables.specs.OrderFile.{orders_said};
-ghost use Rattle.wp_tables.specs.StockFile.{stock_said};
+ghost use Rattle.wp_top.specs.Ends.{among};
 ghost use Rattle.wp_top.specs.Runs.{IsSummary};
-ghost use Rattle.wp_top.specs.Stops.{lacks_memory};
-ghost use Rattle.wp_top.specs.Summaries.{made_terms, size_of};
+ghost use Rattle.wp_top.specs.Stops.{HoldMadeDay, IsMadeDay, StopsFor, beside_names, day_files, day_said};
+ghost use Rattle.wp_top.specs.Summaries.{made_files, made_terms, size_of};
 ghost use Rattle.wp_top.specs.declared.complaint.Stop.TheVariants as stop;
 ghost use Rattle.wp_words.specs.Reading.{make_numbers};
 ghost use Rattle.wp_words.specs.Words.{IsMakeable};
 
 use crate::complaint::Stop;
 use crate::day::run_day;
-use crate::reading::Warehouse;
+use crate::reading::{Warehouse, read_warehouse, scripts_from};
 use crate::summary::summary_text;
 use std::alloc::Global;
 use std::sync::Wait;
 use std::thread::Threads;
-use wp_graph::Layout;
-use wp_layout::{LayoutFault, read_layout};
-use wp_machine::Opening;
 use wp_make::{Input, Size, make};
 use wp_model::Memory;
-use wp_outside::Gate;
+use wp_outside::{Files, Gate, NeverFails};
 use wp_planner::Terms;
-use wp_tables::{Orders, RowFault, Scripts, Stock, read_desks, read_orders, read_stock};
+use wp_tables::Scripts;
 use wp_words::MakeWords;
 
 /// How large a day the words ask for.
@@ -59,78 +49,57 @@ fn terms_of(words: &MakeWords) -> Terms
     }
 }
 
-// A made layout is accepted, so only memory can be wanting.
-fn want_of_layout(_fault: LayoutFault) -> Memory
-    requires { lacks_memory _fault ≡ true }
+fn add_name(alloc: Global, names: &mut Vec<String>, name: &str) -> Result<(), Memory>
+    ensures bytes { IfOk result (λ _. map string_bytes names.new.items ≡ map string_bytes names.old.items ++ name.now ∷ []) }
+    ensures count { IfOk result (λ _. vec_len names.new ≡ vec_len names.old + 1) }
 {
-    Memory
+    names.push(String::from_str(alloc, name)?)?;
+    Ok(())
 }
 
-// A made table is accepted, so only memory can be wanting.
-fn want_of_table(_fault: RowFault) -> Memory
-    requires { wants_memory _fault.why ≡ true }
+// The names by which the files of a made day are read.
+fn file_names(alloc: Global) -> Result<Vec<String>, Memory>
+    ensures bytes { IfOk result (λ names. map string_bytes names.items ≡ codes "layout" ∷ codes "stock" ∷ codes "orders" ∷ codes "desks" ∷ []) }
+    ensures count { IfOk result (λ names. vec_len names ≡ 4) }
 {
-    Memory
+    let mut names = Vec::new(alloc);
+    add_name(alloc, &mut names, "layout")?;
+    add_name(alloc, &mut names, "stock")?;
+    add_name(alloc, &mut names, "orders")?;
+    add_name(alloc, &mut names, "desks")?;
+    Ok(names)
 }
 
-fn made_layout(alloc: Global, text: &Vec<u8>) -> Result<Layout, Memory>
-    requires { (layout : Block) × (layout_said text.now.items ≡ Ok layout) }
-    ensures { IfOk result (λ layout. layout_said text.now.items ≡ Ok layout) }
+// The texts of an input, in the order of those names.
+fn file_texts(alloc: Global, input: Input) -> Result<Vec<Vec<u8>>, Memory>
+    ensures { IfOk result (λ texts. texts.items ≡ input.layout ∷ input.stock ∷ input.orders ∷ input.desks ∷ []) }
 {
-    match read_layout(alloc, text) {
-        Ok(layout) => Ok(layout),
-        Err(fault) => Err(want_of_layout(fault)),
-    }
+    let Input {
+        layout,
+        stock,
+        orders,
+        desks,
+    } = input;
+    let texts = Vec::from_array(alloc, [layout, stock, orders, desks])?;
+    Ok(texts)
 }
 
-fn made_stock(alloc: Global, text: &Vec<u8>, layout: &Layout) -> Result<Stock, Memory>
-    requires { (stock : Articles) × (stock_said layout.now text.now.items ≡ Ok stock) }
-    ensures said { IfOk result (λ stock. stock_said layout.now text.now.items ≡ Ok stock) }
-    ensures read { IfOk result IsReadStock }
-    ensures lies { IfOk result (LiesIn layout.now) }
+// The files of an input, in memory.
+fn files_with(alloc: Global, input: Input) -> Result<NeverFails, Memory>
+    ensures { IfOk result (λ files. files.files ≡ beside_names (made_files (texts_of input))) }
 {
-    match read_stock(alloc, text, layout) {
-        Ok(stock) => Ok(stock),
-        Err(fault) => Err(want_of_table(fault)),
-    }
+    let names = file_names(alloc)?;
+    let texts = file_texts(alloc, input)?;
+    Ok(NeverFails::of(alloc, names, texts))
 }
 
-fn made_orders(alloc: Global, text: &Vec<u8>, stock: &Stock) -> Result<Orders, Memory>
-    requires { (orders : List Order) × (orders_said stock.now text.now.items ≡ Ok orders) }
-    ensures said { IfOk result (λ orders. orders_said stock.now text.now.items ≡ Ok orders) }
-    ensures read { IfOk result (AreReadOrders stock.now.articles) }
+// The files of the day that the words ask for, in memory.
+fn files_of_day(alloc: Global, words: &MakeWords) -> Result<NeverFails, Memory>
+    requires { IsMakeable (make_numbers words.now) }
+    ensures { IfOk result (λ files. HoldMadeDay (λ name. Some (bytes_or_empty files.files name)) (make_numbers words.now)) }
 {
-    match read_orders(alloc, text, stock) {
-        Ok(orders) => Ok(orders),
-        Err(fault) => Err(want_of_table(fault)),
-    }
-}
-
-fn made_scripts(alloc: Global, text: &Vec<u8>) -> Result<Scripts, Memory>
-    requires { (scripts : List Script) × (scripts_said text.now.items ≡ Ok scripts) }
-    ensures said { IfOk result (λ scripts. scripts_said text.now.items ≡ Ok scripts) }
-    ensures read { IfOk result AreReadScripts }
-{
-    match read_desks(alloc, text) {
-        Ok(scripts) => Ok(scripts),
-        Err(fault) => Err(want_of_table(fault)),
-    }
-}
-
-// The warehouse of a made input.
-fn made_warehouse(alloc: Global, input: &Input) -> Result<Warehouse, Memory>
-    requires { AreAccepted (texts_of input.now) }
-    ensures layout { IfOk result (λ warehouse. layout_said input.now.layout.items ≡ Ok warehouse.layout) }
-    ensures stock { IfOk result (λ warehouse. stock_said warehouse.layout input.now.stock.items ≡ Ok warehouse.opening.stock) }
-    ensures orders { IfOk result (λ warehouse. orders_said warehouse.opening.stock input.now.orders.items ≡ Ok warehouse.opening.orders) }
-    ensures read { IfOk result (λ warehouse. IsReadOpening warehouse.opening) }
-    ensures lies { IfOk result (λ warehouse. LiesIn warehouse.layout warehouse.opening.stock) }
-{
-    let layout = made_layout(alloc, &input.layout)?;
-    let stock = made_stock(alloc, &input.stock, &layout)?;
-    let orders = made_orders(alloc, &input.orders, &stock)?;
-    let opening = Opening::of(stock, orders);
-    Ok(Warehouse { layout, opening })
+    let input = make(alloc, words.number, size_of(words))?;
+    files_with(alloc, input)
 }
 
 // The summary of the day of these scripts in a warehouse.
@@ -145,8 +114,8 @@ fn summary_of_day<R: Threads + Wait + Sync, G: Gate>(
     requires words { IsMakeable (make_numbers words.now) }
     requires read { IsReadOpening warehouse.now.opening }
     requires lies { LiesIn warehouse.now.layout warehouse.now.opening.stock }
-    ensures { let day : MadeDay = record { layout = warehouse.now.layout; opening = warehouse.now.opening; scripts = scripts.now } in
-        Say (made_texts words.now.number (size_of (make_numbers words.now))) day → IfOk result (λ text. IsSummary (make_numbers words.now) text.items) }
+    requires made { IsMadeDay (make_numbers words.now) (day_said warehouse.now.layout warehouse.now.opening scripts.now) }
+    ensures { IfOk result (λ text. IsSummary (make_numbers words.now) text.items) }
 {
     let day = run_day(
         rt,
@@ -160,25 +129,27 @@ fn summary_of_day<R: Threads + Wait + Sync, G: Gate>(
     summary_text(alloc, words, &day)
 }
 
-// The summary of the day of an input.
-fn summary_of_input<R: Threads + Wait + Sync, G: Gate>(
+// The summary of the day that files hold.
+fn summary_of_files<R: Threads + Wait + Sync, F: Files, G: Gate>(
     rt: &R,
     alloc: Global,
+    files: &mut F,
     words: &MakeWords,
-    input: &Input,
     gate: &G,
-) -> Result<Vec<u8>, Memory>
+) -> Result<Vec<u8>, Stop>
     requires words { IsMakeable (make_numbers words.now) }
-    requires texts { texts_of input.now ≡ made_texts words.now.number (size_of (make_numbers words.now)) }
-    requires accepted { AreAccepted (texts_of input.now) }
-    ensures { IfOk result (λ text. IsSummary (make_numbers words.now) text.items) }
+    requires held { HoldMadeDay (F.told files.old).holds (make_numbers words.now) }
+    ensures summary { IfOk result (λ text. IsSummary (make_numbers words.now) text.items) }
+    ensures stops { IfErr result (StopsFor (among (F.told files.old) (F.told files.new) day_files)) }
 {
-    let warehouse = made_warehouse(alloc, input)?;
-    let scripts = made_scripts(alloc, &input.desks)?;
-    summary_of_day(rt, alloc, words, &warehouse, &scripts, gate)
+    let warehouse = read_warehouse(alloc, files, "layout", "stock", "orders")?;
+    let scripts = scripts_from(alloc, files, "desks")?;
+    let text = summary_of_day(rt, alloc, words, &warehouse, &scripts, gate)?;
+    Ok(text)
 }
 
-/// The output of a make: the summary of the day that is made and planned. It reads no file, and stops for want of memory alone.
+/// The output of a make: the summary of the day that is made and planned. What is read of it lies in memory, so no file of the
+/// run is read, and it stops for want of memory alone.
 pub fn make_output<R: Threads + Wait + Sync, G: Gate>(
     rt: &R,
     alloc: Global,
@@ -189,7 +160,6 @@ pub fn make_output<R: Threads + Wait + Sync, G: Gate>(
     ensures summary { IfOk result (λ text. IsSummary (make_numbers words.now) text.items) }
     ensures stops { IfErr result (λ why. why ≡ stop.Memory) }
 {
-    let input = make(alloc, words.number, size_of(words))?;
-    let text = summary_of_input(rt, alloc, words, &input, gate)?;
-    Ok(text)
+    let mut files = files_of_day(alloc, words)?;
+    summary_of_files(rt, alloc, &mut files, words, gate)
 }
