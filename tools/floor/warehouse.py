@@ -1,41 +1,24 @@
-"""The layout of a warehouse, of either version, as far as a drawing needs it."""
+"""The layout of a warehouse, of either version, as a drawing needs it."""
 
-import json
-from collections import namedtuple
+from opinion import layouts
+from opinion.refusals import Refusal
 
 from .trouble import Trouble, read_bytes
 
-KEYS = ('aisles', 'slots', 'pitch', 'clearance', 'depot')
 
-
-class Layout(namedtuple('Layout', 'aisles slots pitch clearance spacings depot back')):
-    """`spacings` has the length from each aisle to the next; the depot lies at the back where `back` is true."""
-
-    def depth(self, slot):
-        """How far a slot or an end lies from the front."""
-        length = 2 * self.clearance + (self.slots - 1) * self.pitch
-        return 0 if slot == 0 else length if slot > self.slots else self.clearance + (slot - 1) * self.pitch
+class Layout(layouts.Layout):
+    """A layout that also tells how far its aisles lie from the first."""
 
     def across(self, aisle):
-        """How far an aisle lies from the first."""
         return sum(self.spacings[:aisle - 1])
-
-    def depot_point(self):
-        return self.depot, self.slots + 1 if self.back else 0
 
 
 def read_layout(path):
     """The layout that a file says."""
     try:
-        found = json.loads(read_bytes(path).decode('utf-8-sig'))
-        numbers = [found[key] for key in KEYS]
-        spacings = found['spacings'] if 'spacings' in found else [found['spacing']] * (found['aisles'] - 1)
-        if not all(type(each) is int and each > 0 for each in [*numbers, *spacings]) or len(spacings) != found['aisles'] - 1:
-            raise ValueError
-    except (ValueError, KeyError, TypeError):
-        raise Trouble('%s is no layout file; docs/FORMATS.md says what stands in one' % path) from None
-    aisles, slots, pitch, clearance, depot = numbers
-    return Layout(aisles, slots, pitch, clearance, tuple(spacings), depot, found.get('end') == 'back')
+        return Layout(*layouts.read_layout(read_bytes(path)))
+    except Refusal as why:
+        raise Trouble('%s is no layout file (%s); docs/FORMATS.md says what stands in one' % (path, why.line)) from None
 
 
 def test_fits(layout, day):
