@@ -23,13 +23,13 @@ ROW_WHY = (
 NODE_WHY = (
     rb"cut|split-kept|not-dead \d+|duals-length|sum-low|not-feasible( \d+)*|bad-marks|not-tight \d+|bad-pair"
 )
-KEY = b"(version|aisles|slots|pitch|clearance|spacing|depot)"
+KEY = b"(version|aisles|slots|pitch|clearance|spacings?|depot|end)"
 FILE = b"(layout|stock|orders|desks|certificate|journal)"
 
 # The one line that each status but 0, 4 and 5 has.
 LINES = {
     1: rb"refused words (no-mode|unknown-mode|bad-words|too-many-waves \d+)\n",
-    2: rb"refused (layout (not-json|not-object|unknown-key|(missing-key|not-whole|out-of-range) %s)|%s too-long"
+    2: rb"refused (layout (not-json|not-object|unknown-key|not-end|(missing-key|not-whole|out-of-range) %s)|%s too-long"
     rb"|(stock|orders|desks) row \d+ (%s))\n" % (KEY, FILE, ROW_WHY),
     3: rb"read fault %s\n" % FILE,
     6: rb"refused (certificate (not-json|bad-shape|out-of-range|node \d+ (%s))"

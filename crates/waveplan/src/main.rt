@@ -18,7 +18,7 @@ use std::sync::Wait;
 use std::thread::Threads;
 use std::{env, io};
 use wp_outside::{Files, Gate, OpenGate, RealFiles, Sink, StdSink, SystemFiles, SystemWriter};
-use wp_top::run;
+use wp_top::{Resources, run};
 
 // Words that stand for those of which one isn't UTF-8: a mode without its options, which is refused as bad words.
 fn bad_words(alloc: Global) -> Result<Vec<String>, AllocError>
@@ -62,19 +62,20 @@ fn words_given(alloc: Global, given: io::Result<Args>) -> Result<Vec<String>, Al
 
 // The end of a run of these words, where there was memory for them.
 fn end_of<R: Threads + Wait + Sync, F: Files, K: Sink, G: Gate>(
-    rt: &R,
-    alloc: Global,
+    resources: &Resources<'_, R, G>,
     words: Result<Vec<String>, AllocError>,
     files: &mut F,
     out: &mut K,
-    gate: &G,
 ) -> ExitCode
     ensures runs { IfOk words (λ words. Keeps (asked_by words.items)
         (course (F.told files.old) (K.told out.old) (F.told files.new) (K.told out.new)) (exit_status result)) }
     ensures lacks { OnErr words (LacksWords (course (F.told files.old) (K.told out.old) (F.told files.new) (K.told out.new)) (exit_status result)) }
 {
     match words {
-        Ok(words) => ExitCode::from(run(rt, alloc, &words, files, out, gate)),
+        Ok(words) => {
+            let Resources { rt, alloc, gate } = *resources;
+            ExitCode::from(run(rt, alloc, &words, files, out, gate))
+        }
         Err(AllocError) => ExitCode::from(5),
     }
 }
@@ -82,12 +83,10 @@ fn end_of<R: Threads + Wait + Sync, F: Files, K: Sink, G: Gate>(
 // The end of the run that the system's words ask for: as `run` promises for the words after the program's name, or for
 // bad words where one isn't UTF-8; or 5, and nothing done, where there is no memory for the words.
 fn run_given<R: Threads + Wait + Sync, F: Files, K: Sink, G: Gate>(
-    rt: &R,
-    alloc: Global,
+    resources: &Resources<'_, R, G>,
     given: io::Result<Args>,
     files: &mut F,
     out: &mut K,
-    gate: &G,
 ) -> ExitCode
     ensures given { IfOk given (λ given. EndsFor (asked_by (drop 1 (into_iter_items given)))
         (course (F.told files.old) (K.told out.old) (F.told files.new) (K.told out.new)) (exit_status result)) }
@@ -96,18 +95,16 @@ fn run_given<R: Threads + Wait + Sync, F: Files, K: Sink, G: Gate>(
     ensures lacks { IfErr given (λ fault. error_kind fault ≢ InvalidData → LacksWords
         (course (F.told files.old) (K.told out.old) (F.told files.new) (K.told out.new)) (exit_status result)) }
 {
-    end_of(rt, alloc, words_given(alloc, given), files, out, gate)
+    end_of(resources, words_given(resources.alloc, given), files, out)
 }
 
 fn main(rt: HostRuntime) -> ExitCode {
     let mut files = RealFiles::new(SystemFiles::of(&rt));
     let mut out = StdSink::new(SystemWriter::of(io::writer(&rt)));
-    run_given(
-        &rt,
-        rt.alloc(),
-        env::args(&rt),
-        &mut files,
-        &mut out,
-        &OpenGate,
-    )
+    let resources = Resources {
+        rt: &rt,
+        alloc: rt.alloc(),
+        gate: &OpenGate,
+    };
+    run_given(&resources, env::args(&rt), &mut files, &mut out)
 }

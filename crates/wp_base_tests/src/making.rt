@@ -37,7 +37,7 @@ const MADE: &[(u64, [u32; 4], &str, &str, &str)] = &[
     (
         7,
         [1, 3, 1, 2],
-        "{\"aisles\":1,\"clearance\":1,\"depot\":1,\"pitch\":2,\"slots\":40,\"spacing\":5,\"version\":1}
+        "{\"aisles\":1,\"clearance\":1,\"depot\":1,\"end\":\"front\",\"pitch\":2,\"slots\":40,\"spacings\":[],\"version\":2}
 ",
         "order,article,quantity
 O1,A1-34,4

@@ -109,15 +109,15 @@ told_more wave batches place batch told more next within read is long next_is = 
 
 -- after a join that saves, batches cost no more
 pub join_costs_no_more : (wave : WavePicks) (batches : List (List ℕ)) (left right : ℕ) (union : List ℕ) → left < right → right < length batches
-    → (s : JoinSaves wave (batch_at batches left) (batch_at batches right)) → IsLengthOf wave union s.both
+    → (saving : ℕ) (s : JoinSaves wave (batch_at batches left) (batch_at batches right) saving) → IsLengthOf wave union s.both
     → CostNoMore wave batches (remove (set batches left union) right)
-join_costs_no_more wave batches left right union order within s of_union = λ less is.
+join_costs_no_more wave batches left right union order within saving s of_union = λ less is.
     let ne : right ≢ left = omega (arith, order) in
     let inside : right < length (set batches left union) = omega (arith, within, length-set batches left union) in
     let there : batch_at (set batches left union) right ≡ batch_at batches right = get_or-set_other batches left right union [] ne in
     let back = put_back wave (set batches left union) right s.other less inside (subst (λ (b : List ℕ). IsLengthOf wave b s.other) (sym there) s.of_right) is in
     let out = change_back wave batches left union (s.other + less) s.both s.one (omega (arith, order, within)) of_union s.of_left back in
-    (out.0, out.1, omega (arith, out.2, s.less))
+    (out.0, out.1, omega (arith, out.2, s.sum))
 
 -- another batch than the one taken out stays
 stays : (batches : List (List ℕ)) (place : ℕ) (gone batch : List ℕ) → place < length batches → batch_at batches place ≡ gone
@@ -153,3 +153,42 @@ some_cost_no_more wave (first ∷ listed) batches cost among rise is =
       (out.length_there, rest.0, subst (λ (b : List ℕ). IsLengthOf wave b out.length_there) there out.long, rest.1, refl {a = out.length_there + rest.0}),
       omega (arith, out.sum, rest.2),
     )
+
+-- a batch of some that have a cost has a length
+length_among : (wave : WavePicks) (batches : List (List ℕ)) (place cost : ℕ) → place < length batches → IsCost wave batches cost
+    → (total : ℕ) × IsLengthOf wave (batch_at batches place) total
+length_among wave batches place cost within is = let out = take_out wave batches place cost within is in (out.length_there, out.long)
+
+-- batches each of which has a length have a cost
+have_cost : (wave : WavePicks) (batches : List (List ℕ)) → ((k : ℕ) → k < length batches → (total : ℕ) × IsLengthOf wave (batch_at batches k) total)
+    → (cost : ℕ) × IsCost wave batches cost
+have_cost wave [] each = (0, refl)
+have_cost wave (batch ∷ batches) each =
+    let first = each 0 (omega arith) in
+    let rest = have_cost wave batches (λ k low. each (suc k) (omega arith)) in
+    (first.0 + rest.0, (first.0, rest.0, first.1, rest.1, refl {a = first.0 + rest.0}))
+
+-- the same batches in another order cost no more
+pub listed_costs_no_more : (wave : WavePicks) (listed batches : List (List ℕ)) → ((k : ℕ) → k < length listed → Contains batches (batch_at listed k))
+    → ((m : ℕ) → m < length batches → (k : ℕ) × (k < length listed) × (batch_at listed k ≡ batch_at batches m)) → IsListedByLeast listed
+    → CostNoMore wave batches listed
+listed_costs_no_more wave listed batches among all rise = λ less is.
+    let cost = have_cost wave batches (λ m within.
+    let at = all m within in
+    let long = length_among wave listed at.0 less at.1 is in
+    (long.0, subst (λ (b : List ℕ). IsLengthOf wave b long.0) at.2 long.1)) in
+    let some = some_cost_no_more wave listed batches cost.0 among rise cost.1 in
+    (cost.0, cost.1, omega (arith, some.2, one_cost wave listed some.0 less some.1 is))
+
+-- what costs no more than batches that cost no more than others costs no more than those
+pub no_more_through : (wave : WavePicks) (one two three : List (List ℕ)) → CostNoMore wave one two → CostNoMore wave two three → CostNoMore wave one three
+no_more_through wave one two three first next = λ less is.
+    let middle = next less is in
+    let before = first middle.0 middle.1 in (before.0, before.1, omega (arith, middle.2, before.2))
+
+-- batches that stay, or cost less, cost no more
+pub kept_costs_no_more : (wave : WavePicks) (batches best : List (List ℕ)) (told : ℕ) → TellsCost wave batches told
+    → (best ≡ batches) ⊎ CostLess wave batches best → CostNoMore wave batches best
+kept_costs_no_more wave batches best told known kept = λ less is. ⊎_elim
+    (λ (same : best ≡ batches). (less, subst (λ (bs : List (List ℕ)). IsCost wave bs less) same is, omega arith))
+    (λ (cheaper : CostLess wave batches best). (known.cost, known.is, omega (arith, cheaper known.cost less known.is is))) kept

@@ -9,7 +9,7 @@ use Rattle.wp_model.specs.Warehouse.{Layout}
 use Rattle.wp_graph.proofs.Members.{Contains-from_among, among-flat_map, among_from_Contains, flat_map_source}
 use Rattle.wp_batch.specs.declared.merge.Join.{Join}
 use Rattle.wp_batch.specs.Batchings.{IsBatching, NoGain, batch_at}
-use Rattle.wp_batch.specs.Joins.{AreKnown, CanJoin, IsBestBelow, IsBestWith, JoinSaves}
+use Rattle.wp_batch.specs.Joins.{AreKnown, CanJoin, IsBestBelow, IsBestWith, JoinSaves, SavesAtMost}
 use Rattle.wp_batch.specs.Lengths.{IsLengthOf, batch_picks}
 use Rattle.wp_batch.specs.Waves.{WavePicks, picks_of}
 use Rattle.wp_batch.proofs.Unions.{same_shortest}
@@ -47,24 +47,34 @@ module _ (wave : WavePicks) (left right union : List ℕ) (both : ℕ) (is : (p 
   pub union_length : IsLengthOf wave (left ++ right) both → IsLengthOf wave union both
   union_length = same_length wave (left ++ right) union both (λ o. (back o, into o))
 
--- where the lengths of two batches and of their union show no saving, they don't gain by joining
-pub no_gain_from : (wave : WavePicks) (capacity : ℕ) (left right union : List ℕ) (one other both : ℕ)
+-- the lengths of two batches and of their union show how much they save at most
+pub saves_at_most : (wave : WavePicks) (capacity : ℕ) (left right union : List ℕ) (one other both : ℕ)
     → ((p : ℕ) → Contains union p ↔ (Contains left p ⊎ Contains right p)) → IsLengthOf wave left one → IsLengthOf wave right other
-    → IsLengthOf wave union both → one + other ≤ both → NoGain wave capacity left right
-no_gain_from wave capacity left right union one other both is l r u low = λ fits a b t la rb lt.
+    → IsLengthOf wave union both → (most : ℕ) → one + other ≤ both + most → SavesAtMost wave capacity left right most
+saves_at_most wave capacity left right union one other both is l r u most low = λ fits a b t la rb lt.
     let first = one_length wave.layout _ one a l la in
     let second = one_length wave.layout _ other b r rb in
     let third = one_length wave.layout _ both t (both_length wave left right union both is u) lt in
     omega (arith, first, second, third, low)
 
+-- what saves at most so much saves at most what is more
+more_at_most : (wave : WavePicks) (capacity : ℕ) (left right : List ℕ) (most more : ℕ) → most ≤ more → SavesAtMost wave capacity left right most
+    → SavesAtMost wave capacity left right more
+more_at_most wave capacity left right most more low is = λ fits one other both l r b. omega (arith, low, is fits one other both l r b)
+
+-- where nothing is saved nothing is gained
+pub no_gain_at_all : (wave : WavePicks) (capacity : ℕ) (left right : List ℕ) (most : ℕ) → most ≡ 0 → SavesAtMost wave capacity left right most
+    → NoGain wave capacity left right
+no_gain_at_all wave capacity left right most none is = λ fits one other both l r b. omega (arith, none, is fits one other both l r b)
+
 -- one more batch before the same one
 pub one_more_before : (wave : WavePicks) (capacity : ℕ) (batches : List (List ℕ)) (place right : ℕ) (best found result : Join)
     → IsBestWith wave capacity batches place right best → found.left ≡ place → found.right ≡ right → place < right → right < length batches
     → (0 < found.saving → length (batch_at batches place) + length (batch_at batches right) ≤ capacity)
-    → (found.saving ≡ 0 → NoGain wave capacity (batch_at batches place) (batch_at batches right))
-    → (0 < found.saving → JoinSaves wave (batch_at batches place) (batch_at batches right)) → (result ≡ best) ⊎ (result ≡ found) → (result.saving ≡ 0 → (best.saving ≡ 0) × (found.saving ≡ 0))
-    → IsBestWith wave capacity batches (place + 1) right result
-one_more_before wave capacity batches place right best found result before l r lt within fits none saves either zero_of = record {
+    → SavesAtMost wave capacity (batch_at batches place) (batch_at batches right) found.saving
+    → (0 < found.saving → JoinSaves wave (batch_at batches place) (batch_at batches right) found.saving) → (result ≡ best) ⊎ (result ≡ found)
+    → best.saving ≤ result.saving → found.saving ≤ result.saving → IsBestWith wave capacity batches (place + 1) right result
+one_more_before wave capacity batches place right best found result before l r lt within fits most saves either low_best low_found = record {
   can = λ some. ⊎_elim
       (λ (e : result ≡ best). subst (CanJoin wave capacity batches) (sym e) (before.can (subst (λ (j : Join). 0 < j.saving) e some)))
       (λ (e : result ≡ found). subst (CanJoin wave capacity batches) (sym e) (record {
@@ -73,31 +83,32 @@ one_more_before wave capacity batches place right best found result before l r l
         fits = let sum = fits (subst (λ (j : Join). 0 < j.saving) e some) in
             subst (λ (x : ℕ). length (batch_at batches x) + length (batch_at batches found.right) ≤ capacity) (sym l)
             (subst (λ (y : ℕ). length (batch_at batches place) + length (batch_at batches y) ≤ capacity) (sym r) sum);
-        saves = subst (λ (x : ℕ). JoinSaves wave (batch_at batches x) (batch_at batches found.right)) (sym l)
-            (subst (λ (y : ℕ). JoinSaves wave (batch_at batches place) (batch_at batches y)) (sym r)
+        saves = subst (λ (x : ℕ). JoinSaves wave (batch_at batches x) (batch_at batches found.right) found.saving) (sym l)
+            (subst (λ (y : ℕ). JoinSaves wave (batch_at batches place) (batch_at batches y) found.saving) (sym r)
             (saves (subst (λ (j : Join). 0 < j.saving) e some)));
       }))
       either;
-  none = λ nothing left low. ⊎_elim
-      (λ (e : left ≡ place). subst (λ (x : ℕ). NoGain wave capacity (batch_at batches x) (batch_at batches right)) (sym e) (none (zero_of nothing).1))
-      (λ (ne : left ≢ place). before.none (zero_of nothing).0 left (omega arith))
+  most = λ left low. ⊎_elim
+      (λ (e : left ≡ place). subst (λ (x : ℕ). SavesAtMost wave capacity (batch_at batches x) (batch_at batches right) result.saving) (sym e)
+      (more_at_most wave capacity _ _ _ _ low_found most))
+      (λ (ne : left ≢ place). more_at_most wave capacity _ _ _ _ low_best (before.most left (omega arith)))
       (cases_eq left place);
 }
 
 -- all batches before one more
 pub one_more_after : (wave : WavePicks) (capacity : ℕ) (batches : List (List ℕ)) (place : ℕ) (best found result : Join)
     → IsBestBelow wave capacity batches place best → IsBestWith wave capacity batches place place found
-    → (result ≡ best) ⊎ (result ≡ found) → (result.saving ≡ 0 → (best.saving ≡ 0) × (found.saving ≡ 0))
+    → (result ≡ best) ⊎ (result ≡ found) → best.saving ≤ result.saving → found.saving ≤ result.saving
     → IsBestBelow wave capacity batches (place + 1) result
-one_more_after wave capacity batches place best found result before with_one either zero_of = record {
+one_more_after wave capacity batches place best found result before with_one either low_best low_found = record {
   can = λ some. ⊎_elim
       (λ (e : result ≡ best). subst (CanJoin wave capacity batches) (sym e) (before.can (subst (λ (j : Join). 0 < j.saving) e some)))
       (λ (e : result ≡ found). subst (CanJoin wave capacity batches) (sym e) (with_one.can (subst (λ (j : Join). 0 < j.saving) e some)))
       either;
-  none = λ nothing left right lt low. ⊎_elim
-      (λ (e : right ≡ place). subst (λ (x : ℕ). NoGain wave capacity (batch_at batches left) (batch_at batches x)) (sym e)
-      (with_one.none (zero_of nothing).1 left (omega (arith, e))))
-      (λ (ne : right ≢ place). before.none (zero_of nothing).0 left right lt (omega arith))
+  most = λ left right lt low. ⊎_elim
+      (λ (e : right ≡ place). subst (λ (x : ℕ). SavesAtMost wave capacity (batch_at batches left) (batch_at batches x) result.saving) (sym e)
+      (more_at_most wave capacity _ _ _ _ low_found (with_one.most left (omega (arith, e)))))
+      (λ (ne : right ≢ place). more_at_most wave capacity _ _ _ _ low_best (before.most left right lt (omega arith)))
       (cases_eq right place);
 }
 

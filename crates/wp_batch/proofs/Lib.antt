@@ -14,3 +14,4 @@ pub mod Ascending
 pub mod Visits
 pub mod Further
 pub mod ShareSums
+pub mod DualBounds

@@ -114,3 +114,9 @@ module _ (orders capacity : ℕ) (batches : List (List ℕ)) (is : IsBatching or
   among listed limit before k low =
       let old = before.from k low in
       (old.0, old.1, get_or_default batches old.0 (batch_at listed k) [] old.1 ∙ sym old.2)
+
+  -- and each of the batches is listed at the end
+  pub all_listed : (listed : List (List ℕ)) → AreListedBelow batches listed orders → (m : ℕ) → m < length batches
+      → (k : ℕ) × (k < length listed) × (batch_at listed k ≡ batch_at batches m)
+  all_listed listed all m within = all.all m within
+      (All-contains (λ (o : ℕ). o < orders) (batch_at batches m) (get_or (batch_at batches m) 0 0) (is.each m within).known (first_of m within))

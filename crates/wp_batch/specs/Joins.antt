@@ -1,19 +1,25 @@
 -- Two batches of a list that may be joined.
 use Rattle.std.specs.Prelude.{◌≡◌, ℕ, ◌+◌, ◌-◌, ◌^◌, ◌<◌, ◌≤◌, List, ◌++◌, All, length, min}
 use Rattle.wp_batch.specs.declared.merge.Join.{Join}
-use Rattle.wp_batch.specs.Batchings.{IsCost, NoGain, batch_at}
+use Rattle.wp_batch.specs.Batchings.{IsCost, batch_at}
 use Rattle.wp_batch.specs.Lengths.{IsLengthOf}
 use Rattle.wp_batch.specs.Waves.{WavePicks}
 
--- two batches cost more than one of the orders of both
-pub record JoinSaves (wave : WavePicks) (left right : List ℕ) : Type 0 where
+-- two batches cost so much more than one of the orders of both
+pub record JoinSaves (wave : WavePicks) (left right : List ℕ) (saving : ℕ) : Type 0 where
   pub one : ℕ
   pub other : ℕ
   pub both : ℕ
   pub of_left : IsLengthOf wave left one
   pub of_right : IsLengthOf wave right other
   pub of_both : IsLengthOf wave (left ++ right) both
-  pub less : both < one + other
+  pub sum : one + other ≡ both + saving
+
+-- two batches that fit into one cost at most so much more than one of the orders of both
+abbrev pub SavesAtMost : WavePicks → ℕ → List ℕ → List ℕ → ℕ → Type 0
+SavesAtMost wave capacity left right most =
+    length left + length right ≤ capacity → (one other both : ℕ) → IsLengthOf wave left one → IsLengthOf wave right other
+    → IsLengthOf wave (left ++ right) both → one + other ≤ both + most
 
 -- whatever batches cost after a change, they cost no less before it
 abbrev pub CostNoMore : WavePicks → List (List ℕ) → List (List ℕ) → Type 0
@@ -34,18 +40,18 @@ pub record CanJoin (wave : WavePicks) (capacity : ℕ) (batches : List (List ℕ
   pub order : join.left < join.right
   pub within : join.right < length batches
   pub fits : length (batch_at batches join.left) + length (batch_at batches join.right) ≤ capacity
-  pub saves : JoinSaves wave (batch_at batches join.left) (batch_at batches join.right)
+  pub saves : JoinSaves wave (batch_at batches join.left) (batch_at batches join.right) join.saving
 
 -- all orders of all batches are orders of the wave
 abbrev pub AreKnown : WavePicks → List (List ℕ) → Type 0
 AreKnown wave batches = (place : ℕ) → place < length batches → All (λ order. order < length wave.orders) (batch_at batches place)
 
--- a join with a saving is possible; where there is none, no batch before this place gains by joining that one
+-- a join with a saving is possible, and no batch before this place saves more by joining that one
 pub record IsBestWith (wave : WavePicks) (capacity : ℕ) (batches : List (List ℕ)) (place right : ℕ) (best : Join) : Type 0 where
   pub can : 0 < best.saving → CanJoin wave capacity batches best
-  pub none : best.saving ≡ 0 → (left : ℕ) → left < place → NoGain wave capacity (batch_at batches left) (batch_at batches right)
+  pub most : (left : ℕ) → left < place → SavesAtMost wave capacity (batch_at batches left) (batch_at batches right) best.saving
 
--- a join with a saving is possible; where there is none, no two batches before this place gain by joining
+-- a join with a saving is possible, and no two batches before this place save more by joining
 pub record IsBestBelow (wave : WavePicks) (capacity : ℕ) (batches : List (List ℕ)) (place : ℕ) (best : Join) : Type 0 where
   pub can : 0 < best.saving → CanJoin wave capacity batches best
-  pub none : best.saving ≡ 0 → (left right : ℕ) → left < right → right < place → NoGain wave capacity (batch_at batches left) (batch_at batches right)
+  pub most : (left right : ℕ) → left < right → right < place → SavesAtMost wave capacity (batch_at batches left) (batch_at batches right) best.saving

@@ -3,6 +3,7 @@ pub mod Lengths
 pub mod Marks
 pub mod Batchings
 pub mod Joins
+pub mod Savings
 pub mod KeptLengths
 pub mod Splits
 pub mod Duals

@@ -5,7 +5,7 @@ use Rattle.std.specs.List.Sorted.{IsStrictlyIncreasing}
 use Rattle.wp_pairs.specs.Permitted.{AreJoined, IsPermitted, Pairing}
 use Rattle.wp_batch.specs.Lengths.{IsLengthOf}
 use Rattle.wp_batch.specs.Waves.{WavePicks}
-use Rattle.wp_batch.specs.Duals.{duals_of}
+use Rattle.wp_batch.specs.Duals.{duals_of, sixtieths_of}
 
 -- An item is a class of orders that are to go together; it is named by its least order. This order names an item.
 pub record IsItem (pairing : Pairing) (order : ℕ) : Type 0 where
@@ -36,7 +36,7 @@ pub record IsReach (pairing : Pairing) (duals place : List ℕ) (from reach : �
 
 -- a place has no more in duals than sixty times its length; the empty place is no batch, and passes
 abbrev pub IsWithin : WavePicks → List ℕ → List ℕ → Type 0
-IsWithin wave duals place = (total : ℕ) × IsLengthOf wave place total × (duals_of duals place ≤ 60 * total)
+IsWithin wave duals place = (total : ℕ) × IsLengthOf wave place total × (duals_of duals place ≤ sixtieths_of total)
 
 -- what is due: the test of a place, whose later items begin from an order on, and then of those after it; or the places that add to it one item from an
 -- order on
@@ -54,13 +54,13 @@ pub data Visit : Type 0 where
 -- reach must not make it too much; if so, the places with one more item follow in the order of the items. An item that with the place makes no permitted
 -- batch is passed over.
 pub data IsVisit (wave : WavePicks) (pairing : Pairing) (duals : List ℕ) : Due → List Bool → Visit → Type 0 where
-  too_much : {place : List ℕ} {from total : ℕ} {marks : List Bool} → IsLengthOf wave place total → 60 * total < duals_of duals place
+  too_much : {place : List ℕ} {from total : ℕ} {marks : List Bool} → IsLengthOf wave place total → sixtieths_of total < duals_of duals place
       → IsVisit wave pairing duals (Place place from) marks (TooMuch place)
   missing : {place : List ℕ} {from : ℕ} → IsWithin wave duals place → IsVisit wave pairing duals (Place place from) [] Wrong
   pruned : {place : List ℕ} {from total reach : ℕ} {marks : List Bool} → IsLengthOf wave place total → IsReach pairing duals place from reach
-      → duals_of duals place + reach ≤ 60 * total → IsVisit wave pairing duals (Place place from) (false ∷ marks) (Passed marks)
+      → duals_of duals place + reach ≤ sixtieths_of total → IsVisit wave pairing duals (Place place from) (false ∷ marks) (Passed marks)
   unsound : {place : List ℕ} {from total reach : ℕ} {marks : List Bool} → IsWithin wave duals place → IsLengthOf wave place total
-      → IsReach pairing duals place from reach → 60 * total < duals_of duals place + reach
+      → IsReach pairing duals place from reach → sixtieths_of total < duals_of duals place + reach
       → IsVisit wave pairing duals (Place place from) (false ∷ marks) Wrong
   entered : {place : List ℕ} {from : ℕ} {marks : List Bool} {visit : Visit} → IsWithin wave duals place
       → IsVisit wave pairing duals (Children place from) marks visit → IsVisit wave pairing duals (Place place from) (true ∷ marks) visit

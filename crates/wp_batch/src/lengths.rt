@@ -1,3 +1,4 @@
+use wp_graph::Picks;
 use wp_pairs::Batch;
 
 /// A batch and the length of a shortest tour of it.
@@ -5,4 +6,18 @@ use wp_pairs::Batch;
 pub struct Length {
     pub batch: Batch,
     pub length: u64,
+}
+
+/// A batch and the slots at which its orders pick.
+#[derive(Drop)]
+pub struct PickedBatch {
+    pub batch: Batch,
+    pub union: Picks,
+}
+
+/// Up to so many orders, from a first one on.
+#[derive(Clone, Copy)]
+pub struct Later {
+    pub first: u32,
+    pub most: u32,
 }

@@ -6,6 +6,7 @@
 mod batching;
 mod changes;
 mod draws;
+mod duals;
 mod improve;
 mod instance;
 mod lengths;
@@ -26,9 +27,10 @@ mod walk;
 mod wave;
 
 pub use batching::Batching;
+pub use duals::{GREATEST_DUAL, OrderDuals, SIXTIETHS, units_of};
 pub use marks::Marks;
 pub use merge::{improved, joined, merged_start, start_after};
-pub use paired::PairedWave;
+pub use paired::{DualWave, PairedWave};
 pub use reach::{is_later, reach_of, take_best};
 pub use shares::{share_of, shares_of};
 pub use sums::{sum_of, total_of};

@@ -1,5 +1,6 @@
 ghost use Rattle.std.specs.Prelude.{◌≡◌, ◌≢◌, ◌≤◌, ◌<◌, ◌↔◌, ℕ, Some, IfNone, IfOk, IfSome, IsTrue, length, slice_get};
-ghost use Rattle.wp_batch.specs.Batchings.{IsBatching, IsCost, IsListedByLeast, batch_at};
+ghost use Rattle.wp_batch.specs.Batchings.{IsBatching, IsListedByLeast, batch_at};
+ghost use Rattle.wp_batch.specs.Joins.{CostNoMore};
 ghost use Rattle.wp_batch.specs.Waves.{WavePicks};
 
 use std::alloc::Global;
@@ -38,8 +39,7 @@ pub fn listed(
     ensures batching { IfOk result (λ listed. IsBatching orders capacity listed.items) }
     ensures listed { IfOk result (λ listed. IsListedByLeast listed.items) }
     ensures few { IfOk result (λ listed. length listed.items ≤ orders) }
-    ensures no_dearer { IfOk result (λ listed. (wave : WavePicks) (cost : ℕ) → IsCost wave batches.now cost
-        → (less : ℕ) × IsCost wave listed.items less × (less ≤ cost)) }
+    ensures no_dearer { IfOk result (λ listed. (wave : WavePicks) → CostNoMore wave batches.now listed.items) }
 {
     let mut listed = Vec::new(alloc);
     for order in 0..orders {

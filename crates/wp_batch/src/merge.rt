@@ -1,6 +1,7 @@
-ghost use Rattle.std.specs.Prelude.{◌≡◌, ◌+◌, ◌≤◌, ◌<◌, ◌↔◌, ◌⊎◌, All, IfNone, IfOk, IfSome, IsTrue, length, vec_len, ℕ};
-ghost use Rattle.wp_batch.specs.Batchings.{IsBatching, IsCost, IsListedByLeast, NoGain, NoJoinGains};
-ghost use Rattle.wp_batch.specs.Joins.{AreKnown, CanJoin, CostNoMore, IsBestBelow, IsBestWith, JoinSaves};
+ghost use Rattle.std.specs.Prelude.{◌≡◌, ◌+◌, ◌≤◌, ◌<◌, ◌^◌, ◌↔◌, ◌⊎◌, All, IfNone, IfOk, IfSome, IsTrue, length, vec_len, ℕ};
+ghost use Rattle.wp_batch.specs.Batchings.{IsBatching, IsListedByLeast, NoJoinGains};
+ghost use Rattle.wp_batch.specs.Joins.{AreKnown, CanJoin, CostNoMore, IsBestBelow, IsBestWith, JoinSaves, SavesAtMost};
+ghost use Rattle.wp_batch.specs.Savings.{AreAlone, AreMerged, CostNoMoreThanSavings, IsBySavings, IsGreatestJoin, IsJoined};
 
 use crate::batching::Batching;
 use crate::improve::improve;
@@ -33,8 +34,8 @@ fn saving_of(wave: &Wave, capacity: u32, left: Batch, right: Batch) -> u64
     requires left { All (λ order. order < length wave.now.orders) left }
     requires right { All (λ order. order < length wave.now.orders) right }
     ensures fits { 0 < result → length left + length right ≤ capacity }
-    ensures none { result ≡ 0 → NoGain wave.now capacity left right }
-    ensures saves { 0 < result → JoinSaves wave.now left right }
+    ensures most { SavesAtMost wave.now capacity left right result }
+    ensures saves { 0 < result → JoinSaves wave.now left right result }
 {
     if !fits(capacity, left, right) {
         return 0;
@@ -44,21 +45,21 @@ fn saving_of(wave: &Wave, capacity: u32, left: Batch, right: Batch) -> u64
     saved(one, other, wave.batch_length(left.union(right)))
 }
 
-// How much less one length is than two others together.
+// How much less one length is than two others together, 0 where it isn't less.
 fn saved(one: u64, other: u64, both: u64) -> u64
-    ensures none { result ≡ 0 → one + other ≤ both }
-    ensures some { 0 < result → both < one + other }
+    requires one { one < 2 ^ 28 }
+    requires other { other < 2 ^ 28 }
+    ensures most { one + other ≤ both + result }
+    ensures some { 0 < result → one + other ≡ both + result }
 {
-    if both < one {
-        return (one - both).saturating_add(other);
-    }
-    other.saturating_sub(both - one)
+    (one + other).saturating_sub(both)
 }
 
 // The join of the greater saving, the first one among equals.
 fn better_of(first: Join, second: Join) -> Join
     ensures either { (result ≡ first) ⊎ (result ≡ second) }
-    ensures none { result.saving ≡ 0 → (first.saving ≡ 0) × (second.saving ≡ 0) }
+    ensures first { first.saving ≤ result.saving }
+    ensures second { second.saving ≤ result.saving }
 {
     if first.saving < second.saving {
         return second;
@@ -91,11 +92,11 @@ fn best_with(wave: &Wave, capacity: u32, batches: &[Batch], right: usize) -> Joi
     best
 }
 
-// The best join of two batches. None comes exactly where no two gain by joining.
+// The join of two batches that saves most. None comes exactly where no two gain by joining.
 fn best_join(wave: &Wave, capacity: u32, batches: &[Batch]) -> Option<Join>
     requires { AreKnown wave.now batches.now }
     ensures none { IfNone result (NoJoinGains wave.now capacity batches.now) }
-    ensures some { IfSome result (CanJoin wave.now capacity batches.now) }
+    ensures some { IfSome result (IsGreatestJoin wave.now capacity batches.now) }
 {
     let mut best = Join {
         left: 0,
@@ -119,6 +120,7 @@ fn join_batches(wave: &Wave, orders: u32, capacity: u32, batches: &mut Vec<Batch
     ensures batching { IsBatching orders capacity batches.new.items }
     ensures listed { IsListedByLeast batches.new.items }
     ensures count { vec_len batches.new + 1 ≡ vec_len batches.old }
+    ensures joined { IsJoined batches.old.items join batches.new.items }
     ensures no_dearer { CostNoMore wave.now batches.old.items batches.new.items }
 {
     let union = batches[join.left].union(batches[join.right]);
@@ -135,6 +137,7 @@ pub fn merge(wave: &Wave, orders: u32, capacity: u32, batches: &mut Vec<Batch>)
     ensures listed { IsListedByLeast batches.new.items }
     ensures joined { NoJoinGains wave.now capacity batches.new.items }
     ensures fewer { vec_len batches.new ≤ vec_len batches.old }
+    ensures merged { AreMerged wave.now capacity batches.old.items batches.new.items }
     ensures no_dearer { CostNoMore wave.now batches.old.items batches.new.items }
 {
     while let Some(join) = best_join(wave, capacity, batches.as_slice()) {
@@ -149,6 +152,7 @@ fn singles(alloc: Global, orders: u32, capacity: u32) -> Result<Vec<Batch>, Memo
     ensures batching { IfOk result (λ batches. IsBatching orders capacity batches.items) }
     ensures listed { IfOk result (λ batches. IsListedByLeast batches.items) }
     ensures count { IfOk result (λ batches. vec_len batches ≡ orders) }
+    ensures alone { IfOk result (λ batches. AreAlone orders batches.items) }
 {
     let mut batches = Vec::new(alloc);
     for order in 0..orders {
@@ -171,7 +175,7 @@ pub fn joined(
     ensures batching { IfOk result (IsBatching (length wave.now.orders) capacity) }
     ensures listed { IfOk result IsListedByLeast }
     ensures joined { IfOk result (NoJoinGains wave.now capacity) }
-    ensures no_dearer { IfOk result (λ joined. (cost less : ℕ) → IsCost wave.now batches.now cost → IsCost wave.now joined less → less ≤ cost) }
+    ensures no_dearer { IfOk result (CostNoMore wave.now batches.now) }
 {
     let orders = wave.orders();
     let mut start = listed(alloc, orders, capacity, batches)?;
@@ -179,9 +183,22 @@ pub fn joined(
     Ok(Batching::of(start))
 }
 
+// The batching by savings: orders that begin alone are joined by the greatest saving, as long as some join saves (Clarke and
+// Wright, 1964).
+fn savings(alloc: Global, wave: &Wave, capacity: u32) -> Result<Vec<Batch>, Memory>
+    requires { 1 ≤ capacity }
+    ensures batching { IfOk result (λ batches. IsBatching (length wave.now.orders) capacity batches.items) }
+    ensures savings { IfOk result (λ batches. IsBySavings wave.now capacity batches.items) }
+{
+    let orders = wave.orders();
+    let mut batches = singles(alloc, orders, capacity)?;
+    merge(wave, orders, capacity, &mut batches);
+    Ok(batches)
+}
+
 /// A batching of a wave's orders with at most so many in each batch, 1 to 8, in which no two batches that fit into one cost
-/// less as one. Batches are listed by their least orders. Orders that begin alone are joined by the greatest saving, as long
-/// as some join saves (Clarke and Wright, 1964). Then moves between two batches are drawn in one round, in the same way on
+/// less as one. Batches are listed by their least orders. It costs no more than a batching by savings, in which orders that
+/// begin alone are joined by the greatest saving, as long as some join saves (Clarke and Wright, 1964). From there moves between two batches are drawn in one round, in the same way on
 /// every call, and the cheapest batching that they come past is improved by moves and joins that save.
 pub fn merged_start(alloc: Global, wave: &Wave, capacity: u32) -> Result<Batching, Memory>
     requires some { 1 ≤ capacity }
@@ -189,12 +206,13 @@ pub fn merged_start(alloc: Global, wave: &Wave, capacity: u32) -> Result<Batchin
     ensures batching { IfOk result (IsBatching (length wave.now.orders) capacity) }
     ensures listed { IfOk result IsListedByLeast }
     ensures joined { IfOk result (NoJoinGains wave.now capacity) }
+    ensures no_dearer { IfOk result (CostNoMoreThanSavings wave.now capacity) }
 {
     start_after(alloc, wave, capacity, 1)
 }
 
-/// The batching of a wave to which batches of a batching lead by moves between two of them, and joins, that save. Batches are
-/// listed by their least orders, and no two that fit into one cost less as one.
+/// The batching of a wave to which batches of a batching lead by moves between two of them, and joins, that save: it costs no
+/// more than they do. Batches are listed by their least orders, and no two that fit into one cost less as one.
 pub fn improved(
     alloc: Global,
     wave: &Wave,
@@ -207,12 +225,14 @@ pub fn improved(
     ensures batching { IfOk result (IsBatching (length wave.now.orders) capacity) }
     ensures listed { IfOk result IsListedByLeast }
     ensures joined { IfOk result (NoJoinGains wave.now capacity) }
+    ensures no_dearer { IfOk result (CostNoMore wave.now batches.now) }
 {
     let instance = Instance { wave, capacity };
     let mut better = Vec::from_slice(alloc, batches)?;
     let seen = SeenLengths::of(alloc, wave, capacity)?;
     improve(seen, &instance, &mut better);
-    joined(alloc, wave, capacity, better.as_slice())
+    let joined = joined(alloc, wave, capacity, better.as_slice())?;
+    Ok(joined)
 }
 
 /// Such a start as `merged_start` gives, but that moves are drawn in so many rounds.
@@ -227,11 +247,11 @@ pub fn start_after(
     ensures batching { IfOk result (IsBatching (length wave.now.orders) capacity) }
     ensures listed { IfOk result IsListedByLeast }
     ensures joined { IfOk result (NoJoinGains wave.now capacity) }
+    ensures no_dearer { IfOk result (CostNoMoreThanSavings wave.now capacity) }
 {
-    let orders = wave.orders();
-    let mut batches = singles(alloc, orders, capacity)?;
-    merge(wave, orders, capacity, &mut batches);
+    let batches = savings(alloc, wave, capacity)?;
     let instance = Instance { wave, capacity };
     let best = best_of_walks(alloc, &instance, rounds, batches.as_slice())?;
-    improved(alloc, wave, capacity, best.as_slice())
+    let start = improved(alloc, wave, capacity, best.as_slice())?;
+    Ok(start)
 }

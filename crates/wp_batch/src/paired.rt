@@ -1,5 +1,6 @@
 ghost use Rattle.std.specs.Prelude.{◌≡◌, ◌≤◌, length};
 
+use crate::duals::OrderDuals;
 use crate::wave::Wave;
 use wp_pairs::Pairs;
 
@@ -23,4 +24,14 @@ impl<'a> PairedWave<'a> {
         let _orders = wave.orders();
         PairedWave { wave, pairs }
     }
+}
+
+/// A wave, pairs for its orders, and a dual for each of them.
+#[derive(Clone, Copy)]
+pub struct DualWave<'a> {
+    pub wave: &'a Wave,
+    pub pairs: &'a Pairs,
+    pub duals: &'a OrderDuals,
+    pub ghost as_many: { pairs.now.orders ≡ length wave.now.orders },
+    pub ghost count: { length duals.now ≡ length wave.now.orders },
 }

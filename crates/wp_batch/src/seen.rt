@@ -38,8 +38,8 @@ fn is_below(orders: u32, batch: Batch) -> bool
     true
 }
 
-// The length of a batch whose orders are of the wave.
-fn length_within(wave: &Wave, batch: Batch) -> u64 {
+/// The length of a batch whose orders are of the wave.
+pub fn length_within(wave: &Wave, batch: Batch) -> u64 {
     if is_below(wave.orders(), batch) {
         wave.batch_length(batch)
     } else {

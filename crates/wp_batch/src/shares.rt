@@ -1,6 +1,7 @@
 ghost use Rattle.std.specs.Prelude.{◌≤◌, ◌<◌, ◌^◌, length};
 ghost use Rattle.wp_batch.specs.Duals.{IsShare, IsSumOfShares};
 
+use crate::duals::SIXTIETHS;
 use crate::wave::Wave;
 use wp_pairs::{Batch, Capacity};
 
@@ -13,7 +14,7 @@ pub fn share_of(wave: &Wave, capacity: Capacity, order: u32) -> u64
     ensures small { result < 2 ^ 34 }
 {
     let alone = wave.batch_length(Batch::empty().with(order));
-    60 * alone / u64::from(capacity.most)
+    SIXTIETHS * alone / u64::from(capacity.most)
 }
 
 /// The sum of the share duals: of each order sixty times the length of a tour for it alone, divided by the capacity and

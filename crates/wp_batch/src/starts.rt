@@ -1,6 +1,6 @@
 ghost use Rattle.std.specs.Prelude.{◌≡◌, ◌<◌, ◌≤◌, ◌⊎◌, IfOk, length};
 ghost use Rattle.wp_batch.specs.Batchings.{IsBatching};
-ghost use Rattle.wp_batch.specs.Joins.{AreKnown, CostLess, TellsCost};
+ghost use Rattle.wp_batch.specs.Joins.{AreKnown, CostLess, CostNoMore, TellsCost};
 ghost use Rattle.wp_batch.specs.Walks.{IsWalk};
 
 use crate::draws::Draws;
@@ -8,7 +8,7 @@ use crate::instance::Instance;
 use crate::listing::listed;
 use crate::merge::merge;
 use crate::near::Nearness;
-use crate::seen::SeenLengths;
+use crate::seen::{SeenLengths, length_within};
 use crate::walk::{Mover, Walk};
 use crate::wave::Wave;
 use std::alloc::Global;
@@ -59,6 +59,29 @@ fn mover_of<'a>(alloc: Global, instance: &Instance<'a>) -> Result<Mover<'a>, Mem
         nearness,
         draws: Draws::from_state(FIRST_STATE),
     })
+}
+
+// The lengths of the tours of single orders, the shortest first.
+fn lengths_alone(alloc: Global, wave: &Wave) -> Result<Vec<u64>, Memory> {
+    let mut lengths = Vec::new(alloc);
+    for order in 0..wave.orders().min(64) {
+        lengths.push(length_within(wave, Batch::empty().with(order)))?;
+    }
+    lengths.sort()?;
+    Ok(lengths)
+}
+
+// What no batching costs less than. A batch is no shorter than the tour of any of its orders. So the batches are together no shorter
+// than the longest tour of one order, the longest of those that are left where a batch has as many as it may, and so on.
+fn cost_at_least(alloc: Global, instance: &Instance<'_>) -> Result<u64, Memory> {
+    let lengths = lengths_alone(alloc, instance.wave)?;
+    let mut sum: u64 = 0;
+    for (place, length) in lengths.iter().rev().enumerate() {
+        if (place as u64).checked_rem(u64::from(instance.capacity)) == Some(0) {
+            sum = sum.saturating_add(*length);
+        }
+    }
+    Ok(sum)
 }
 
 // The batches of a walk once more, but that those are joined of which two together cost less.
@@ -120,8 +143,8 @@ fn best_of_round(
 }
 
 /// The cheapest of some batches and of those that a walk comes past, in so many rounds: simulated annealing (Kirkpatrick, Gelatt
-/// and Vecchi, 1983), each round from the best so far on. The batches stay where none is cheaper. The draws are the same on
-/// every call.
+/// and Vecchi, 1983), each round from the best so far on. The batches stay where none is cheaper, and no round is walked where
+/// the lengths of single orders show that. The draws are the same on every call.
 pub fn best_of_walks(
     alloc: Global,
     instance: &Instance<'_>,
@@ -131,10 +154,14 @@ pub fn best_of_walks(
     requires batching { IsBatching (length instance.now.wave.now.orders) instance.now.capacity batches.now }
     ensures batching { IfOk result (λ best. IsBatching (length instance.now.wave.now.orders) instance.now.capacity best.items) }
     ensures kept { IfOk result (λ best. (best.items ≡ batches.now) ⊎ CostLess instance.now.wave.now batches.now best.items) }
+    ensures no_dearer { IfOk result (λ best. CostNoMore instance.now.wave.now batches.now best.items) }
 {
-    let mut mover = mover_of(alloc, instance)?;
     let mut best = Vec::from_slice(alloc, batches)?;
     let mut least = cost_of(instance.wave, best.as_slice());
+    if least <= cost_at_least(alloc, instance)? {
+        return Ok(best);
+    }
+    let mut mover = mover_of(alloc, instance)?;
     for _ in 0..rounds {
         let other = best_of_round(alloc, instance, &mut mover, best.as_slice())?;
         let total = cost_of(instance.wave, other.as_slice());

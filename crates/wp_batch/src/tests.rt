@@ -1,26 +1,29 @@
 //! The places at which the lengths of batches are kept. They decide how fast a length is found and no answer, so no public call shows them.
+use crate::lengths::Later;
 use crate::places::Places;
 use wp_pairs::Batch;
 
 /// How many places one after the other are those of a batch and of all that begin with it, as a visit comes past them: each
-/// is widened by up to so many orders from a first one on. None comes where a place is another one.
+/// is widened by up to so many of the orders from a first one on. None comes where a place is another one.
 fn visited_places(
     places: &Places,
+    orders: u32,
     batch: Batch,
     place: u64,
-    first: u32,
-    orders: u32,
-    more: u32,
+    later: Later,
 ) -> Option<u64> {
     if places.place_of(batch) != Some(place) {
         return None;
     }
     let mut count: u64 = 1;
-    if more > 0 {
-        for order in first..orders.min(64) {
+    if later.most > 0 {
+        for order in later.first..orders.min(64) {
             let next = place.saturating_add(count);
-            let wider = batch.with(order);
-            let visited = visited_places(places, wider, next, order + 1, orders, more - 1)?;
+            let after = Later {
+                first: order + 1,
+                most: later.most - 1,
+            };
+            let visited = visited_places(places, orders, batch.with(order), next, after)?;
             count = count.saturating_add(visited);
         }
     }
@@ -47,7 +50,11 @@ const PLACES: &[(u32, u32, u64)] = &[
 fn wrong_places() -> Option<usize> {
     for (row, (orders, capacity, count)) in PLACES.iter().enumerate() {
         let places = Places::of(*orders, *capacity);
-        let visited = visited_places(&places, Batch::empty(), 0, 0, *orders, *capacity);
+        let all = Later {
+            first: 0,
+            most: *capacity,
+        };
+        let visited = visited_places(&places, *orders, Batch::empty(), 0, all);
         if places.count() != *count || visited != Some(*count) {
             return Some(row);
         }

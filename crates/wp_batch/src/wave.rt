@@ -2,10 +2,10 @@ ghost use Rattle.std.specs.Prelude.{◌≡◌, ◌≤◌, ◌<◌, ◌^◌, ◌�
 ghost use Rattle.wp_model.specs.declared.point.Point.{Point as PointData};
 ghost use Rattle.wp_model.specs.Warehouse.{Layout as Block};
 ghost use Rattle.wp_batch.specs.Waves.{HaveSamePicks, IsWave, picks_of};
-ghost use Rattle.wp_batch.specs.KeptLengths.{HaveLengths};
+ghost use Rattle.wp_batch.specs.KeptLengths.{HaveLengths, IsPicked};
 ghost use Rattle.wp_batch.specs.Lengths.{IsLengthOf, batch_picks};
 
-use crate::lengths::Length;
+use crate::lengths::{Later, Length, PickedBatch};
 use crate::places::Places;
 use std::alloc::Global;
 use std::marker::Model;
@@ -159,8 +159,15 @@ impl Wave {
         }
         let mut lengths = self.blank_lengths(alloc, count)?;
         let batch = Batch::empty();
-        let union = self.union_of(batch);
-        self.keep_all(places, &mut lengths, batch, &union, 0, capacity);
+        let none = PickedBatch {
+            batch,
+            union: self.union_of(batch),
+        };
+        let later = Later {
+            first: 0,
+            most: capacity,
+        };
+        self.keep_all(places, &mut lengths, &none, later);
         Ok(lengths)
     }
 
@@ -177,47 +184,43 @@ impl Wave {
         Ok(lengths)
     }
 
-    // Keeps the length of a batch, of which the union has the slots, and of each with up to so many further orders from this
-    // one on.
+    // Keeps the length of a batch and of each with up to so many further orders.
     fn keep_all(
         &self,
         places: &Places,
         lengths: &mut Vec<Length>,
-        batch: Batch,
-        union: &Picks,
-        first: u32,
-        more: u32,
+        picked: &PickedBatch,
+        later: Later,
     )
-        requires layout { union.now.layout ≡ self.now.layout }
-        requires points { (p : PointData) → Contains union.now.points p ↔ Contains (batch_picks self.now batch) p }
+        requires picked { IsPicked self.now picked.now }
         requires kept { HaveLengths self.now lengths.old.items }
         ensures { HaveLengths self.now lengths.new.items }
     {
-        self.keep_one(places, lengths, batch, union);
-        if more == 0 {
+        self.keep_one(places, lengths, picked);
+        if later.most == 0 {
             return;
         }
-        for order in first..self.orders() {
-            let wider = self.union_with(union, order);
-            self.keep_all(
-                places,
-                lengths,
-                batch.with(order),
-                &wider,
-                order + 1,
-                more - 1,
-            );
+        for order in later.first..self.orders() {
+            let wider = PickedBatch {
+                batch: picked.batch.with(order),
+                union: self.union_with(&picked.union, order),
+            };
+            let after = Later {
+                first: order + 1,
+                most: later.most - 1,
+            };
+            self.keep_all(places, lengths, &wider, after);
         }
     }
 
-    // Keeps the length of a batch, of which the union has the slots, at its place.
-    fn keep_one(&self, places: &Places, lengths: &mut Vec<Length>, batch: Batch, union: &Picks)
-        requires layout { union.now.layout ≡ self.now.layout }
-        requires points { (p : PointData) → Contains union.now.points p ↔ Contains (batch_picks self.now batch) p }
+    // Keeps the length of a batch at its place.
+    fn keep_one(&self, places: &Places, lengths: &mut Vec<Length>, picked: &PickedBatch)
+        requires picked { IsPicked self.now picked.now }
         requires kept { HaveLengths self.now lengths.old.items }
         ensures { HaveLengths self.now lengths.new.items }
     {
-        let length = tour_length(&self.layout, union);
+        let batch = picked.batch;
+        let length = tour_length(&self.layout, &picked.union);
         if let Some(place) = places.place_of(batch) {
             if place < lengths.len() as u64 {
                 lengths[place as usize] = Length { batch, length };

@@ -3,6 +3,7 @@
 use crate::fault::CaseFault;
 use crate::gates::CaseGate;
 use crate::given::{bytes_of, files_of, text_of};
+use crate::host::Host;
 use crate::judging::{audit_writes, is_among};
 use crate::lines::{has_line, line_of, rest_of, words_of};
 use crate::print_end;
@@ -28,16 +29,15 @@ fn ended_so(alloc: Global, status: u8, out: &MemSink) -> Result<Ended, CaseFault
 
 /// One run of a case.
 fn run_once<R: Threads + Wait + Sync>(
-    rt: &R,
-    alloc: Global,
+    host: &Host<'_, R>,
     lines: &str,
     files: &mut MemFiles,
     gate: &CaseGate,
 ) -> Result<Ended, CaseFault> {
-    let words = words_of(alloc, lines)?;
-    let mut out = MemSink::of(alloc, Vec::new(alloc));
-    let status = run(rt, alloc, &words, files, &mut out, gate);
-    ended_so(alloc, status, &out)
+    let words = words_of(host.alloc, lines)?;
+    let mut out = MemSink::of(host.alloc, Vec::new(host.alloc));
+    let status = run(host.rt, host.alloc, &words, files, &mut out, gate);
+    ended_so(host.alloc, status, &out)
 }
 
 /// Whether the audit of an output writes what a line `audit` says, where there is one.
@@ -73,16 +73,15 @@ fn is_right(
 
 /// The first of so many runs that isn't right.
 fn wrong_run<R: Threads + Wait + Sync>(
-    rt: &R,
-    alloc: Global,
+    host: &Host<'_, R>,
     lines: &str,
     files: &mut MemFiles,
     runs: u32,
     gate: &CaseGate,
 ) -> Result<Option<Ended>, CaseFault> {
     for _ in 0..runs {
-        let ended = run_once(rt, alloc, lines, files, gate)?;
-        if !is_right(alloc, lines, files, &ended)? {
+        let ended = run_once(host, lines, files, gate)?;
+        if !is_right(host.alloc, lines, files, &ended)? {
             return Ok(Some(ended));
         }
     }
@@ -104,17 +103,16 @@ fn wrong_text(alloc: Global, output: &str) -> Result<String, Memory> {
 
 /// Runs a case so many times, and prints that each run was right, or the first that was not.
 fn judge_so_many<R: Threads + Wait + Sync, K: Sink>(
-    rt: &R,
-    alloc: Global,
+    host: &Host<'_, R>,
     (name, lines): (&str, &str),
     files: &mut MemFiles,
     runs: u32,
     out: &mut K,
 ) -> Result<(), CaseFault> {
     let gate = CaseGate::of(lines);
-    match wrong_run(rt, alloc, lines, files, runs, &gate)? {
-        Some(ended) => print_wrong(alloc, name, &ended, out),
-        None => print_right(alloc, name, runs, &gate, out),
+    match wrong_run(host, lines, files, runs, &gate)? {
+        Some(ended) => print_wrong(host.alloc, name, &ended, out),
+        None => print_right(host.alloc, name, runs, &gate, out),
     }
 }
 
@@ -141,15 +139,14 @@ fn print_right<K: Sink>(
 
 /// Runs a case over its files as many times as its line `runs` says, and prints how its runs are judged.
 pub fn judge_runs<R: Threads + Wait + Sync, K: Sink>(
-    rt: &R,
-    alloc: Global,
+    host: &Host<'_, R>,
     case: (&str, &str),
     files: &mut MemFiles,
     digits: &str,
     out: &mut K,
 ) -> Result<(), CaseFault> {
     match digits.parse::<u32>() {
-        Ok(runs) => judge_so_many(rt, alloc, case, files, runs, out),
+        Ok(runs) => judge_so_many(host, case, files, runs, out),
         Err(_) => Err(CaseFault::Line),
     }
 }

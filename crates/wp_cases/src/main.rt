@@ -6,6 +6,7 @@ mod counting;
 mod fault;
 mod gates;
 mod given;
+mod host;
 mod judged;
 mod judging;
 mod lines;
@@ -18,6 +19,7 @@ mod sheets;
 use crate::fault::CaseFault;
 use crate::gates::CaseGate;
 use crate::given::{files_of, text_of};
+use crate::host::Host;
 use crate::judged::judge_runs;
 use crate::judging::own_status;
 use crate::lines::{has_line, rest_of, sink_of, test_lines, words_of};
@@ -65,73 +67,68 @@ pub fn print_end<K: Sink>(
 
 /// The status of a run whose desks and workers pass a gate. What the gate tells follows the output.
 fn run_at_gate<R: Threads + Wait + Sync, F: Files, K: Sink>(
-    rt: &R,
-    alloc: Global,
+    host: &Host<'_, R>,
     words: &Vec<String>,
     files: &mut F,
     out: &mut K,
     gate: &CaseGate,
 ) -> Result<u8, CaseFault> {
-    let status = run(rt, alloc, words, files, out, gate);
-    let told = gate.told(alloc)?;
+    let status = run(host.rt, host.alloc, words, files, out, gate);
+    let told = gate.told(host.alloc)?;
     write_text(out, told.as_bytes())?;
     Ok(status)
 }
 
 /// The status of the run that the lines of a case ask for.
 fn status_of<R: Threads + Wait + Sync, F: Files, K: Sink>(
-    rt: &R,
-    alloc: Global,
+    host: &Host<'_, R>,
     lines: &str,
     files: &mut F,
     out: &mut K,
 ) -> Result<u8, CaseFault> {
-    let words = words_of(alloc, lines)?;
+    let words = words_of(host.alloc, lines)?;
     if has_line(lines, "by itself") {
-        own_status(alloc, &words, files, out)
+        own_status(host.alloc, &words, files, out)
     } else {
-        run_at_gate(rt, alloc, &words, files, out, &CaseGate::of(lines))
+        run_at_gate(host, &words, files, out, &CaseGate::of(lines))
     }
 }
 
 /// Runs a case over its files and into a sink, prints how that ends, and gives the status.
 fn run_into<R: Threads + Wait + Sync, K: Sink>(
-    rt: &R,
-    alloc: Global,
+    host: &Host<'_, R>,
     (name, lines): (&str, &str),
     files: &mut MemFiles,
     mut sink: NarrowSink,
     out: &mut K,
 ) -> Result<u8, CaseFault> {
-    let status = status_of(rt, alloc, lines, files, &mut sink)?;
-    print_end(alloc, name, status, sink.taken(), out)?;
+    let status = status_of(host, lines, files, &mut sink)?;
+    print_end(host.alloc, name, status, sink.taken(), out)?;
     Ok(status)
 }
 
 /// Runs a case with its write of this number failing.
 fn run_up_to<R: Threads + Wait + Sync, K: Sink>(
-    rt: &R,
-    alloc: Global,
+    host: &Host<'_, R>,
     (name, lines): (&str, &str),
     files: &mut MemFiles,
     number: u64,
     out: &mut K,
 ) -> Result<u8, CaseFault> {
-    let sink = sink_of(alloc, lines, Some(number))?;
-    let name = heading_of_write(alloc, name, number)?;
-    run_into(rt, alloc, (name.as_str(), lines), files, sink, out)
+    let sink = sink_of(host.alloc, lines, Some(number))?;
+    let name = heading_of_write(host.alloc, name, number)?;
+    run_into(host, (name.as_str(), lines), files, sink, out)
 }
 
 /// Runs a case again and again, with the first write failing, the second, and so on, up to the run in which none fails.
 fn run_each<R: Threads + Wait + Sync, K: Sink>(
-    rt: &R,
-    alloc: Global,
+    host: &Host<'_, R>,
     case: (&str, &str),
     files: &mut MemFiles,
     out: &mut K,
 ) -> Result<(), CaseFault> {
     for number in 1..MOST_WRITES {
-        if run_up_to(rt, alloc, case, files, number, out)? != 4 {
+        if run_up_to(host, case, files, number, out)? != 4 {
             return Ok(());
         }
     }
@@ -140,38 +137,35 @@ fn run_each<R: Threads + Wait + Sync, K: Sink>(
 
 /// Runs the words of a case over its files, and prints how that ends.
 fn run_over<R: Threads + Wait + Sync, K: Sink>(
-    rt: &R,
-    alloc: Global,
+    host: &Host<'_, R>,
     (name, lines): (&str, &str),
     files: &mut MemFiles,
     out: &mut K,
 ) -> Result<(), CaseFault> {
     if has_line(lines, "each write fails in turn") {
-        run_each(rt, alloc, (name, lines), files, out)
+        run_each(host, (name, lines), files, out)
     } else {
-        let sink = sink_of(alloc, lines, None)?;
-        let _status = run_into(rt, alloc, (name, lines), files, sink, out)?;
+        let sink = sink_of(host.alloc, lines, None)?;
+        let _status = run_into(host, (name, lines), files, sink, out)?;
         Ok(())
     }
 }
 
 /// Runs a case over its files, by the program's planner or by one of its own.
 fn run_by<R: Threads + Wait + Sync, K: Sink>(
-    rt: &R,
-    alloc: Global,
+    host: &Host<'_, R>,
     case: (&str, &str),
     files: &mut MemFiles,
     out: &mut K,
 ) -> Result<(), CaseFault> {
     match CasePlanner::of(case.1) {
-        Some(planner) => run_planner(rt, alloc, case, files, &planner, out),
-        None => run_over(rt, alloc, case, files, out),
+        Some(planner) => run_planner(host, case, files, &planner, out),
+        None => run_over(host, case, files, out),
     }
 }
 
 fn run_case<R: Threads + Wait + Sync, F: Files, K: Sink>(
-    rt: &R,
-    alloc: Global,
+    host: &Host<'_, R>,
     case: &str,
     common: &str,
     source: &mut F,
@@ -181,17 +175,16 @@ fn run_case<R: Threads + Wait + Sync, F: Files, K: Sink>(
         return Err(CaseFault::Line);
     };
     test_lines(lines)?;
-    let mut files = files_of(alloc, lines, common, source)?;
+    let mut files = files_of(host.alloc, lines, common, source)?;
     match rest_of(lines, "runs ") {
-        Some(runs) => judge_runs(rt, alloc, (name, lines), &mut files, runs, out),
-        None => run_by(rt, alloc, (name, lines), &mut files, out),
+        Some(runs) => judge_runs(host, (name, lines), &mut files, runs, out),
+        None => run_by(host, (name, lines), &mut files, out),
     }
 }
 
 /// Runs the cases of a text one after the other. What stands before the first holds for every case.
 fn run_cases<R: Threads + Wait + Sync, F: Files, K: Sink>(
-    rt: &R,
-    alloc: Global,
+    host: &Host<'_, R>,
     text: &str,
     source: &mut F,
     out: &mut K,
@@ -199,21 +192,20 @@ fn run_cases<R: Threads + Wait + Sync, F: Files, K: Sink>(
     let mut parts = text.split("\ncase ");
     let common = parts.next().unwrap_or("");
     for case in parts {
-        run_case(rt, alloc, case, common, source, out)?;
+        run_case(host, case, common, source, out)?;
     }
     Ok(())
 }
 
 /// Runs the cases of the file of this name.
 fn run_file<R: Threads + Wait + Sync, F: Files, K: Sink>(
-    rt: &R,
-    alloc: Global,
+    host: &Host<'_, R>,
     name: &str,
     source: &mut F,
     out: &mut K,
 ) -> Result<(), CaseFault> {
-    let text = text_of(source.read(alloc, name)?)?;
-    run_cases(rt, alloc, text.as_str(), source, out)
+    let text = text_of(source.read(host.alloc, name)?)?;
+    run_cases(host, text.as_str(), source, out)
 }
 
 /// Runs the cases of each file that the arguments name. The handle for threads and for waiting is that of `main`, which alone
@@ -223,10 +215,14 @@ fn run_files<R: Threads + Wait + Sync>(rt: &HostRuntime, threads: &R) -> Result<
         return Err(CaseFault::Memory);
     };
     let _program = names.next();
+    let host = Host {
+        rt: threads,
+        alloc: rt.alloc(),
+    };
     let mut source = RealFiles::new(SystemFiles::of(rt));
     let mut out = StdSink::new(SystemWriter::of(io::writer(rt)));
     for name in names {
-        run_file(threads, rt.alloc(), name.as_str(), &mut source, &mut out)?;
+        run_file(&host, name.as_str(), &mut source, &mut out)?;
     }
     Ok(())
 }

@@ -4,6 +4,7 @@ ghost use Rattle.wp_model.specs.Tables.{AreReadOrders};
 
 use crate::fault::CaseFault;
 use crate::gates::CaseGate;
+use crate::host::Host;
 use crate::planners::{CasePlanner, number_of};
 use crate::print_end;
 use std::alloc::Global;
@@ -56,15 +57,16 @@ fn scripts_of<F: Files>(alloc: Global, files: &mut F) -> Result<Scripts, CaseFau
 
 /// How many waves go out of a day, and how many of them have plans of their own, where there is memory for the day.
 fn run_day<R: Threads + Wait + Sync>(
-    rt: &R,
-    alloc: Global,
+    host: &Host<'_, R>,
     opening: &Opening,
     scripts: &Scripts,
     planner: &CasePlanner,
     gate: &CaseGate,
 ) -> Result<(usize, usize), Memory> {
-    let machine = Machine::open(alloc, opening)?;
-    let day = run_desks(rt, alloc, opening, machine, scripts, planner, gate)?;
+    let machine = Machine::open(host.alloc, opening)?;
+    let day = run_desks(
+        host.rt, host.alloc, opening, machine, scripts, planner, gate,
+    )?;
     Ok((day.plans.len(), own_plans(day.plans.as_slice())))
 }
 
@@ -85,15 +87,14 @@ fn told_of(alloc: Global, day: Result<(usize, usize), Memory>) -> Result<(u8, St
 
 /// The status of the day in the files of a case, and the text that tells of its waves.
 fn day_of<R: Threads + Wait + Sync, F: Files>(
-    rt: &R,
-    alloc: Global,
+    host: &Host<'_, R>,
     files: &mut F,
     planner: &CasePlanner,
     gate: &CaseGate,
 ) -> Result<(u8, String), CaseFault> {
-    let opening = opening_of(alloc, files)?;
-    let scripts = scripts_of(alloc, files)?;
-    let told = told_of(alloc, run_day(rt, alloc, &opening, &scripts, planner, gate))?;
+    let opening = opening_of(host.alloc, files)?;
+    let scripts = scripts_of(host.alloc, files)?;
+    let told = told_of(host.alloc, run_day(host, &opening, &scripts, planner, gate))?;
     Ok(told)
 }
 
@@ -106,15 +107,14 @@ fn joined(alloc: Global, waves: &str, plans: &str, gate: &CaseGate) -> Result<St
 
 /// Runs the day of a case by a planner, and prints what there is to tell of it.
 pub fn run_planner<R: Threads + Wait + Sync, F: Files, K: Sink>(
-    rt: &R,
-    alloc: Global,
+    host: &Host<'_, R>,
     (name, lines): (&str, &str),
     files: &mut F,
     planner: &CasePlanner,
     out: &mut K,
 ) -> Result<(), CaseFault> {
     let gate = CaseGate::of(lines);
-    let (status, waves) = day_of(rt, alloc, files, planner, &gate)?;
-    let text = joined(alloc, waves.as_str(), planner.told(), &gate)?;
-    print_end(alloc, name, status, text.as_bytes(), out)
+    let (status, waves) = day_of(host, files, planner, &gate)?;
+    let text = joined(host.alloc, waves.as_str(), planner.told(), &gate)?;
+    print_end(host.alloc, name, status, text.as_bytes(), out)
 }

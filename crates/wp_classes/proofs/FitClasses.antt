@@ -4,8 +4,9 @@ use Rattle.std.proofs.Common.{⊎_elim}
 use Rattle.std.proofs.lemmas.Bool.{le-leb}
 use Rattle.std.proofs.lemmas.Bool.Decides.{nat_tests}
 use Rattle.wp_model.specs.declared.point.Point.{Point}
+use Rattle.wp_model.specs.Warehouse.{end_place}
 use Rattle.wp_graph.specs.Copies.{Copies}
-use Rattle.wp_graph.specs.Sites.{IsOnSite, Site, end_place, last_place}
+use Rattle.wp_graph.specs.Sites.{IsOnSite, Site, last_place}
 use Rattle.wp_graph.specs.TourCopies.{AreFew, AreTour, IsKept, IsOnTour}
 use Rattle.wp_classes.specs.declared.class.Class.{Class}
 use Rattle.wp_classes.specs.declared.class.Class.TheVariants.{UU1, E01, ZE1, EE1, EE2, Z00, Z01}
@@ -21,7 +22,7 @@ pub record Toured : Type 1 where
 
 -- the colour of the depot, which lies at one of the two ends of its aisle
 abbrev pub home : Toured → (ℕ → ℕ → Bool) → Bool
-home t colour = colour t.site.depot (end_place t.site t.site.end)
+home t colour = colour t.site.depot (end_place (last_place t.site) t.site.end)
 
 -- a colouring that is this one left of an aisle and in it
 abbrev pub Agrees : ℕ → (ℕ → ℕ → Bool) → (ℕ → ℕ → Bool) → Type 0

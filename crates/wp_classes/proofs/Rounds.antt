@@ -1,13 +1,15 @@
 -- A whole part is a closed path past all that is needed, and makes a tour that begins at the depot.
-use Rattle.std.proofs.Common.{◌≡◌, ℕ, zero, suc, ◌+◌, ◌-◌, ◌≤◌, ◌==◌, Bool, true, false, if◌then◌else◌, IsTrue, List, [], ◌∷◌, ◌++◌, Some, None, option_map}
+use Rattle.std.proofs.Common.{◌≡◌, ℕ, zero, suc, ◌+◌, ◌-◌, ◌≤◌, Bool, true, false, if◌then◌else◌, IsTrue, List, [], ◌∷◌, ◌++◌, Some, None, option_map}
 use Rattle.std.proofs.Common.{length, map, slice_get, take, drop, get_or, nat_le, arith, refl, sym, ◌∙◌, ap, subst, inl, inr, ◌⊎◌, ⊎_elim}
 use Rattle.std.proofs.lemmas.Option.{none-some, slice_get-get_or}
 use Rattle.wp_model.specs.declared.point.Point.{Point}
 use Rattle.wp_model.specs.Warehouse.{Layout, IsUpTo, back_end, depot_point}
+use Rattle.wp_model.specs.Warehouse.End.{at_front, at_back}
 use Rattle.wp_model.specs.Tours.{IsTour, IsWalk}
-use Rattle.wp_graph.specs.AisleLengths.{ways_from, ways_of}
+use Rattle.wp_graph.specs.AisleLengths.{site_ways, ways_of}
 use Rattle.wp_graph.specs.PickSets.{AreSlots}
-use Rattle.wp_graph.specs.Required.{distance, largest_gap, required_distances, required_places}
+use Rattle.wp_graph.specs.Required.{distance, largest_gap, required_places}
+use Rattle.wp_graph.specs.Sites.{has_depot, site_of}
 use Rattle.wp_graph.specs.Members.{Among}
 use Rattle.wp_graph.proofs.Members.{Contains-from_among, among_at}
 use Rattle.wp_graph.proofs.Widest.{widest}
@@ -110,16 +112,19 @@ tour_of_round layout picks points total is = record {
       (contains_on (depot_point layout) points (get_or picks k d) (is.serves (get_or picks k d) (inr (among_at picks k (get_or picks k d) d within refl))));
 }
 
-back_turn : (f d : ℕ → ℕ) (has_depot : Bool) (places : List ℕ) (w : ℕ) → (if has_depot then None else option_map f (slice_get (map d places) 0)) ≡ Some w
+back_turn : (f d : ℕ → ℕ) (in_front : Bool) (places : List ℕ) (w : ℕ) → (if in_front then None else option_map f (slice_get (map d places) 0)) ≡ Some w
     → (near : ℕ) × (far : ℕ) × (slice_get places 0 ≡ Some far)
 back_turn f d true places w e = absurd (none-some _ e)
 back_turn f d false [] w e = absurd (none-some _ e)
 back_turn f d false (x ∷ places) w e = (0, x, refl)
 
-front_turn : (f d : ℕ → ℕ) (places : List ℕ) (w : ℕ) → option_map f (slice_get (map d places) (length (map d places) - 1)) ≡ Some w → (near : ℕ) × (far : ℕ)
+front_turn : (f d : ℕ → ℕ) (behind : Bool) (places : List ℕ) (w : ℕ) →
+    (if behind then None else option_map f (slice_get (map d places) (length (map d places) - 1))) ≡ Some w → (near : ℕ) × (far : ℕ)
     × (slice_get places (length places - 1) ≡ Some near)
-front_turn f d [] w e = absurd (none-some _ e)
-front_turn f d (x ∷ places) w e = (get_or (x ∷ places) (length (x ∷ places) - 1) 0, 0, slice_get-get_or (x ∷ places) (length (x ∷ places) - 1) 0 (omega arith))
+front_turn f d true places w e = absurd (none-some _ e)
+front_turn f d false [] w e = absurd (none-some _ e)
+front_turn f d false (x ∷ places) w e =
+    (get_or (x ∷ places) (length (x ∷ places) - 1) 0, 0, slice_get-get_or (x ∷ places) (length (x ∷ places) - 1) 0 (omega arith))
 
 gap_turn : (x : ℕ) (d : ℕ → ℕ) (places : List ℕ) (w : ℕ) → (if nat_le 2 (length (map d places)) then Some x else None) ≡ Some w →
     (near : ℕ) × (far : ℕ) × (AreNeighbours places near far × (d far - d near ≡ largest_gap (map d places)))
@@ -131,10 +136,10 @@ gap_turn x d (a ∷ b ∷ places) w e = let found = widest d a b places in
 -- a way that applies turns somewhere
 pub some_turns : (layout : Layout) (picks : List Point) (aisle : ℕ) (way : Way) (w : ℕ) → way_length (ways_of layout picks aisle) way ≡ Some w → (near : ℕ)
     × (far : ℕ) × AreTurns layout picks aisle way near far
-unfolding ways_of ways_from required_distances
+unfolding site_ways
 some_turns layout picks aisle Pass w e = (0, 0, tt)
-some_turns layout picks aisle Back w e = back_turn _ (distance layout) (aisle == layout.depot) (required_places layout picks aisle) w e
-some_turns layout picks aisle Front w e = front_turn _ (distance layout) (required_places layout picks aisle) w e
+some_turns layout picks aisle Back w e = back_turn _ (distance layout) (has_depot (site_of layout) aisle at_front) (required_places layout picks aisle) w e
+some_turns layout picks aisle Front w e = front_turn _ (distance layout) (has_depot (site_of layout) aisle at_back) (required_places layout picks aisle) w e
 some_turns layout picks aisle Gap w e = gap_turn _ (distance layout) (required_places layout picks aisle) w e
 some_turns layout picks aisle Double w e = (0, 0, tt)
 some_turns layout picks aisle Skip w e = (0, 0, tt)

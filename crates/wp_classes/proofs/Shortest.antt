@@ -1,33 +1,27 @@
 -- No tour is shorter than the least route that the tables allow (Ratliff and Rosenthal, 1983).
-use Rattle.std.proofs.Common.{◌≡◌, ℕ, ◌≤◌, ◌-◌, List, arith, refl, subst, ⊎_elim}
+use Rattle.std.proofs.Common.{◌≡◌, ℕ, ◌≤◌, ◌-◌, List, arith, subst, ⊎_elim}
 use Rattle.wp_model.specs.declared.point.Point.{Point}
 use Rattle.wp_model.specs.Tours.{IsShortest, IsTour}
-use Rattle.wp_model.specs.Warehouse.{Layout, depot_point}
-use Rattle.wp_graph.specs.AisleLengths.{site_ways, ways_from, ways_of}
+use Rattle.wp_model.specs.Warehouse.{Layout, back_end, depot_point}
 use Rattle.wp_graph.specs.Copies.{copies_of}
 use Rattle.wp_graph.specs.PickSets.{AreSlots}
-use Rattle.wp_graph.specs.Required.{is_required, required_distances, required_places, site_places}
 use Rattle.wp_graph.specs.Sites.{IsOnSite, site_of}
 use Rattle.wp_graph.specs.Members.{Among}
 use Rattle.wp_graph.specs.TourCopies.{IsOnTour}
 use Rattle.wp_graph.proofs.AllWays.{all_aisles_become_ways}
+use Rattle.wp_graph.proofs.Ends.{end_within}
 use Rattle.wp_graph.proofs.DownByTwo.{all_go_down_to_two}
 use Rattle.wp_graph.proofs.Members.{Contains-from_among}
 use Rattle.wp_graph.proofs.WalkCopies.{tour_is_its_copies}
-use Rattle.wp_classes.specs.Choices.{ComesTo, IsAllowed, IsLeastRoute, Route, block_of}
-use Rattle.wp_classes.proofs.AisleByAisle.{route_within, site_block}
+use Rattle.wp_classes.specs.Choices.{IsAllowed, IsLeastRoute, Route}
+use Rattle.wp_classes.proofs.AisleByAisle.{route_within}
 use Rattle.wp_classes.proofs.FitClasses.{Toured}
 use Rattle.wp_classes.proofs.Rounds.{tour_of_route}
-
--- a layout with its picks is a site with its depot in front
-layout_block : (layout : Layout) (picks : List Point) → site_block (site_of layout) picks ≡ block_of layout picks
-unfolding site_ways site_places ways_of ways_from required_distances required_places is_required
-layout_block layout picks = refl
 
 -- all that a tour passes lies in the layout
 picks_within : (layout : Layout) (picks : List Point) → AreSlots layout picks → (p : Point) → IsOnTour (site_of layout) picks p → IsOnSite (site_of layout) p
 picks_within layout picks are p on = ⊎_elim
-    (λ (e : depot_point layout ≡ p). subst (λ (q : Point). IsOnSite (site_of layout) q) e (record { aisle = are.ranges.depot; slot = omega arith }))
+    (λ (e : depot_point layout ≡ p). subst (λ (q : Point). IsOnSite (site_of layout) q) e (record { aisle = are.ranges.depot; slot = end_within (back_end layout) layout.end }))
     (λ (h : Among picks p). let slot = are.slots p (Contains-from_among picks p h) in record { aisle = slot.aisle; slot = omega (arith, slot.slot) })
     on
 
@@ -59,8 +53,7 @@ route_within_tour layout picks points total slots tour =
       total = within.total;
       allowed = record {
         class = within.class;
-        comes = subst (λ block. ComesTo block within.route (layout.aisles - 1) within.class within.total)
-            (layout_block layout picks) within.comes;
+        comes = within.comes;
         whole = within.whole;
       };
       least = omega (arith, within.least, ways.least, fewer.least, walked.1);

@@ -6,6 +6,7 @@ use Rattle.wp_model.specs.declared.point.Point.{Point}
 use Rattle.wp_model.specs.Warehouse.{Layout, IsLayout}
 use Rattle.wp_graph.specs.declared.ways.AisleWays.{AisleWays}
 use Rattle.wp_graph.specs.AisleLengths.{AreAtMost, ways_of}
+use Rattle.wp_graph.proofs.AisleOffsets.{spacing_small}
 use Rattle.wp_graph.proofs.WayBounds.{ways_small}
 use Rattle.wp_classes.specs.declared.class.Class.{Class}
 use Rattle.wp_classes.specs.declared.class.Class.TheVariants.{Z00}
@@ -28,7 +29,7 @@ pub record IsSmall (block : Block) : Type 0 where
 
 -- the ways and the spacings of each layout are so small
 pub block_small : (layout : Layout) (picks : List Point) → IsLayout layout → IsSmall (block_of layout picks)
-block_small layout picks valid = record { ways = λ aisle. ways_small layout picks aisle valid; spacing = λ aisle. valid.spacing.1 }
+block_small layout picks valid = record { ways = λ aisle. ways_small layout picks aisle valid; spacing = spacing_small layout valid }
 
 -- a bound of the ways through an aisle is one of each that applies
 pub ways_fit : (most : ℕ) (ways : AisleWays) → AreAtMost most ways → (way : Way) → IfSome (way_length ways way) (λ t. t ≤ most)

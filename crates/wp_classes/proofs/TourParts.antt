@@ -10,8 +10,10 @@ use Rattle.wp_model.specs.declared.point.Point.{Point}
 use Rattle.wp_model.specs.Warehouse.{Layout, IsUpTo, back_end, depot_point, spacing_after, step_length}
 use Rattle.wp_graph.specs.AisleLengths.{ways_of}
 use Rattle.wp_graph.specs.PickSets.{AreSlots}
-use Rattle.wp_graph.specs.Required.{IsAscending, aisle_length, is_required, required_places}
+use Rattle.wp_graph.specs.Required.{IsAscending, aisle_length, is_required, required_places, site_places}
+use Rattle.wp_graph.specs.Sites.{site_of}
 use Rattle.wp_graph.specs.Members.{Among}
+use Rattle.wp_graph.proofs.Ends.{end_within}
 use Rattle.wp_graph.proofs.AscendingNumbers.{first_least, last_most, neighbours_ascend, neighbours_part, places_ascend}
 use Rattle.wp_graph.proofs.WayBounds.{required_within}
 use Rattle.wp_graph.proofs.PointTests.{among_has}
@@ -35,10 +37,10 @@ use Rattle.wp_classes.proofs.WayLengths.{back_is, double_is, front_is, gap_is, p
 -- each needed point is a required place of its aisle
 pub needed_place : (layout : Layout) (picks : List Point) (p : Point) → AreSlots layout picks → IsNeeded layout picks p
     → Among (required_places layout picks p.aisle) p.slot
-unfolding required_places is_required
+unfolding site_places
 needed_place layout picks p are needed =
     let within : p.slot < layout.slots + 2 = ⊎_elim
-    (λ (e : depot_point layout ≡ p). omega (arith, ap (λ (q : Point). q.slot) e))
+    (λ (e : depot_point layout ≡ p). omega (arith, ap (λ (q : Point). q.slot) e, end_within (back_end layout) layout.end))
     (λ (h : Among picks p). let s = (are.slots p (Contains-from_among picks p h)).slot in omega (arith, s))
     needed in
     among-filter (is_required layout picks p.aisle) (range_with_len 0 (layout.slots + 2)) p.slot
@@ -172,7 +174,7 @@ way_part layout picks aisle before near far class next Pass part total w h takes
 way_part layout picks aisle before near far class next Back part total w h takes =
     let live = live_way class next Back takes.allowed (λ e. cc) in
     let same = way_next class next Back (class_with_back class) takes.allowed (back_table class live) in
-    let up = places_ascend layout picks aisle in
+    let up = places_ascend (site_of layout) picks aisle in
     let first = required_within layout picks aisle far (among_at (required_places layout picks aisle) 0 far 0
     (slice_get_within (required_places layout picks aisle) 0 far h.turns)
     (get_or_from_slice_get (required_places layout picks aisle) 0 far 0 h.turns)) in
@@ -190,7 +192,7 @@ way_part layout picks aisle before near far class next Back part total w h takes
 way_part layout picks aisle before near far class next Front part total w h takes =
     let live = live_way class next Front takes.allowed (λ e. cc) in
     let same = way_next class next Front (class_with_front class) takes.allowed (front_table class live) in
-    let up = places_ascend layout picks aisle in
+    let up = places_ascend (site_of layout) picks aisle in
     let places = required_places layout picks aisle in
     let last = required_within layout picks aisle near (among_at places (length places - 1) near 0 (slice_get_within places (length places - 1) near h.turns)
     (get_or_from_slice_get places (length places - 1) near 0 h.turns)) in
@@ -209,7 +211,7 @@ way_part layout picks aisle before near far class next Gap part total w h takes 
     let live = live_way class next Gap takes.allowed (λ e. cc) in
     let same = way_next class next Gap (class_with_front (class_with_back class)) takes.allowed (gap_table class live) in
     let pair = h.turns.0 in
-    let up : IsAscending (pair.before ++ near ∷ far ∷ pair.after) = subst (λ xs. IsAscending xs) pair.places_are (places_ascend layout picks aisle) in
+    let up : IsAscending (pair.before ++ near ∷ far ∷ pair.after) = subst (λ xs. IsAscending xs) pair.places_are (places_ascend (site_of layout) picks aisle) in
     let order = neighbours_ascend pair.before pair.after near far up in
     let far_in = required_within layout picks aisle far (subst (λ xs. Among xs far) (sym pair.places_are)
     (among-append_right pair.before (near ∷ far ∷ pair.after) far (inr (inl refl)))) in

@@ -24,7 +24,7 @@ fn onward_before(layout: &Layout, picks: &Picks, aisle: u32, after: &OnwardLengt
     requires after { AreOnward (block_of layout.now picks.now.points) (layout.now.aisles - aisle) aisle after.now }
     ensures { AreOnward (block_of layout.now picks.now.points) (layout.now.aisles - (aisle - 1)) (aisle - 1) result }
 {
-    let spacing = u64::from(layout.spacing());
+    let spacing = u64::from(layout.spacing_after(aisle - 1));
     let through = before_way(&aisle_ways(layout, picks, aisle), after);
     before_cross(spacing, &through)
 }
@@ -52,7 +52,7 @@ fn best_step(
     requires goes_on { (rest : ℕ) × Onward (block_of layout.now picks.now.points) (layout.now.aisles - (aisle - 1)) (aisle - 1) class rest }
     ensures { IsBestStep (block_of layout.now picks.now.points) (layout.now.aisles - (aisle - 1)) aisle after.now class result }
 {
-    let spacing = u64::from(layout.spacing());
+    let spacing = u64::from(layout.spacing_after(aisle - 1));
     let ways = aisle_ways(layout, picks, aisle);
     let through = before_way(&ways, after);
     let cross = best_cross(spacing, &through, class);

@@ -62,9 +62,9 @@ work_sent ℓ T s = recorded_send (work.the_field ℓ T).row _ _ (work.the_type 
 -- what runs a desk may go to its thread
 abbrev carried : NamedLft → NamedLft → NamedLft → NamedLft → NamedLft → NamedLft → RattleType → RattleType → RattleType → RattleType → List RattleType
 carried a ℓ b c d e R P G T =
-    (shr_ref_field a (day.the_row ℓ) tt).row ∷ (shr_ref_field b (param 0 R) tt).row ∷ global.the_row ∷ desk.the_row ℓ
-    ∷ (shr_ref_field c scripts.the_row tt).row ∷ (shr_ref_field d (param 1 P) tt).row ∷ (shr_ref_field e (param 2 G) tt).row
-    ∷ mark.the_row (TupleAt (codes "(_,)") (param 3 T ∷ [])) ∷ []
+    (shr_ref_field b (param 0 R) tt).row ∷ global.the_row ∷ (shr_ref_field c scripts.the_row tt).row
+    ∷ (shr_ref_field d (param 1 P) tt).row ∷ (shr_ref_field e (param 2 G) tt).row
+    ∷ (shr_ref_field a (day.the_row ℓ) tt).row ∷ desk.the_row ℓ ∷ mark.the_row (TupleAt (codes "(_,)") (param 3 T ∷ [])) ∷ []
 
 pub run_sent : (a ℓ b c d e : NamedLft) (R P G T : RattleType) → IsSync (param 0 R) → IsSync (param 1 P) → IsSync (param 2 G)
     → IsSend (TupleAt (codes "wp_desk::desks::fn::run_all::join+arg2+Self") (carried a ℓ b c d e R P G T))
@@ -72,18 +72,21 @@ run_sent a ℓ b c d e R P G T r p g =
     let name = codes "wp_desk::desks::fn::run_all::join+arg2+Self" in
     let rows = carried a ℓ b c d e R P G T in
     recorded_send (field_at name rows).row _ _ (type_at name rows).to_one (struct_send (shape (type_at name rows)) (
-      shr_send _ _ (day.the_row ℓ) (day_shared ℓ),
+      shr_send _ _ (param 0 R) r,
       (
-        shr_send _ _ (param 0 R) r,
+        global_sends.the_send,
         (
-          global_sends.the_send,
+          shr_send _ _ scripts.the_row scripts_send.the_sync,
           (
-            recorded_send (desk.the_field ℓ).row _ _ (desk.the_type ℓ).to_one (desk_sent ℓ),
+            shr_send _ _ (param 1 P) p,
             (
-              shr_send _ _ scripts.the_row scripts_send.the_sync,
+              shr_send _ _ (param 2 G) g,
               (
-                shr_send _ _ (param 1 P) p,
-                (shr_send _ _ (param 2 G) g, (mark_sends.the_send (TupleAt (codes "(_,)") (param 3 T ∷ [])), tt)),
+                shr_send _ _ (day.the_row ℓ) (day_shared ℓ),
+                (
+                  recorded_send (desk.the_field ℓ).row _ _ (desk.the_type ℓ).to_one (desk_sent ℓ),
+                  (mark_sends.the_send (TupleAt (codes "(_,)") (param 3 T ∷ [])), tt),
+                ),
               ),
             ),
           ),

@@ -29,6 +29,17 @@ pub(crate) struct Day<'a> {
     pub(crate) turn: Turn<Shared<'a>>,
 }
 
+/// What all desks of a day are run with: their threads, the allocator that gives the memory for what they make, their scripts, what
+/// plans the waves that they send out, and the gate that they pass.
+#[derive(Drop)]
+pub(crate) struct DeskRun<'a, R, P, G> {
+    pub(crate) rt: &'a R,
+    pub(crate) alloc: Global,
+    pub(crate) scripts: &'a Scripts,
+    pub(crate) planner: &'a P,
+    pub(crate) gate: &'a G,
+}
+
 /// One desk, by its right to make calls. Its number is that of its pass.
 #[derive(Drop)]
 pub(crate) struct Desk<'a> {
@@ -67,54 +78,48 @@ impl<'a> Day<'a> {
     // Passes the gate, has a desk's command answered, and keeps what its step told.
     fn answer<R: Wait, P: Planner, G: Gate>(
         &self,
-        rt: &R,
-        alloc: Global,
+        run: &DeskRun<'_, R, P, G>,
         desk: Desk<'a>,
         told: &mut Told<P::Plan>,
         ready: Ready<'a>,
-        planner: &P,
-        gate: &G,
     ) -> (Desk<'a>, Result<(), Memory>)
         requires begins { BeginsAt self.now.opening.now self.now.turn }
         requires own { IsOfDesk self.now.turn desk.pass.caller desk.pass }
         requires same { ready.opening ≡ self.now.opening.now }
         requires few { length (own_calls desk.pass) < most_calls }
-        requires planned { ArePlanned (P.plans planner.now) told.old.plans.items }
+        requires planned { ArePlanned (P.plans run.now.planner.now) told.old.plans.items }
         ensures own { IsOfDesk self.now.turn desk.entry.pass.caller result.0.pass }
         ensures kept { IfOk result.1 (λ _. (outcome : OutcomeData)
             × IsAnswered self.now.opening.now desk.entry.pass result.0.pass ready.entry.command outcome
-            × IsKept (P.plans planner.now) told.old told.new outcome) }
+            × IsKept (P.plans run.now.planner.now) told.old told.new outcome) }
     {
         let number = desk.pass.caller();
-        gate.pass(number, Moment::BeforeCommand);
-        let (desk, outcome) = self.call(rt, desk, ready);
-        let kept = keep_outcome(alloc, told, number, outcome, planner, gate);
+        run.gate.pass(number, Moment::BeforeCommand);
+        let (desk, outcome) = self.call(run.rt, desk, ready);
+        let kept = keep_outcome(run, told, number, outcome);
         (desk, kept)
     }
 
     // One command more of a desk.
     fn ask<R: Wait, P: Planner, G: Gate>(
         &self,
-        rt: &R,
-        alloc: Global,
+        run: &DeskRun<'_, R, P, G>,
         desk: Desk<'a>,
         told: &mut Told<P::Plan>,
         command: &Command,
-        planner: &P,
-        gate: &G,
     ) -> (Desk<'a>, Result<(), Memory>)
         requires begins { BeginsAt self.now.opening.now self.now.turn }
         requires own { IsOfDesk self.now.turn desk.pass.caller desk.pass }
         requires plain { IsTrue (is_plain command.now) }
         requires few { length (own_calls desk.pass) < most_calls }
-        requires planned { ArePlanned (P.plans planner.now) told.old.plans.items }
+        requires planned { ArePlanned (P.plans run.now.planner.now) told.old.plans.items }
         ensures own { IsOfDesk self.now.turn desk.entry.pass.caller result.0.pass }
         ensures kept { IfOk result.1 (λ _. (outcome : OutcomeData)
             × IsAnswered self.now.opening.now desk.entry.pass result.0.pass command.now outcome
-            × IsKept (P.plans planner.now) told.old told.new outcome) }
+            × IsKept (P.plans run.now.planner.now) told.old told.new outcome) }
     {
-        match self.prepare(alloc, command) {
-            Ok(ready) => self.answer(rt, alloc, desk, told, ready, planner, gate),
+        match self.prepare(run.alloc, command) {
+            Ok(ready) => self.answer(run, desk, told, ready),
             Err(Memory) => (desk, Err(Memory)),
         }
     }
@@ -122,12 +127,9 @@ impl<'a> Day<'a> {
     // All commands of a desk, one after the other, up to the first for which there is no memory.
     fn run_desk<R: Wait, P: Planner, G: Gate>(
         &self,
-        rt: &R,
-        alloc: Global,
+        run: &DeskRun<'_, R, P, G>,
         mut desk: Desk<'a>,
         script: &[Command],
-        planner: &P,
-        gate: &G,
     ) -> DeskWork<'a, P::Plan>
         requires begins { BeginsAt self.now.opening.now self.now.turn }
         requires own { IsOfDesk self.now.turn desk.pass.caller desk.pass }
@@ -136,11 +138,11 @@ impl<'a> Day<'a> {
         requires few { length script.now ≤ most_commands }
         ensures own { IsOfDesk self.now.turn desk.entry.pass.caller result.desk.pass }
         ensures done { IfOk result.told (HasDone self.now.opening.now script.now result.desk.pass) }
-        ensures planned { IfOk result.told (λ told. ArePlanned (P.plans planner.now) told.plans.items) }
+        ensures planned { IfOk result.told (λ told. ArePlanned (P.plans run.now.planner.now) told.plans.items) }
     {
-        let mut told = nothing_told::<P>(alloc);
+        let mut told = nothing_told::<P>(run.alloc);
         for command in script {
-            let (next, kept) = self.ask(rt, alloc, desk, &mut told, command, planner, gate);
+            let (next, kept) = self.ask(run, desk, &mut told, command);
             desk = next;
             if kept.is_err() {
                 return DeskWork {
@@ -158,19 +160,15 @@ impl<'a> Day<'a> {
     /// The script of a desk that has seen nothing yet.
     pub(crate) fn run_script<R: Wait, P: Planner, G: Gate>(
         &self,
-        rt: &R,
-        alloc: Global,
+        run: &DeskRun<'_, R, P, G>,
         desk: Desk<'a>,
-        scripts: &Scripts,
-        planner: &P,
-        gate: &G,
     ) -> DeskWork<'a, P::Plan>
         requires begins { BeginsAt self.now.opening.now self.now.turn }
-        requires read { AreReadScripts scripts.now }
-        requires fresh { IsFresh self.now.turn scripts.now desk.pass }
-        ensures { IsDeskWork self.now.turn self.now.opening.now scripts.now (P.plans planner.now) desk.entry.pass.caller result }
+        requires read { AreReadScripts run.now.scripts.now }
+        requires fresh { IsFresh self.now.turn run.now.scripts.now desk.pass }
+        ensures { IsDeskWork self.now.turn self.now.opening.now run.now.scripts.now (P.plans run.now.planner.now) desk.entry.pass.caller result }
     {
-        let script = scripts.script(desk.pass.caller());
-        self.run_desk(rt, alloc, desk, script, planner, gate)
+        let script = run.scripts.script(desk.pass.caller());
+        self.run_desk(run, desk, script)
     }
 }

@@ -5,7 +5,7 @@ ghost use Rattle.std.specs.Thread.{IsSend, IsSync};
 ghost use Rattle.wp_model.specs.Tables.{AreReadScripts};
 ghost use Rattle.wp_desk.specs.Work.{BeginsAt, IsDeskWork, IsDesksWork, IsFresh};
 
-use crate::desk::{Day, Desk, DeskWork};
+use crate::desk::{Day, Desk, DeskRun, DeskWork};
 use crate::planner::Planner;
 use crate::shared::Shared;
 use crate::told::{Told, both_told, nothing_told};
@@ -48,17 +48,16 @@ fn next_desk<'a>(day: &Day<'a>, desks: &mut Desks<'a>, scripts: &Scripts) -> Opt
 }
 
 // A desk joins the others, and what its steps told what theirs did.
-fn joined<'a, P: Planner>(
+fn joined<'a, R, P: Planner, G>(
     day: &Day<'a>,
-    scripts: &Scripts,
-    planner: &P,
+    run: &DeskRun<'_, R, P, G>,
     one: DeskWork<'a, P::Plan>,
     others: DesksWork<'a, P::Plan>,
 ) -> DesksWork<'a, P::Plan>
-    requires one { IsDeskWork day.now.turn day.now.opening.now scripts.now (P.plans planner.now) one.desk.pass.caller one }
-    requires others { IsDesksWork day.now.turn day.now.opening.now scripts.now (P.plans planner.now) (map (λ pass. pass.caller) others.desks.passes.list) others }
+    requires one { IsDeskWork day.now.turn day.now.opening.now run.now.scripts.now (P.plans run.now.planner.now) one.desk.pass.caller one }
+    requires others { IsDesksWork day.now.turn day.now.opening.now run.now.scripts.now (P.plans run.now.planner.now) (map (λ pass. pass.caller) others.desks.passes.list) others }
     requires room { length others.desks.passes.list < others.desks.passes.room }
-    ensures work { IsDesksWork day.now.turn day.now.opening.now scripts.now (P.plans planner.now)
+    ensures work { IsDesksWork day.now.turn day.now.opening.now run.now.scripts.now (P.plans run.now.planner.now)
         (map (λ pass. pass.caller) others.entry.desks.passes.list ++ one.entry.desk.pass.caller ∷ []) result }
     ensures room { result.desks.passes.room ≡ others.entry.desks.passes.room }
 {
@@ -77,22 +76,25 @@ fn joined<'a, P: Planner>(
 
 /// Runs the scripts of desks that have seen nothing yet, each in a thread of its own. The desks come back in the opposite order.
 pub(crate) fn run_all<'a, R: Threads + Wait + Sync, P: Planner, G: Gate>(
-    rt: &R,
-    alloc: Global,
+    run: &DeskRun<'_, R, P, G>,
     day: &Day<'a>,
     mut desks: Desks<'a>,
-    scripts: &Scripts,
-    planner: &P,
-    gate: &G,
 ) -> DesksWork<'a, P::Plan>
     requires crossing { IsSync R.row × IsSync P.row × IsSync G.row × IsSend P.Plan.row }
     requires begins { BeginsAt day.now.opening.now day.now.turn }
-    requires read { AreReadScripts scripts.now }
-    requires fresh { All (IsFresh day.now.turn scripts.now) desks.passes.list }
-    ensures work { IsDesksWork day.now.turn day.now.opening.now scripts.now (P.plans planner.now)
+    requires read { AreReadScripts run.now.scripts.now }
+    requires fresh { All (IsFresh day.now.turn run.now.scripts.now) desks.passes.list }
+    ensures work { IsDesksWork day.now.turn day.now.opening.now run.now.scripts.now (P.plans run.now.planner.now)
         (reverse (map (λ pass. pass.caller) desks.entry.passes.list)) result }
     ensures room { result.desks.passes.room ≡ desks.entry.passes.room }
 {
+    let DeskRun {
+        rt,
+        alloc,
+        scripts,
+        planner,
+        gate,
+    } = *run;
     let Some(desk) = next_desk(day, &mut desks, scripts) else {
         return DesksWork {
             desks,
@@ -104,13 +106,31 @@ pub(crate) fn run_all<'a, R: Threads + Wait + Sync, P: Planner, G: Gate>(
         move ||
             requires { BeginsAt day.now.opening.now day.now.turn × AreReadScripts scripts.now × IsFresh day.now.turn scripts.now desk.pass }
             ensures { IsDeskWork day.entry.now.turn day.entry.now.opening.now scripts.entry.now (P.plans planner.entry.now) desk.entry.pass.caller result }
-        { day.run_script(rt, alloc, desk, scripts, planner, gate) },
+        {
+            let run = DeskRun {
+                rt,
+                alloc,
+                scripts,
+                planner,
+                gate,
+            };
+            day.run_script(&run, desk)
+        },
         move ||
             requires { IsSync R.row × IsSync P.row × IsSync G.row × BeginsAt day.now.opening.now day.now.turn × AreReadScripts scripts.now
                 × All (IsFresh day.now.turn scripts.now) desks.passes.list }
             ensures { IsDesksWork day.entry.now.turn day.entry.now.opening.now scripts.entry.now (P.plans planner.entry.now)
                 (reverse (map (λ pass. pass.caller) desks.entry.passes.list)) result × (result.desks.passes.room ≡ desks.entry.passes.room) }
-        { run_all(rt, alloc, day, desks, scripts, planner, gate) },
+        {
+            let run = DeskRun {
+                rt,
+                alloc,
+                scripts,
+                planner,
+                gate,
+            };
+            run_all(&run, day, desks)
+        },
     );
-    joined(day, scripts, planner, one, others)
+    joined(day, run, one, others)
 }

@@ -8,7 +8,7 @@ ghost use Rattle.wp_machine.specs.Outcome.{refills_of, released_of};
 ghost use Rattle.wp_model.specs.History.{History, IsLegal, opened, part_of, script_of};
 
 use crate::day_run::{DayRun, Planned};
-use crate::desk::Day;
+use crate::desk::{Day, DeskRun};
 use crate::desks::{Desks, DesksWork, run_all};
 use crate::planner::Planner;
 use crate::shared::Shared;
@@ -111,7 +111,14 @@ pub fn run_desks<'a, R: Threads + Wait + Sync, P: Planner, G: Gate>(
     let (turn, passes) = Turn::open(alloc, Shared { machine }, scripts.desks())?;
     let day = Day { opening, turn };
     let desks = Desks { passes };
-    let DesksWork { desks, told } = run_all(rt, alloc, &day, desks, scripts, planner, gate);
+    let run = DeskRun {
+        rt,
+        alloc,
+        scripts,
+        planner,
+        gate,
+    };
+    let DesksWork { desks, told } = run_all(&run, &day, desks);
     let machine = day.close(desks);
     day_of(machine, told, planner)
 }

@@ -3,6 +3,7 @@ ghost use Rattle.wp_desk.specs.Work.{ArePlanned, waves_of};
 ghost use Rattle.wp_machine.specs.Outcome.{refill_in, released_in};
 
 use crate::day_run::Planned;
+use crate::desk::DeskRun;
 use crate::planner::Planner;
 use std::alloc::Global;
 use wp_machine::{Outcome, Refill, WaveHolds};
@@ -28,41 +29,37 @@ pub(crate) fn nothing_told<P: Planner>(alloc: Global) -> Told<P::Plan>
 }
 
 // Plans a wave that this desk sent out, and keeps it with its plan.
-fn keep_plan<P: Planner, G: Gate>(
-    alloc: Global,
+fn keep_plan<R, P: Planner, G: Gate>(
+    run: &DeskRun<'_, R, P, G>,
     plans: &mut Vec<Planned<P::Plan>>,
     desk: u32,
     wave: WaveHolds,
-    planner: &P,
-    gate: &G,
 ) -> Result<(), Memory>
-    requires planned { ArePlanned (P.plans planner.now) plans.old.items }
+    requires planned { ArePlanned (P.plans run.now.planner.now) plans.old.items }
     ensures waves { IfOk result (λ _. waves_of plans.new.items ≡ waves_of plans.old.items ++ wave ∷ []) }
-    ensures planned { IfOk result (λ _. ArePlanned (P.plans planner.now) plans.new.items) }
+    ensures planned { IfOk result (λ _. ArePlanned (P.plans run.now.planner.now) plans.new.items) }
 {
-    gate.pass(desk, Moment::BeforePlan);
-    let plan = planner.plan(alloc, &wave)?;
-    gate.pass(desk, Moment::AfterPlan);
+    run.gate.pass(desk, Moment::BeforePlan);
+    let plan = run.planner.plan(run.alloc, &wave)?;
+    run.gate.pass(desk, Moment::AfterPlan);
     plans.push(Planned { wave, plan })?;
     Ok(())
 }
 
 // Keeps what a step of this desk told: a wave that went out with its plan, or a refill.
-pub(crate) fn keep_outcome<P: Planner, G: Gate>(
-    alloc: Global,
+pub(crate) fn keep_outcome<R, P: Planner, G: Gate>(
+    run: &DeskRun<'_, R, P, G>,
     told: &mut Told<P::Plan>,
     desk: u32,
     outcome: Outcome,
-    planner: &P,
-    gate: &G,
 ) -> Result<(), Memory>
-    requires planned { ArePlanned (P.plans planner.now) told.old.plans.items }
+    requires planned { ArePlanned (P.plans run.now.planner.now) told.old.plans.items }
     ensures waves { IfOk result (λ _. waves_of told.new.plans.items ≡ waves_of told.old.plans.items ++ released_in outcome) }
-    ensures planned { IfOk result (λ _. ArePlanned (P.plans planner.now) told.new.plans.items) }
+    ensures planned { IfOk result (λ _. ArePlanned (P.plans run.now.planner.now) told.new.plans.items) }
     ensures refills { IfOk result (λ _. told.new.refills.items ≡ told.old.refills.items ++ refill_in outcome) }
 {
     match outcome {
-        Outcome::Released(wave) => { keep_plan(alloc, &mut told.plans, desk, wave, planner, gate) }
+        Outcome::Released(wave) => keep_plan(run, &mut told.plans, desk, wave),
         Outcome::Refilled(refill) => {
             told.refills.push(refill)?;
             Ok(())

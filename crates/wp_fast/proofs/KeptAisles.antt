@@ -4,14 +4,14 @@ use Rattle.std.proofs.Common.{subst, sym, ◌∙◌}
 use Rattle.std.proofs.lemmas.List.{get_or-replicate}
 use Rattle.wp_model.specs.declared.point.Point.{Point}
 use Rattle.wp_model.specs.Limits.{most_aisles}
-use Rattle.wp_model.specs.Warehouse.{IsUpTo, Layout}
+use Rattle.wp_model.specs.Warehouse.{IsUpTo, Layout, spacing_after}
 use Rattle.wp_graph.specs.declared.ways.AisleWays.{AisleWays}
 use Rattle.wp_graph.specs.AisleLengths.{ways_of}
-use Rattle.wp_graph.specs.PickSets.{AreSlots}
+use Rattle.wp_graph.specs.PickSets.{AreSlots, HaveSlotIn}
 use Rattle.wp_classes.specs.declared.class.Class.{Class}
 use Rattle.wp_fast.specs.declared.summary.Summary.{Summary}
 use Rattle.wp_fast.specs.Passages.{AreLeast, ByCrossings, ByWays, IsComposed, Stays, Then}
-use Rattle.wp_fast.specs.Runs.{HaveSlotIn, PastAisle}
+use Rattle.wp_fast.specs.Runs.{PastAisle}
 use Rattle.wp_fast.specs.Runs.PastAisle.{on, last, behind}
 use Rattle.wp_fast.specs.Trees.{IsTree, IsTreeBut}
 use Rattle.wp_fast.proofs.Composing.{least_alike, least_composed}
@@ -24,7 +24,7 @@ use Rattle.wp_fast.proofs.TreeSteps.{aisle_small}
 past_same : (layout : Layout) (one other : List Point) (aisle : ℕ) → ways_of layout one aisle ≡ ways_of layout other aisle → (before after : Class) (t : ℕ)
     → PastAisle layout one aisle before after t → PastAisle layout other aisle before after t
 past_same layout one other aisle same before after t (on less h) =
-    on less (subst (λ (w : AisleWays). Then (ByWays w) (ByCrossings layout.spacing) before after t) same h)
+    on less (subst (λ (w : AisleWays). Then (ByWays w) (ByCrossings (spacing_after layout aisle)) before after t) same h)
 past_same layout one other aisle same before after t (last at h) = last at (subst (λ (w : AisleWays). ByWays w before after t) same h)
 past_same layout one other aisle same before after t (behind past h) = behind past h
 

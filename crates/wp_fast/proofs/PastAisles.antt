@@ -1,7 +1,7 @@
 -- The cases of an aisle: the last, one before it and one behind it.
 use Rattle.std.proofs.Common.{◌≡◌, ℕ, ◌<◌, List, arith}
 use Rattle.wp_model.specs.declared.point.Point.{Point}
-use Rattle.wp_model.specs.Warehouse.{Layout}
+use Rattle.wp_model.specs.Warehouse.{Layout, spacing_after}
 use Rattle.wp_graph.specs.AisleLengths.{ways_of}
 use Rattle.wp_classes.specs.declared.class.Class.{Class}
 use Rattle.wp_fast.specs.declared.summary.Summary.{Summary}
@@ -12,7 +12,7 @@ use Rattle.wp_fast.proofs.Composing.{composed_least, least_alike}
 
 -- past an aisle that isn't the last, by a way and a crossing
 pub past_on : (layout : Layout) (picks : List Point) (aisle : ℕ) (before after : Class) (t : ℕ) → aisle < layout.aisles → PastAisle layout picks aisle before after t
-    → Then (ByWays (ways_of layout picks aisle)) (ByCrossings layout.spacing) before after t
+    → Then (ByWays (ways_of layout picks aisle)) (ByCrossings (spacing_after layout aisle)) before after t
 past_on layout picks aisle before after t less (on more h) = h
 past_on layout picks aisle before after t less (last at h) = absurd (omega (arith, less, at))
 past_on layout picks aisle before after t less (behind past h) = absurd (omega (arith, less, past))
@@ -33,12 +33,12 @@ past_behind layout picks aisle before after t past (behind beyond h) = h
 
 -- the least lengths in each case
 pub least_on : (layout : Layout) (picks : List Point) (aisle : ℕ) (through over both : Summary) → aisle < layout.aisles →
-    AreLeast (ByWays (ways_of layout picks aisle)) through → AreLeast (ByCrossings layout.spacing) over → IsComposed through over both
+    AreLeast (ByWays (ways_of layout picks aisle)) through → AreLeast (ByCrossings (spacing_after layout aisle)) over → IsComposed through over both
     → AreLeast (PastAisle layout picks aisle) both
 least_on layout picks aisle through over both less by across composed =
-    let ByBoth : Class → Class → ℕ → Type 0 = Then (ByWays (ways_of layout picks aisle)) (ByCrossings layout.spacing) in
+    let ByBoth : Class → Class → ℕ → Type 0 = Then (ByWays (ways_of layout picks aisle)) (ByCrossings (spacing_after layout aisle)) in
     least_alike ByBoth (PastAisle layout picks aisle) both (λ before after t h. on less h) (λ before after t h. past_on layout picks aisle before after t less h)
-    (composed_least (ByWays (ways_of layout picks aisle)) (ByCrossings layout.spacing) through over both by across composed)
+    (composed_least (ByWays (ways_of layout picks aisle)) (ByCrossings (spacing_after layout aisle)) through over both by across composed)
 
 pub least_last : (layout : Layout) (picks : List Point) (aisle : ℕ) (through : Summary) → aisle ≡ layout.aisles →
     AreLeast (ByWays (ways_of layout picks aisle)) through → AreLeast (PastAisle layout picks aisle) through

@@ -1,8 +1,9 @@
 -- Bounds of lengths past an aisle, which show that no sum of them wraps.
 use Rattle.std.proofs.Common.{◌≡◌, ℕ, ◌<◌, ◌≤◌, List, Option, Some, None, IfSome, arith, refl}
 use Rattle.wp_model.specs.declared.point.Point.{Point}
-use Rattle.wp_model.specs.Warehouse.{IsLayout, Layout}
+use Rattle.wp_model.specs.Warehouse.{IsLayout, Layout, spacing_after}
 use Rattle.wp_graph.specs.AisleLengths.{ways_of}
+use Rattle.wp_graph.proofs.AisleOffsets.{spacing_small}
 use Rattle.wp_graph.proofs.WayBounds.{ways_small}
 use Rattle.wp_classes.specs.declared.class.Class.{Class}
 use Rattle.wp_classes.proofs.Small.{across_small, least_small, through_small}
@@ -47,7 +48,7 @@ pub past_aisle_small : (layout : Layout) (picks : List Point) (aisle : ℕ) → 
     → PastAisle layout picks aisle before after t → t ≤ 4060000
 past_aisle_small layout picks aisle valid before after t (on more (between, (near, far, by, across, total))) =
     let through = by_ways_small layout picks aisle valid before between near by in
-    let over = by_crossings_small layout.spacing valid.spacing.1 between after far across in
+    let over = by_crossings_small (spacing_after layout aisle) (spacing_small layout valid aisle) between after far across in
     omega (arith, through, over, total)
 past_aisle_small layout picks aisle valid before after t (last at by) = let through = by_ways_small layout picks aisle valid before after t by in
     omega (arith, through)

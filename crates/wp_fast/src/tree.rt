@@ -1,9 +1,9 @@
 ghost use Rattle.std.specs.Prelude.{◌≡◌, ◌+◌, ◌*◌, ◌<◌, ◌≤◌, ◌≢◌, ◌↔◌, ℕ, false, IsTrue};
 ghost use Rattle.wp_model.specs.Limits.{most_aisles};
 ghost use Rattle.wp_model.specs.Warehouse.{IsLayout, IsUpTo};
-ghost use Rattle.wp_graph.specs.PickSets.{AreSlots};
+ghost use Rattle.wp_graph.specs.PickSets.{AreSlots, HaveSlotIn};
 ghost use Rattle.wp_fast.specs.Passages.{AreLeast};
-ghost use Rattle.wp_fast.specs.Runs.{HaveSlotIn, PastAisle};
+ghost use Rattle.wp_fast.specs.Runs.{PastAisle};
 ghost use Rattle.wp_fast.specs.Trees.{AreComposed, AreSmall, IsComposedAt, IsKeptAt, IsPastAisleAt, IsTree, IsTreeBut, is_marked};
 
 use crate::summary::Summary;
@@ -44,20 +44,10 @@ pub(crate) fn past_aisle(layout: &Layout, picks: &Picks, aisle: u32) -> Summary
     }
     let through = Summary::of_aisle(&aisle_ways(layout, picks, aisle));
     if aisle < layout.aisles() {
-        through.compose(&Summary::of_crossing(layout.spacing()))
+        through.compose(&Summary::of_crossing(layout.spacing_after(aisle)))
     } else {
         through
     }
-}
-
-// Whether picks have a slot in an aisle: then the way from its front end is longer than that to the depot alone, which is 0.
-fn have_slot(layout: &Layout, picks: &Picks, aisle: u32) -> bool
-    requires picks { picks.now.layout ≡ layout.now }
-    requires aisle { IsUpTo layout.now.aisles aisle }
-    ensures exact { IsTrue result ↔ HaveSlotIn picks.now.points aisle }
-    ensures slots { AreSlots layout.now picks.now.points }
-{
-    aisle_ways(layout, picks, aisle).front.unwrap_or(0) > 0
 }
 
 /// Marks the nodes of the aisles in which picks have a slot.
@@ -69,7 +59,7 @@ pub(crate) fn marks_of(layout: &Layout, picks: &Picks) -> Marks
 {
     let mut marks = [false; NODES];
     for aisle in 1..layout.aisles() + 1 {
-        marks[node_of(aisle)] = have_slot(layout, picks, aisle);
+        marks[node_of(aisle)] = picks.has_in(aisle);
     }
     marks
 }

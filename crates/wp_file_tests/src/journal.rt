@@ -12,7 +12,7 @@ use wp_model::Memory;
 use wp_tables::{Orders, RowFault, Stock, read_orders, read_stock};
 
 /// A line of each command, of each reply, and of the least and the greatest numbers.
-const LINES: [&str; 38] = [
+const LINES: [&str; 41] = [
     "0 1 submit W1 -> submitted\n",
     "1 8 submit W1 O1 -> submitted\n",
     "2 1 submit W1 O1 O2 submit -> submitted\n",
@@ -50,11 +50,14 @@ const LINES: [&str; 38] = [
     "34 1 allot W1 -> refused too-many 4294967295\n",
     "35 1 allot - -> allotted\n",
     "36 1 submit - -- -> submitted\n",
-    "37 1 cancel abcdefghijklmnopqrstuvwxyz0123456789-_.Z -> picked\n",
+    "37 1 allot W1 -> refused over-cart O1 0\n",
+    "38 1 allot W1 -> refused over-cart O1 4294967295\n",
+    "39 1 allot W1 -> refused over-cart over-cart 2\n",
+    "40 1 cancel abcdefghijklmnopqrstuvwxyz0123456789-_.Z -> picked\n",
 ];
 
 /// Lines of no entry.
-const OTHER_LINES: [&[u8]; 52] = [
+const OTHER_LINES: [&[u8]; 58] = [
     b"",
     b"\n",
     b"journal\n",
@@ -106,6 +109,12 @@ const OTHER_LINES: [&[u8]; 52] = [
     b"0 1 allot W1 -> refused wave-full 4294967296\n",
     b"0 1 allot W1 -> refused short A 1 18446744073709551616\n",
     b"0 1 allot W1 -> refused not-held 100000-1-L\n",
+    b"0 1 allot W1 -> refused over-cart O1 4294967296\n",
+    b"0 1 allot W1 -> refused over-cart O1 02\n",
+    b"0 1 allot W1 -> refused over-cart abcdefghijklmnopqrstuvwxyz0123456789-_.ZZ 2\n",
+    b"0 1 allot W1 -> refused over-cart O1 W2\n",
+    b"0 1 allot W1 -> refused over-cart O1\n",
+    b"0 1 allot W1 -> refused over-cart 2\n",
     b"0 1 allot W\xc3\xa9 -> allotted\n",
 ];
 

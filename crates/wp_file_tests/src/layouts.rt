@@ -29,6 +29,26 @@ const PRINTED: &[(&[u8], &str)] = &[
         b"{\"version\":1,\"\\u0061isles\":3,\"slots\":4,\"pitch\":2,\"clearance\":1,\"spacing\":5,\"depot\":1}",
         "{\"aisles\":3,\"clearance\":1,\"depot\":1,\"pitch\":2,\"slots\":4,\"spacing\":5,\"version\":1}",
     ),
+    (
+        b"{\"version\":2,\"aisles\":3,\"slots\":4,\"pitch\":2,\"clearance\":1,\"spacings\":[5,20],\"depot\":1,\"end\":\"front\"}",
+        "{\"aisles\":3,\"clearance\":1,\"depot\":1,\"end\":\"front\",\"pitch\":2,\"slots\":4,\"spacings\":[5,20],\"version\":2}",
+    ),
+    (
+        b"{\"version\":2,\"aisles\":3,\"slots\":4,\"pitch\":2,\"clearance\":1,\"spacings\":[5,5],\"depot\":2,\"end\":\"back\"}",
+        "{\"aisles\":3,\"clearance\":1,\"depot\":2,\"end\":\"back\",\"pitch\":2,\"slots\":4,\"spacings\":[5,5],\"version\":2}",
+    ),
+    (
+        b"{\"version\":2,\"aisles\":3,\"slots\":4,\"pitch\":2,\"clearance\":1,\"spacings\":[5,5],\"depot\":2,\"end\":\"front\"}",
+        "{\"aisles\":3,\"clearance\":1,\"depot\":2,\"pitch\":2,\"slots\":4,\"spacing\":5,\"version\":1}",
+    ),
+    (
+        b"{\"version\":2,\"aisles\":1,\"slots\":4,\"pitch\":2,\"clearance\":1,\"spacings\":[],\"depot\":1,\"end\":\"back\"}",
+        "{\"aisles\":1,\"clearance\":1,\"depot\":1,\"end\":\"back\",\"pitch\":2,\"slots\":4,\"spacings\":[],\"version\":2}",
+    ),
+    (
+        b"{\"version\":1,\"aisles\":1,\"slots\":4,\"pitch\":2,\"clearance\":1,\"spacing\":7,\"depot\":1}",
+        "{\"aisles\":1,\"clearance\":1,\"depot\":1,\"end\":\"front\",\"pitch\":2,\"slots\":4,\"spacings\":[],\"version\":2}",
+    ),
 ];
 
 /// Whether the layout that a text says is printed so.

@@ -9,6 +9,7 @@ pub mod SameRows
 pub mod Floors
 pub mod OrderNames
 pub mod ReceivedUnits
+pub mod CartFaults
 pub mod OrderFaults
 pub mod SubmittedWaves
 pub mod WaveStock

@@ -3,11 +3,13 @@ use Rattle.std.proofs.Common.{◌≡◌, ◌≢◌, ◌∙◌, refl, sym, ap, ap
 use Rattle.std.proofs.Common.{None, slice_get, option_map, bytes_eq, if◌then◌else◌, arith}
 use Rattle.std.proofs.lemmas.Slice.Eq.{bytes_eq-Decides}
 use Rattle.std.proofs.lemmas.List.{length-map}
+use Rattle.std.specs.Option.{option_or}
 use Rattle.wp_model.proofs.NameEq.{found_there}
 use Rattle.wp_model.specs.Opening.{Opening, Order, is_known_order}
 use Rattle.wp_model.specs.State.{Wave}
-use Rattle.wp_model.specs.Step.{is_among, order_fault, taker_of}
+use Rattle.wp_model.specs.Step.{cart_fault, is_among, order_fault, taker_of}
 use Rattle.wp_model.specs.TableLines.{article_in}
+use Rattle.wp_model.specs.declared.reply.Reply.{Reply}
 use Rattle.wp_model.specs.declared.reply.Reply.TheVariants as reply
 use Rattle.wp_tables.specs.Orders.{name_of}
 use Rattle.wp_floor.specs.Floor.{AreTakers}
@@ -39,12 +41,19 @@ unknown (o ∷ orders) name none =
     is_false true to = absurd (to refl)
     is_false false to = refl
 
+-- why an order can't join a wave that is known or not, was named before or not, and for which there is this reason else
+abbrev fault_of : List ℕ → Bool → Bool → Option Reply → Option Reply
+fault_of order known before other = if not known then Some (reply.UnknownOrder order) else if before then Some (reply.OrderTwice order) else other
+
+-- the reason where it has this taker, or none
+abbrev taken_or_over : Opening → List ℕ → Option (List ℕ) → Option Reply
+taken_or_over opening order taker = option_or (option_map (reply.OrderTaken order) taker) (cart_fault opening order)
+
 -- an order of a name that isn't found is unknown
 pub not_found : (opening : Opening) (waves : List Wave) (before : List (List ℕ)) (order : List ℕ) → article_in (map name_of opening.orders) order ≡ None
     → Some (reply.UnknownOrder order) ≡ order_fault opening waves before order
 not_found opening waves before order none =
-    ap (λ b. if not b then Some (reply.UnknownOrder order) else if is_among before order then Some (reply.OrderTwice order) else option_map
-    (reply.OrderTaken order) (taker_of waves order))
+    ap (λ known. fault_of order known (is_among before order) (taken_or_over opening order (taker_of waves order)))
     (sym (unknown opening.orders order (no_order opening.orders order none)))
 
 is_known : (opening : Opening) (order : List ℕ) (i : ℕ) → article_in (map name_of opening.orders) order ≡ Some i → is_known_order opening.orders order ≡ true
@@ -55,21 +64,19 @@ pub twice : (opening : Opening) (waves : List Wave) (before : List (List ℕ)) (
     → is_among before order ≡ true
     → Some (reply.OrderTwice order) ≡ order_fault opening waves before order
 twice opening waves before order i found among =
-    sym (ap₂ (λ a b. if not a then Some (reply.UnknownOrder order) else if b then Some (reply.OrderTwice order) else option_map (reply.OrderTaken order)
-    (taker_of waves order)) (is_known opening order i found) among)
+    sym (ap₂ (λ known before. fault_of order known before (taken_or_over opening order (taker_of waves order))) (is_known opening order i found) among)
 
--- an order that is known and wasn't named before is refused just where a wave has it
+-- an order that is known and wasn't named before is refused just where a wave has it, or no cart holds it
 pub by_taker : (opening : Opening) (waves : List Wave) (takers : List (Option (List ℕ))) (before : List (List ℕ)) (order : List ℕ) (i : ℕ)
     (taker : Option (List ℕ)) → AreTakers opening waves takers
     → article_in (map name_of opening.orders) order ≡ Some i → is_among before order ≡ false → slice_get takers i ≡ Some taker
-    → option_map (reply.OrderTaken order) taker ≡ order_fault opening waves before order
+    → taken_or_over opening order taker ≡ order_fault opening waves before order
 by_taker opening waves takers before order i taker are found among has =
     let at = order_at opening.orders order i found in
     let both : Some taker ≡ Some (taker_of waves at.order.name) = sym has ∙ are.each i at.order at.there in
     let is : taker ≡ taker_of waves order = same_of taker (taker_of waves at.order.name) both ∙ ap (taker_of waves) at.named in
-    ap (option_map (reply.OrderTaken order)) is
-    ∙ sym (ap₂ (λ a b. if not a then Some (reply.UnknownOrder order) else if b then Some (reply.OrderTwice order) else option_map (reply.OrderTaken order)
-    (taker_of waves order)) (is_known opening order i found) among)
+    ap (taken_or_over opening order) is
+    ∙ sym (ap₂ (λ known before. fault_of order known before (taken_or_over opening order (taker_of waves order))) (is_known opening order i found) among)
   where
     same_of : (a b : Option (List ℕ)) → Some a ≡ Some b → a ≡ b
     same_of a b e = cc

@@ -1,13 +1,9 @@
 -- The lines of the orders of an opening.
-use Rattle.std.proofs.Common.{◌≡◌, ◌∙◌, refl, sym, ap, ℕ, suc, ◌+◌, ◌≤◌, ◌||◌, Bool, true, false, not, List, [], ◌∷◌, length, map, Some, None, slice_get}
+use Rattle.std.proofs.Common.{◌≡◌, ◌∙◌, refl, sym, ap, ℕ, suc, ◌+◌, ◌||◌, Bool, true, false, not, List, [], ◌∷◌, map, Some, None, slice_get}
 use Rattle.std.proofs.Common.{bytes_eq, if◌then◌else◌, arith}
-use Rattle.std.specs.List.{All}
-use Rattle.std.proofs.lemmas.Bool.{cond_both}
-use Rattle.std.proofs.lemmas.List.Elements.{All-head, All-tail}
 use Rattle.std.proofs.lemmas.Option.{same_Some}
 use Rattle.wp_model.proofs.NameEq.{bytes_eq_flips, found_there, not_there}
-use Rattle.wp_model.specs.Opening.{IsOrder, Order, lines_of}
-use Rattle.wp_model.specs.Limits.{most_lines}
+use Rattle.wp_model.specs.Opening.{Order, lines_of}
 use Rattle.wp_model.specs.Step.{is_among}
 use Rattle.wp_model.specs.TableLines.{article_in, number_among}
 use Rattle.wp_model.specs.declared.row.Line.{Line}
@@ -48,12 +44,3 @@ no_lines orders name none = by orders (not_there name (map name_of orders) none)
     by (order ∷ orders) unknown =
         let parts = neither (bytes_eq order.name name) (is_among (map name_of orders) name) unknown in
         ap (λ b. if b then order.lines else lines_of orders name) parts.0 ∙ by orders parts.1
-
--- an order hasn't too many lines
-pub few_lines : (articles : List (List ℕ)) (orders : List Order) (name : List ℕ) → All (IsOrder articles) orders → length (lines_of orders name) ≤ most_lines
-few_lines articles [] name all = omega arith
-few_lines articles (order ∷ orders) name all =
-    let first : IsOrder articles order = All-head (IsOrder articles) order orders all in
-    cond_both (bytes_eq order.name name) order.lines (lines_of orders name) (λ lines. length lines ≤ most_lines)
-    (λ same. first.most)
-    (λ other. few_lines articles orders name (All-tail (IsOrder articles) order orders all))

@@ -9,8 +9,9 @@ use Rattle.std.specs.List.{sum_by}
 use Rattle.wp_allot.specs.Wants.{units_in, wanted_for}
 use Rattle.wp_allot.specs.declared.want.Want.{Want}
 use Rattle.wp_model.specs.Demand.{quantity_of}
+use Rattle.wp_model.specs.Opening.{line_units}
 use Rattle.wp_model.specs.declared.row.Line.{Line}
-use Rattle.wp_floor.specs.WantLists.{AreBefore, AreSplit, HaveAdded, KeepArticles, line_units}
+use Rattle.wp_floor.specs.WantLists.{AreBefore, AreSplit, HaveAdded, KeepArticles}
 
 -- at first no line was added
 pub added_none : (place : ℕ) (wants : List Want) → HaveAdded place [] wants wants

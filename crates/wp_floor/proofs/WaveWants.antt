@@ -1,21 +1,21 @@
 -- The wants of a wave's orders, order by order.
-use Rattle.std.proofs.Common.{◌≡◌, ◌∙◌, refl, sym, ap, ℕ, ◌+◌, ◌*◌, ◌^◌, ◌<◌, ◌≤◌, ◌==◌, inl, inr, List, [], length, Some, All, slice_get, arith, eq-eqb}
+use Rattle.std.proofs.Common.{◌≡◌, ◌∙◌, refl, sym, ap, ℕ, ◌+◌, ◌^◌, ◌<◌, ◌≤◌, ◌==◌, inl, inr, List, [], length, Some, All, slice_get, arith, eq-eqb}
 use Rattle.std.proofs.Common.{ne_eqb}
 use Rattle.std.proofs.lemmas.Bool.{cases_eq, cases_lt, cond-false, cond-true}
 use Rattle.std.proofs.lemmas.List.Sorted.{All-permutation, length_permutation, sum_by-IsPermutation}
-use Rattle.std.proofs.lemmas.List.Sums.{sum_by-le}
 use Rattle.std.proofs.lemmas.Option.{slice_get_past}
 use Rattle.std.specs.List.{sum_by}
 use Rattle.std.specs.List.Sorted.{IsPermutation}
 use Rattle.std.specs.Option.{option_map_or}
 use Rattle.wp_allot.specs.Wants.{AreGathered, units_for, units_in, wanted_for}
 use Rattle.wp_allot.specs.declared.want.Want.{Want}
+use Rattle.wp_model.proofs.Demand.{few_units}
 use Rattle.wp_model.specs.Demand.{demand_at, order_demand, quantity_of}
-use Rattle.wp_model.specs.Opening.{IsLine, Opening, lines_of}
-use Rattle.wp_model.specs.Limits.{most_lines, most_wave_orders, most_quantity}
+use Rattle.wp_model.specs.Opening.{IsLine, Opening, line_units, lines_of}
+use Rattle.wp_model.specs.Limits.{most_lines, most_wave_orders}
 use Rattle.wp_model.specs.declared.row.Line.{Line}
 use Rattle.wp_floor.specs.Floor.{AreWantsOf}
-use Rattle.wp_floor.specs.WantLists.{AreBefore, AreListedWants, AreWantsBefore, HaveAdded, KeepArticles, line_units}
+use Rattle.wp_floor.specs.WantLists.{AreBefore, AreListedWants, AreWantsBefore, HaveAdded, KeepArticles}
 
 -- the wants of no order
 pub none_before : (opening : Opening) (orders : List (List ℕ)) → AreWantsBefore opening orders 0 []
@@ -36,11 +36,6 @@ none_before opening orders = record {
   units = omega arith;
   few = omega arith;
 }
-
--- the lines of an order are of no more units than as many full lines as it may have
-pub few_units : (articles : List (List ℕ)) (lines : List Line) → All (IsLine articles) lines → length lines ≤ most_lines
-    → line_units lines ≤ most_lines * most_quantity
-few_units articles lines each few = omega (arith, sum_by-le (λ (line : Line). line.quantity) most_quantity lines (λ k d within. (each k d within).most))
 
 -- there is room for the units of one order more
 pub fits_order : (opening : Opening) (orders : List (List ℕ)) (place : ℕ) (lines : List Line) (wants : List Want) → place < length orders

@@ -4,14 +4,10 @@ use Rattle.std.specs.List.{All, sum_by}
 use Rattle.wp_allot.specs.Wants.{AreRegular, units_in, wanted_for}
 use Rattle.wp_allot.specs.declared.want.Want.{Want}
 use Rattle.wp_model.specs.Demand.{demand_at, quantity_of}
-use Rattle.wp_model.specs.Opening.{Opening}
+use Rattle.wp_model.specs.Opening.{Opening, line_units}
 use Rattle.wp_model.specs.Limits.{most_lines, most_quantity}
 use Rattle.wp_model.specs.declared.row.Line.{Line}
 use Rattle.wp_floor.specs.Floor.{most_wants}
-
--- the units of all lines together
-abbrev pub line_units : List Line → ℕ
-line_units lines = sum_by (λ (line : Line). line.quantity) lines
 
 -- each line is of at least one unit
 abbrev pub AreSome : List Line → Type 0

@@ -1,9 +1,12 @@
 //! A wave that a desk wants to submit, and what keeps it from being submitted.
-ghost use Rattle.std.specs.Prelude.{◌≡◌, ◌+◌, ◌<◌, ◌^◌, [], List, None, length, IfOk};
+ghost use Rattle.std.specs.Prelude.{◌≡◌, ◌+◌, ◌<◌, ◌^◌, [], List, None, Some, length, map, IfOk};
+ghost use Rattle.wp_model.specs.Opening.{line_units};
 ghost use Rattle.wp_model.specs.State.{Wave};
-ghost use Rattle.wp_model.specs.Step.{first_order_fault, order_fault};
+ghost use Rattle.wp_model.specs.Step.{cart_fault, first_order_fault, order_fault};
+ghost use Rattle.wp_model.specs.TableLines.{article_in};
 ghost use Rattle.wp_model.specs.Tables.{IsReadOpening};
 ghost use Rattle.wp_model.specs.declared.command.Command.TheVariants as command;
+ghost use Rattle.wp_tables.specs.Orders.{name_of};
 ghost use Rattle.wp_floor.specs.Floor.{AreNeedsOf, AreTakers, HasStepped, IsFloor, wave_count};
 ghost use Rattle.wp_floor.specs.NewWaves.{IsNewWave, IsPrepared, size_fault, submit_of};
 
@@ -13,7 +16,7 @@ use crate::opening::Opening;
 use crate::wanting::wants_of_orders;
 use crate::waves::{KeptWave, Needs, NumberedWave, Stage};
 use std::alloc::Global;
-use wp_model::{Cell, MOST_WAVE_ORDERS, Memory, Name, Names, Reply};
+use wp_model::{Cell, Line, MOST_WAVE_ORDERS, Memory, Name, Names, Reply};
 
 /// A wave that a desk wants to submit, and room for it.
 #[derive(Drop)]
@@ -91,6 +94,35 @@ impl NewWave {
     }
 }
 
+// The units of all lines of an order together, which are at most 5,000,000.
+fn line_units(lines: &[Line]) -> u32
+    requires { line_units lines.now < 2 ^ 32 }
+    ensures { result ≡ line_units lines.now }
+{
+    let mut units = 0;
+    for line in lines {
+        units += line.quantity;
+    }
+    units
+}
+
+// Why no cart holds the order that has this name and number: it has more units than a cart.
+fn cart_fault(opening: &Opening, order: &Name, number: u32) -> Option<Reply>
+    requires read { IsReadOpening opening.now }
+    requires found { article_in (map name_of opening.now.orders) order.now ≡ Some number }
+    ensures { result ≡ cart_fault opening.now order.now }
+{
+    let cart = opening.units()?;
+    let units = line_units(opening.orders().lines(number));
+    if units > cart {
+        return Some(Reply::OverCart {
+            order: *order,
+            units,
+        });
+    }
+    None
+}
+
 // Why an order can't join a wave, after the orders that were named before it.
 fn order_fault(
     takers: &[Option<Name>],
@@ -98,7 +130,8 @@ fn order_fault(
     before: &[Name],
     order: &Name,
 ) -> Option<Reply>
-    requires { length takers.now ≡ length opening.now.orders }
+    requires read { IsReadOpening opening.now }
+    requires count { length takers.now ≡ length opening.now.orders }
     ensures { (waves : List Wave) → AreTakers opening.now waves takers.now → result ≡ order_fault opening.now waves before.now order.now }
 {
     let Some(number) = opening.orders().find(order) else {
@@ -113,7 +146,7 @@ fn order_fault(
             order: *order,
             wave,
         }),
-        None => None,
+        None => cart_fault(opening, order, number),
     }
 }
 
@@ -123,7 +156,8 @@ pub fn first_order_fault(
     opening: &Opening,
     orders: &[Name],
 ) -> Option<Reply>
-    requires { length takers.now ≡ length opening.now.orders }
+    requires read { IsReadOpening opening.now }
+    requires count { length takers.now ≡ length opening.now.orders }
     ensures { (waves : List Wave) → AreTakers opening.now waves takers.now → result ≡ first_order_fault opening.now waves [] orders.now }
 {
     for place in 0..orders.len() {

@@ -3,11 +3,11 @@ ghost use Rattle.std.specs.Prelude.{◌≡◌, ◌+◌, ◌<◌, ◌≤◌, ◌^
 ghost use Rattle.std.specs.List.{All, position};
 ghost use Rattle.wp_allot.specs.Wants.{units_in};
 ghost use Rattle.wp_allot.specs.declared.want.Want.{Want as WantData};
-ghost use Rattle.wp_model.specs.Opening.{IsLine, lines_of};
+ghost use Rattle.wp_model.specs.Opening.{IsLine, line_units, lines_of};
 ghost use Rattle.wp_model.specs.Limits.{most_lines, most_wave_orders};
 ghost use Rattle.wp_model.specs.Tables.{IsReadOpening};
 ghost use Rattle.wp_floor.specs.Floor.{AreWantsOf};
-ghost use Rattle.wp_floor.specs.WantLists.{AreBefore, AreListedWants, AreSome, AreSplit, HaveAdded, KeepArticles, line_units};
+ghost use Rattle.wp_floor.specs.WantLists.{AreBefore, AreListedWants, AreSome, AreSplit, HaveAdded, KeepArticles};
 
 use crate::opening::Opening;
 use std::alloc::Global;

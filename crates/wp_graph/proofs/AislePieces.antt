@@ -6,10 +6,11 @@ use Rattle.std.proofs.lemmas.Bool.Decides.{nat_tests}
 use Rattle.wp_model.proofs.Sums.{sum-agree}
 use Rattle.wp_model.specs.Sums.{sum_below}
 use Rattle.wp_model.specs.declared.point.Point.{Point}
+use Rattle.wp_model.specs.Warehouse.{End, end_place}
 use Rattle.wp_graph.specs.Copies.{Copies, aisle_walked}
 use Rattle.wp_graph.specs.Required.{site_places}
-use Rattle.wp_graph.specs.Sites.{End, IsOnSite, Site, depot_of, end_place, last_place}
-use Rattle.wp_graph.specs.Sites.End.{at_front, at_back}
+use Rattle.wp_graph.specs.Sites.{IsOnSite, Site, depot_of, last_place}
+use Rattle.wp_model.specs.Warehouse.End.{at_front, at_back}
 use Rattle.wp_graph.specs.Members.{Among}
 use Rattle.wp_graph.specs.TourCopies.{AreEven, AreJoined, IsKept, IsOnTour}
 use Rattle.wp_graph.proofs.EachAisle.{place_on_tour, tour_place}
@@ -43,14 +44,14 @@ pub record IsColumn (site : Site) (copies : Copies) (aisle : ℕ) (colour : ℕ 
   pub kept : (s : ℕ) → 0 < copies.deep aisle s → column s ≡ column (suc s)
 
 recoloured_end : (site : Site) (copies : Copies) (aisle : ℕ) (colour : ℕ → ℕ → Bool) (column : ℕ → Bool) (a : ℕ) (end : End)
-    → IsColumn site copies aisle colour column → recoloured aisle column colour a (end_place site end) ≡ colour a (end_place site end)
+    → IsColumn site copies aisle colour column → recoloured aisle column colour a (end_place (last_place site) end) ≡ colour a (end_place (last_place site) end)
 recoloured_end site copies aisle colour column a end is = ⊎_elim
-    (λ e. subst (λ b. recoloured aisle column colour b (end_place site end) ≡ colour b (end_place site end)) (sym e)
-    (recoloured_here aisle column colour (end_place site end) ∙ at end))
-    (λ other. recoloured_else aisle column colour a (end_place site end) other)
+    (λ e. subst (λ b. recoloured aisle column colour b (end_place (last_place site) end) ≡ colour b (end_place (last_place site) end)) (sym e)
+    (recoloured_here aisle column colour (end_place (last_place site) end) ∙ at end))
+    (λ other. recoloured_else aisle column colour a (end_place (last_place site) end) other)
     (cases_eq a aisle)
   where
-    at : (e : End) → column (end_place site e) ≡ colour aisle (end_place site e)
+    at : (e : End) → column (end_place (last_place site) e) ≡ colour aisle (end_place (last_place site) e)
     at at_front = is.front
     at at_back = is.back
 
@@ -110,11 +111,11 @@ replaced_joined site picks copies aisle pieces within tells joined = record {
     old colour kept = recoloured_kept site copies aisle pieces colour (tells colour kept).column kept (tells colour kept).is
 
     home : (colour : ℕ → ℕ → Bool) (kept : IsKept site (in_aisle copies aisle pieces) colour)
-        → recoloured aisle (tells colour kept).column colour site.depot (end_place site site.end) ≡ colour site.depot (end_place site site.end)
+        → recoloured aisle (tells colour kept).column colour site.depot (end_place (last_place site) site.end) ≡ colour site.depot (end_place (last_place site) site.end)
     home colour kept = recoloured_end site copies aisle colour (tells colour kept).column site.depot site.end (tells colour kept).is
 
     at_places : (colour : ℕ → ℕ → Bool) (kept : IsKept site (in_aisle copies aisle pieces) colour) (r : ℕ) → Among (site_places site picks aisle) r
-        → (tells colour kept).column r ≡ colour site.depot (end_place site site.end)
+        → (tells colour kept).column r ≡ colour site.depot (end_place (last_place site) site.end)
     at_places colour kept r h = sym (recoloured_here aisle (tells colour kept).column colour r)
         ∙ joined.needed _ (old colour kept) (record { aisle = aisle; slot = r }) (place_on_tour site picks aisle r h) ∙ home colour kept
 

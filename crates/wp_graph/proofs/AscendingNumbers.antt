@@ -5,8 +5,8 @@ use Rattle.std.specs.List.{range_with_len}
 use Rattle.std.proofs.lemmas.List.{map-id}
 use Rattle.std.proofs.lemmas.Option.{same_Some}
 use Rattle.wp_model.specs.declared.point.Point.{Point}
-use Rattle.wp_model.specs.Warehouse.{Layout}
-use Rattle.wp_graph.specs.Required.{IsAscending, is_required, required_places}
+use Rattle.wp_graph.specs.Required.{IsAscending, has_point, site_places}
+use Rattle.wp_graph.specs.Sites.{Site, depot_of}
 use Rattle.wp_graph.specs.Members.{Among}
 use Rattle.wp_graph.proofs.RequiredPlaces.{ascending_after, tail_ascending}
 use Rattle.wp_graph.proofs.Stretches.{last_from, last_is}
@@ -64,6 +64,6 @@ passed_ascend test slots =
     [ true ↦ rest' | false ↦ tail_ascending 0 _ rest' ])
 
 -- required places ascend
-pub places_ascend : (layout : Layout) (picks : List Point) (aisle : ℕ) → IsAscending (required_places layout picks aisle)
-unfolding required_places
-places_ascend layout picks aisle = passed_ascend (is_required layout picks aisle) layout.slots
+pub places_ascend : (site : Site) (picks : List Point) (aisle : ℕ) → IsAscending (site_places site picks aisle)
+unfolding site_places
+places_ascend site picks aisle = passed_ascend (has_point (depot_of site ∷ picks) aisle) site.slots

@@ -5,7 +5,7 @@ use Rattle.wp_graph.specs.declared.ways.AisleWays.{AisleWays}
 use Rattle.wp_graph.specs.AisleLengths.{site_ways}
 use Rattle.wp_graph.specs.Required.{has_point, site_places}
 use Rattle.wp_graph.specs.Sites.{Site}
-use Rattle.wp_graph.specs.Sites.End.{at_back}
+use Rattle.wp_model.specs.Warehouse.End.{at_back}
 
 -- three aisles with four slots, pitch 2, clearance 1, lengths 5 and 20 from aisle to aisle, and the depot at the back
 -- end of aisle 1

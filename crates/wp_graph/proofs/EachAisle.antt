@@ -6,15 +6,17 @@ use Rattle.std.proofs.lemmas.Bool.{and_parts, cases_eq, eqb-true}
 use Rattle.std.proofs.lemmas.Bool.Decides.{nat_tests}
 use Rattle.wp_model.proofs.Sums.{sum-grows}
 use Rattle.wp_model.specs.declared.point.Point.{Point}
+use Rattle.wp_model.specs.Warehouse.{End, end_place}
 use Rattle.wp_graph.specs.Copies.{Copies, aisle_walked}
 use Rattle.wp_graph.specs.AisleLengths.{site_ways}
-use Rattle.wp_graph.specs.Required.{IsAscending, has_point, site_places}
-use Rattle.wp_graph.specs.Sites.{End, Site, depot_of, end_place, has_depot, is_end, last_place, site_distance}
-use Rattle.wp_graph.specs.Sites.End.{at_front, at_back}
+use Rattle.wp_graph.specs.Required.{has_point, site_places}
+use Rattle.wp_graph.specs.Sites.{Site, depot_of, has_depot, is_end, last_place, site_distance}
+use Rattle.wp_model.specs.Warehouse.End.{at_front, at_back}
 use Rattle.wp_graph.specs.Members.{Among}
 use Rattle.wp_graph.specs.TourCopies.{AreTour, IsKept, IsOnTour}
 use Rattle.wp_graph.specs.Cuts.{HasCut}
-use Rattle.wp_graph.proofs.AscendingNumbers.{passed_ascend}
+use Rattle.wp_graph.proofs.Ends.{end_within}
+use Rattle.wp_graph.proofs.AscendingNumbers.{places_ascend}
 use Rattle.wp_graph.proofs.PointTests.{among_has, has_among}
 use Rattle.wp_graph.proofs.Members.{among-filter, among-range, filter_passed, range_bounds}
 use Rattle.wp_graph.proofs.OneAisle.{all_least, cut_least, cut_ways, first_gap, last_gap}
@@ -31,10 +33,6 @@ pub tour_place : (site : Site) (picks : List Point) (p : Point) → IsOnTour sit
 unfolding site_places
 tour_place site picks p on within = among-filter (has_point (depot_of site ∷ picks) p.aisle) (range_with_len 0 (site.slots + 2)) p.slot
     (among-range 0 (site.slots + 2) p.slot (omega arith) (omega (arith, within))) (among_has (depot_of site ∷ picks) p on)
-
-places_ascend : (site : Site) (picks : List Point) (aisle : ℕ) → IsAscending (site_places site picks aisle)
-unfolding site_places
-places_ascend site picks aisle = passed_ascend (has_point (depot_of site ∷ picks) aisle) site.slots
 
 -- a required place lies no further than the back end
 pub places_within : (site : Site) (picks : List Point) (aisle r : ℕ) → Among (site_places site picks aisle) r → r ≤ last_place site
@@ -70,7 +68,7 @@ between_in : (aisle z y r : ℕ) → z < r → r ≤ y → between aisle z y ais
 between_in aisle z y r low high = grind (arith, nat_tests)
 
 -- neither end lies there
-between_end : (site : Site) (aisle z y a : ℕ) (end : End) → y < last_place site → between aisle z y a (end_place site end) ≡ false
+between_end : (site : Site) (aisle z y a : ℕ) (end : End) → y < last_place site → between aisle z y a (end_place (last_place site) end) ≡ false
 between_end site aisle z y a at_front within = between_front aisle z y a
 between_end site aisle z y a at_back within = between_back aisle z y a (last_place site) within
 
@@ -113,18 +111,14 @@ same_end at_front at_back e = absurd (cc)
 same_end at_back at_front e = absurd (cc)
 same_end at_back at_back e = refl
 
-end_within : (site : Site) (end : End) → end_place site end ≤ last_place site
-end_within site at_front = omega arith
-end_within site at_back = omega arith
-
 -- the depot's end is required in its aisle
 depot_required : (site : Site) (picks : List Point) (aisle : ℕ) (end : End) → has_depot site aisle end ≡ true
-    → Among (site_places site picks aisle) (end_place site end)
+    → Among (site_places site picks aisle) (end_place (last_place site) end)
 depot_required site picks aisle end e =
     let parts = and_parts (is_end site.end end) (aisle == site.depot) e in
-    let there = tour_place site picks (depot_of site) (inl refl) (end_within site site.end) in
-    let here = subst (λ (h : End). Among (site_places site picks site.depot) (end_place site h)) (same_end _ _ parts.0) there in
-    subst (λ a. Among (site_places site picks a) (end_place site end)) (sym (eqb-true _ _ parts.1)) here
+    let there = tour_place site picks (depot_of site) (inl refl) (end_within (last_place site) site.end) in
+    let here = subst (λ (h : End). Among (site_places site picks site.depot) (end_place (last_place site) h)) (same_end _ _ parts.0) there in
+    subst (λ a. Among (site_places site picks a) (end_place (last_place site) end)) (sym (eqb-true _ _ parts.1)) here
 
 has_cut : (site : Site) (picks : List Point) (copies : Copies) (a z y : ℕ) → AreTour site picks copies → (copies.front a + copies.front (suc a)) % 2 ≡ 0
     → z ≤ y → y < last_place site → copies.deep (suc a) z ≡ 0 → copies.deep (suc a) y ≡ 0 →

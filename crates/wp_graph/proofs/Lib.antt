@@ -1,3 +1,6 @@
+pub mod Ends
+pub mod AisleOffsets
+pub mod EvenLayouts
 pub mod WalkMoves
 pub mod Members
 pub mod Marks
@@ -5,6 +8,7 @@ pub mod PickSets
 pub mod Distances
 pub mod PointTests
 pub mod Places
+pub mod WordSlots
 pub mod NeededAisles
 pub mod JoinedWords
 pub mod Stretches

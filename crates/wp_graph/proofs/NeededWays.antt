@@ -1,16 +1,16 @@
 -- An aisle can't be skipped exactly where it is needed.
-use Rattle.std.proofs.Common.{◌≡◌, ℕ, ◌+◌, ◌≤◌, ◌==◌, ◌&&◌, Bool, true, false, List, [], ◌∷◌, Some, None, if◌then◌else◌, length, map, arith, inl, inr, refl, ap, sym}
+use Rattle.std.proofs.Common.{◌≡◌, ℕ, ◌+◌, ◌≤◌, ◌==◌, Bool, true, false, List, [], ◌∷◌, Some, None, if◌then◌else◌, length, map, arith, inl, inr, refl, ap, sym}
 use Rattle.std.proofs.Common.{◌∙◌, subst}
 use Rattle.std.proofs.lemmas.Bool.{cond-false, false_from_ne_true, false≢true, ne_eqb}
 use Rattle.wp_model.specs.declared.point.Point.{Point}
-use Rattle.wp_model.specs.Warehouse.{Layout, depot_point}
-use Rattle.wp_graph.specs.AisleLengths.{ways_from, ways_of, ways_with}
+use Rattle.wp_model.specs.Warehouse.{End, Layout, back_end, depot_point, end_place}
+use Rattle.wp_graph.specs.AisleLengths.{site_ways, ways_of, ways_with}
 use Rattle.wp_graph.specs.Members.{Among}
 use Rattle.wp_graph.specs.NeededAisles.{is_needed}
 use Rattle.wp_graph.specs.PickSets.{AreSlots}
-use Rattle.wp_graph.specs.Required.{aisle_length, distance, has_point, is_required, required_distances, required_places}
-use Rattle.wp_graph.specs.Sites.{End, is_end}
-use Rattle.wp_graph.specs.Sites.End.{at_front}
+use Rattle.wp_graph.specs.Required.{aisle_length, distance, has_point, is_required, required_distances, required_places, site_places}
+use Rattle.wp_graph.specs.Sites.{has_depot, site_of}
+use Rattle.wp_graph.proofs.Ends.{end_within}
 use Rattle.wp_graph.proofs.Members.{among-filter, among-map, among-range, among_from_Contains}
 use Rattle.wp_graph.proofs.NeededAisles.{IsNeeded, lies_any, needed_cases}
 use Rattle.wp_graph.proofs.Places.{none_passes}
@@ -25,18 +25,18 @@ not_skipped_with depot whole [] d h = absurd h
 not_skipped_with depot whole (near ∷ far) d h = not_skipped depot whole near far
 
 -- an aisle with a required place can't be skipped
-required_not_skipped : (layout : Layout) (points : List Point) (aisle place : ℕ) → place ≤ layout.slots → has_point (depot_point layout ∷ points) aisle place ≡ true →
+required_not_skipped : (layout : Layout) (points : List Point) (aisle place : ℕ) → place ≤ layout.slots + 1 → has_point (depot_point layout ∷ points) aisle place ≡ true →
     (ways_of layout points aisle).skip ≡ None
-unfolding ways_of ways_from required_distances required_places is_required
+unfolding site_ways site_places
 required_not_skipped layout points aisle place within has =
-    not_skipped_with (λ end. is_end at_front end && (aisle == layout.depot)) (aisle_length layout) (required_distances layout points aisle) (distance layout place)
+    not_skipped_with (has_depot (site_of layout) aisle) (aisle_length layout) (required_distances layout points aisle) (distance layout place)
     (among-map (distance layout) (required_places layout points aisle) place
-    (among-filter (is_required layout points aisle) _ place (among-range 0 (layout.slots + 2) place (omega arith) (omega arith)) has))
+    (among-filter (is_required layout points aisle) _ place (among-range 0 (layout.slots + 2) place (omega arith) (omega (arith, within))) has))
 
 -- the depot's aisle can't be skipped
 pub depot_not_skipped : (layout : Layout) (points : List Point) → (ways_of layout points layout.depot).skip ≡ None
 depot_not_skipped layout points =
-    required_not_skipped layout points layout.depot 0 (omega arith) (among_has (depot_point layout ∷ points) (depot_point layout) (inl refl))
+    required_not_skipped layout points layout.depot (end_place (back_end layout) layout.end) (end_within (back_end layout) layout.end) (among_has (depot_point layout ∷ points) (depot_point layout) (inl refl))
 
 -- a needed aisle can't be skipped
 needed_not_skipped : (layout : Layout) (points : List Point) (aisle : ℕ) → AreSlots layout points → is_needed layout points aisle ≡ true →
@@ -53,12 +53,12 @@ needed_not_skipped layout points aisle are needed = go (needed_cases layout poin
 
 -- another one can, at no length
 spared_skipped : (layout : Layout) (points : List Point) (aisle : ℕ) → is_needed layout points aisle ≡ false → (ways_of layout points aisle).skip ≡ Some 0
-unfolding ways_of ways_from required_distances required_places is_required is_needed
+unfolding site_ways site_places is_needed
 spared_skipped layout points aisle spared =
     let none : required_places layout points aisle ≡ [] = none_passes (is_required layout points aisle) 0 (layout.slots + 2) (λ place low high. false_from_ne_true _
     (λ has. false≢true (sym spared ∙ lies_any (depot_point layout ∷ points) (record { aisle = aisle; slot = place })
     (has_among (depot_point layout ∷ points) aisle place has)))) in
-    ap (λ (places : List ℕ). (ways_with (λ end. is_end at_front end && (aisle == layout.depot)) (aisle_length layout) (map (distance layout) places)).skip) none
+    ap (λ (places : List ℕ). (ways_with (has_depot (site_of layout) aisle) (aisle_length layout) (map (distance layout) places)).skip) none
 
 -- so the way that skips an aisle tells whether it is needed
 pub skip_tells : (layout : Layout) (points : List Point) (aisle : ℕ) → AreSlots layout points →

@@ -5,9 +5,9 @@ use Rattle.std.proofs.lemmas.Bool.{cases_eq, le-leb}
 use Rattle.std.proofs.lemmas.Nat.{mul-le}
 use Rattle.wp_model.proofs.Sums.{sum-grows}
 use Rattle.wp_model.specs.Sums.{sum_below}
+use Rattle.wp_model.specs.Warehouse.{End}
 use Rattle.wp_graph.specs.AisleLengths.{ways_with}
-use Rattle.wp_graph.specs.Sites.{End}
-use Rattle.wp_graph.specs.Sites.End.{at_front, at_back}
+use Rattle.wp_model.specs.Warehouse.End.{at_front, at_back}
 use Rattle.wp_graph.specs.Required.{IsAscending, largest_gap}
 use Rattle.wp_graph.specs.Members.{Among}
 use Rattle.wp_graph.specs.Cuts.{HasBeyond, HasUpTo, IsCut, Turning}

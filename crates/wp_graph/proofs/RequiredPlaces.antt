@@ -1,17 +1,22 @@
 -- The required places of an aisle: the depot's, and those of the words' bits.
-use Rattle.std.proofs.Common.{◌≡◌, ℕ, zero, suc, ◌+◌, ◌-◌, ◌*◌, ◌<◌, ◌≤◌, ◌==◌, ◌&&◌, ◌||◌, Bool, true, false, cond, List, [], ◌∷◌, ◌++◌, filter, fold, map}
+-- The required places of an aisle: the depot's, and those of the words' bits.
+use Rattle.std.proofs.Common.{◌≡◌, ℕ, zero, suc, ◌+◌, ◌-◌, ◌*◌, ◌<◌, ◌≤◌, ◌==◌, ◌||◌, Bool, true, false, cond, List, [], ◌∷◌, ◌++◌, filter, fold, map}
 use Rattle.std.proofs.Common.{if◌then◌else◌, arith, refl, ap, sym, ◌∙◌, inl, inr, ◌⊎◌, ⊎_elim}
 use Rattle.std.specs.Int.{bit_at}
 use Rattle.std.specs.List.{range_with_len}
-use Rattle.std.proofs.lemmas.Bool.{and_right, cases_eq, eq-eqb, false_from_ne_true, ne_eqb}
+use Rattle.std.proofs.lemmas.Bool.{false_from_ne_true}
+use Rattle.std.proofs.Math.Bool.{or-false}
 use Rattle.std.proofs.lemmas.List.{append-nil, map-append}
 use Rattle.std.proofs.lemmas.List.Sums.{fold-append}
 use Rattle.std.proofs.lemmas.List.Elements.{filter-append}
 use Rattle.wp_model.specs.declared.point.Point.{Point}
 use Rattle.wp_model.specs.Warehouse.{Layout, IsLayout, IsSlot, depot_point, step_length}
+use Rattle.wp_model.specs.Warehouse.End.{at_front, at_back}
 use Rattle.wp_graph.specs.PickSets.{AreSlots}
-use Rattle.wp_graph.specs.Required.{IsAscending, distance, has_point, is_at, is_required, required_distances, required_places}
-use Rattle.wp_graph.specs.Stretches.{bit_places}
+use Rattle.wp_graph.specs.Required.{IsAscending, distance, has_point, is_at, is_required, required_distances, site_places}
+use Rattle.wp_graph.specs.Sites.{has_depot, site_of}
+use Rattle.wp_graph.specs.Stretches.{back_distances, bit_places, front_distances, slot_distances}
+use Rattle.wp_graph.proofs.Ends.{depot_behind, depot_in_front, depot_no_slot}
 use Rattle.wp_graph.proofs.PointTests.{has_among}
 use Rattle.wp_graph.proofs.Members.{Contains-from_among}
 use Rattle.wp_graph.proofs.Places.{agreeing, none_passes, range_parts}
@@ -21,26 +26,27 @@ pub slot_had : (layout : Layout) (points : List Point) (aisle place : ℕ) → A
     → IsSlot layout (record { aisle = aisle; slot = place })
 slot_had layout points aisle place are has = are.slots (record { aisle = aisle; slot = place }) (Contains-from_among _ _ (has_among points aisle place has))
 
--- the distance 0, where the depot lies in the aisle
-abbrev pub depot_distances : Layout → ℕ → List ℕ
-depot_distances layout aisle = if aisle == layout.depot then 0 ∷ [] else []
-
-eqb_turned : (a b : ℕ) → (a == b) ≡ (b == a)
-eqb_turned a b = ⊎_elim (λ e. eq-eqb a b e ∙ sym (eq-eqb b a (sym e))) (λ ne. ne_eqb a b ne ∙ sym (ne_eqb b a (λ e. ne (sym e)))) (cases_eq a b)
-
-required_front : (layout : Layout) (points : List Point) (aisle : ℕ) → AreSlots layout points → is_required layout points aisle 0 ≡ (aisle == layout.depot)
-unfolding is_required has_point
+required_front : (layout : Layout) (points : List Point) (aisle : ℕ) → AreSlots layout points → is_required layout points aisle 0 ≡ has_depot (site_of layout) aisle at_front
+unfolding has_point
 required_front layout points aisle are =
     let none : has_point points aisle 0 ≡ false = false_from_ne_true _ (λ has. let s = (slot_had layout points aisle 0 are has).slot in omega (arith, s)) in
-    let front : is_at aisle 0 (depot_point layout) ≡ (aisle == layout.depot) =
-    elim (layout.depot == aisle) as (λ b. (b && true) ≡ b) [ true ↦ refl | false ↦ refl ] ∙ eqb_turned layout.depot aisle in
-    rw none (elim (is_at aisle 0 (depot_point layout)) as (λ b. (b || false) ≡ b) [ true ↦ refl | false ↦ refl ] ∙ front)
+    ap (λ b. is_at aisle 0 (depot_point layout) || b) none ∙ or-false (is_at aisle 0 (depot_point layout))
+    ∙ depot_in_front layout.depot aisle (layout.slots + 1) layout.end (omega arith)
 
-required_behind : (layout : Layout) (points : List Point) (aisle place : ℕ) → 0 < place → is_required layout points aisle place ≡ has_point points aisle place
-unfolding is_required has_point
-required_behind layout points aisle place behind =
-    let front : is_at aisle place (depot_point layout) ≡ false = and_right (layout.depot == aisle) (0 == place) (ne_eqb 0 place (λ e. omega arith)) in
-    rw front refl
+required_back : (layout : Layout) (points : List Point) (aisle : ℕ) → AreSlots layout points →
+    is_required layout points aisle (layout.slots + 1) ≡ has_depot (site_of layout) aisle at_back
+unfolding has_point
+required_back layout points aisle are =
+    let none : has_point points aisle (layout.slots + 1) ≡ false =
+    false_from_ne_true _ (λ has. let s = (slot_had layout points aisle (layout.slots + 1) are has).slot in omega (arith, s)) in
+    ap (λ b. is_at aisle (layout.slots + 1) (depot_point layout) || b) none ∙ or-false (is_at aisle (layout.slots + 1) (depot_point layout))
+    ∙ depot_behind layout.depot aisle (layout.slots + 1) layout.end (omega arith)
+
+required_slot : (layout : Layout) (points : List Point) (aisle place : ℕ) → 0 < place → place < layout.slots + 1 →
+    is_required layout points aisle place ≡ has_point points aisle place
+unfolding has_point
+required_slot layout points aisle place low high =
+    ap (λ b. b || has_point points aisle place) (depot_no_slot layout.depot aisle (layout.slots + 1) place layout.end low high)
 
 -- places that pass lie behind the front and within a bound
 pub places_within : (has : ℕ → Bool) (m n : ℕ) → m < n → has 0 ≡ false → ((k : ℕ) → m < k → has k ≡ false)
@@ -55,25 +61,52 @@ places_within has m (suc n) within none past =
     ∙ ap (λ xs. filter has (range_with_len 1 m) ++ xs) gone ∙ append-nil _ in
     rw none split
 
--- the required distances of an aisle: the depot's, and then those of the points in it
-pub required_parts : (layout : Layout) (points : List Point) (aisle n : ℕ) → AreSlots layout points → layout.slots + 1 < n →
-    required_distances layout points aisle ≡ depot_distances layout aisle ++ map (distance layout) (filter (has_point points aisle) (range_with_len 0 n))
-unfolding required_distances required_places
-required_parts layout points aisle n are within =
-    let has = has_point points aisle in
+-- the slots of the layout among the places up to some bound
+pub slots_within : (layout : Layout) (points : List Point) (aisle n : ℕ) → AreSlots layout points → layout.slots < n →
+    filter (has_point points aisle) (range_with_len 0 n) ≡ filter (has_point points aisle) (range_with_len 1 layout.slots)
+slots_within layout points aisle n are within = places_within (has_point points aisle) layout.slots n within (outside 0 (inl refl)) (λ k past. outside k (inr past))
+  where
+    outside : (k : ℕ) → (k ≡ 0) ⊎ (layout.slots < k) → has_point points aisle k ≡ false
+    outside k out = false_from_ne_true _ (λ h. let s = (slot_had layout points aisle k are h).slot in
+        ⊎_elim (λ e. omega (arith, s, e)) (λ far. omega (arith, s, far)) out)
+
+map_if : (f : ℕ → ℕ) (b : Bool) (x : ℕ) → map f (cond b (x ∷ []) []) ≡ cond b (f x ∷ []) []
+map_if f true x = refl
+map_if f false x = refl
+
+-- the required distances of an aisle: that of the depot in front, those of the slots, and that of the depot at the back
+pub required_parts : (layout : Layout) (points : List Point) (aisle : ℕ) → AreSlots layout points →
+    required_distances layout points aisle ≡ (front_distances layout aisle ++ slot_distances layout points aisle) ++ back_distances layout aisle
+unfolding site_places
+required_parts layout points aisle are =
+    let test = is_required layout points aisle in
     let m = layout.slots in
-    let outside : (k : ℕ) → (k ≡ 0) ⊎ (m < k) → has k ≡ false =
-    λ k out. false_from_ne_true _ (λ h. let s = (slot_had layout points aisle k are h).slot in
-    ⊎_elim (λ e. omega (arith, s, e)) (λ far. omega (arith, s, far)) out) in
-    let same = agreeing (is_required layout points aisle) has 1 (m + 1) (λ k low high. required_behind layout points aisle k (omega arith)) in
-    let whole = places_within has (m + 1) n within (outside 0 (inl refl)) (λ k past. outside k (inr (omega arith))) in
+    let last : range_with_len (1 + m) 1 ≡ (m + 1) ∷ [] = ap (λ (n : ℕ). n ∷ []) (omega arith) in
+    let all : m + 2 ≡ suc (m + 1) = omega arith in
+    let parts : filter test (range_with_len 1 (m + 1)) ≡ filter test (range_with_len 1 m) ++ filter test (range_with_len (1 + m) 1) =
+    ap (filter test) (range_parts 1 m 1) ∙ filter-append test (range_with_len 1 m) (range_with_len (1 + m) 1) in
+    let slots = agreeing test (has_point points aisle) 1 m (λ k low high. required_slot layout points aisle k (omega arith) (omega (arith, high))) in
     let front = required_front layout points aisle are in
-    let two : m + 2 ≡ suc (m + 1) = omega arith in
-    rw (two, whole, front, same)
-    (elim (aisle == layout.depot) as
-    (λ b. map (distance layout) (cond b (0 ∷ filter has (range_with_len 1 (m + 1))) (filter has (range_with_len 1 (m + 1)))) ≡ (if b then 0 ∷ [] else [])
-    ++ map (distance layout) (filter has (range_with_len 1 (m + 1))))
-    [ true ↦ refl | false ↦ refl ])
+    let back = required_back layout points aisle are in
+    let behind : filter test (range_with_len (1 + m) 1) ≡ cond (has_depot (site_of layout) aisle at_back) ((m + 1) ∷ []) [] =
+    ap (filter test) last ∙ ap (λ b. cond b ((m + 1) ∷ []) []) back in
+    let places : filter test (range_with_len 0 (m + 2)) ≡ cond (has_depot (site_of layout) aisle at_front)
+    (0 ∷ (filter (has_point points aisle) (range_with_len 1 m) ++ cond (has_depot (site_of layout) aisle at_back) ((m + 1) ∷ []) []))
+    (filter (has_point points aisle) (range_with_len 1 m) ++ cond (has_depot (site_of layout) aisle at_back) ((m + 1) ∷ []) []) =
+    ap (λ n. filter test (range_with_len 0 n)) all ∙ ap (λ b. cond b (0 ∷ filter test (range_with_len 1 (m + 1))) (filter test (range_with_len 1 (m + 1)))) front
+    ∙ ap (λ (ps : List ℕ). cond (has_depot (site_of layout) aisle at_front) (0 ∷ ps) ps)
+    (parts ∙ ap (λ (ps : List ℕ). ps ++ filter test (range_with_len (1 + m) 1)) slots
+    ∙ ap (λ (ps : List ℕ). filter (has_point points aisle) (range_with_len 1 m) ++ ps) behind) in
+    ap (map (distance layout)) places
+    ∙ mapped (has_depot (site_of layout) aisle at_front) (filter (has_point points aisle) (range_with_len 1 m))
+    (cond (has_depot (site_of layout) aisle at_back) ((m + 1) ∷ []) [])
+    ∙ ap (λ (ds : List ℕ). (front_distances layout aisle ++ slot_distances layout points aisle) ++ ds)
+    (map_if (distance layout) (has_depot (site_of layout) aisle at_back) (m + 1))
+  where
+    mapped : (b : Bool) (xs ys : List ℕ) → map (distance layout) (cond b (0 ∷ (xs ++ ys)) (xs ++ ys))
+        ≡ (cond b (0 ∷ []) [] ++ map (distance layout) xs) ++ map (distance layout) ys
+    mapped true xs ys = ap (λ (ds : List ℕ). 0 ∷ ds) (map-append (distance layout) xs ys)
+    mapped false xs ys = map-append (distance layout) xs ys
 
 -- distances of places from the front on ascend
 pub ascending_after : (p : ℕ → Bool) (f : ℕ → ℕ) (a n x : ℕ) → ((k : ℕ) → a ≤ k → k < a + n → x < f k) → ((k : ℕ) → a ≤ k → k + 1 < a + n → f k < f (k + 1)) →
@@ -109,7 +142,7 @@ tail_ascending x (y ∷ ys) up = up.1
 
 -- the required distances of an aisle ascend
 pub required_ascending : (layout : Layout) (points : List Point) (aisle : ℕ) → IsLayout layout → IsAscending (required_distances layout points aisle)
-unfolding required_distances required_places
+unfolding site_places
 required_ascending layout points aisle valid =
     let two : layout.slots + 2 ≡ suc (layout.slots + 1) = omega arith in
     let rest = ascending_after (is_required layout points aisle) (distance layout) 1 (layout.slots + 1) 0 (λ k low high. some k low)

@@ -6,8 +6,10 @@ use Rattle.std.proofs.lemmas.Option.{get_or_from_slice_get, slice_get_within}
 use Rattle.wp_model.proofs.Sums.{sum-grows}
 use Rattle.wp_model.specs.declared.point.Point.{Point}
 use Rattle.wp_model.specs.Warehouse.{Layout, IsLayout, back_end, step_length}
-use Rattle.wp_graph.specs.AisleLengths.{AreAtMost, ways_from, ways_of}
-use Rattle.wp_graph.specs.Required.{aisle_length, distance, is_required, largest_gap, required_distances, required_places}
+use Rattle.wp_model.specs.Warehouse.End.{at_front, at_back}
+use Rattle.wp_graph.specs.AisleLengths.{AreAtMost, site_ways, ways_of}
+use Rattle.wp_graph.specs.Required.{aisle_length, distance, is_required, largest_gap, required_distances, required_places, site_places}
+use Rattle.wp_graph.specs.Sites.{has_depot, site_of}
 use Rattle.wp_graph.specs.Members.{Among}
 use Rattle.wp_graph.proofs.Distances.{aisle_length_is}
 use Rattle.wp_graph.proofs.Members.{among_at, filter_passed, map_source, range_bounds}
@@ -23,13 +25,12 @@ aisle_length_small layout valid =
 
 -- a required place lies in the aisle, the back end included
 pub required_within : (layout : Layout) (picks : List Point) (aisle place : ℕ) → Among (required_places layout picks aisle) place → place ≤ layout.slots + 1
-unfolding required_places
+unfolding site_places
 required_within layout picks aisle place h =
     let bounds = range_bounds 0 (layout.slots + 2) place (filter_passed (is_required layout picks aisle) _ place h).0 in omega (arith, bounds.1)
 
 -- a required distance is at most the length of the aisle
 pub required_near : (layout : Layout) (picks : List Point) (aisle d : ℕ) → Among (required_distances layout picks aisle) d → d ≤ aisle_length layout
-unfolding required_distances
 required_near layout picks aisle d h =
     let source = map_source (distance layout) (required_places layout picks aisle) d h in
     let within = required_within layout picks aisle source.0 source.1 in
@@ -37,12 +38,15 @@ required_near layout picks aisle d h =
 
 -- no way through an aisle of a layout is longer than 4020000
 pub ways_small : (layout : Layout) (picks : List Point) (aisle : ℕ) → IsLayout layout → AreAtMost 4020000 (ways_of layout picks aisle)
-unfolding ways_of ways_from
+unfolding site_ways
 ways_small layout picks aisle valid = record {
   pass = omega (arith, small);
-  back = elim (aisle == layout.depot) as (λ b. IfSome (if b then None else option_map (λ r. 2 * (whole - r)) (slice_get ds 0)) (λ t. t ≤ 4020000))
+  back = elim (has_depot (site_of layout) aisle at_front) as
+      (λ b. IfSome (if b then None else option_map (λ r. 2 * (whole - r)) (slice_get ds 0)) (λ t. t ≤ 4020000))
       [ true ↦ tt | false ↦ mapped (slice_get ds 0) (λ r. omega (arith, small)) ];
-  front = ends (slice_get ds (length ds - 1)) refl;
+  front = elim (has_depot (site_of layout) aisle at_back) as
+      (λ b. IfSome (if b then None else option_map (λ r. 2 * r) (slice_get ds (length ds - 1))) (λ t. t ≤ 4020000))
+      [ true ↦ tt | false ↦ ends (slice_get ds (length ds - 1)) refl ];
   gap = elim (nat_le 2 (length ds)) as (λ b. IfSome (if b then Some (2 * (whole - largest)) else None) (λ t. t ≤ 4020000))
       [ true ↦ omega (arith, small) | false ↦ tt ];
   double = omega (arith, small);

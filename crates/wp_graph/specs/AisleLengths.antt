@@ -1,11 +1,11 @@
 -- The lengths of the six ways through an aisle.
-use Rattle.std.specs.Prelude.{ℕ, ◌-◌, ◌*◌, ◌≤◌, ◌==◌, ◌&&◌, nat_le, Bool, List, Some, None, IfSome, option_map, length, map, slice_get, if◌then◌else◌}
+use Rattle.std.specs.Prelude.{ℕ, ◌-◌, ◌*◌, ◌≤◌, ◌==◌, nat_le, Bool, List, Some, None, IfSome, option_map, length, map, slice_get, if◌then◌else◌}
 use Rattle.wp_model.specs.declared.point.Point.{Point}
-use Rattle.wp_model.specs.Warehouse.{Layout}
+use Rattle.wp_model.specs.Warehouse.{End, Layout}
 use Rattle.wp_graph.specs.declared.ways.AisleWays.{AisleWays}
-use Rattle.wp_graph.specs.Required.{aisle_length, largest_gap, required_distances, site_places}
-use Rattle.wp_graph.specs.Sites.{End, Site, has_depot, is_end, last_place, site_distance}
-use Rattle.wp_graph.specs.Sites.End.{at_front, at_back}
+use Rattle.wp_graph.specs.Required.{largest_gap, site_places}
+use Rattle.wp_graph.specs.Sites.{Site, has_depot, last_place, site_distance, site_of}
+use Rattle.wp_model.specs.Warehouse.End.{at_front, at_back}
 
 -- The ways through an aisle of a length, given at which end the depot lies, if it lies in this aisle, and the
 -- required distances from the front on, those of its ends among them:
@@ -34,10 +34,6 @@ pub record AreAtMost (most : ℕ) (ways : AisleWays) : Type 0 where
 unfoldable pub site_ways : Site → List Point → ℕ → AisleWays
 site_ways site picks aisle = ways_with (has_depot site aisle) (site_distance site (last_place site)) (map (site_distance site) (site_places site picks aisle))
 
--- the ways through an aisle where the depot, if it lies in this aisle, lies in front
-unfoldable pub ways_from : Bool → ℕ → List ℕ → AisleWays
-ways_from here whole distances = ways_with (λ end. is_end at_front end && here) whole distances
-
 -- the ways through an aisle of a layout with these picks
-unfoldable pub ways_of : Layout → List Point → ℕ → AisleWays
-ways_of layout picks aisle = ways_from (aisle == layout.depot) (aisle_length layout) (required_distances layout picks aisle)
+abbrev pub ways_of : Layout → List Point → ℕ → AisleWays
+ways_of layout picks aisle = site_ways (site_of layout) picks aisle

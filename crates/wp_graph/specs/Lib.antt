@@ -1,4 +1,5 @@
 pub mod Sites
+pub mod Offsets
 pub mod NeededAisles
 pub mod PickSets
 pub mod Members

@@ -17,6 +17,10 @@ pub record AreSlots (layout : Layout) (points : List Point) : Type 0 where
   pub ranges : IsLayout layout
   pub slots : (p : Point) → Contains points p → IsSlot layout p
 
+-- points have one in an aisle
+abbrev pub HaveSlotIn : List Point → ℕ → Type 0
+HaveSlotIn points aisle = (p : Point) × Contains points p × (p.aisle ≡ aisle)
+
 -- the slots of an aisle at which the test passes
 unfoldable pub slots_where : Layout → (ℕ → ℕ → Bool) → ℕ → List ℕ
 slots_where layout test aisle = filter (test aisle) (range_with_len 1 layout.slots)

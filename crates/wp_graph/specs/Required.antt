@@ -4,7 +4,7 @@ use Rattle.std.specs.List.{list_any, range_with_len}
 use Rattle.wp_model.specs.declared.point.Point.{Point}
 use Rattle.wp_model.specs.Sums.{sum_below}
 use Rattle.wp_model.specs.Warehouse.{Layout, back_end, depot_point, step_length}
-use Rattle.wp_graph.specs.Sites.{Site, depot_of}
+use Rattle.wp_graph.specs.Sites.{Site, depot_of, site_of}
 
 -- how far a place of an aisle is from the front
 abbrev pub distance : Layout → ℕ → ℕ
@@ -22,20 +22,20 @@ is_at aisle place point = (point.aisle == aisle) && (point.slot == place)
 unfoldable pub has_point : List Point → ℕ → ℕ → Bool
 has_point points aisle place = list_any (is_at aisle place) points
 
--- whether a tour must pass a place of an aisle: the depot lies there, or it is picked
-unfoldable pub is_required : Layout → List Point → ℕ → ℕ → Bool
-is_required layout picks aisle place = has_point (depot_point layout ∷ picks) aisle place
-
--- the places of an aisle that a tour must pass, from the front on
-unfoldable pub required_places : Layout → List Point → ℕ → List ℕ
-required_places layout picks aisle = filter (is_required layout picks aisle) (range_with_len 0 (layout.slots + 2))
-
--- the same in an aisle of a site, of which the depot may lie at either end
+-- the places of an aisle of a site that a tour must pass, from the front on: where the depot lies, and what is picked
 unfoldable pub site_places : Site → List Point → ℕ → List ℕ
 site_places site picks aisle = filter (has_point (depot_of site ∷ picks) aisle) (range_with_len 0 (site.slots + 2))
 
+-- whether a tour must pass a place of an aisle of a layout
+abbrev pub is_required : Layout → List Point → ℕ → ℕ → Bool
+is_required layout picks aisle place = has_point (depot_point layout ∷ picks) aisle place
+
+-- the places of an aisle of a layout that a tour must pass
+abbrev pub required_places : Layout → List Point → ℕ → List ℕ
+required_places layout picks aisle = site_places (site_of layout) picks aisle
+
 -- how far they are from the front
-unfoldable pub required_distances : Layout → List Point → ℕ → List ℕ
+abbrev pub required_distances : Layout → List Point → ℕ → List ℕ
 required_distances layout picks aisle = map (distance layout) (required_places layout picks aisle)
 
 -- the greatest difference of neighbours

@@ -1,14 +1,11 @@
 -- A warehouse of one block as the argument on shortness takes it: each crossing has a length of its own, and the
 -- depot lies at the front or at the back end of its aisle.
-use Rattle.std.specs.Prelude.{ℕ, ◌+◌, ◌≤◌, ◌==◌, ◌&&◌, Bool, true, false}
+use Rattle.std.specs.Prelude.{◌≡◌, ℕ, ◌+◌, ◌≤◌, ◌==◌, ◌&&◌, Bool, true, false}
+use Rattle.std.proofs.Common.{refl}
 use Rattle.wp_model.specs.declared.point.Point.{Point}
 use Rattle.wp_model.specs.Sums.{sum_below}
-use Rattle.wp_model.specs.Warehouse.{IsUpTo, Layout, spacing_after, step_length}
-
--- the two ends of an aisle
-pub data End : Type 0 where
-  at_front : End
-  at_back : End
+use Rattle.wp_model.specs.Warehouse.{End, IsUpTo, Layout, end_of, end_place, spacing_after, step_length}
+use Rattle.wp_model.specs.Warehouse.End.{at_front, at_back}
 
 -- the numbers of aisles and of slots in each; the length from each place of an aisle to the next one behind it, and
 -- from each aisle to the next; and the aisle and the end of it at which the depot lies
@@ -24,14 +21,9 @@ pub record Site : Type 0 where
 abbrev pub last_place : Site → ℕ
 last_place site = site.slots + 1
 
--- the place of an end
-abbrev pub end_place : Site → End → ℕ
-end_place site at_front = 0
-end_place site at_back = last_place site
-
 -- the point at which every tour begins and ends
 abbrev pub depot_of : Site → Point
-depot_of site = record { aisle = site.depot; slot = end_place site site.end }
+depot_of site = record { aisle = site.depot; slot = end_place (last_place site) site.end }
 
 -- a point lies in an aisle of the site, at an end of it or between
 pub record IsOnSite (site : Site) (point : Point) : Type 0 where
@@ -45,6 +37,11 @@ is_end at_front at_back = false
 is_end at_back at_front = false
 is_end at_back at_back = true
 
+-- what tells an end is told by the end
+pub end_told : (back : Bool) → is_end (end_of back) at_back ≡ back
+end_told true = refl
+end_told false = refl
+
 -- whether the depot lies at this end of this aisle
 abbrev pub has_depot : Site → ℕ → End → Bool
 has_depot site aisle end = is_end site.end end && (aisle == site.depot)
@@ -53,7 +50,7 @@ has_depot site aisle end = is_end site.end end && (aisle == site.depot)
 abbrev pub site_distance : Site → ℕ → ℕ
 site_distance site place = sum_below place site.step
 
--- a layout as a site: its depot lies in front
+-- a layout as a site
 abbrev pub site_of : Layout → Site
 site_of layout = record {
   aisles = layout.aisles;
@@ -61,5 +58,5 @@ site_of layout = record {
   step = step_length layout;
   spacing = spacing_after layout;
   depot = layout.depot;
-  end = at_front;
+  end = layout.end;
 }

@@ -4,6 +4,7 @@
 
 mod layout;
 mod moves;
+mod offsets;
 mod picks;
 mod walks;
 mod ways;

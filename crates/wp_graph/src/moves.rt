@@ -1,5 +1,5 @@
 ghost use Rattle.std.specs.Prelude.{◌≡◌, ◌+◌, ◌≤◌, ◌↔◌, ◌⊎◌, ℕ, IsTrue, IsSome, IfSome};
-ghost use Rattle.wp_model.specs.Warehouse.{IsMove, IsPoint, back_end, spacing_after, step_length};
+ghost use Rattle.wp_model.specs.Warehouse.{IsFurther, IsMove, IsPoint, back_end, spacing_after, step_length};
 ghost use Rattle.wp_model.specs.Limits.{greatest_length};
 
 use crate::layout::Layout;
@@ -40,6 +40,23 @@ fn length_behind(layout: &Layout, slot: u32) -> u64
     }
 }
 
+// The length of the move between the same ends of two neighbouring aisles, where the points are that.
+fn length_across(layout: &Layout, from: Point, to: Point) -> Option<u64>
+    requires from_point { IsPoint layout.now from }
+    requires to_point { IsPoint layout.now to }
+    ensures exact { IsSome result ↔ ((length : ℕ) × (IsFurther layout.now from to length ⊎ IsFurther layout.now to from length)) }
+    ensures value { IfSome result (λ length. IsFurther layout.now from to length ⊎ IsFurther layout.now to from length) }
+    ensures small { IfSome result (λ length. length ≤ greatest_length) }
+{
+    if is_further(layout, from, to) {
+        return Some(u64::from(layout.spacing_after(from.aisle)));
+    }
+    if is_further(layout, to, from) {
+        return Some(u64::from(layout.spacing_after(to.aisle)));
+    }
+    None
+}
+
 /// The length of the move between two points, either way: between neighbouring places of an aisle, or between the same
 /// ends of neighbouring aisles. None comes exactly where the two points are no move.
 pub fn is_move(layout: &Layout, from: Point, to: Point) -> Option<u64>
@@ -56,8 +73,5 @@ pub fn is_move(layout: &Layout, from: Point, to: Point) -> Option<u64>
     if is_deeper(to, from) {
         return Some(length_behind(layout, to.slot));
     }
-    if is_further(layout, from, to) || is_further(layout, to, from) {
-        return Some(u64::from(layout.spacing()));
-    }
-    None
+    length_across(layout, from, to)
 }

@@ -4,7 +4,7 @@ ghost use Rattle.std.specs.Int.{bit_at};
 ghost use Rattle.wp_model.specs.Limits.{most_aisles};
 ghost use Rattle.wp_model.specs.Warehouse.{IsLayout, IsSlot, IsUpTo};
 ghost use Rattle.wp_graph.specs.NeededAisles.{IsLastNeededBefore};
-ghost use Rattle.wp_graph.specs.PickSets.{AreBareElsewhere, AreSlots, HasBitsOfBoth};
+ghost use Rattle.wp_graph.specs.PickSets.{AreBareElsewhere, AreSlots, HasBitsOfBoth, HaveSlotIn};
 ghost use Rattle.wp_graph.specs.Required.{has_point};
 
 use crate::layout::Layout;
@@ -139,6 +139,20 @@ impl Picks {
             && has_bit(self.words[word_of(&self.layout, point)], point.slot % 64)
     }
 
+    /// Whether a slot of the set lies in an aisle.
+    pub fn has_in(&self, aisle: u32) -> bool
+        requires { IsUpTo self.now.layout.aisles aisle }
+        ensures exact { IsTrue result ↔ HaveSlotIn self.now.points aisle }
+        ensures slots { AreSlots self.now.layout self.now.points }
+    {
+        for index in 0..AISLE_WORDS {
+            if self.word(aisle, index) != 0 {
+                return true;
+            }
+        }
+        false
+    }
+
     /// The last needed aisle before an aisle, where there is one. An aisle is needed if the depot lies in it or a slot of
     /// the set.
     pub fn needed_below(&self, aisle: u32) -> Option<u32>
@@ -161,7 +175,7 @@ impl Picks {
         requires aisle { IsUpTo self.now.layout.aisles aisle }
         requires index { index < 4 }
         ensures bits { (k : ℕ) → k < 64 → (bit_at result k == 1) ≡ has_point self.now.points aisle (64 * index + k) }
-        ensures slots { (p : PointData) → Contains self.now.points p → IsSlot self.now.layout p }
+        ensures slots { AreSlots self.now.layout self.now.points }
     {
         let last = AISLE_WORDS * self.layout.aisles() as usize + AISLE_WORDS;
         let enough = last <= WORDS;

@@ -11,10 +11,7 @@ fn is_round(layout: &Layout, points: &[Point]) -> bool
     ensures { IsTrue result ↔ ((slice_get points.now 0 ≡ Some (depot_point layout.now)) ×
         (slice_get points.now (length points.now - 1) ≡ Some (depot_point layout.now))) }
 {
-    let depot = Point {
-        aisle: layout.depot(),
-        slot: 0,
-    };
+    let depot = layout.depot_point();
     match (points.first(), points.last()) {
         (Some(first), Some(last)) => *first == depot && *last == depot,
         _ => false,

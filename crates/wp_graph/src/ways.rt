@@ -1,10 +1,12 @@
-ghost use Rattle.std.specs.Prelude.{◌≡◌, ◌+◌, ◌<◌, ◌≤◌, ◌==◌, ℕ, List, [], ◌∷◌, ◌*◌, ◌-◌, Option, IfSome, Some, None, nat_lt, fold, map, if◌then◌else◌};
+ghost use Rattle.std.specs.Prelude.{◌≡◌, ◌+◌, ◌++◌, ◌<◌, ◌≤◌, ◌==◌, ℕ, List, [], ◌∷◌, ◌*◌, ◌-◌, Option, IfSome, Some, None, nat_lt, fold, map, if◌then◌else◌};
 ghost use Rattle.std.specs.Int.{bit_at};
 ghost use Rattle.wp_model.specs.Warehouse.{IsLayout, IsUpTo};
 ghost use Rattle.wp_graph.specs.AisleLengths.{ways_of};
 ghost use Rattle.wp_graph.specs.Required.{aisle_length, distance, required_distances};
+ghost use Rattle.wp_graph.specs.Sites.{has_depot, site_of};
+ghost use Rattle.wp_model.specs.Warehouse.End.{at_front, at_back};
 ghost use Rattle.wp_graph.specs.PickSets.{AreSlots};
-ghost use Rattle.wp_graph.specs.Stretches.{bit_places, reach_to, ways_by_stretch};
+ghost use Rattle.wp_graph.specs.Stretches.{back_distances, bit_places, front_distances, reach_to, slot_distances, ways_by_stretch};
 
 use crate::layout::Layout;
 use crate::picks::{AISLE_WORDS, Picks};
@@ -88,17 +90,61 @@ fn reach_word(layout: &Layout, before: Option<Stretch>, first: u32, bits: u64) -
     stretch
 }
 
-// The required distances before the slots: 0 in the depot's aisle.
-fn reach_depot(layout: &Layout, aisle: u32) -> Option<Stretch>
+// Whether the depot lies at the front end of an aisle.
+fn has_depot_in_front(layout: &Layout, aisle: u32) -> bool
+    ensures value { result ≡ has_depot (site_of layout.now) aisle at_front }
     ensures valid { IsLayout layout.now }
-    ensures value { result ≡ fold reach_to None (if aisle == layout.now.depot then 0 ∷ [] else []) }
+{
+    aisle == layout.depot() && !layout.depot_back()
+}
+
+// Whether the depot lies at the back end of an aisle.
+fn has_depot_behind(layout: &Layout, aisle: u32) -> bool
+    ensures value { result ≡ has_depot (site_of layout.now) aisle at_back }
+    ensures valid { IsLayout layout.now }
+{
+    aisle == layout.depot() && layout.depot_back()
+}
+
+// The required distances before the slots: 0 where the depot lies in front.
+fn reach_front(layout: &Layout, aisle: u32) -> Option<Stretch>
+    ensures valid { IsLayout layout.now }
+    ensures value { result ≡ fold reach_to None (front_distances layout.now aisle) }
     ensures last { IfSome result (λ s. s.last ≤ 2000000) }
 {
-    if aisle == layout.depot() {
+    if has_depot_in_front(layout, aisle) {
         reach(None, 0)
     } else {
         None
     }
+}
+
+// The required distances behind the slots: the length of the aisle where the depot lies at the back.
+fn reach_back(layout: &Layout, aisle: u32, before: Option<Stretch>) -> Option<Stretch>
+    requires last { IfSome before (λ s. s.last ≤ 2000000) }
+    ensures value { result ≡ fold reach_to before (back_distances layout.now aisle) }
+    ensures last { IfSome result (λ s. s.last ≤ 2010000) }
+{
+    if has_depot_behind(layout, aisle) {
+        reach(before, length_of_aisle(layout))
+    } else {
+        before
+    }
+}
+
+// The required distances up to the last slot of an aisle.
+fn reach_slots(layout: &Layout, picks: &Picks, aisle: u32) -> Option<Stretch>
+    requires picks { picks.now.layout ≡ layout.now }
+    requires aisle { IsUpTo layout.now.aisles aisle }
+    ensures value { result ≡ fold reach_to None (front_distances layout.now aisle ++ slot_distances layout.now picks.now.points aisle) }
+    ensures slots { AreSlots layout.now picks.now.points }
+    ensures last { IfSome result (λ s. s.last ≤ 2000000) }
+{
+    let mut stretch = reach_front(layout, aisle);
+    for index in 0..AISLE_WORDS {
+        stretch = reach_word(layout, stretch, 64 * index as u32, picks.word(aisle, index));
+    }
+    stretch
 }
 
 // All required distances of an aisle.
@@ -107,21 +153,25 @@ fn reach_aisle(layout: &Layout, picks: &Picks, aisle: u32) -> Option<Stretch>
     requires aisle { IsUpTo layout.now.aisles aisle }
     ensures value { result ≡ fold reach_to None (required_distances layout.now picks.now.points aisle) }
     ensures slots { AreSlots layout.now picks.now.points }
-    ensures last { IfSome result (λ s. s.last ≤ 2000000) }
+    ensures last { IfSome result (λ s. s.last ≤ 2010000) }
 {
-    let mut stretch = reach_depot(layout, aisle);
-    for index in 0..AISLE_WORDS {
-        stretch = reach_word(layout, stretch, 64 * index as u32, picks.word(aisle, index));
-    }
-    stretch
+    reach_back(layout, aisle, reach_slots(layout, picks, aisle))
 }
 
-// The way from the back to the first required distance, where there is one.
-fn back_way(has_depot: bool, whole: u64, first: u64) -> Option<u64>
+// The way from the back to the first required distance, which there isn't where the depot lies in front.
+fn back_way(in_front: bool, whole: u64, first: u64) -> Option<u64>
     requires { whole ≤ 2010000 }
-    ensures { result ≡ (if has_depot then None else Some (2 * (whole - first))) }
+    ensures { result ≡ (if in_front then None else Some (2 * (whole - first))) }
 {
-    (!has_depot).then_some(2 * whole.saturating_sub(first))
+    (!in_front).then_some(2 * whole.saturating_sub(first))
+}
+
+// The way from the front to the last required distance, which there isn't where the depot lies at the back.
+fn front_way(behind: bool, last: u64) -> Option<u64>
+    requires { last ≤ 2010000 }
+    ensures { result ≡ (if behind then None else Some (2 * last)) }
+{
+    (!behind).then_some(2 * last)
 }
 
 // The way that leaves the largest gap, where there is one.
@@ -132,11 +182,12 @@ fn gap_way(whole: u64, reached: Stretch) -> Option<u64>
     (reached.first < reached.last).then_some(2 * whole.saturating_sub(reached.gap))
 }
 
-// The lengths of the ways through an aisle with a depot or none, of a length, with such required distances.
-fn ways_by(has_depot: bool, whole: u64, stretch: Option<Stretch>) -> AisleWays
+// The lengths of the ways through an aisle of a length with such required distances, given whether the depot lies at its
+// front end and whether at its back end.
+fn ways_by(in_front: bool, behind: bool, whole: u64, stretch: Option<Stretch>) -> AisleWays
     requires whole { whole ≤ 2010000 }
-    requires last { IfSome stretch (λ s. s.last ≤ 2000000) }
-    ensures { result ≡ ways_by_stretch has_depot whole stretch }
+    requires last { IfSome stretch (λ s. s.last ≤ 2010000) }
+    ensures { result ≡ ways_by_stretch in_front behind whole stretch }
 {
     match stretch {
         None => AisleWays {
@@ -149,8 +200,8 @@ fn ways_by(has_depot: bool, whole: u64, stretch: Option<Stretch>) -> AisleWays
         },
         Some(reached) => AisleWays {
             pass: whole,
-            back: back_way(has_depot, whole, reached.first),
-            front: Some(2 * reached.last),
+            back: back_way(in_front, whole, reached.first),
+            front: front_way(behind, reached.last),
             gap: gap_way(whole, reached),
             double: 2 * whole,
             skip: None,
@@ -158,8 +209,8 @@ fn ways_by(has_depot: bool, whole: u64, stretch: Option<Stretch>) -> AisleWays
     }
 }
 
-/// The lengths of the six ways through an aisle. In the depot's aisle the front end counts as a pick, and there is no
-/// way from the back alone.
+/// The lengths of the six ways through an aisle. In the depot's aisle the end at which it lies counts as a pick, and there
+/// is no way from the other end alone.
 pub fn aisle_ways(layout: &Layout, picks: &Picks, aisle: u32) -> AisleWays
     requires picks { picks.now.layout ≡ layout.now }
     requires aisle { IsUpTo layout.now.aisles aisle }
@@ -167,7 +218,8 @@ pub fn aisle_ways(layout: &Layout, picks: &Picks, aisle: u32) -> AisleWays
     ensures slots { AreSlots layout.now picks.now.points }
 {
     ways_by(
-        aisle == layout.depot(),
+        has_depot_in_front(layout, aisle),
+        has_depot_behind(layout, aisle),
         length_of_aisle(layout),
         reach_aisle(layout, picks, aisle),
     )

@@ -1,15 +1,15 @@
 -- The name and the numbers that are told of a short article are those of a journal.
-use Rattle.std.proofs.Common.{◌≡◌, ℕ, zero, suc, ◌*◌, ◌<◌, ◌≤◌, ◌^◌, ◌==◌, true, List, [], ◌∷◌, length, slice_get, Some, None, All}
-use Rattle.std.proofs.Common.{arith, lit<, nat_lt, bytes_eq}
+use Rattle.std.proofs.Common.{◌≡◌, ℕ, zero, suc, ◌*◌, ◌<◌, ◌≤◌, ◌^◌, ◌==◌, true, List, length, slice_get, Some, None}
+use Rattle.std.proofs.Common.{arith, lit<, nat_lt}
 use Rattle.std.proofs.lemmas.Bool.{cond_both, lt-ltb}
-use Rattle.std.proofs.lemmas.List.Elements.{All-head, All-tail, All-weaker}
+use Rattle.std.proofs.lemmas.List.Elements.{All-weaker}
 use Rattle.std.proofs.lemmas.List.Sums.{sum_by-le}
 use Rattle.std.proofs.lemmas.Option.{MatchOption-at_some}
-use Rattle.wp_model.proofs.Demand.{lines_are, short_article_is}
+use Rattle.wp_model.proofs.Demand.{few_lines, lines_are, short_article_is}
 use Rattle.wp_model.specs.Demand.{IsFirstShort}
 use Rattle.wp_model.proofs.Found.{option_map_or-both}
 use Rattle.wp_model.specs.Demand.{demand_at, free_units, order_demand, quantity_of, short_article, wave_demand}
-use Rattle.wp_model.specs.Opening.{IsLine, IsOpening, IsOrder, Opening, Order, article_name, lines_of}
+use Rattle.wp_model.specs.Opening.{IsLine, IsOpening, Opening, article_name, lines_of}
 use Rattle.wp_model.specs.Limits.{most_lines, most_wave_orders, most_quantity}
 use Rattle.wp_model.specs.Sums.{sum_below}
 use Rattle.wp_model.specs.declared.reply.Reply.TheVariants as reply
@@ -30,20 +30,13 @@ quantity_few : (articles : List (List ℕ)) (article : ℕ) (line : Line) → Is
 quantity_few articles article line is =
     cond_both (line.article == article) line.quantity 0 (λ units. units ≤ most_quantity) (λ same. is.most) (λ other. omega arith)
 
-lines_few : (articles : List (List ℕ)) (orders : List Order) (name : List ℕ) → All (IsOrder articles) orders → length (lines_of orders name) ≤ most_lines
-lines_few articles [] name each = omega arith
-lines_few articles (order ∷ orders) name each =
-    let first : IsOrder articles order = All-head (IsOrder articles) order orders each in
-    cond_both (bytes_eq order.name name) order.lines (lines_of orders name) (λ lines. length lines ≤ most_lines) (λ same. first.most)
-    (λ other. lines_few articles orders name (All-tail (IsOrder articles) order orders each))
-
 order_few : (opening : Opening) (order : List ℕ) (article : ℕ) → IsOpening opening → order_demand opening order article ≤ most_of_order
 order_few opening order article is =
     let articles = opening.stock.articles in
     let lines = lines_of opening.orders order in
     let each = All-weaker (IsLine articles) (λ line. quantity_of article line ≤ most_quantity) (quantity_few articles article) lines
     (lines_are articles opening.orders order is.orders) in
-    omega (arith, sum_by-le (quantity_of article) most_quantity lines each, lines_few articles opening.orders order is.orders)
+    omega (arith, sum_by-le (quantity_of article) most_quantity lines each, few_lines articles opening.orders order is.orders)
 
 place_few : (opening : Opening) (orders : List (List ℕ)) (article place : ℕ) → IsOpening opening → demand_at opening orders article place ≤ most_of_order
 place_few opening orders article place is =

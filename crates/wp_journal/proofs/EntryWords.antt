@@ -92,6 +92,7 @@ reply_word reply.KnownWave = codes "refused"
 reply_word (reply.UnknownOrder order) = codes "refused"
 reply_word (reply.OrderTwice order) = codes "refused"
 reply_word (reply.OrderTaken order w) = codes "refused"
+reply_word (reply.OverCart order units) = codes "refused"
 reply_word reply.UnknownWave = codes "refused"
 reply_word (reply.WrongState state) = codes "refused"
 reply_word (reply.Short article wanted free) = codes "refused"
@@ -118,6 +119,7 @@ reply_told reply.KnownWave = codes "known-wave" ∷ []
 reply_told (reply.UnknownOrder order) = codes "unknown-order" ∷ order ∷ []
 reply_told (reply.OrderTwice order) = codes "order-twice" ∷ order ∷ []
 reply_told (reply.OrderTaken order w) = codes "order-taken" ∷ order ∷ w ∷ []
+reply_told (reply.OverCart order units) = codes "over-cart" ∷ order ∷ decimal units ∷ []
 reply_told reply.UnknownWave = codes "unknown-wave" ∷ []
 reply_told (reply.WrongState state) = codes "wrong-state" ∷ wave_state_text state ∷ []
 reply_told (reply.Short article wanted free) = codes "short" ∷ article ∷ decimal wanted ∷ decimal free ∷ []
@@ -144,6 +146,8 @@ reply_phrase (reply.UnknownOrder order) = one_more (codes "refused") (codes "unk
 reply_phrase (reply.OrderTwice order) = one_more (codes "refused") (codes "order-twice" ∷ []) order refl
 reply_phrase (reply.OrderTaken order w) = one_more (codes "refused") (codes "order-taken" ∷ order ∷ []) w
     (one_more (codes "refused") (codes "order-taken" ∷ []) order refl)
+reply_phrase (reply.OverCart order units) = one_more (codes "refused") (codes "over-cart" ∷ order ∷ []) (decimal units)
+    (one_more (codes "refused") (codes "over-cart" ∷ []) order refl)
 reply_phrase reply.UnknownWave = refl
 reply_phrase (reply.WrongState state) = one_more (codes "refused") (codes "wrong-state" ∷ []) (wave_state_text state) refl
 reply_phrase (reply.Short article wanted free) =
@@ -243,6 +247,8 @@ reply_plain reply.KnownWave h = refl
 reply_plain (reply.UnknownOrder order) h = one_plain order (name_plain order h)
 reply_plain (reply.OrderTwice order) h = one_plain order (name_plain order h)
 reply_plain (reply.OrderTaken order w) h = let parts = both _ _ h in two_plain order w (name_plain order parts.0) (name_plain w parts.1)
+reply_plain (reply.OverCart order units) h = let parts = both _ _ h in
+    two_plain order (decimal units) (name_plain order parts.0) (u32_plain units parts.1)
 reply_plain reply.UnknownWave h = refl
 reply_plain (reply.WrongState state) h = one_plain (wave_state_text state) (state_plain state)
 reply_plain (reply.Short article wanted free) h =

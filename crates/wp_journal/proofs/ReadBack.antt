@@ -175,6 +175,7 @@ reply_read reply.KnownWave h = refl
 reply_read (reply.UnknownOrder order) h = rw (name_read order h) refl
 reply_read (reply.OrderTwice order) h = rw (name_read order h) refl
 reply_read (reply.OrderTaken order w) h = let parts = both _ _ h in rw (name_read order parts.0, name_read w parts.1) refl
+reply_read (reply.OverCart order units) h = let parts = both _ _ h in rw (name_read order parts.0, u32_read units parts.1) refl
 reply_read reply.UnknownWave h = refl
 reply_read (reply.WrongState state) h = rw (state_read state) refl
 reply_read (reply.Short article wanted free) h =

@@ -49,12 +49,12 @@ refused opening state why named is = record { reply = is; named = named }
 units_u32 : (n : ℕ) → n ≤ most_on_hand → nat_lt n (2 ^ 32) ≡ true
 units_u32 n few = let numeral : most_on_hand < 2 ^ 32 = lit< tt in lt-ltb n (2 ^ 32) (omega arith)
 
-submit_fits : (opening : Opening) (state : State) (name : List ℕ) (orders : List (List ℕ)) → IsNamed opening state → length orders ≤ 100
-    → is_name name ≡ true → list_all is_name orders ≡ true → Fits opening (step opening state (command.Submit name orders))
-submit_fits opening state name orders named few is are =
+submit_fits : (opening : Opening) (state : State) (name : List ℕ) (orders : List (List ℕ)) → IsOpening opening → IsNamed opening state
+    → length orders ≤ 100 → is_name name ≡ true → list_all is_name orders ≡ true → Fits opening (step opening state (command.Submit name orders))
+submit_fits opening state name orders is_opening named few is are =
     option_map_or-both (Fits opening) (refuse state) (submit_fault opening state name orders) _
     (λ why found. refused opening state why named
-    (at_some (submit_fault opening state name orders) (λ why. IsTrue (is_line_reply why)) why found (submit_line opening state name orders named few are)))
+    (at_some (submit_fault opening state name orders) (λ why. IsTrue (is_line_reply why)) why found (submit_line opening state name orders is_opening named few are)))
     (λ none. record { reply = refl; named = add_named opening state name orders named is })
 
 -- a command on a wave, where it fits at the wave with a number
@@ -231,7 +231,7 @@ pub step_fits : (opening : Opening) (state : State) (c : Command) → IsDayState
     → Fits opening (step opening state c)
 step_fits opening state (command.Submit name orders) day plain names =
     let parts = both (is_name name) (list_all is_name orders) names in
-    submit_fits opening state name orders day.named (leb-true (length orders) 100 plain) parts.0 parts.1
+    submit_fits opening state name orders day.is day.named (leb-true (length orders) 100 plain) parts.0 parts.1
 step_fits opening state (command.Allot name) day plain names =
     at_wave_fits opening state name _ day.named (λ number w there. allot_fits opening state number w w.state day there)
 step_fits opening state (command.Release name) day plain names =

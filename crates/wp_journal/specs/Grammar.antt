@@ -23,6 +23,7 @@ is_line_reply (reply.WaveFull orders) = is_u32 orders
 is_line_reply (reply.UnknownOrder order) = is_name order
 is_line_reply (reply.OrderTwice order) = is_name order
 is_line_reply (reply.OrderTaken order wave) = is_name order && is_name wave
+is_line_reply (reply.OverCart order units) = is_name order && is_u32 units
 is_line_reply (reply.Short article wanted free) = is_name article && (is_u64 wanted && is_u64 free)
 is_line_reply (reply.NotHeld location) = is_plain_location location
 is_line_reply (reply.TooMuch held) = is_u32 held

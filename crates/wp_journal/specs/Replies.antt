@@ -68,6 +68,14 @@ loss_in article units = option_and_then (λ a. option_map (reply.Lost a) (small_
 abbrev pub taken_in : Word → Word → Option Reply
 taken_in order w = option_and_then (λ o. option_map (reply.OrderTaken o) (name_in w)) (name_in order)
 
+-- OverCart: an order, and its units
+abbrev pub over_cart_in : Word → Word → Option Reply
+over_cart_in order units = option_and_then (λ o. option_map (reply.OverCart o) (small_of units)) (name_in order)
+
+-- a refusal that tells an order and one word more: what that is depends on the refusal
+abbrev pub order_refusal : Word → Word → Word → Option Reply
+order_refusal why order told = if bytes_eq why (codes "over-cart") then over_cart_in order told else taken_in order told
+
 -- Short: an article, and the units of it that are wanted and free
 abbrev pub short_in : Word → Word → Word → Option Reply
 short_in article wanted free =
@@ -83,6 +91,6 @@ reply_in [] = None
 reply_in (word ∷ []) = plain_reply word
 reply_in (word ∷ told ∷ []) = if is_refusal word then plain_refusal told else option_map reply.Refilled (small_of told)
 reply_in (word ∷ a ∷ b ∷ []) = if is_refusal word then told_refusal a b else loss_in a b
-reply_in (word ∷ why ∷ order ∷ w ∷ []) = taken_in order w
+reply_in (word ∷ why ∷ order ∷ told ∷ []) = order_refusal why order told
 reply_in (word ∷ why ∷ article ∷ wanted ∷ free ∷ []) = short_in article wanted free
 reply_in (a ∷ b ∷ c ∷ d ∷ e ∷ f ∷ rest) = None

@@ -98,6 +98,7 @@ fn is_line_reply(reply: &Reply) -> bool
         Reply::UnknownOrder(order) => is_name(order),
         Reply::OrderTwice(order) => is_name(order),
         Reply::OrderTaken { order, wave } => is_name(order) && is_name(wave),
+        Reply::OverCart { order, units } => is_name(order) && is_u32(*units),
         Reply::WrongState(_) | Reply::Picking | Reply::NoRow => true,
         Reply::Short {
             article,

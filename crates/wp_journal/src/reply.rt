@@ -1,6 +1,7 @@
 //! Replies as words. What isn't tested here is tested where the line is compared.
 ghost use Rattle.std.specs.Prelude.{◌≡◌};
-ghost use Rattle.wp_journal.specs.Replies.{is_refusal, loss_in, name_refusal, plain_refusal, plain_reply, reply_in, short_in, state_of, taken_in, told_refusal};
+ghost use Rattle.wp_journal.specs.Replies.{is_refusal, loss_in, name_refusal, order_refusal, over_cart_in, plain_refusal, plain_reply, reply_in, short_in, state_of};
+ghost use Rattle.wp_journal.specs.Replies.{taken_in, told_refusal};
 ghost use Rattle.wp_journal.specs.Splits.{words_now};
 
 use crate::number::{read_small, read_whole};
@@ -110,6 +111,24 @@ fn read_taken(order: &[u8], wave: &[u8]) -> Option<Reply>
     Some(Reply::OrderTaken { order, wave })
 }
 
+fn read_over_cart(order: &[u8], units: &[u8]) -> Option<Reply>
+    ensures { result ≡ over_cart_in order.now units.now }
+{
+    let order = Name::new(order)?;
+    let units = read_small(units)?;
+    Some(Reply::OverCart { order, units })
+}
+
+fn order_refusal(why: &[u8], order: &[u8], told: &[u8]) -> Option<Reply>
+    ensures { result ≡ order_refusal why.now order.now told.now }
+{
+    if why == b"over-cart".as_slice() {
+        read_over_cart(order, told)
+    } else {
+        read_taken(order, told)
+    }
+}
+
 fn read_short(article: &[u8], wanted: &[u8], free: &[u8]) -> Option<Reply>
     ensures { result ≡ short_in article.now wanted.now free.now }
 {
@@ -139,7 +158,7 @@ pub fn read_reply(words: &[&[u8]]) -> Option<Reply>
         [_, units] => Some(Reply::Refilled(read_small(units)?)),
         [word, why, told] if is_refusal(word) => told_refusal(why, told),
         [_, article, units] => read_loss(article, units),
-        [_, _, order, wave] => read_taken(order, wave),
+        [_, why, order, told] => order_refusal(why, order, told),
         [_, _, article, wanted, free] => read_short(article, wanted, free),
         _ => None,
     }

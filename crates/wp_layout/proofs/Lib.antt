@@ -1,3 +1,6 @@
 mod ReadBack
 mod KeyNames
 mod JsonText
+mod Finding
+mod SameSpacings
+mod Ranged

@@ -13,11 +13,17 @@ key_text key.Slots = codes "slots"
 key_text key.Pitch = codes "pitch"
 key_text key.Clearance = codes "clearance"
 key_text key.Spacing = codes "spacing"
+key_text key.Spacings = codes "spacings"
 key_text key.Depot = codes "depot"
+key_text key.End = codes "end"
 
--- the keys, in the order in which they are tested
-abbrev pub all_keys : List Key
-all_keys = key.Version ∷ key.Aisles ∷ key.Slots ∷ key.Pitch ∷ key.Clearance ∷ key.Spacing ∷ key.Depot ∷ []
+-- the keys of version 1, in the order in which they are tested
+abbrev pub first_keys : List Key
+first_keys = key.Version ∷ key.Aisles ∷ key.Slots ∷ key.Pitch ∷ key.Clearance ∷ key.Spacing ∷ key.Depot ∷ []
+
+-- those of version 2
+abbrev pub second_keys : List Key
+second_keys = key.Version ∷ key.Aisles ∷ key.Slots ∷ key.Pitch ∷ key.Clearance ∷ key.Spacings ∷ key.Depot ∷ key.End ∷ []
 
 -- what a fault is told as
 abbrev pub fault_text : LayoutFault → List ℕ
@@ -27,4 +33,5 @@ fault_text (fault.MissingKey key) = codes "missing-key " ++ key_text key
 fault_text fault.UnknownKey = codes "unknown-key"
 fault_text (fault.NotWhole key) = codes "not-whole " ++ key_text key
 fault_text (fault.OutOfRange key) = codes "out-of-range " ++ key_text key
+fault_text fault.NotEnd = codes "not-end"
 fault_text fault.Memory = codes "memory"

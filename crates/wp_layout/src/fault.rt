@@ -17,10 +17,14 @@ pub enum LayoutFault {
     MissingKey(Key),
     /// The object has a further key.
     UnknownKey,
-    /// What stands at this key is no whole number from 0 to 2^64 - 1, written with digits alone.
+    /// What stands at this key is no whole number from 0 to 2^64 - 1, written with digits alone, and at the spacings no
+    /// list of such numbers.
     NotWhole(Key),
-    /// The number at this key is outside its range.
+    /// The number at this key is outside its range, or one of the spacings is, or there isn't one of them less than there
+    /// are aisles.
     OutOfRange(Key),
+    /// What stands at the end is neither `front` nor `back`.
+    NotEnd,
     /// There was no memory for what the file says.
     Memory,
 }
@@ -36,6 +40,7 @@ impl fmt::Display for LayoutFault {
             LayoutFault::UnknownKey => f.write_str("unknown-key"),
             LayoutFault::NotWhole(key) => write!(f, "not-whole {key}"),
             LayoutFault::OutOfRange(key) => write!(f, "out-of-range {key}"),
+            LayoutFault::NotEnd => f.write_str("not-end"),
             LayoutFault::Memory => f.write_str("memory"),
         }
     }

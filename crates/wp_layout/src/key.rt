@@ -6,7 +6,7 @@ use std::fmt;
 /// A key of a layout file.
 #[derive(Clone, Copy, Debug, PartialEq, Eq)]
 pub enum Key {
-    /// The version of the form of the file, which is 1.
+    /// The version of the form of the file, which is 1 or 2.
     Version,
     /// The number of aisles.
     Aisles,
@@ -16,14 +16,30 @@ pub enum Key {
     Pitch,
     /// The length from an end of an aisle to its nearest slot.
     Clearance,
-    /// The length between neighbouring aisles.
+    /// The length between neighbouring aisles, in version 1.
     Spacing,
-    /// The aisle at whose front end the depot lies.
+    /// The lengths from each aisle but the last to the next one, in version 2.
+    Spacings,
+    /// The aisle at one end of which the depot lies.
     Depot,
+    /// The end of its aisle at which the depot lies, in version 2.
+    End,
 }
 
-/// The keys, in the order in which they are tested.
-pub(crate) const KEYS: [Key; 7] = [
+/// The keys of version 2, in the order in which they are tested.
+pub(crate) const SECOND_KEYS: [Key; 8] = [
+    Key::Version,
+    Key::Aisles,
+    Key::Slots,
+    Key::Pitch,
+    Key::Clearance,
+    Key::Spacings,
+    Key::Depot,
+    Key::End,
+];
+
+/// The keys of version 1, in the order in which they are tested.
+pub(crate) const FIRST_KEYS: [Key; 7] = [
     Key::Version,
     Key::Aisles,
     Key::Slots,
@@ -45,7 +61,9 @@ impl Key {
             Key::Pitch => "pitch",
             Key::Clearance => "clearance",
             Key::Spacing => "spacing",
+            Key::Spacings => "spacings",
             Key::Depot => "depot",
+            Key::End => "end",
         }
     }
 }

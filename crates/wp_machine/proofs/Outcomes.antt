@@ -42,6 +42,8 @@ refusal_is_silent number before after name order (reply.OrderTwice named) refuse
     record { released = refl; refilled = refl; no_holds = refl; no_refill = refl }
 refusal_is_silent number before after name order (reply.OrderTaken named w) refuses =
     record { released = refl; refilled = refl; no_holds = refl; no_refill = refl }
+refusal_is_silent number before after name order (reply.OverCart named units) refuses =
+    record { released = refl; refilled = refl; no_holds = refl; no_refill = refl }
 refusal_is_silent number before after name order reply.UnknownWave refuses = record { released = refl; refilled = refl; no_holds = refl; no_refill = refl }
 refusal_is_silent number before after name order (reply.WrongState state) refuses =
     record { released = refl; refilled = refl; no_holds = refl; no_refill = refl }

@@ -40,7 +40,7 @@ day_said number size is said =
     λ aisle slot place inside. stock.keeps.there aisle slot place (omega (arith, place.last_slot)) in
     let orders = orders_made size.aisles number size.orders stock.after.articles is.some_aisles is.aisles there is.orders in
     let desks = desks_made size is in (
-      record { layout = layout; opening = record { stock = stock.after; orders = orders.after }; scripts = scripts_of desks.after },
+      record { layout = layout; stock = stock.after; orders = orders.after; scripts = scripts_of desks.after },
       record {
         layout = said;
         stock = table_said (stock_after layout) empty_stock stock_heading (stock_records size.aisles) _ refl refl (stock_bare (stock_records size.aisles)) stock;

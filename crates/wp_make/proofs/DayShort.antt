@@ -1,14 +1,15 @@
 -- No made text is longer than a file may be.
-use Rattle.std.proofs.Common.{◌≡◌, refl, ℕ, ◌+◌, ◌*◌, ◌/◌, ◌<◌, ◌≤◌, List, [], ◌∷◌, ◌++◌, codes, length, arith, length-append, lit<, lit≤}
+use Rattle.std.proofs.Common.{◌≡◌, refl, sym, ap, subst, ◌⊎◌, ⊎_elim, Bool, if◌then◌else◌, ℕ, ◌+◌, ◌*◌, ◌/◌, ◌<◌, ◌≤◌, List, [], ◌∷◌, ◌++◌, codes, length, arith, length-append, lit<, lit≤}
 use Rattle.std.specs.Prelude.{min, ◌-◌}
-use Rattle.std.specs.Fmt.{decimal}
+use Rattle.std.specs.Fmt.{decimal, digits}
 use Rattle.std.specs.List.{range_with_len}
 use Rattle.std.proofs.lemmas.Fmt.{length-decimal-le}
 use Rattle.std.proofs.lemmas.List.{length-map}
 use Rattle.std.proofs.lemmas.List.FromFn.{length-range_with_len}
 use Rattle.std.proofs.Math.Nat.{min-le_left}
-use Rattle.wp_layout.specs.LayoutText.{layout_text}
+use Rattle.wp_layout.specs.LayoutText.{first_text, layout_text, second_text}
 use Rattle.wp_model.specs.Journal.{line}
+use Rattle.wp_model.specs.Warehouse.{spacing_after}
 use Rattle.wp_tables.specs.DeskFile.{desks_heading}
 use Rattle.wp_tables.specs.OrderFile.{orders_heading}
 use Rattle.wp_tables.specs.StockFile.{stock_heading}
@@ -19,6 +20,7 @@ use Rattle.wp_make.specs.Sizes.{IsSize, orders_of_wave, wave_count}
 use Rattle.wp_make.specs.Texts.{AreShort, made_layout, made_texts}
 use Rattle.wp_make.specs.declared.input.Size.{Size}
 use Rattle.wp_make.proofs.DesksRead.{desks_made}
+use Rattle.wp_make.proofs.LayoutRead.{made_even, made_spacing}
 use Rattle.wp_make.proofs.Lengths.{count_each, count_mapped, field_count, table_short}
 use Rattle.wp_make.proofs.OrdersRead.{HasArticles, few_lines, orders_made}
 use Rattle.wp_make.proofs.StockRead.{stock_made}
@@ -67,16 +69,22 @@ wave_fields size waves is =
 desks_count : (size : Size) → IsSize size → field_count (desks_records size) ≤ 70 * wave_count size
 desks_count size is = count_each (wave_records size) 70 0 (wave_count size) (λ waves low high. wave_fields size waves is)
 
-digits : (n : ℕ) → n < 100 → length (decimal n) ≤ 2
-digits n small = length-decimal-le 2 n (lit< tt) (omega (arith, small)) (omega (arith, small))
+two_digits : (n : ℕ) → n < 100 → length (decimal n) ≤ 2
+two_digits n small = length-decimal-le 2 n (lit< tt) (omega (arith, small)) (omega (arith, small))
 
 -- a text with a further key and a number of two digits at most
 with_number : (before key : List ℕ) (n b k : ℕ) → length before ≤ b → length key ≤ k → n < 100 → length (before ++ key ++ decimal n) ≤ b + (k + 2)
 with_number before key n b k short short' small =
-    omega (arith, length-append (before ++ key) (decimal n), length-append before key, digits n small, short, short')
+    omega (arith, length-append (before ++ key) (decimal n), length-append before key, two_digits n small, short, short')
 
-layout_short : (aisles : ℕ) → aisles ≤ 64 → length (line (layout_text (made_layout aisles))) ≤ 100
-layout_short aisles few =
+-- the text of a made layout of one aisle
+alone_short : length (line (second_text (made_layout 1))) ≤ 120
+unfolding digits
+alone_short = lit≤ tt
+
+-- that of one with more
+first_short : (aisles : ℕ) → aisles ≤ 64 → spacing_after (made_layout aisles) 1 < 100 → length (line (first_text (made_layout aisles))) ≤ 100
+first_short aisles few near =
     let depot = (aisles + 1) / 2 in
     let aisles_text = codes "{\"aisles\":" ++ decimal aisles in
     let clearance_text = aisles_text ++ codes ",\"clearance\":" ++ decimal 1 in
@@ -87,15 +95,30 @@ layout_short aisles few =
     let upto_depot = with_number clearance_text (codes ",\"depot\":") depot 27 9 clearance (lit≤ tt) (omega (arith, few)) in
     let pitch = with_number depot_text (codes ",\"pitch\":") 2 38 9 upto_depot (lit≤ tt) (lit< tt) in
     let slots = with_number pitch_text (codes ",\"slots\":") 40 49 9 pitch (lit≤ tt) (lit< tt) in
-    let spacing = with_number slots_text (codes ",\"spacing\":") 5 60 11 slots (lit≤ tt) (lit< tt) in
-    last (slots_text ++ codes ",\"spacing\":" ++ decimal 5) spacing
+    let spacing = with_number slots_text (codes ",\"spacing\":") (spacing_after (made_layout aisles) 1) 60 11 slots (lit≤ tt) near in
+    last (slots_text ++ codes ",\"spacing\":" ++ decimal (spacing_after (made_layout aisles) 1)) spacing
   where
     first : aisles < 100 → length (codes "{\"aisles\":" ++ decimal aisles) ≤ 12
-    first small = omega (arith, length-append (codes "{\"aisles\":") (decimal aisles), digits aisles small)
+    first small = omega (arith, length-append (codes "{\"aisles\":") (decimal aisles), two_digits aisles small)
 
     last : (before : List ℕ) → length before ≤ 73 → length (line (before ++ codes ",\"version\":1}")) ≤ 100
     last before short =
         omega (arith, short, length-append before (codes ",\"version\":1}"), length-append (before ++ codes ",\"version\":1}") (10 ∷ []))
+
+layout_short : (aisles : ℕ) → 1 ≤ aisles → aisles ≤ 64 → length (line (layout_text (made_layout aisles))) ≤ 120
+layout_short aisles some few = ⊎_elim (λ one. subst (λ (n : ℕ). length (line (layout_text (made_layout n))) ≤ 120) (sym one) alone_short)
+    (λ more. together more) (cases aisles some)
+  where
+    cases : (n : ℕ) → 1 ≤ n → (n ≡ 1) ⊎ (2 ≤ n)
+    cases n low = grind arith
+
+    together : 2 ≤ aisles → length (line (layout_text (made_layout aisles))) ≤ 120
+    together more =
+        let layout = made_layout aisles in
+        let text : layout_text layout ≡ first_text layout =
+        ap (λ (b : Bool). if b then first_text layout else second_text layout) (made_even aisles more) in
+        let short = first_short aisles few (let w = made_spacing aisles more in omega (arith, w)) in
+        let same = ap (λ (t : List ℕ). length (line t)) text in omega (arith, short, same)
 
 -- the texts that are made of a size
 pub day_short : (number : ℕ) (size : Size) → IsSize size → AreShort (made_texts number size)
@@ -106,7 +129,7 @@ day_short number size is =
     let orders = orders_made size.aisles number size.orders stock.after.articles is.some_aisles is.aisles there is.orders in
     let desks = desks_made size is in
     record {
-      layout = omega (arith, layout_short size.aisles is.aisles);
+      layout = omega (arith, layout_short size.aisles is.some_aisles is.aisles);
       stock = omega (arith, table_short stock_heading (stock_records size.aisles) refl stock.named, stock_count size.aisles, is.aisles);
       orders = omega (
         arith,

@@ -5,7 +5,7 @@ use Rattle.wp_layout.specs.LayoutText.{layout_text}
 use Rattle.wp_model.specs.Journal.{line}
 use Rattle.wp_model.specs.Limits.{most_file_bytes}
 use Rattle.wp_model.specs.TableLines.{Record}
-use Rattle.wp_model.specs.Warehouse.{Layout}
+use Rattle.wp_model.specs.Warehouse.{Layout, even_layout}
 use Rattle.wp_tables.specs.DeskFile.{desks_heading}
 use Rattle.wp_tables.specs.OrderFile.{orders_heading}
 use Rattle.wp_tables.specs.StockFile.{stock_heading}
@@ -32,9 +32,9 @@ pub record AreShort (texts : Texts) : Type 0 where
 abbrev pub texts_of : Input → Texts
 texts_of input = record { layout = input.layout.items; stock = input.stock.items; orders = input.orders.items; desks = input.desks.items }
 
--- a warehouse of so many aisles, its depot in the middle
+-- a warehouse of so many aisles, its depot in front in the middle
 abbrev pub made_layout : ℕ → Layout
-made_layout aisles = record { aisles = aisles; slots = made_slots; pitch = 2; clearance = 1; spacing = 5; depot = (aisles + 1) / 2 }
+made_layout aisles = even_layout aisles made_slots 2 1 5 ((aisles + 1) / 2)
 
 -- a field after another
 abbrev pub after_comma : List ℕ → List ℕ

@@ -1,14 +1,15 @@
 -- The exchanges of a pivot, entry by entry and row by row.
-use Rattle.std.proofs.Common.{◌≡◌, ◌≢◌, ◌⊎◌, ⊎_elim, ℕ, ◌+◌, ◌*◌, ◌/◌, ◌%◌, ◌<◌, ◌≤◌, ℤ, pos, ◌*ℤ◌, ◌-ℤ◌, ◌<ℤ◌, List, set, FitsSigned, to_z, of_z, arith, refl, ap, sym, subst, ◌∙◌}
+use Rattle.std.proofs.Common.{◌≡◌, ◌≢◌, ◌⊎◌, ⊎_elim, ℕ, ◌+◌, ◌*◌, ◌/◌, ◌%◌, ◌<◌, ◌≤◌, ℤ, pos, ◌*ℤ◌, ◌-ℤ◌, ◌<ℤ◌, List, length, replicate, set, arith, refl, ap, sym, subst, ◌∙◌}
 use Rattle.std.proofs.Math.IntN.{*ℤ_comm}
-use Rattle.std.proofs.lemmas.Int.{ints, to_z-of_z}
-use Rattle.std.proofs.lemmas.List.{get_or-set_other, get_or-set_same}
+use Rattle.std.proofs.lemmas.Int.{ints}
+use Rattle.std.proofs.lemmas.List.{get_or-replicate, get_or-set_other, get_or-set_same, length-replicate, length-set}
 use Rattle.std.proofs.lemmas.Nat.{div-mul-add, mod-mul-add}
-use Rattle.std.specs.Int.{w128}
-use Rattle.std.specs.Prelude.{slice_index_or}
+use Rattle.std.specs.Prelude.{slice_index, slice_index_or}
 use Rattle.wp_master.proofs.Entries.{same_exchange, wide_entries, within_rows}
 use Rattle.wp_master.proofs.Products.{wide_along}
-use Rattle.wp_master.specs.Exchanges.{AreExchanged, HaveOneShape, IsPut, IsRowExchanged, IsRowWhole, IsRowWide}
+use Rattle.wp_master.specs.Exchanges.{AreExchanged, AreFactors, AreFilled, HaveOneShape, IsClear, IsEntryExchanged, IsPut, IsRowExchanged, IsRowWhole, IsRowWide, exchange_by}
+use Rattle.wp_master.specs.declared.filled.Filled.{Filled}
+use Rattle.wp_master.specs.declared.grid.Factors.{Factors}
 use Rattle.wp_master.specs.Pivots.{AreWhole, AreWideEntries, IsPivot, IsTable, IsWideFor, Table, entry_of, exchange_of}
 
 row_of_number : (i k w j l : ℕ) → j < w → l < w → i * w + j ≡ k * w + l → i ≡ k
@@ -63,6 +64,12 @@ row_stays table row place i none same = record {
   others = λ k j low apart. refl;
 }
 
+is_or_not : (j k : ℕ) → (j ≡ k) ⊎ (j ≢ k)
+is_or_not j k = grind arith
+
+here_or_later : (j k : ℕ) → k ≤ j → (j ≡ k) ⊎ (k + 1 ≤ j)
+here_or_later j k late = grind arith
+
 lower_or_here : (j k : ℕ) → j < k + 1 → (j < k) ⊎ (j ≡ k)
 lower_or_here j k h = grind arith
 
@@ -85,61 +92,66 @@ row_more before now after row place i j entry is put new = record {
   others = λ k l low apart. put.other_rows k l (omega (arith, low, is.shape.width)) apart ∙ is.others k l low apart;
 }
 
--- the numbers from which an entry of a row is exchanged, where those before it are exchanged already
-pub record AreOperands (before now : Table) (row place i j : ℕ) (denominator pivot own beside above : ℤ) : Type 0 where
-  pub over : denominator ≡ now.denominator
-  pub is_pivot : pivot ≡ entry_of before row place
-  pub is_own : own ≡ entry_of now i j
-  pub is_beside : beside ≡ entry_of before i place
-  pub is_above : above ≡ entry_of now row j
+-- an entry of a row that isn't exchanged yet, and what it is exchanged to
+factors_exchange : (before now : Table) (row i j : ℕ) (by : Factors) → IsRowExchanged before now row by.place i j → j < before.width → i ≢ row
+    → AreFactors before row i by → exchange_by by.pivot by.beside now row i j ≡ exchange_of before row by.place i j
+factors_exchange before now row i j by is known apart are =
+    same_exchange _ _ _ _ _ _ _ _ are.pivot (is.later j (omega arith) known) are.beside (is.others row j known (λ e. apart (sym e)))
 
--- and where they are read from their bits
-pub are_operands : (before now : Table) (row place i j : ℕ) (denominator pivot own beside above : ℤ) → denominator ≡ now.denominator
-    → FitsSigned w128 pivot → FitsSigned w128 own → FitsSigned w128 beside → FitsSigned w128 above → pivot ≡ entry_of before row place → own ≡ entry_of now i j
-    → beside ≡ entry_of before i place → above ≡ entry_of now row j
-    → AreOperands before now row place i j denominator (to_z w128 (of_z w128 pivot)) (to_z w128 (of_z w128 own)) (to_z w128 (of_z w128 beside))
-    (to_z w128 (of_z w128 above))
-are_operands before now row place i j denominator pivot own beside above over p q r s is_pivot is_own is_beside is_above = record {
-  over = over;
-  is_pivot = to_z-of_z w128 pivot p ∙ is_pivot;
-  is_own = to_z-of_z w128 own q ∙ is_own;
-  is_beside = to_z-of_z w128 beside r ∙ is_beside;
-  is_above = to_z-of_z w128 above s ∙ is_above;
-}
+-- which is a multiple of the denominator
+pub factors_whole : (before now : Table) (row i j : ℕ) (by : Factors) → IsRowExchanged before now row by.place i j → j < before.width → i ≢ row
+    → AreFactors before row i by → IsRowWhole before row by.place i → (x : ℤ) × (by.over.denominator *ℤ x ≡ exchange_by by.pivot by.beside now row i j)
+factors_whole before now row i j by is known apart are whole =
+    let entry = whole j known in
+    (entry.0, ap (λ (x : ℤ). x *ℤ entry.0) are.denominator ∙ entry.1 ∙ sym (factors_exchange before now row i j by is known apart are))
 
-operands_exchanged : (before now : Table) (row place i j : ℕ) (d p own beside above : ℤ) → IsRowExchanged before now row place i j → j < before.width → i ≢ row
-    → AreOperands before now row place i j d p own beside above → ((p *ℤ own) -ℤ (beside *ℤ above)) ≡ exchange_of before row place i j
-operands_exchanged before now row place i j d p own beside above is known apart are =
-    same_exchange _ _ _ _ _ _ _ _ are.is_pivot (are.is_own ∙ is.later j (omega arith) known) are.is_beside
-    (are.is_above ∙ is.others row j known (λ e. apart (sym e)))
-
-pub operands_whole : (before now : Table) (row place i j : ℕ) (d p own beside above : ℤ) → IsRowExchanged before now row place i j → j < before.width → i ≢ row
-    → IsRowWhole before row place i → AreOperands before now row place i j d p own beside above
-    → (x : ℤ) × (d *ℤ x ≡ (p *ℤ own) -ℤ (beside *ℤ above))
-operands_whole before now row place i j d p own beside above is known apart whole are =
-    let entry = whole j known in (
-      entry.0,
-      ap (λ (x : ℤ). x *ℤ entry.0) (are.over ∙ is.shape.denominator) ∙ entry.1
-          ∙ sym (operands_exchanged before now row place i j d p own beside above is known apart are),
-    )
-
-pub operands_wide : (before now : Table) (row place i j : ℕ) (d p own beside above left right : ℤ) → IsRowExchanged before now row place i j → j < before.width
-    → i ≢ row → AreOperands before now row place i j d p own beside above → IsWideFor p own beside above left right
-    → IsRowWide before row place i left right
-operands_wide before now row place i j d p own beside above left right is known apart are wide = (
+-- factors that are too wide for it are so for the row
+pub factors_wide : (before now : Table) (row i j : ℕ) (by : Factors) (left right : ℤ) → IsRowExchanged before now row by.place i j → j < before.width
+    → i ≢ row → AreFactors before row i by → IsWideFor by.pivot (entry_of now i j) by.beside (entry_of now row j) left right
+    → IsRowWide before row by.place i left right
+factors_wide before now row i j by left right is known apart are wide = (
   j,
   known,
-  wide_along _ _ _ _ _ _ _ _ left right are.is_pivot (are.is_own ∙ is.later j (omega arith) known) are.is_beside
-      (are.is_above ∙ is.others row j known (λ e. apart (sym e))) wide,
+  wide_along _ _ _ _ _ _ _ _ left right are.pivot (is.later j (omega arith) known) are.beside (is.others row j known (λ e. apart (sym e))) wide,
 )
 
 -- one more entry of a row is exchanged
-pub operands_more : (before now after : Table) (row place i j : ℕ) (d p own beside above entry : ℤ) → IsRowExchanged before now row place i j
-    → j < before.width → i ≢ row → AreOperands before now row place i j d p own beside above → IsPut now i j entry after
-    → d *ℤ entry ≡ (p *ℤ own) -ℤ (beside *ℤ above) → IsRowExchanged before after row place i (j + 1)
-operands_more before now after row place i j d p own beside above entry is known apart are put new =
-    row_more before now after row place i j entry is put (ap (λ (x : ℤ). x *ℤ entry) (sym (are.over ∙ is.shape.denominator)) ∙ new
-    ∙ operands_exchanged before now row place i j d p own beside above is known apart are)
+pub factors_more : (before now after : Table) (row i j : ℕ) (by : Factors) → IsRowExchanged before now row by.place i j → j < before.width → i ≢ row
+    → AreFactors before row i by → IsEntryExchanged now by row i j after → IsRowExchanged before after row by.place i (j + 1)
+factors_more before now after row i j by is known apart are next =
+    row_more before now after row by.place i j next.entry is next.put (ap (λ (x : ℤ). x *ℤ next.entry) (sym are.denominator) ∙ next.is
+    ∙ factors_exchange before now row i j by is known apart are)
+
+-- an entry stays where the pivot is the denominator and the pivot's row has 0 in its column
+kept_below : (d p own beside above : ℤ) → p ≡ d → above ≡ pos 0 → d *ℤ own ≡ (p *ℤ own) -ℤ (beside *ℤ above)
+kept_below d p own beside above e f =
+    let one = ap (λ (x : ℤ). x *ℤ own) e in
+    let three = ap (λ (x : ℤ). beside *ℤ x) f in
+    omega (arith, ints, one, three)
+
+lower_or_later : (j k : ℕ) → (j < k) ⊎ (k ≤ j)
+lower_or_later j k = grind arith
+
+-- entries in whose columns the pivot's row has 0 are as they are to be, where the pivot is the denominator
+pub clear_passed : (before now : Table) (row place i from next : ℕ) → IsRowExchanged before now row place i from → from ≤ next
+    → IsClear before row from next → entry_of before row place ≡ before.denominator → IsRowExchanged before now row place i next
+clear_passed before now row place i from next is order clear same = record {
+  shape = is.shape;
+  done = λ j early known. ⊎_elim (λ (less : j < from). is.done j less known)
+      (λ (late : from ≤ j). ap (λ (x : ℤ). before.denominator *ℤ x) (is.later j late known)
+      ∙ kept_below before.denominator _ _ _ _ same (clear j late early known))
+      (lower_or_later j from);
+  later = λ j late known. is.later j (omega (arith, late, order)) known;
+  others = is.others;
+}
+
+-- what is cleared from the place behind one on is so from that one on, where the row has 0 there
+pub clear_here : (table : Table) (row place behind : ℕ) → IsClear table row (place + 1) behind → entry_of table row place ≡ pos 0
+    → IsClear table row place behind
+clear_here table row place behind clear none = λ j late early known. ⊎_elim
+    (λ (here : j ≡ place). subst (λ (n : ℕ). entry_of table row n ≡ pos 0) (sym here) none)
+    (λ (later : place + 1 ≤ j). clear j later early known)
+    (here_or_later j place late)
 
 -- no row is exchanged yet
 pub rows_untouched : (table : Table) (row place : ℕ) → AreExchanged table table row place 0
@@ -230,3 +242,26 @@ pivot_is before now after row place not_last not_first within above are rows wid
       };
       denominator = denominator ∙ are.own place within;
     }
+
+-- where nothing is listed yet, a row is clear from no place on
+pub none_listed : (table : Table) (row many : ℕ) (filled : Filled) → filled.nexts ≡ replicate many 0 → AreFilled table row filled
+none_listed table row many filled is = λ from low j late early known.
+    let within : from < many = subst (λ (n : ℕ). from < n) (ap (λ (xs : List ℕ). length xs) is ∙ length-replicate many 0) low in
+    let zero : slice_index filled.nexts from ≡ 0 = ap (λ (xs : List ℕ). slice_index xs from) is ∙ get_or-replicate many from 0 0 within in
+    absurd (omega (arith, early, zero))
+
+-- one more place is listed
+pub more_listed : (table : Table) (row from next : ℕ) (before after : Filled) → after.nexts ≡ set before.nexts from next → AreFilled table row before
+    → IsClear table row from next → AreFilled table row after
+more_listed table row from next before after is filled clear = λ k low.
+    let within : k < length before.nexts = subst (λ (n : ℕ). k < n) (ap (λ (xs : List ℕ). length xs) is ∙ length-set before.nexts from next) low in
+    ⊎_elim
+    (λ (here : k ≡ from).
+    let at : slice_index after.nexts k ≡ next = ap (λ (xs : List ℕ). slice_index xs k) is ∙ ap (λ (n : ℕ). slice_index (set before.nexts from next) n) here
+    ∙ get_or-set_same before.nexts from next 0 (subst (λ (n : ℕ). n < length before.nexts) here within) in
+    subst (IsClear table row k) (sym at) (subst (λ (n : ℕ). IsClear table row n next) (sym here) clear))
+    (λ (apart : k ≢ from).
+    let at : slice_index after.nexts k ≡ slice_index before.nexts k = ap (λ (xs : List ℕ). slice_index xs k) is
+    ∙ get_or-set_other before.nexts from k next 0 apart in
+    subst (IsClear table row k) (sym at) (filled k within))
+    (is_or_not k from)

@@ -1,8 +1,10 @@
 ghost use Rattle.std.specs.Prelude.{◌≡◌, ◌≢◌, ◌≤◌, ◌<◌, ◌+◌, ◌*◌, ℤ, ◌*ℤ◌, ◌-ℤ◌, ◌<ℤ◌, pos, IfOk, IfErr, IsTrue, length};
-ghost use Rattle.wp_master.specs.Exchanges.{AreExchanged, IsPut, IsRowExchanged, IsRowWhole, IsRowWide};
+ghost use Rattle.wp_master.specs.Exchanges.{AreExchanged, AreFactors, AreFilled, IsClear, IsEntryExchanged, IsPut, IsRowExchanged, IsRowWhole, IsRowWide, exchange_by};
 ghost use Rattle.wp_master.specs.Pivots.{AreWhole, AreWideEntries, IsPivot, IsWideFor, entry_of};
 ghost use Rattle.wp_master.specs.Spots.{IsLaid, unit_entry};
 
+use crate::divisor::Divisor;
+use crate::filled::Filled;
 use crate::wide::{TooWide, cross};
 use std::marker::Model;
 
@@ -26,15 +28,37 @@ impl Model for Grid {
     ghost invariant = { λ g. IsTable (record { rows = g.rows; width = g.width; entries = g.entries.items; denominator = g.denominator }) };
 }
 
+/// What the entries of a row are exchanged by: the pivot and its place, the entry of the row at that place, and the denominator.
+#[derive(Clone, Copy)]
+pub(crate) struct Factors {
+    place: usize,
+    pivot: i128,
+    beside: i128,
+    over: Divisor,
+}
+
 // The quotient of a number and a denominator, of which it is a multiple.
-fn divided(value: i128, denominator: i128) -> i128
+#[inline(always)]
+fn divided(value: i128, over: &Divisor) -> i128
+    requires above { pos 0 <ℤ over.now.denominator }
+    requires whole { (x : ℤ) × (over.now.denominator *ℤ x ≡ value) }
+    ensures { over.now.denominator *ℤ result ≡ value }
+{
+    if over.denominator == 1 {
+        return value;
+    }
+    match over.quotient(value) {
+        Some(quotient) => quotient,
+        None => divided_at_length(value, over.denominator),
+    }
+}
+
+// The same by a division.
+fn divided_at_length(value: i128, denominator: i128) -> i128
     requires above { pos 0 <ℤ denominator }
     requires whole { (x : ℤ) × (denominator *ℤ x ≡ value) }
     ensures { denominator *ℤ result ≡ value }
 {
-    if denominator == 1 {
-        return value;
-    }
     value / denominator
 }
 
@@ -45,34 +69,32 @@ pub(crate) fn unit_entry(denominator: i128, own: usize, row: usize) -> i128
     if row == own { denominator } else { 0 }
 }
 
-// Whether a pivot plainly leaves an entry as it is.
-fn stays(pivot: i128, own: i128, beside: i128, above: i128, denominator: i128) -> bool
-    ensures { IsTrue result → denominator *ℤ own ≡ (pivot *ℤ own) -ℤ (beside *ℤ above) }
-{
-    if beside != 0 && above != 0 {
-        return false;
+impl Factors {
+    // Whether they plainly leave an entry as it is, which stands in a column in which the pivot's row has another.
+    #[inline(always)]
+    fn leave(&self, own: i128, above: i128) -> bool
+        ensures { IsTrue result → self.now.over.denominator *ℤ own ≡ (self.now.pivot *ℤ own) -ℤ (self.now.beside *ℤ above) }
+    {
+        if self.beside != 0 && above != 0 {
+            return false;
+        }
+        own == 0 || self.pivot == self.over.denominator
     }
-    own == 0 || pivot == denominator
-}
 
-// What an entry becomes by a pivot: pivot * own - beside * above over the denominator.
-fn exchanged(
-    pivot: i128,
-    own: i128,
-    beside: i128,
-    above: i128,
-    denominator: i128,
-) -> Result<i128, TooWide>
-    requires above_0 { pos 0 <ℤ denominator }
-    requires whole { (x : ℤ) × (denominator *ℤ x ≡ (pivot *ℤ own) -ℤ (beside *ℤ above)) }
-    ensures is { IfOk result (λ entry. denominator *ℤ entry ≡ (pivot *ℤ own) -ℤ (beside *ℤ above)) }
-    ensures wide { IfErr result (λ wide. IsWideFor pivot own beside above wide.left wide.right) }
-{
-    if stays(pivot, own, beside, above, denominator) {
-        return Ok(own);
+    // What they make of an entry: pivot * own - beside * above over the denominator, where the pivot's row has this above in its column.
+    #[inline(always)]
+    fn exchanged(&self, own: i128, above: i128) -> Result<i128, TooWide>
+        requires above_0 { pos 0 <ℤ self.now.over.denominator }
+        requires whole { (x : ℤ) × (self.now.over.denominator *ℤ x ≡ (self.now.pivot *ℤ own) -ℤ (self.now.beside *ℤ above)) }
+        ensures is { IfOk result (λ entry. self.now.over.denominator *ℤ entry ≡ (self.now.pivot *ℤ own) -ℤ (self.now.beside *ℤ above)) }
+        ensures wide { IfErr result (λ wide. IsWideFor self.now.pivot own self.now.beside above wide.left wide.right) }
+    {
+        if self.leave(own, above) {
+            return Ok(own);
+        }
+        let value = cross(self.pivot, own, self.beside, above)?;
+        Ok(divided(value, &self.over))
     }
-    let value = cross(pivot, own, beside, above)?;
-    Ok(divided(value, denominator))
 }
 
 impl Grid {
@@ -120,31 +142,133 @@ impl Grid {
         }
     }
 
+    // The first place from one on at which a row isn't 0, where that from the place behind it on is known.
+    fn next_filled(&self, row: usize, place: usize, behind: usize) -> usize
+        requires row { row < self.now.rows }
+        requires place { place < self.now.width }
+        requires behind { IsClear self.now row (place + 1) behind }
+        ensures { IsClear self.now row place result }
+    {
+        if self.entry(row, place) == 0 {
+            behind
+        } else {
+            place
+        }
+    }
+
+    // The places at which a row isn't 0.
+    fn filled(&self, row: usize) -> Filled
+        requires { row < self.now.rows }
+        ensures { AreFilled self.now row result }
+    {
+        let mut filled = Filled::none();
+        let mut next = self.width;
+        for back in 0..self.width {
+            let place = self.width - 1 - back;
+            next = self.next_filled(row, place, next);
+            filled.list(place, next);
+        }
+        filled
+    }
+
+    // Exchanges an entry of a row by the row's factors.
+    #[inline(always)]
+    fn exchange_entry(
+        &mut self,
+        i: usize,
+        row: usize,
+        j: usize,
+        by: &Factors,
+    ) -> Result<(), TooWide>
+        requires i { i < self.old.rows }
+        requires row { row < self.old.rows }
+        requires j { j < self.old.width }
+        requires above { pos 0 <ℤ by.now.over.denominator }
+        requires whole { (x : ℤ) × (by.now.over.denominator *ℤ x ≡ exchange_by by.now.pivot by.now.beside self.old row i j) }
+        ensures exchanged { IfOk result (λ _. IsEntryExchanged self.old by.now row i j self.new) }
+        ensures wide { IfErr result (λ wide. IsWideFor by.now.pivot (entry_of self.old i j) by.now.beside (entry_of self.old row j) wide.left wide.right) }
+    {
+        let own = self.entry(i, j);
+        let above = self.entry(row, j);
+        let entry = by.exchanged(own, above)?;
+        self.put(i, j, entry);
+        Ok(())
+    }
+
     // Exchanges the entries of a row other than the pivot's.
-    fn exchange_row(&mut self, i: usize, row: usize, place: usize) -> Result<(), TooWide>
+    fn exchange_all(&mut self, i: usize, row: usize, by: &Factors) -> Result<(), TooWide>
+        requires i { i < self.old.rows }
+        requires row { row < self.old.rows }
+        requires other { i ≢ row }
+        requires by { AreFactors self.old row i by.now }
+        requires whole { IsRowWhole self.old row by.now.place i }
+        ensures exchanged { IfOk result (λ _. IsRowExchanged self.old self.new row by.now.place i self.old.width) }
+        ensures wide { IfErr result (λ wide. IsRowWide self.old row by.now.place i wide.left wide.right) }
+    {
+        for j in 0..self.width {
+            self.exchange_entry(i, row, j, by)?;
+        }
+        Ok(())
+    }
+
+    // The same where the pivot is the denominator: then entries change only at the places at which the pivot's row isn't 0.
+    fn exchange_filled(
+        &mut self,
+        i: usize,
+        row: usize,
+        filled: &Filled,
+        by: &Factors,
+    ) -> Result<(), TooWide>
+        requires i { i < self.old.rows }
+        requires row { row < self.old.rows }
+        requires other { i ≢ row }
+        requires by { AreFactors self.old row i by.now }
+        requires same { by.now.pivot ≡ self.old.denominator }
+        requires filled { AreFilled self.old row filled.now }
+        requires whole { IsRowWhole self.old row by.now.place i }
+        ensures exchanged { IfOk result (λ _. IsRowExchanged self.old self.new row by.now.place i self.old.width) }
+        ensures wide { IfErr result (λ wide. IsRowWide self.old row by.now.place i wide.left wide.right) }
+    {
+        let mut j = filled.next(0);
+        while j < self.width {
+            self.exchange_entry(i, row, j, by)?;
+            j = filled.next(j + 1);
+        }
+        Ok(())
+    }
+
+    // Exchanges the entries of a row other than the pivot's.
+    fn exchange_row(
+        &mut self,
+        i: usize,
+        row: usize,
+        place: usize,
+        over: &Divisor,
+        filled: &Filled,
+    ) -> Result<(), TooWide>
         requires i { i < self.old.rows }
         requires row { row < self.old.rows }
         requires place { place < self.old.width }
         requires other { i ≢ row }
+        requires over { over.now.denominator ≡ self.old.denominator }
+        requires filled { AreFilled self.old row filled.now }
         requires whole { IsRowWhole self.old row place i }
         ensures exchanged { IfOk result (λ _. IsRowExchanged self.old self.new row place i self.old.width) }
         ensures wide { IfErr result (λ wide. IsRowWide self.old row place i wide.left wide.right) }
     {
-        let pivot = self.entry(row, place);
-        let beside = self.entry(i, place);
-        if beside == 0 && pivot == self.denominator {
+        let by = Factors {
+            place,
+            pivot: self.entry(row, place),
+            beside: self.entry(i, place),
+            over: *over,
+        };
+        if by.pivot != self.denominator {
+            return self.exchange_all(i, row, &by);
+        }
+        if by.beside == 0 {
             return Ok(());
         }
-        for j in 0..self.width {
-            let own = self.entry(i, j);
-            let above = self.entry(row, j);
-            self.put(
-                i,
-                j,
-                exchanged(pivot, own, beside, above, self.denominator)?,
-            );
-        }
-        Ok(())
+        self.exchange_filled(i, row, filled, &by)
     }
 
     // Exchanges the entries of all rows but the pivot's.
@@ -155,9 +279,11 @@ impl Grid {
         ensures exchanged { IfOk result (λ _. AreExchanged self.old self.new row place self.old.rows) }
         ensures wide { IfErr result (λ wide. AreWideEntries self.old wide.left wide.right) }
     {
+        let over = Divisor::of(self.denominator);
+        let filled = self.filled(row);
         for i in 0..self.rows {
             if i != row {
-                self.exchange_row(i, row, place)?;
+                self.exchange_row(i, row, place, &over, &filled)?;
             }
         }
         Ok(())

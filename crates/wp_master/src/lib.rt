@@ -4,7 +4,9 @@
 
 mod choice;
 mod column;
+mod divisor;
 mod fault;
+mod filled;
 mod grid;
 mod master;
 mod pair;

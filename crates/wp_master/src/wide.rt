@@ -1,4 +1,4 @@
-ghost use Rattle.std.specs.Prelude.{◌≡◌, ◌≤ℤ◌, ◌<ℤ◌, ◌*ℤ◌, ◌-ℤ◌, pos, FitsSigned, IfOk, IfErr};
+ghost use Rattle.std.specs.Prelude.{◌≡◌, ◌≤ℤ◌, ◌<ℤ◌, ◌*ℤ◌, ◌-ℤ◌, pos, FitsSigned, IfOk, IfErr, IfSome};
 ghost use Rattle.std.specs.Int.{w128};
 ghost use Rattle.wp_master.specs.Pivots.{IsTwofoldOf, IsWideFor};
 
@@ -10,7 +10,7 @@ pub struct TooWide {
 }
 
 // The product of two numbers of 64 bits, which needs no test.
-fn narrow_product(left: i64, right: i64) -> i128
+pub(crate) fn narrow_product(left: i64, right: i64) -> i128
     ensures { result ≡ left *ℤ right }
 {
     i128::from(left) * i128::from(right)
@@ -45,9 +45,40 @@ fn twofold(left: i128, right: i128) -> TooWide
     }
 }
 
+// The difference of two products, where all factors have 64 bits.
+#[inline(always)]
+fn narrow_cross(left: i128, right: i128, other: i128, further: i128) -> Option<i128>
+    ensures { IfSome result (λ value. value ≡ (left *ℤ right) -ℤ (other *ℤ further)) }
+{
+    let (Ok(left), Ok(right)) = (i64::try_from(left), i64::try_from(right)) else {
+        return None;
+    };
+    let (Ok(other), Ok(further)) = (i64::try_from(other), i64::try_from(further)) else {
+        return None;
+    };
+    let one = narrow_product(left, right);
+    let two = narrow_product(other, further);
+    match one.checked_sub(two) {
+        Some(value) => Some(value),
+        None => None,
+    }
+}
+
 /// The difference of two products, or two factors whose product leaves an `i128`: those of one of the two, or twice a factor
 /// and the other.
+#[inline(always)]
 pub(crate) fn cross(left: i128, right: i128, other: i128, further: i128) -> Result<i128, TooWide>
+    ensures is { IfOk result (λ value. value ≡ (left *ℤ right) -ℤ (other *ℤ further)) }
+    ensures wide { IfErr result (λ wide. IsWideFor left right other further wide.left wide.right) }
+{
+    match narrow_cross(left, right, other, further) {
+        Some(value) => Ok(value),
+        None => wide_cross(left, right, other, further),
+    }
+}
+
+// The same, whatever the factors are.
+fn wide_cross(left: i128, right: i128, other: i128, further: i128) -> Result<i128, TooWide>
     ensures is { IfOk result (λ value. value ≡ (left *ℤ right) -ℤ (other *ℤ further)) }
     ensures wide { IfErr result (λ wide. IsWideFor left right other further wide.left wide.right) }
 {

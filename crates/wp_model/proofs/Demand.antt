@@ -1,5 +1,5 @@
 -- What orders want, and the first article that is short.
-use Rattle.std.proofs.Common.{◌≡◌, ℕ, zero, suc, ◌+◌, ◌<◌, ◌≤◌, List, [], ◌∷◌, length, slice_get, Option, Some, None, MatchOption, All, nat_lt, bytes_eq, inl}
+use Rattle.std.proofs.Common.{◌≡◌, ℕ, zero, suc, ◌+◌, ◌*◌, ◌<◌, ◌≤◌, List, [], ◌∷◌, length, slice_get, Option, Some, None, MatchOption, All, nat_lt, bytes_eq, inl}
 use Rattle.std.proofs.Common.{inr, refl, ap, arith, true, ◌==◌, ◌≢◌, eq-eqb}
 use Rattle.std.proofs.lemmas.Bool.{both_ways, cases_eq, cases_lt, cond-true, cond_both, or_cases, ltb-true, ltb-false}
 use Rattle.std.proofs.lemmas.Bool.Decides.{nat_tests}
@@ -11,7 +11,8 @@ use Rattle.wp_model.proofs.Elements.{All-at, within_some}
 use Rattle.wp_model.proofs.Sums.{sum-zero}
 use Rattle.wp_model.specs.Demand.{AreCovered, IsCovered, IsFirstShort, demand_at, first_short, free_units, order_demand, quantity_of, short_article}
 use Rattle.wp_model.specs.Demand.{wave_demand}
-use Rattle.wp_model.specs.Opening.{IsLine, IsOpening, IsOrder, Opening, Order, is_known_order, lines_of}
+use Rattle.wp_model.specs.Limits.{most_lines, most_quantity}
+use Rattle.wp_model.specs.Opening.{IsLine, IsOpening, IsOrder, Opening, Order, is_known_order, line_units, lines_of, order_units}
 use Rattle.wp_model.specs.declared.row.Line.{Line}
 use Rattle.wp_model.specs.declared.row.Row.{Row}
 
@@ -52,6 +53,26 @@ lines_are articles (order ∷ orders) name all =
     cond_both (bytes_eq order.name name) order.lines (lines_of orders name) (All (IsLine articles))
     (λ same. first.lines)
     (λ other. lines_are articles orders name (All-tail (IsOrder articles) order orders all))
+
+-- an order hasn't too many lines
+pub few_lines : (articles : List (List ℕ)) (orders : List Order) (name : List ℕ) → All (IsOrder articles) orders → length (lines_of orders name) ≤ most_lines
+few_lines articles [] name all = omega arith
+few_lines articles (order ∷ orders) name all =
+    let first : IsOrder articles order = All-head (IsOrder articles) order orders all in
+    cond_both (bytes_eq order.name name) order.lines (lines_of orders name) (λ lines. length lines ≤ most_lines)
+    (λ same. first.most)
+    (λ other. few_lines articles orders name (All-tail (IsOrder articles) order orders all))
+
+-- the lines of an order are of no more units than as many full lines as it may have
+pub few_units : (articles : List (List ℕ)) (lines : List Line) → All (IsLine articles) lines → length lines ≤ most_lines
+    → line_units lines ≤ most_lines * most_quantity
+few_units articles lines each few = omega (arith, sum_by-le (λ (line : Line). line.quantity) most_quantity lines (λ k d within. (each k d within).most))
+
+-- and so is the order
+pub few_order_units : (articles : List (List ℕ)) (orders : List Order) (name : List ℕ) → All (IsOrder articles) orders
+    → order_units orders name ≤ most_lines * most_quantity
+few_order_units articles orders name all =
+    few_units articles (lines_of orders name) (lines_are articles orders name all) (few_lines articles orders name all)
 
 -- nobody wants an article that the stock doesn't have
 quantity_of-other : (articles : List (List ℕ)) (article : ℕ) (line : Line) → length articles ≤ article → IsLine articles line → quantity_of article line ≤ 0

@@ -1,16 +1,16 @@
 -- Orders that join a wave without a fault.
-use Rattle.std.proofs.Common.{◌≡◌, ◌≢◌, ℕ, zero, suc, ◌+◌, ◌&&◌, Bool, true, false, not, List, [], ◌∷◌, ◌++◌, slice_get, Option, Some, None, option_map}
-use Rattle.std.proofs.Common.{bytes_eq, if◌then◌else◌, refl, sym, ap, ◌∙◌, subst}
-use Rattle.std.proofs.lemmas.Bool.{and_from, both_ways, not-false, or_parts}
+use Rattle.std.proofs.Common.{◌≡◌, ◌≢◌, ℕ, zero, suc, ◌+◌, ◌≤◌, ◌&&◌, Bool, true, false, not, List, [], ◌∷◌, ◌++◌, slice_get, Option, Some, None, option_map}
+use Rattle.std.proofs.Common.{bytes_eq, if◌then◌else◌, refl, sym, ap, ◌∙◌, subst, arith, IfSome}
+use Rattle.std.proofs.lemmas.Bool.{and_from, both_ways, ltb-false, not-false, or_parts}
 use Rattle.std.proofs.lemmas.List.Folds.{list_any-append, list_any_at}
 use Rattle.std.proofs.lemmas.Option.{get_or_from_slice_get, same_Some, slice_get_within}
 use Rattle.std.proofs.lemmas.Slice.Eq.{bytes_eq-Decides}
 use Rattle.std.specs.Option.{option_or}
-use Rattle.wp_model.specs.Opening.{Opening, is_known_order}
-use Rattle.wp_model.specs.Sound.{AreDifferent}
+use Rattle.wp_model.specs.Opening.{Opening, is_known_order, order_units}
+use Rattle.wp_model.specs.Sound.{AreDifferent, FitsCart}
 use Rattle.wp_model.specs.State.{Wave}
 use Rattle.wp_model.specs.declared.reply.Reply.TheVariants as reply
-use Rattle.wp_model.specs.Step.{first_order_fault, is_among, is_live, order_fault, taker_of, wave_from}
+use Rattle.wp_model.specs.Step.{cart_fault, first_order_fault, is_among, is_live, is_over_cart, order_fault, taker_of, wave_from}
 
 -- where a choice, another value or a change of a value gives nothing
 pub if-none : {X : Type 0} (test : Bool) (x : X) (other : Option X) → (if test then Some x else other) ≡ None → (test ≡ false) × (other ≡ None)
@@ -57,11 +57,22 @@ untaken (w ∷ waves) order none zero v k is live has =
 untaken (w ∷ waves) order none (suc i) v k is live has =
     untaken waves order (if-none (is_live w.state && is_among w.orders order) w.name (taker_of waves order) none).1 i v k is live has
 
--- orders of the opening that differ, are none of those before, and lie in no wave that isn't cancelled
+-- an order that a cart doesn't refuse fits into one
+fits_cart : (opening : Opening) (order : List ℕ) → cart_fault opening order ≡ None → FitsCart opening order
+fits_cart opening order none =
+    by opening.units (if-none (is_over_cart opening.units (order_units opening.orders order))
+    (reply.OverCart order (order_units opening.orders order)) None none).0
+  where
+    by : (cart : Option ℕ) → is_over_cart cart (order_units opening.orders order) ≡ false → IfSome cart (λ units. order_units opening.orders order ≤ units)
+    by None fits = tt
+    by (Some units) fits = let within = ltb-false units (order_units opening.orders order) fits in omega (arith, within)
+
+-- orders of the opening that differ, are none of those before, lie in no wave that isn't cancelled, and fit into a cart
 pub record AreFree (opening : Opening) (waves : List Wave) (before orders : List (List ℕ)) : Type 0 where
   pub known : (k : ℕ) (order : List ℕ) → slice_get orders k ≡ Some order → is_known_order opening.orders order ≡ true
   pub others : (k : ℕ) (order : List ℕ) → slice_get orders k ≡ Some order → is_among before order ≡ false
   pub free : (k : ℕ) (order : List ℕ) → slice_get orders k ≡ Some order → taker_of waves order ≡ None
+  pub fits : (k : ℕ) (order : List ℕ) → slice_get orders k ≡ Some order → FitsCart opening order
   pub different : AreDifferent orders
 
 -- what holds of the first and of each other holds of each
@@ -85,19 +96,22 @@ free_from_no_fault opening waves before [] none = record {
   known = λ k order is. absurd (cc);
   others = λ k order is. absurd (cc);
   free = λ k order is. absurd (cc);
+  fits = λ k order is. absurd (cc);
   different = λ i j order is. absurd (cc);
 }
 free_from_no_fault opening waves before (order ∷ orders) none =
     let faults = option_or-none (order_fault opening waves before order) (first_order_fault opening waves (before ++ order ∷ []) orders) none in
     let known = if-none (not (is_known_order opening.orders order)) (reply.UnknownOrder order) _ faults.0 in
     let other = if-none (is_among before order) (reply.OrderTwice order) _ known.1 in
+    let last = option_or-none (option_map (reply.OrderTaken order) (taker_of waves order)) (cart_fault opening order) other.1 in
     let rest = free_from_no_fault opening waves (before ++ order ∷ []) orders faults.1 in
     let apart_from = λ (k : ℕ) (x : List ℕ) (is : slice_get orders k ≡ Some x). or_parts (is_among before x) _
     (sym (list_any-append (λ other. bytes_eq other x) before (order ∷ [])) ∙ rest.others k x is) in
     record {
       known = each (λ x. is_known_order opening.orders x ≡ true) order orders (not-false _ known.0) rest.known;
       others = each (λ x. is_among before x ≡ false) order orders other.0 (λ k x is. (apart_from k x is).0);
-      free = each (λ x. taker_of waves x ≡ None) order orders (option_map-none _ _ other.1) rest.free;
+      free = each (λ x. taker_of waves x ≡ None) order orders (option_map-none _ _ last.0) rest.free;
+      fits = each (FitsCart opening) order orders (fits_cart opening order last.1) rest.fits;
       different = apart order orders rest.different (λ k x is same. both_ways _ (or_parts (bytes_eq order x) false (apart_from k x is).1).0
           ((bytes_eq-Decides order x).1 same));
     }

@@ -8,10 +8,10 @@ use Rattle.wp_model.proofs.Found.{option_map_or-both}
 use Rattle.wp_model.specs.Change.{take}
 use Rattle.wp_model.specs.Demand.{free_units, short_article}
 use Rattle.wp_model.specs.Limits.{most_on_hand, most_wave_orders}
-use Rattle.wp_model.specs.Opening.{Opening, article_name, is_known_order}
+use Rattle.wp_model.specs.Opening.{Opening, article_name, is_known_order, order_units}
 use Rattle.wp_model.specs.State.{State, Wave}
-use Rattle.wp_model.specs.Step.{Held, SaysDone, Stepped, allot, at_held, at_released, at_wave, cancel, first_order_fault, give_up, held_for, hold_for}
-use Rattle.wp_model.specs.Step.{is_among, is_refusal, order_fault, pick, taker_of}
+use Rattle.wp_model.specs.Step.{Held, SaysDone, Stepped, allot, at_held, at_released, at_wave, cancel, cart_fault, first_order_fault, give_up, held_for, hold_for}
+use Rattle.wp_model.specs.Step.{is_among, is_over_cart, is_refusal, order_fault, pick, taker_of}
 use Rattle.wp_model.specs.Step.{receive_at, refuse, refuse_short, release, row_from, step, submit_fault, wave_from, write_off}
 use Rattle.wp_model.specs.declared.command.Command.{Command}
 use Rattle.wp_model.specs.declared.command.Command.TheVariants as command
@@ -43,10 +43,15 @@ changed_refuses : {X : Type 0} (f : X → Reply) (found : Option X) → ((x : X)
 changed_refuses f None each = tt
 changed_refuses f (Some x) each = each x
 
+cart_fault_refuses : (opening : Opening) (order : List ℕ) → AllRefuse (cart_fault opening order)
+cart_fault_refuses opening order = either AllRefuse (is_over_cart opening.units (order_units opening.orders order)) _ _ refl tt
+
 order_fault_refuses : (opening : Opening) (waves : List Wave) (before : List (List ℕ)) (order : List ℕ) → AllRefuse (order_fault opening waves before order)
 order_fault_refuses opening waves before order =
     either AllRefuse (not (is_known_order opening.orders order)) _ _ refl
-    (either AllRefuse (is_among before order) _ _ refl (changed_refuses (reply.OrderTaken order) (taker_of waves order) (λ taker. refl)))
+    (either AllRefuse (is_among before order) _ _ refl
+    (first_refuses (option_map (reply.OrderTaken order) (taker_of waves order)) _
+    (changed_refuses (reply.OrderTaken order) (taker_of waves order) (λ taker. refl)) (cart_fault_refuses opening order)))
 
 orders_fault_refuses : (opening : Opening) (waves : List Wave) (before orders : List (List ℕ)) → AllRefuse (first_order_fault opening waves before orders)
 orders_fault_refuses opening waves before [] = tt

@@ -14,7 +14,7 @@ use Rattle.wp_model.proofs.Sums.{sum-agree, sum-zero}
 use Rattle.wp_model.proofs.Waves.{still_sound, stock_of, wave_at}
 use Rattle.wp_model.specs.Opening.{Opening, is_known_order}
 use Rattle.wp_model.specs.Limits.{most_wave_orders}
-use Rattle.wp_model.specs.Sound.{AreDifferent, IsSound, IsSoundWave, held_at, orders_in}
+use Rattle.wp_model.specs.Sound.{AreDifferent, FitsCart, IsSound, IsSoundWave, held_at, orders_in}
 use Rattle.wp_model.specs.State.{State, Wave, wave_held_at}
 use Rattle.wp_model.specs.Step.{Stepped, add_wave, first_order_fault, is_live, refuse, submit, submit_fault, wave_from}
 use Rattle.wp_model.specs.Sums.{sum_below}
@@ -28,6 +28,7 @@ record CanJoin (opening : Opening) (state : State) (name : List ℕ) (orders : L
   unnamed : (i : ℕ) (v : Wave) → slice_get state.waves i ≡ Some v → v.name ≢ name
   different : AreDifferent orders
   known : All (λ order. IsTrue (is_known_order opening.orders order)) orders
+  fits : All (FitsCart opening) orders
   untaken : (i : ℕ) (v : Wave) (k l : ℕ) (order : List ℕ) → slice_get state.waves i ≡ Some v → is_live v.state ≡ true → slice_get v.orders k ≡ Some order
       → slice_get orders l ≡ Some order → ⊥
 
@@ -46,6 +47,7 @@ can_join opening state name orders none =
       unnamed = unnamed 0 state.waves name (option_map-none _ _ faults.0);
       different = free.different;
       known = All-from_at _ orders free.known;
+      fits = All-from_at (FitsCart opening) orders free.fits;
       untaken = λ i v k l order is live has in_new. untaken state.waves order (free.free l order in_new) i v k is live has;
     }
 
@@ -104,7 +106,7 @@ waves_after_add opening state name orders sound can n v there =
           let none = sum-zero _ _ (λ row within. sum-zero _ _
           (λ order below. nothing_past state (length state.waves) (le_refl _) (stock_of opening state sound) order row)) in
           subst₂ (IsSoundWave opening after) (sym last.0) (sym last.1)
-          (record { some = can.some; most = can.most; different = can.different; known = can.known; holds = none; picked = refl })
+          (record { some = can.some; most = can.most; different = can.different; known = can.known; fits = can.fits; holds = none; picked = refl })
     ]
 
 add_wave_keeps_sound : (opening : Opening) (state : State) (name : List ℕ) (orders : List (List ℕ)) → IsSound opening state

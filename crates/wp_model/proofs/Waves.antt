@@ -13,7 +13,7 @@ use Rattle.wp_model.proofs.Sums.{sum-agree}
 use Rattle.wp_model.specs.Change.{put_wave, settle}
 use Rattle.wp_model.specs.Opening.{Opening, is_known_order}
 use Rattle.wp_model.specs.Limits.{most_wave_orders}
-use Rattle.wp_model.specs.Sound.{AreDifferent, HoldsAs, IsSound, IsSoundWave, PickedAs, held_at, orders_in}
+use Rattle.wp_model.specs.Sound.{AreDifferent, FitsCart, HoldsAs, IsSound, IsSoundWave, PickedAs, held_at, orders_in}
 use Rattle.wp_model.specs.State.{State, Wave, wave_held, wave_held_at}
 use Rattle.wp_model.specs.Step.{is_live}
 use Rattle.wp_model.specs.Sums.{sum_below}
@@ -64,6 +64,7 @@ still_sound opening old new n v w e sound holds picked = record {
   most = subst (λ orders. length orders ≤ most_wave_orders) (sym e) sound.most;
   different = subst AreDifferent (sym e) sound.different;
   known = subst (All (λ order. IsTrue (is_known_order opening.orders order))) (sym e) sound.known;
+  fits = subst (All (FitsCart opening)) (sym e) sound.fits;
   holds = holds;
   picked = picked;
 }

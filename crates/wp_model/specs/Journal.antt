@@ -67,6 +67,7 @@ reply_text reply.KnownWave = codes "refused known-wave"
 reply_text (reply.UnknownOrder order) = codes "refused unknown-order" ++ after_space order
 reply_text (reply.OrderTwice order) = codes "refused order-twice" ++ after_space order
 reply_text (reply.OrderTaken order w) = codes "refused order-taken" ++ after_space order ++ after_space w
+reply_text (reply.OverCart order units) = codes "refused over-cart" ++ after_space order ++ number_after_space units
 reply_text reply.UnknownWave = codes "refused unknown-wave"
 reply_text (reply.WrongState state) = codes "refused wrong-state" ++ after_space (wave_state_text state)
 reply_text (reply.Short article wanted free) = codes "refused short" ++ after_space article ++ number_after_space wanted ++ number_after_space free

@@ -45,6 +45,10 @@ most_lines = 50
 abbrev pub most_quantity : ℕ
 most_quantity = 100000
 
+-- the most units that a cart may hold
+abbrev pub most_cart_units : ℕ
+most_cart_units = 40000000
+
 -- the most commands that the desks may have together
 abbrev pub most_commands : ℕ
 most_commands = 10000

@@ -1,6 +1,6 @@
--- What a run begins with: the stock file and the order file.
-use Rattle.std.specs.Prelude.{ℕ, ◌<◌, ◌≤◌, List, [], ◌∷◌, if◌then◌else◌, length, slice_index_or, Bool, false, ◌||◌}
-use Rattle.std.specs.List.{All}
+-- What a run begins with: the stock file, the order file, and how many units a cart holds.
+use Rattle.std.specs.Prelude.{ℕ, ◌<◌, ◌≤◌, List, [], ◌∷◌, Option, if◌then◌else◌, length, slice_index_or, Bool, false, ◌||◌}
+use Rattle.std.specs.List.{All, sum_by}
 use Rattle.std.specs.Str.{bytes_eq}
 use Rattle.wp_model.specs.Limits.{most_lines, most_on_hand, most_quantity}
 use Rattle.wp_model.specs.declared.row.Line.{Line}
@@ -16,10 +16,11 @@ pub record Order : Type 0 where
   pub name : List ℕ
   pub lines : List Line
 
--- the stock, and the orders in the order of their first appearance
+-- the stock, the orders in the order of their first appearance, and the units that a cart holds, none where it holds any number
 pub record Opening : Type 0 where
   pub stock : Stock
   pub orders : List Order
+  pub units : Option ℕ
 
 -- a row has an article of the stock, and no more units than a row may have
 pub record IsStockRow (articles : List (List ℕ)) (row : StockRow) : Type 0 where
@@ -47,6 +48,14 @@ pub record IsOpening (opening : Opening) : Type 0 where
 abbrev pub lines_of : List Order → List ℕ → List Line
 lines_of [] name = []
 lines_of (order ∷ orders) name = if bytes_eq order.name name then order.lines else lines_of orders name
+
+-- the units of all lines together
+abbrev pub line_units : List Line → ℕ
+line_units lines = sum_by (λ (line : Line). line.quantity) lines
+
+-- the units of the order with a name: those of all its lines
+abbrev pub order_units : List Order → List ℕ → ℕ
+order_units orders name = line_units (lines_of orders name)
 
 -- an order has this name
 abbrev pub is_known_order : List Order → List ℕ → Bool

@@ -4,7 +4,7 @@ use Rattle.std.specs.List.{All}
 use Rattle.std.specs.Option.{option_map_or}
 use Rattle.wp_model.specs.Demand.{demand_at}
 use Rattle.wp_model.specs.History.{History, state_at}
-use Rattle.wp_model.specs.Opening.{Opening, is_known_order}
+use Rattle.wp_model.specs.Opening.{Opening, is_known_order, order_units}
 use Rattle.wp_model.specs.Limits.{most_on_hand, most_wave_orders}
 use Rattle.wp_model.specs.State.{State, Wave, wave_held, wave_held_at}
 use Rattle.wp_model.specs.Step.{is_live}
@@ -55,12 +55,17 @@ PickedAs other picked = Unit {0}
 abbrev pub AreDifferent : {A : Type 0} → List A → Type 0
 AreDifferent {A} xs = (i j : ℕ) (x : A) → slice_get xs i ≡ Some x → slice_get xs j ≡ Some x → i ≡ j
 
--- a wave has 1 to 64 different orders of the opening, and holds and has picked what its state allows
+-- where the opening has units of a cart, the order has no more
+abbrev pub FitsCart : Opening → List ℕ → Type 0
+FitsCart opening order = IfSome opening.units (λ cart. order_units opening.orders order ≤ cart)
+
+-- a wave has 1 to 64 different orders of the opening, none with more units than a cart holds, and holds and has picked what its state allows
 pub record IsSoundWave (opening : Opening) (state : State) (number : ℕ) (w : Wave) : Type 0 where
   pub some : 0 < length w.orders
   pub most : length w.orders ≤ most_wave_orders
   pub different : AreDifferent w.orders
   pub known : All (λ order. IsTrue (is_known_order opening.orders order)) w.orders
+  pub fits : All (FitsCart opening) w.orders
   pub holds : HoldsAs w.state opening state number w
   pub picked : PickedAs w.state w.picked
 

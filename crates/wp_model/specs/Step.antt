@@ -5,7 +5,7 @@ use Rattle.std.specs.Prelude.{option_map}
 use Rattle.std.specs.List.{list_any}
 use Rattle.std.specs.Option.{option_map_or, option_or}
 use Rattle.std.specs.Str.{bytes_eq}
-use Rattle.wp_model.specs.Opening.{Opening, article_name, is_known_order}
+use Rattle.wp_model.specs.Opening.{Opening, article_name, is_known_order, order_units}
 use Rattle.wp_model.specs.Limits.{most_on_hand, most_wave_orders}
 use Rattle.wp_model.specs.State.{State, Wave}
 use Rattle.wp_model.specs.Demand.{demand_at, free_units, short_article, wave_demand}
@@ -75,12 +75,22 @@ abbrev pub taker_of : List Wave → List ℕ → Option (List ℕ)
 taker_of [] order = None
 taker_of (w ∷ waves) order = if is_live w.state && is_among w.orders order then Some w.name else taker_of waves order
 
+-- units are more than a cart holds, which they never are where it holds any number
+abbrev pub is_over_cart : Option ℕ → ℕ → Bool
+is_over_cart None units = false
+is_over_cart (Some cart) units = nat_lt cart units
+
+-- why no cart holds an order: it has more units than a cart
+abbrev pub cart_fault : Opening → List ℕ → Option Reply
+cart_fault opening order =
+    if is_over_cart opening.units (order_units opening.orders order) then Some (reply.OverCart order (order_units opening.orders order)) else None
+
 -- why an order can't join a wave, after the orders that were named before it
 abbrev pub order_fault : Opening → List Wave → List (List ℕ) → List ℕ → Option Reply
 order_fault opening waves before order =
     if not (is_known_order opening.orders order) then Some (reply.UnknownOrder order)
     else if is_among before order then Some (reply.OrderTwice order)
-    else option_map (reply.OrderTaken order) (taker_of waves order)
+    else option_or (option_map (reply.OrderTaken order) (taker_of waves order)) (cart_fault opening order)
 
 -- the first fault of orders, one after the other
 abbrev pub first_order_fault : Opening → List Wave → List (List ℕ) → List (List ℕ) → Option Reply

@@ -2,7 +2,7 @@
 use Rattle.std.specs.Prelude.{ℕ, ◌≡◌, ◌+◌, ◌<◌, ◌≤◌, ◌==◌, List, [], ◌∷◌, length, Option, Some, None, if◌then◌else◌, slice_get, IfSome, IsTrue}
 use Rattle.std.specs.List.{All, sum_by}
 use Rattle.wp_model.specs.History.{Script}
-use Rattle.wp_model.specs.Limits.{greatest_desk, most_commands, most_file_orders, most_places, most_rows}
+use Rattle.wp_model.specs.Limits.{greatest_desk, most_cart_units, most_commands, most_file_orders, most_places, most_rows}
 use Rattle.wp_model.specs.Location.{is_before}
 use Rattle.wp_model.specs.Name.{is_name}
 use Rattle.wp_model.specs.Opening.{IsOrder, IsStockRow, Opening, Order, Stock}
@@ -42,10 +42,15 @@ pub record AreReadOrders (articles : List (List ℕ)) (orders : List Order) : Ty
   pub different : (i j : ℕ) (a b : Order) → slice_get orders i ≡ Some a → slice_get orders j ≡ Some b → a.name ≡ b.name → i ≡ j
   pub named : All (λ order. IsTrue (is_name order.name)) orders
 
--- an opening whose tables were read
+-- so many units may be those of a cart: one at least, and not too many
+abbrev pub IsCart : ℕ → Type 0
+IsCart units = (1 ≤ units) × (units ≤ most_cart_units)
+
+-- an opening whose tables were read, with the units of a cart or none
 pub record IsReadOpening (opening : Opening) : Type 0 where
   pub stock : IsReadStock opening.stock
   pub orders : AreReadOrders opening.stock.articles opening.orders
+  pub cart : IfSome opening.units IsCart
 
 -- the scripts of desks 1, 2 and so on, of one desk at least: not too many commands together, and each is plain and names names
 pub record AreReadScripts (scripts : List Script) : Type 0 where

@@ -1,6 +1,6 @@
 //! The limits of the program, each once. The definitions have the same numbers, and a law ties them.
 ghost use Rattle.std.specs.Prelude.{◌≡◌};
-ghost use Rattle.wp_model.specs.Limits.{greatest_desk, greatest_length, greatest_place, most_aisles, most_commands, most_entries, most_file_bytes};
+ghost use Rattle.wp_model.specs.Limits.{greatest_desk, greatest_length, greatest_place, most_aisles, most_cart_units, most_commands, most_entries, most_file_bytes};
 ghost use Rattle.wp_model.specs.Limits.{most_file_orders, most_lines, most_name_bytes, most_named, most_on_hand, most_places, most_quantity, most_rows};
 ghost use Rattle.wp_model.specs.Limits.{most_slots, most_submissions, most_wave_orders};
 
@@ -37,6 +37,9 @@ pub const MOST_LINES: u32 = 50;
 /// The most units that a line or a command may name.
 pub const MOST_QUANTITY: u32 = 100_000;
 
+/// The most units that a cart may hold.
+pub const MOST_CART_UNITS: u32 = 40_000_000;
+
 /// The most commands that the desks may have together.
 pub const MOST_COMMANDS: usize = 10_000;
 
@@ -71,6 +74,7 @@ pub fn limits_are_those_defined()
     ensures file_orders { MOST_FILE_ORDERS ≡ most_file_orders }
     ensures lines { MOST_LINES ≡ most_lines }
     ensures quantity { MOST_QUANTITY ≡ most_quantity }
+    ensures cart_units { MOST_CART_UNITS ≡ most_cart_units }
     ensures commands { MOST_COMMANDS ≡ most_commands }
     ensures submissions { MOST_SUBMISSIONS ≡ most_submissions }
     ensures named { MOST_NAMED ≡ most_named }

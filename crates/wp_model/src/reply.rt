@@ -42,6 +42,11 @@ pub enum Reply {
         order: Name,
         wave: Name,
     },
+    /// The order has so many units, more than a cart holds.
+    OverCart {
+        order: Name,
+        units: u32,
+    },
     UnknownWave,
     WrongState(WaveState),
     /// The wave wants more units of the article than are free.
@@ -94,6 +99,7 @@ impl fmt::Display for Reply {
             Reply::UnknownOrder(order) => write!(f, "refused unknown-order {order}"),
             Reply::OrderTwice(order) => write!(f, "refused order-twice {order}"),
             Reply::OrderTaken { order, wave } => { write!(f, "refused order-taken {order} {wave}") }
+            Reply::OverCart { order, units } => write!(f, "refused over-cart {order} {units}"),
             Reply::UnknownWave => f.write_str("refused unknown-wave"),
             Reply::WrongState(state) => write!(f, "refused wrong-state {state}"),
             Reply::Short {

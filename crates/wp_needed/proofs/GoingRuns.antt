@@ -1,6 +1,7 @@
 -- Over the aisles from one needed aisle to the next.
-use Rattle.std.proofs.Common.{◌≡◌, ℕ, zero, suc, ◌+◌, ◌*◌, ◌<◌, ◌≤◌, ◌↔◌, IsTrue, Some, None, arith, refl, sym, ◌∙◌, subst, ⊎_elim}
+use Rattle.std.proofs.Common.{◌≡◌, ℕ, zero, suc, ◌+◌, ◌<◌, ◌≤◌, ◌↔◌, IsTrue, Some, None, arith, refl, sym, ap, ◌∙◌, subst, ⊎_elim}
 use Rattle.std.proofs.lemmas.Option.{none-some}
+use Rattle.wp_model.specs.Sums.{sum_below}
 use Rattle.wp_classes.specs.declared.class.Class.{Class}
 use Rattle.wp_classes.specs.declared.class.Class.TheVariants.{Z00}
 use Rattle.wp_classes.specs.Choices.{Block}
@@ -30,36 +31,40 @@ next_spared block left aisle span nothing some class t = (
   λ h. when_spared (block.ways (suc aisle)) _ _ nothing some h,
 )
 
--- the crossings over so many aisles and one more
-pub far : ℕ → ℕ → ℕ
-far zero spacing = spacing
-far (suc between) spacing = spacing + far between spacing
+-- the crossings over so many aisles and one more, from this aisle on
+pub far : (ℕ → ℕ) → ℕ → ℕ → ℕ
+far spacing zero aisle = spacing aisle
+far spacing (suc between) aisle = spacing aisle + far spacing between (suc aisle)
 
-pub far_is : (between spacing : ℕ) → far between spacing ≡ (between + 1) * spacing
+-- they are as long as the last of those aisles and the next one lie apart
+pub far_is : (spacing : ℕ → ℕ) (between aisle : ℕ) → sum_below aisle spacing + far spacing between aisle ≡ sum_below (aisle + between + 1) spacing
 unfolding far
-far_is zero spacing = omega arith
-far_is (suc between) spacing = let rest = far_is between spacing in omega (arith, rest)
+far_is spacing zero aisle = let one : aisle + 0 + 1 ≡ suc aisle = omega arith in ap (λ n. sum_below n spacing) (sym one)
+far_is spacing (suc between) aisle =
+    let same : suc aisle + between + 1 ≡ aisle + suc between + 1 = omega arith in
+    let rest = far_is spacing between (suc aisle) ∙ ap (λ n. sum_below n spacing) same in omega (arith, rest)
 
 -- so many aisles aren't needed, and the one behind them is
-pub to_needed : (block : Block) (spacing : ℕ) → ((aisle : ℕ) → block.spacing aisle ≡ spacing) → (between more left aisle later span : ℕ) →
+pub to_needed : (block : Block) (between more left aisle later span : ℕ) →
     more ≡ between + suc left → later ≡ aisle + suc between → NoneBetween block aisle later → (block.ways later).skip ≡ None → (class : Class) (t : ℕ) →
-    Going block more aisle span class t ↔ Along (ByNeeded block left later) (span + far between spacing) class t
+    Going block more aisle span class t ↔ Along (ByNeeded block left later) (span + far block.spacing between aisle) class t
 unfolding far
-to_needed block spacing even zero more left aisle later span m l none needed class t =
+to_needed block zero more left aisle later span m l none needed class t =
     let is_more : more ≡ suc left = omega arith in
     let is_later : later ≡ suc aisle = omega arith in
     let here = next_needed block left aisle span (subst (λ a. (block.ways a).skip ≡ None) is_later needed) class t in
-    subst (λ n. Going block n aisle span class t ↔ Along (ByNeeded block left later) (span + spacing) class t) (sym is_more)
-    (subst (λ a. Going block (suc left) aisle span class t ↔ Along (ByNeeded block left a) (span + spacing) class t) (sym is_later)
-    (subst (λ s. Going block (suc left) aisle span class t ↔ Along (ByNeeded block left (suc aisle)) (span + s) class t) (even aisle) here))
-to_needed block spacing even (suc between) more left aisle later span m l none needed class t =
+    subst (λ n. Going block n aisle span class t ↔ Along (ByNeeded block left later) (span + block.spacing aisle) class t) (sym is_more)
+    (subst (λ a. Going block (suc left) aisle span class t ↔ Along (ByNeeded block left a) (span + block.spacing aisle) class t) (sym is_later) here)
+to_needed block (suc between) more left aisle later span m l none needed class t =
     let is_more : more ≡ suc (between + suc left) = omega arith in
     let next = none (suc aisle) (omega arith) (omega arith) in
     let here = next_spared block (between + suc left) aisle span next.0 next.1 class t in
-    let rest = to_needed block spacing even between (between + suc left) left (suc aisle) later (span + block.spacing aisle) refl (omega arith)
+    let rest = to_needed block between (between + suc left) left (suc aisle) later (span + block.spacing aisle) refl (omega arith)
     (λ a low high. none a (omega arith) high) needed class t in
-    let is_far : span + block.spacing aisle + far between spacing ≡ span + (spacing + far between spacing) = let e = even aisle in omega (arith, e) in
-    subst (λ n. Going block n aisle span class t ↔ Along (ByNeeded block left later) (span + (spacing + far between spacing)) class t) (sym is_more)
+    let is_far : span + block.spacing aisle + far block.spacing between (suc aisle) ≡ span + (block.spacing aisle + far block.spacing between (suc aisle)) =
+    omega arith in
+    subst (λ n. Going block n aisle span class t
+    ↔ Along (ByNeeded block left later) (span + (block.spacing aisle + far block.spacing between (suc aisle))) class t) (sym is_more)
     (subst (λ s. Going block (suc (between + suc left)) aisle span class t ↔ Along (ByNeeded block left later) s class t) is_far
     (λ h. rest.0 (here.0 h), λ h. here.1 (rest.1 h)))
 

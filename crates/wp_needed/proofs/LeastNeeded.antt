@@ -1,6 +1,7 @@
 -- The least lengths by the needed aisles are the least of all.
 use Rattle.std.proofs.Common.{◌≡◌, ℕ, ◌+◌, ◌*◌, ◌-◌, ◌<◌, ◌≤◌, ◌^◌, ◌⊎◌, ◌↔◌, min, IsTrue, Option, Some, None, arith, refl, sym, ◌∙◌, ap, subst}
 use Rattle.std.proofs.lemmas.Bool.{false≢true}
+use Rattle.wp_model.specs.Sums.{sum_below}
 use Rattle.wp_graph.specs.declared.ways.AisleWays.{AisleWays}
 use Rattle.wp_classes.specs.declared.class.Class.{Class}
 use Rattle.wp_classes.specs.declared.class.Class.TheVariants.{UU1, E01, ZE1, EE1, EE2, Z00, Z01}
@@ -88,24 +89,22 @@ ends_least block left aisle none class = least_like (λ t. IsTrue (is_closed cla
     go Z01 = λ t h. false≢true h.0
 
 -- after the needed aisle before this one
-pub going_before : (block : Block) (spacing : ℕ) → ((aisle : ℕ) → block.spacing aisle ≡ spacing) → (all next aisle span : ℕ) → next < aisle → aisle ≤ all →
-    (block.ways aisle).skip ≡ None → NoneBetween block next aisle → span ≡ (aisle - next) * spacing → (lengths : NeededLengths) →
+pub going_before : (block : Block) (all next aisle span : ℕ) → next < aisle → aisle ≤ all → (block.ways aisle).skip ≡ None → NoneBetween block next aisle →
+    span ≡ sum_below aisle block.spacing - sum_below next block.spacing → (lengths : NeededLengths) →
     AreBefore (λ class t. ByNeeded block (all - aisle) aisle class t) lengths → AreGoing block (all - next) next (along_run span lengths)
-going_before block spacing even all next aisle span order last needed none span_is lengths are = record {
+going_before block all next aisle span order last needed none span_is lengths are = record {
   least = λ class.
       let between : ℕ = aisle - next - 1 in
-      let same : far between spacing ≡ span = far_is between spacing ∙ ap (λ n. n * spacing) count ∙ sym span_is in
-      let zero_more : 0 + far between spacing ≡ span = omega (arith, same) in
+      let count : next + between + 1 ≡ aisle = omega arith in
+      let apart = far_is block.spacing between next ∙ ap (λ n. sum_below n block.spacing) count in
+      let same : 0 + far block.spacing between next ≡ span = omega (arith, apart, span_is) in
       let runs : (t : ℕ) → Going block (all - next) next 0 class t ↔ Along (ByNeeded block (all - aisle) aisle) span class t = λ t.
-      subst (λ s. Going block (all - next) next 0 class t ↔ Along (ByNeeded block (all - aisle) aisle) s class t) zero_more
-      (to_needed block spacing even between (all - next) (all - aisle) next aisle 0 (omega arith) (omega arith) none needed class t) in
+      subst (λ s. Going block (all - next) next 0 class t ↔ Along (ByNeeded block (all - aisle) aisle) s class t) same
+      (to_needed block between (all - next) (all - aisle) next aisle 0 (omega arith) (omega arith) none needed class t) in
       least_like (Along (ByNeeded block (all - aisle) aisle) span class) (λ t. Going block (all - next) next 0 class t)
       (on_from (along_run span lengths) class) (λ t h. (runs t).1 h) (λ t h. (runs t).0 h)
       (along_least (ByNeeded block (all - aisle) aisle) span lengths are class);
 }
-  where
-    count : aisle - next - 1 + 1 ≡ aisle - next
-    count = omega arith
 
 -- from the first needed aisle
 pub first_is_least : (whole : ℕ) (block : Block) → IsEven whole block → (all first least : ℕ) → 1 ≤ first → first ≤ all → NoneBetween block 0 first →

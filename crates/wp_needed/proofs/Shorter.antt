@@ -1,10 +1,11 @@
 -- The least lengths by the needed aisles of a layout.
-use Rattle.std.proofs.Common.{◌≡◌, ℕ, ◌+◌, ◌*◌, ◌-◌, ◌<◌, ◌≤◌, ◌^◌, List, Option, Some, None, arith, refl, sym, ◌∙◌, ap, subst}
+use Rattle.std.proofs.Common.{◌≡◌, ℕ, ◌+◌, ◌*◌, ◌-◌, ◌<◌, ◌≤◌, ◌^◌, List, Option, Some, None, arith, sym, ◌∙◌, ap, subst}
 use Rattle.wp_model.specs.declared.point.Point.{Point}
 use Rattle.wp_model.specs.Tours.{IsShortest}
 use Rattle.wp_model.specs.Warehouse.{Layout}
 use Rattle.wp_graph.specs.declared.ways.AisleWays.{AisleWays}
 use Rattle.wp_graph.specs.AisleLengths.{AreAtMost, ways_of}
+use Rattle.wp_graph.specs.Offsets.{aisle_offset}
 use Rattle.wp_graph.specs.PickSets.{AreSlots}
 use Rattle.wp_graph.specs.Required.{aisle_length}
 use Rattle.wp_graph.proofs.WayBounds.{ways_small}
@@ -73,11 +74,11 @@ before_short layout picks aisle ways on lengths slots last is none are have =
 -- from one needed aisle of a layout to the needed aisle before it
 pub going_layout : (layout : Layout) (picks : List Point) (next aisle span : ℕ) (ways : AisleWays) (on : Class → Option ℕ) (lengths : NeededLengths) → AreSlots layout picks →
     next < aisle → aisle ≤ layout.aisles → (ways_of layout picks aisle).skip ≡ None → NoneBetween (block_of layout picks) next aisle →
-    ways ≡ ways_of layout picks aisle → span ≡ (aisle - next) * layout.spacing →
+    ways ≡ ways_of layout picks aisle → span ≡ aisle_offset layout aisle - aisle_offset layout next →
     ((class : Class) → IsLeastOf (λ t. Going (block_of layout picks) (layout.aisles - aisle) aisle 0 class t) (on class)) → HaveLeast ways on lengths →
     AreGoing (block_of layout picks) (layout.aisles - next) next (along_run span lengths)
 going_layout layout picks next aisle span ways on lengths slots order last none between is span_is are have =
-    going_before (block_of layout picks) layout.spacing (λ a. refl) layout.aisles next aisle span order last none between span_is lengths
+    going_before (block_of layout picks) layout.aisles next aisle span order last none between span_is lengths
     (are_before layout picks aisle ways on lengths is are have)
 
 -- after the last needed aisle of a layout

@@ -1,15 +1,15 @@
 -- The aisles of a layout: they are as long as each other, and that of the depot is needed.
-use Rattle.std.proofs.Common.{◌≡◌, ℕ, zero, suc, ◌+◌, ◌-◌, ◌≤◌, ◌==◌, ◌&&◌, ◌⊎◌, Bool, true, false, List, [], ◌∷◌, Option, Some, None, if◌then◌else◌, is_some, ap, arith, inl, inr, refl, sym, ◌∙◌, subst}
+use Rattle.std.proofs.Common.{◌≡◌, ℕ, zero, suc, ◌+◌, ◌-◌, ◌≤◌, ◌⊎◌, Bool, true, false, List, [], ◌∷◌, Option, Some, None, if◌then◌else◌, is_some, ap, arith, inl, inr, refl, sym, ◌∙◌, subst}
 use Rattle.std.proofs.lemmas.Bool.{cases_eq}
 use Rattle.std.proofs.lemmas.Option.{none-some}
 use Rattle.wp_model.specs.declared.point.Point.{Point}
-use Rattle.wp_model.specs.Warehouse.{Layout, IsLayout}
-use Rattle.wp_graph.specs.AisleLengths.{ways_from, ways_of, ways_with}
+use Rattle.wp_model.specs.Warehouse.{End, IsLayout, Layout}
+use Rattle.wp_graph.specs.AisleLengths.{site_ways, ways_of, ways_with}
 use Rattle.wp_graph.specs.NeededAisles.{IsLastNeededBefore, is_needed}
 use Rattle.wp_graph.specs.PickSets.{AreSlots}
 use Rattle.wp_graph.specs.Required.{aisle_length, required_distances}
-use Rattle.wp_graph.specs.Sites.{End, is_end}
-use Rattle.wp_graph.specs.Sites.End.{at_front, at_back}
+use Rattle.wp_graph.specs.Sites.{has_depot, site_of}
+use Rattle.wp_model.specs.Warehouse.End.{at_front, at_back}
 use Rattle.wp_graph.proofs.NeededWays.{depot_not_skipped, not_skipped, skip_tells}
 use Rattle.wp_classes.specs.Choices.{Block, block_of}
 use Rattle.wp_needed.specs.Runs.{IsNextNeeded}
@@ -28,10 +28,10 @@ spare_with depot whole (near ∷ far) nothing e = absurd (none-some nothing (sym
 
 -- all aisles of a layout
 pub layout_even : (layout : Layout) (picks : List Point) → IsEven (aisle_length layout) (block_of layout picks)
-unfolding ways_of ways_from
+unfolding site_ways
 layout_even layout picks = record {
   long = λ aisle. record { pass = refl; double = refl };
-  spare = λ aisle nothing e. spare_with (λ end. is_end at_front end && (aisle == layout.depot)) (aisle_length layout) (required_distances layout picks aisle) nothing e;
+  spare = λ aisle nothing e. spare_with (has_depot (site_of layout) aisle) (aisle_length layout) (required_distances layout picks aisle) nothing e;
 }
 
 -- some aisle is needed

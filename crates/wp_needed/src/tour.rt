@@ -1,4 +1,5 @@
 ghost use Rattle.std.specs.Prelude.{◌≡◌, ◌+◌, ◌-◌, ◌*◌, ◌<◌, ◌≤◌, ◌^◌, None};
+ghost use Rattle.wp_graph.specs.Offsets.{aisle_offset};
 ghost use Rattle.wp_graph.specs.PickSets.{AreSlots};
 ghost use Rattle.wp_model.specs.Tours.{IsShortest};
 ghost use Rattle.wp_model.specs.Warehouse.{IsUpTo};
@@ -11,12 +12,13 @@ use wp_graph::{Layout, Picks, aisle_ways};
 
 // How long the crossings from an aisle to a later one are together.
 fn span_between(layout: &Layout, aisle: u32, later: u32) -> u64
+    requires first { 1 ≤ aisle }
     requires order { aisle < later }
     requires last { later ≤ layout.now.aisles }
-    ensures value { result ≡ (later - aisle) * layout.now.spacing }
+    ensures value { result ≡ aisle_offset layout.now later - aisle_offset layout.now aisle }
     ensures small { result ≤ 2 ^ 30 }
 {
-    u64::from(later - aisle) * u64::from(layout.spacing())
+    u64::from(layout.length_between(aisle, later))
 }
 
 // The least lengths on from after the way through a needed aisle, from those on from after the next one behind it.

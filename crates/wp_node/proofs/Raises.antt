@@ -14,25 +14,17 @@ use Rattle.wp_batch.proofs.Unions.{all_from_contained}
 use Rattle.wp_batch.specs.Duals.{AreFeasible, IsTightFor, duals_of, greatest_dual}
 use Rattle.wp_batch.proofs.FewerOrders.{same_length}
 use Rattle.wp_price.specs.Slacks.{HasNoCandidate, IsLeastSlack, IsSlack}
-use Rattle.wp_node.specs.Raises.{AreDuals, AreListedTight, AreNoLower, IsRoom}
+use Rattle.wp_node.specs.Raises.{AreListedTight, AreNoLower, IsListedWith, IsRoom}
 use Rattle.wp_node.proofs.DualSums.{dual_in_batch, in_or_out, more_with, no_lower_batch, same_without}
 
 -- where each order is in some permitted batch, there is a batch through each
 pub some_candidate : (pairing : Pairing) (order : ℕ) → AreHeldBelow pairing pairing.orders → order < pairing.orders → HasNoCandidate pairing (Some order) → ⊥
 some_candidate pairing order held known none = let batch = held order known in none batch.0 (batch.1, batch.2)
 
--- so there is a batch
-pub some_batch : (pairing : Pairing) → AreHeldBelow pairing pairing.orders → 1 ≤ pairing.orders → HasNoCandidate pairing None → ⊥
-some_batch pairing held some none = let batch = held 0 some in none batch.0 batch.1
-
 -- a dual that is raised by the room of a batch with its order is no more than sixty times its length, so it is within the range
-pub raised_duals : (wave : WavePicks) (orders : ℕ) (duals batch : List ℕ) (order room : ℕ) → AreDuals orders duals → Contains batch order
-    → IsRoom wave duals batch room → AreDuals orders (set duals order (slice_index duals order + room))
-raised_duals wave orders duals batch order room are has is =
-    let low = dual_in_batch duals batch order has in record {
-      count = omega (arith, length-set {A = ℕ}, are.count);
-      within = All-set (λ (dual : ℕ). dual ≤ greatest_dual) duals order (slice_index duals order + room) (omega (arith, low, is.equal, is.small)) are.within;
-    }
+pub raised_small : (wave : WavePicks) (duals batch : List ℕ) (order room : ℕ) → Contains batch order → IsRoom wave duals batch room
+    → slice_index duals order + room ≤ greatest_dual
+raised_small wave duals batch order room has is = let low = dual_in_batch duals batch order has in omega (arith, low, is.equal, is.small)
 
 -- by the slack of the batch of least slack, feasible duals stay feasible
 pub raised_feasible : (wave : WavePicks) (pairing : Pairing) (duals batch : List ℕ) (order room : ℕ) (slack : ℤ) → AreFeasible wave pairing duals
@@ -76,6 +68,19 @@ still_tight wave pairing before after batch order no_lower feasible is = record 
 pub none_tight : (wave : WavePicks) (pairing : Pairing) (duals : List ℕ) → AreListedTight wave pairing duals 0 []
 none_tight wave pairing duals = record { count = refl; each = λ order low. absurd (omega arith) }
 
+-- a batch that is tight for an order is tight for each that it has
+pub tight_with : (wave : WavePicks) (pairing : Pairing) (duals batch : List ℕ) (order count : ℕ) (tight : List (List ℕ))
+    → AreListedTight wave pairing duals count tight → IsListedWith tight order batch → IsTightFor wave pairing duals order batch
+tight_with wave pairing duals batch order count tight listed with =
+    let there = subst (λ (b : List ℕ). IsTightFor wave pairing duals with.place b) with.is
+    (listed.each with.place (omega (arith, with.within, listed.count))) in record {
+      permitted = there.permitted;
+      holds = with.holds;
+      total = there.total;
+      long = there.long;
+      equal = there.equal;
+    }
+
 -- one more is listed, after its order's dual was raised
 pub one_more_tight : (wave : WavePicks) (pairing : Pairing) (before after batch : List ℕ) (order : ℕ) (tight : List (List ℕ)) → AreNoLower before after
     → AreFeasible wave pairing after → AreListedTight wave pairing before order tight → IsTightFor wave pairing after order batch
@@ -90,26 +95,6 @@ one_more_tight wave pairing before after batch order tight no_lower feasible lis
       (still_tight wave pairing before after (get_or tight k []) k no_lower feasible (listed.each k (omega (arith, ne)))))
       (cases_eq k order);
 }
-
--- the batch of least slack has room, since feasible duals are within sixty times its length
-pub least_within : (wave : WavePicks) (pairing : Pairing) (duals batch : List ℕ) → AreFeasible wave pairing duals → IsPermitted pairing batch
-    → (total : ℕ) → IsLengthOf wave batch total → duals_of duals batch ≤ 60 * total
-least_within wave pairing duals batch feasible permitted = λ total long. feasible batch total permitted long
-
--- duals are feasible where the least slack of all batches isn't below 0
-pub feasible_from : (wave : WavePicks) (pairing : Pairing) (duals batch : List ℕ) (slack : ℤ) → IsLeastSlack wave pairing duals None batch slack
-    → pos 0 ≤ℤ slack → AreFeasible wave pairing duals
-feasible_from wave pairing duals batch slack least not_below = λ other total permitted long.
-    ⊎_elim (λ (high : 60 * total < duals_of duals other).
-    let below = least.least other (neg_ℤ (pos (duals_of duals other - 60 * total))) permitted
-    (record { total = total; long = long; is = omega (arith, ints, high) }) in
-    omega (arith, ints, below, not_below, high)) (λ low. low) (cases_lt (60 * total) (duals_of duals other))
-
--- where duals are feasible, no slack is below 0
-pub no_slack_below : (wave : WavePicks) (pairing : Pairing) (duals batch : List ℕ) (slack : ℤ) → AreFeasible wave pairing duals → IsPermitted pairing batch
-    → IsSlack wave duals batch slack → pos 0 ≤ℤ slack
-no_slack_below wave pairing duals batch slack feasible permitted is =
-    let low = feasible batch is.total permitted is.long in omega (arith, ints, low, is.is)
 
 -- where nothing isn't found, something is
 pub found_some : {X : Type 0} (Nothing : Type 0) (found : Option X) → IfNone found Nothing → (Nothing → ⊥) → IsSome found

@@ -1,13 +1,11 @@
 -- Lists of share duals, order by order.
 use Rattle.std.proofs.Common.{◌≡◌, ◌≢◌, ℕ, ◌+◌, ◌^◌, ◌<◌, ◌≤◌, List, [], ◌∷◌, ◌++◌, length, length-append, arith, refl, sym, ◌∙◌, subst, ⊎_elim}
-use Rattle.std.specs.Prelude.{All, slice_index, sum}
+use Rattle.std.specs.Prelude.{All, slice_index}
 use Rattle.std.proofs.lemmas.Bool.{cases_eq}
 use Rattle.std.proofs.lemmas.List.{get_or_append_left, get_or_push}
 use Rattle.std.proofs.lemmas.List.Elements.{All-nil, All-push}
-use Rattle.std.proofs.lemmas.List.Sums.{sum_by-le}
 use Rattle.wp_batch.specs.Waves.{WavePicks}
-use Rattle.wp_batch.specs.Duals.{AreShares, IsShare, greatest_dual}
-use Rattle.wp_node.specs.Raises.{AreDuals}
+use Rattle.wp_batch.specs.Duals.{AreDuals, AreShares, IsShare, greatest_dual}
 
 -- the share duals of the orders below this one
 pub record AreSharesBelow (wave : WavePicks) (capacity order : ℕ) (shares : List ℕ) : Type 0 where
@@ -46,11 +44,5 @@ all_are_shares wave capacity order shares below all = record {
 }
 
 -- they are duals
-pub shares_are_duals : (wave : WavePicks) (capacity order : ℕ) (shares : List ℕ) → AreSharesBelow wave capacity order shares → order ≡ length wave.orders
-    → AreDuals (length wave.orders) shares
-shares_are_duals wave capacity order shares below all = record { count = below.count ∙ all; within = below.within }
-
--- the duals of up to 64 orders come to no more than 64 times the greatest dual
-pub sum_small : (orders : ℕ) (duals : List ℕ) → AreDuals orders duals → orders ≤ 64 → sum duals ≤ 64000000000000
-sum_small orders duals are few =
-    let high = sum_by-le (λ (x : ℕ). x) greatest_dual duals are.within in omega (arith, high, are.count, few)
+pub shares_are_duals : (wave : WavePicks) (capacity order : ℕ) (shares : List ℕ) → AreSharesBelow wave capacity order shares → order ≤ 64 → AreDuals shares
+shares_are_duals wave capacity order shares below few = record { few = omega (arith, below.count, few); within = below.within }

@@ -1,12 +1,14 @@
 ghost use Rattle.std.specs.Prelude.{◌≡◌, IfOk, IfSome, false, length};
 
 use crate::columns::{add_finds, nearest, pool_of};
-use crate::visit::{PARTS, RAISE, visit};
+use crate::visit::{PARTS, RAISED_PARTS, visit};
 use std::alloc::Global;
-use wp_batch::Wave;
+use std::thread::Threads;
+use wp_batch::{PairedWave, SIXTIETHS, Wave};
 use wp_master::{Column, MasterFault, Pair, solve};
 use wp_model::Memory;
-use wp_pairs::Pairs;
+use wp_outside::Gate;
+use wp_price::Workers;
 
 /// The weight of a column that is taken whole.
 pub const WHOLE: u64 = 1_048_576;
@@ -67,7 +69,12 @@ fn all_scaled(
 fn solved_of(alloc: Global, pair: &Pair) -> Result<Solved, Memory>
     ensures { IfOk result (λ solved. length solved.weights.items ≡ length pair.now.weights.items) }
 {
-    let duals = all_scaled(alloc, pair.duals.as_slice(), pair.denominator, 60 * PARTS)?;
+    let duals = all_scaled(
+        alloc,
+        pair.duals.as_slice(),
+        pair.denominator,
+        SIXTIETHS * PARTS,
+    )?;
     let weights = all_scaled(alloc, pair.weights.as_slice(), pair.denominator, WHOLE)?;
     Ok(Solved { duals, weights })
 }
@@ -87,17 +94,15 @@ fn solve_over(alloc: Global, wave: &Wave, columns: &[Column]) -> Result<Option<S
 }
 
 // Adds for each order the permitted batch of least slack through it, where that is below 0, and tells whether any is new.
-fn add_priced(
-    alloc: Global,
-    wave: &Wave,
-    pairs: &Pairs,
+fn add_priced<R: Threads + Sync, G: Gate>(
+    workers: &Workers<'_, R, G>,
+    paired: &PairedWave<'_>,
     columns: &mut Vec<Column>,
     duals: &[u64],
 ) -> Result<bool, Memory>
-    requires { pairs.now.orders ≡ length wave.now.orders }
     ensures { IfOk result (λ added. added ≡ false → columns.new.items ≡ columns.old.items) }
 {
-    let finds = visit(alloc, wave, pairs, duals, RAISE)?;
+    let finds = visit(workers, paired, duals, RAISED_PARTS)?;
     add_finds(columns, finds.as_slice(), 1)
 }
 
@@ -117,15 +122,15 @@ fn trimmed(
 
 /// Column generation: from some columns on the linear program over the columns is solved, and the permitted batches whose
 /// slack is below 0 are added, until there is none. After the last round the program has the answer over the columns so far.
-pub fn price_columns(
-    alloc: Global,
-    wave: &Wave,
-    pairs: &Pairs,
+pub fn price_columns<R: Threads + Sync, G: Gate>(
+    workers: &Workers<'_, R, G>,
+    paired: &PairedWave<'_>,
     columns: Vec<Column>,
 ) -> Result<PricedColumns, Memory>
-    requires { pairs.now.orders ≡ length wave.now.orders }
     ensures { IfOk result (λ priced. IfSome priced.solved (λ solved. length solved.weights.items ≡ length priced.columns.items)) }
 {
+    let alloc = workers.alloc;
+    let wave = paired.wave;
     let mut columns = columns;
     for _ in 0..MOST_ROUNDS {
         let Some(found) = solve_over(alloc, wave, columns.as_slice())? else {
@@ -135,7 +140,7 @@ pub fn price_columns(
                 all_priced: false,
             });
         };
-        if !add_priced(alloc, wave, pairs, &mut columns, found.duals.as_slice())? {
+        if !add_priced(workers, paired, &mut columns, found.duals.as_slice())? {
             return Ok(PricedColumns {
                 columns,
                 solved: Some(found),

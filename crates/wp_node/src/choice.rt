@@ -1,12 +1,12 @@
 ghost use Rattle.std.specs.Prelude.{IfNone, IfOk, IfSome};
 ghost use Rattle.wp_pairs.specs.Permitted.{AllDecided, AreUndecided};
-ghost use Rattle.wp_node.specs.Raises.{AreDuals};
 
-use crate::ascent::{GREATEST_DUAL, ascend_within, sum_all};
+use crate::ascent::{ascend_within, sum_all};
 use crate::bound::WHOLE;
 use crate::items::total_in;
 use crate::work::{Weighted, Worked};
 use std::alloc::Global;
+use wp_batch::SIXTIETHS;
 use wp_master::Column;
 use wp_model::Memory;
 use wp_pairs::{Batch, Pairs};
@@ -111,7 +111,7 @@ fn room_within(duals: &[u64], columns: &[Column], order: u32) -> Option<u64> {
     let mut least = None;
     for column in columns {
         if column.batch.has(order) {
-            let most = column.length.saturating_mul(60);
+            let most = column.length.saturating_mul(SIXTIETHS);
             let room = most.saturating_sub(total_in(duals, column.batch));
             least = Some(least.map_or(room, |least: u64| least.min(room)));
         }
@@ -128,27 +128,19 @@ fn raise_within(duals: &mut [u64], columns: &[Column]) {
     }
 }
 
-// Raises the dual of an order, up to the greatest.
+// Raises the dual of an order.
 fn raise_dual(duals: &mut [u64], order: usize, room: u64) {
     if order < duals.len() {
-        duals[order] = duals[order].saturating_add(room).min(GREATEST_DUAL);
+        duals[order] = duals[order].saturating_add(room);
     }
 }
 
 // What the duals of a child come to more, by an ascent within the columns.
-fn gain_of(
-    alloc: Global,
-    orders: u32,
-    worked: &Worked,
-    two: Two,
-    together: bool,
-) -> Result<u64, Memory>
-    requires { AreDuals orders worked.now.own.duals }
-{
+fn gain_of(alloc: Global, worked: &Worked, two: Two, together: bool) -> Result<u64, Memory> {
     let columns = respecting(alloc, worked.weighted.as_slice(), two, together)?;
     let mut duals = Vec::from_slice(alloc, worked.own.duals.as_slice())?;
     let before = sum_all(duals.as_slice());
-    ascend_within(orders, duals.as_mut_slice(), columns.as_slice(), TRY_TURNS);
+    ascend_within(duals.as_mut_slice(), columns.as_slice(), TRY_TURNS);
     raise_within(duals.as_mut_slice(), columns.as_slice());
     Ok(
         sum_all(duals.as_slice())
@@ -158,23 +150,18 @@ fn gain_of(
 }
 
 // What a pair gains: the product of what its children gain.
-fn score_of(alloc: Global, orders: u32, worked: &Worked, two: Two) -> Result<u64, Memory>
-    requires { AreDuals orders worked.now.own.duals }
-{
-    let together = gain_of(alloc, orders, worked, two, true)?;
-    let apart = gain_of(alloc, orders, worked, two, false)?;
+fn score_of(alloc: Global, worked: &Worked, two: Two) -> Result<u64, Memory> {
+    let together = gain_of(alloc, worked, two, true)?;
+    let apart = gain_of(alloc, worked, two, false)?;
     Ok(together.saturating_mul(apart))
 }
 
 // Of the pairs that are tried the one that gains most, the first among equals.
 fn best_tried(
     alloc: Global,
-    orders: u32,
     worked: &Worked,
     shared: &[(u64, u32, u32)],
-) -> Result<Option<Two>, Memory>
-    requires { AreDuals orders worked.now.own.duals }
-{
+) -> Result<Option<Two>, Memory> {
     let mut best = None;
     let mut most = 0;
     for (_, first, second) in shared.iter().take(MOST_TRIED) {
@@ -182,7 +169,7 @@ fn best_tried(
             first: *first,
             second: *second,
         };
-        let score = score_of(alloc, orders, worked, two)?;
+        let score = score_of(alloc, worked, two)?;
         if score > most {
             most = score;
             best = Some(two);
@@ -212,13 +199,11 @@ pub fn choose_pair(
     pairs: &Pairs,
     worked: &Worked,
 ) -> Result<Option<(u32, u32)>, Memory>
-    requires duals { AreDuals pairs.now.orders worked.now.own.duals }
     ensures some { IfOk result (λ found. IfSome found (λ pair. AreUndecided pairs.now pair.0 pair.1)) }
     ensures none { IfOk result (λ found. IfNone found (AllDecided pairs.now)) }
 {
-    let orders = pairs.orders();
     let shared = shared_pairs(alloc, pairs, worked.weighted.as_slice())?;
-    if let Some(two) = best_tried(alloc, orders, worked, shared.as_slice())? {
+    if let Some(two) = best_tried(alloc, worked, shared.as_slice())? {
         if let Some(pair) = undecided_two(pairs, two) {
             return Ok(Some(pair));
         }

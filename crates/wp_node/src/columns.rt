@@ -4,10 +4,10 @@ ghost use Rattle.wp_master.specs.Pools.{IsColumn};
 use crate::items::total_in;
 use crate::visit::{FEW, Find, slack_of};
 use std::alloc::Global;
-use wp_batch::Wave;
+use wp_batch::{PairedWave, Wave};
 use wp_master::{Column, Pool};
 use wp_model::Memory;
-use wp_pairs::{Batch, Pairs};
+use wp_pairs::Batch;
 
 // Whether a column can stand in a pool of so many orders.
 fn is_column(orders: u32, column: &Column) -> bool
@@ -50,15 +50,12 @@ pub fn add_new(columns: &mut Vec<Column>, column: Column) -> Result<bool, Memory
 
 // Adds the column of a batch, where the pairs permit it and it is new.
 fn add_batch(
-    wave: &Wave,
-    pairs: &Pairs,
+    paired: &PairedWave<'_>,
     columns: &mut Vec<Column>,
     batch: Batch,
-) -> Result<(), Memory>
-    requires { pairs.now.orders ≡ length wave.now.orders }
-{
-    if pairs.permits(batch) {
-        let length = wave.batch_length(batch);
+) -> Result<(), Memory> {
+    if paired.pairs.permits(batch) {
+        let length = paired.wave.batch_length(batch);
         add_new(columns, Column { batch, length })?;
     }
     Ok(())
@@ -67,25 +64,20 @@ fn add_batch(
 /// The columns of those of some batches that the pairs permit.
 pub fn permitted_columns(
     alloc: Global,
-    wave: &Wave,
-    pairs: &Pairs,
+    paired: &PairedWave<'_>,
     batches: &[Batch],
-) -> Result<Vec<Column>, Memory>
-    requires { pairs.now.orders ≡ length wave.now.orders }
-{
+) -> Result<Vec<Column>, Memory> {
     let mut columns = Vec::new(alloc);
     for batch in batches {
-        add_batch(wave, pairs, &mut columns, *batch)?;
+        add_batch(paired, &mut columns, *batch)?;
     }
     Ok(columns)
 }
 
 /// Adds the column of each order with those alone that are to go with it.
-pub fn add_alone(wave: &Wave, pairs: &Pairs, columns: &mut Vec<Column>) -> Result<(), Memory>
-    requires { pairs.now.orders ≡ length wave.now.orders }
-{
-    for order in 0..pairs.orders() {
-        add_batch(wave, pairs, columns, pairs.joined_to(order))?;
+pub fn add_alone(paired: &PairedWave<'_>, columns: &mut Vec<Column>) -> Result<(), Memory> {
+    for order in 0..paired.pairs.orders() {
+        add_batch(paired, columns, paired.pairs.joined_to(order))?;
     }
     Ok(())
 }
@@ -103,6 +95,14 @@ pub fn add_finds(columns: &mut Vec<Column>, finds: &[Find], most: usize) -> Resu
     Ok(added)
 }
 
+/// The column of a find.
+pub fn column_of(find: &Find) -> Column {
+    Column {
+        batch: find.batch,
+        length: find.length,
+    }
+}
+
 // Adds a column that was found, if any was, and tells whether it is new.
 fn add_found(columns: &mut Vec<Column>, find: &Find) -> Result<bool, Memory>
     ensures { IfOk result (λ added. added ≡ false → columns.new.items ≡ columns.old.items) }
@@ -110,11 +110,7 @@ fn add_found(columns: &mut Vec<Column>, find: &Find) -> Result<bool, Memory>
     if find.batch.len() == 0 {
         return Ok(false);
     }
-    let column = Column {
-        batch: find.batch,
-        length: find.length,
-    };
-    add_new(columns, column)
+    add_new(columns, column_of(find))
 }
 
 /// The slacks of columns, raised, and their places, in ascending order.

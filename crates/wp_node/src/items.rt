@@ -1,9 +1,7 @@
-ghost use Rattle.std.specs.Prelude.{◌≡◌, ◌≤◌, ◌<◌, All, IfOk, IfSome, length, ℕ};
+ghost use Rattle.std.specs.Prelude.{◌≤◌, ◌<◌, All, IfOk, IfSome, ℕ};
 ghost use Rattle.wp_node.specs.Items.{AreItems};
 
-use crate::reach::Reaches;
 use std::alloc::Global;
-use wp_batch::Wave;
 use wp_model::Memory;
 use wp_pairs::{Batch, Pairs};
 
@@ -16,14 +14,6 @@ pub struct Item {
     pub size: u32,
     pub sum: u64,
     pub parted: Batch,
-}
-
-/// What is visited: the batches of a wave's items, of which those are left out that later orders don't reach.
-#[derive(Clone, Copy)]
-pub struct Visited<'a> {
-    pub wave: &'a Wave,
-    pub items: &'a [Item],
-    pub reaches: &'a Reaches,
 }
 
 /// A place of a visit: a batch, what its orders have in duals, and the orders that are parted from them.

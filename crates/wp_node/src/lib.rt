@@ -19,6 +19,7 @@ mod work;
 
 pub use choice::choose_pair;
 pub use classes::class_batching;
+pub use own::NodeOwn;
 pub use price::{pays, price_of};
-pub use shares::{bound_of, share_duals};
+pub use shares::share_duals;
 pub use work::{Weighted, Worked, work_node};

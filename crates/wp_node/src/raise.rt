@@ -1,25 +1,22 @@
-ghost use Rattle.std.specs.Prelude.{◌≡◌, ◌≤◌, ◌<◌, ◌*◌, All, IfOk, OnErr, length, ℕ};
+ghost use Rattle.std.specs.Prelude.{◌≡◌, ◌≤◌, ◌<◌, All, IfOk, IfSome, OnErr, length, ℕ};
 ghost use Rattle.wp_batch.specs.Lengths.{IsLengthOf};
-ghost use Rattle.wp_batch.specs.Duals.{AreFeasible, IsTightFor, duals_of};
-ghost use Rattle.wp_pairs.specs.Permitted.{AreHeldBelow};
-ghost use Rattle.wp_node.specs.Raises.{AreDuals, AreListedTight, AreNoLower, IsRoom};
+ghost use Rattle.wp_batch.specs.Duals.{IsTightFor, duals_of, sixtieths_of};
+ghost use Rattle.wp_node.specs.Raises.{AreListedTight, AreNoLower, IsListedWith, IsRoom, IsStart};
 
 use std::thread::Threads;
-use wp_batch::{PairedWave, Wave, sum_of};
+use wp_batch::{DualWave, OrderDuals, PairedWave, SIXTIETHS};
 use wp_model::Memory;
 use wp_outside::Gate;
 use wp_pairs::Batch;
 use wp_price::{Workers, least_slack_by};
 
 // What a batch may have more in duals, which are within sixty times its length.
-fn room_of(wave: &Wave, duals: &[u64], batch: Batch) -> u64
-    requires orders { All (λ order. order < length wave.now.orders) batch }
-    requires known { All (λ order. order < length duals.now) batch }
-    requires within { (total : ℕ) → IsLengthOf wave.now batch total → duals_of duals.now batch ≤ 60 * total }
-    ensures { IsRoom wave.now duals.now batch result }
+fn room_of(given: &DualWave<'_>, batch: Batch) -> u64
+    requires orders { All (λ order. order < length given.now.wave.now.orders) batch }
+    requires within { (total : ℕ) → IsLengthOf given.now.wave.now batch total → duals_of given.now.duals.now batch ≤ sixtieths_of total }
+    ensures { IsRoom given.now.wave.now given.now.duals.now batch result }
 {
-    let most = 60 * u128::from(wave.batch_length(batch));
-    (most - sum_of(duals, batch)) as u64
+    SIXTIETHS * given.wave.batch_length(batch) - given.duals.sum_of(batch)
 }
 
 // Raises the dual of an order as far as duals stay feasible, and tells a batch that is tight for it then. Where memory runs
@@ -27,42 +24,78 @@ fn room_of(wave: &Wave, duals: &[u64], batch: Batch) -> u64
 fn raise_order<R: Threads + Sync, G: Gate>(
     workers: &Workers<'_, R, G>,
     paired: &PairedWave<'_>,
-    duals: &mut Vec<u64>,
+    duals: &mut OrderDuals,
     order: u32,
 ) -> Result<Batch, Memory>
-    requires held { AreHeldBelow paired.now.pairs.now paired.now.pairs.now.orders }
-    requires duals { AreDuals (length paired.now.wave.now.orders) duals.old.items }
-    requires feasible { AreFeasible paired.now.wave.now paired.now.pairs.now duals.old.items }
+    requires start { IsStart paired.now.wave.now paired.now.pairs.now duals.old }
     requires known { order < length paired.now.wave.now.orders }
-    ensures duals { AreDuals (length paired.now.wave.now.orders) duals.new.items }
-    ensures feasible { AreFeasible paired.now.wave.now paired.now.pairs.now duals.new.items }
-    ensures no_lower { AreNoLower duals.old.items duals.new.items }
-    ensures tight { IfOk result (IsTightFor paired.now.wave.now paired.now.pairs.now duals.new.items order) }
-    ensures err { OnErr result (duals.new.items ≡ duals.old.items) }
+    ensures start { IsStart paired.now.wave.now paired.now.pairs.now duals.new }
+    ensures no_lower { AreNoLower duals.old duals.new }
+    ensures tight { IfOk result (IsTightFor paired.now.wave.now paired.now.pairs.now duals.new order) }
+    ensures err { OnErr result (duals.new ≡ duals.old) }
 {
-    let priced = least_slack_by(workers, paired, duals, Some(order))?.unwrap();
-    duals[order as usize] += room_of(paired.wave, duals.as_slice(), priced.batch);
+    let given = DualWave {
+        wave: paired.wave,
+        pairs: paired.pairs,
+        duals,
+    };
+    let priced = least_slack_by(workers, &given, Some(order))?.unwrap();
+    let room = room_of(&given, priced.batch);
+    duals.raise(order, room);
     Ok(priced.batch)
 }
 
-/// Raises feasible duals, order by order, until each order has a batch that is tight for it, and tells those batches. Where
-/// memory runs out the duals are feasible still, and none is lower than before.
+// The first of some batches that has an order, if one has it.
+fn batch_with(batches: &[Batch], order: u32) -> Option<Batch>
+    ensures { IfSome result (IsListedWith batches.now order) }
+{
+    for place in 0..batches.len() {
+        if batches[place].has(order) {
+            return Some(batches[place]);
+        }
+    }
+    None
+}
+
+// Tells a batch that is tight for an order, where batches are listed that are tight for the orders before it: one of these, where
+// one has the order; else its dual is raised. Where memory runs out the duals stay as they were.
+fn tighten<R: Threads + Sync, G: Gate>(
+    workers: &Workers<'_, R, G>,
+    paired: &PairedWave<'_>,
+    duals: &mut OrderDuals,
+    tight: &[Batch],
+    order: u32,
+) -> Result<Batch, Memory>
+    requires start { IsStart paired.now.wave.now paired.now.pairs.now duals.old }
+    requires known { order < length paired.now.wave.now.orders }
+    requires listed { AreListedTight paired.now.wave.now paired.now.pairs.now duals.old order tight.now }
+    ensures start { IsStart paired.now.wave.now paired.now.pairs.now duals.new }
+    ensures no_lower { AreNoLower duals.old duals.new }
+    ensures tight { IfOk result (IsTightFor paired.now.wave.now paired.now.pairs.now duals.new order) }
+{
+    match batch_with(tight, order) {
+        Some(batch) => Ok(batch),
+        None => raise_order(workers, paired, duals, order),
+    }
+}
+
+/// Raises feasible duals, order by order, until each order has a batch that is tight for it, and tells those batches. An order
+/// that lies in a batch that is tight for an earlier one isn't priced. Where memory runs out the duals are feasible still, and
+/// none is lower than before.
 pub fn raise_all<R: Threads + Sync, G: Gate>(
     workers: &Workers<'_, R, G>,
     paired: &PairedWave<'_>,
-    duals: &mut Vec<u64>,
+    duals: &mut OrderDuals,
 ) -> Result<Vec<Batch>, Memory>
-    requires held { AreHeldBelow paired.now.pairs.now paired.now.pairs.now.orders }
-    requires duals { AreDuals (length paired.now.wave.now.orders) duals.old.items }
-    requires feasible { AreFeasible paired.now.wave.now paired.now.pairs.now duals.old.items }
-    ensures duals { AreDuals (length paired.now.wave.now.orders) duals.new.items }
-    ensures feasible { AreFeasible paired.now.wave.now paired.now.pairs.now duals.new.items }
-    ensures no_lower { AreNoLower duals.old.items duals.new.items }
-    ensures tight { IfOk result (λ tight. AreListedTight paired.now.wave.now paired.now.pairs.now duals.new.items (length paired.now.wave.now.orders) tight.items) }
+    requires { IsStart paired.now.wave.now paired.now.pairs.now duals.old }
+    ensures start { IsStart paired.now.wave.now paired.now.pairs.now duals.new }
+    ensures no_lower { AreNoLower duals.old duals.new }
+    ensures tight { IfOk result (λ tight. AreListedTight paired.now.wave.now paired.now.pairs.now duals.new (length paired.now.wave.now.orders) tight.items) }
 {
     let mut tight = Vec::new(workers.alloc);
     for order in 0..paired.wave.orders() {
-        tight.push(raise_order(workers, paired, duals, order)?)?;
+        let batch = tighten(workers, paired, duals, tight.as_slice(), order)?;
+        tight.push(batch)?;
     }
     Ok(tight)
 }

@@ -1,18 +1,22 @@
-ghost use Rattle.std.specs.Prelude.{◌≡◌, ◌<◌, All, length};
-ghost use Rattle.wp_node.specs.Items.{AreItems};
+ghost use Rattle.std.specs.Prelude.{◌≡◌, ◌<◌, All, IfOk, length};
 
-use crate::items::{VisitPlace, Visited, items_of, no_place, widened};
+use crate::items::{Item, VisitPlace, items_of, no_place, widened};
 use crate::reach::Reaches;
 use std::alloc::Global;
-use wp_batch::Wave;
+use std::marker::Model;
+use std::thread;
+use std::thread::Threads;
+use wp_batch::{PairedWave, SIXTIETHS, Wave};
 use wp_model::Memory;
-use wp_pairs::{Batch, Pairs};
+use wp_outside::Gate;
+use wp_pairs::Batch;
+use wp_price::{RAISE, Workers, comes_first, deal};
 
 /// How many parts a sixtieth of a unit of length has in a visit.
 pub const PARTS: u64 = 65_536;
 
-/// By how much slacks are raised, so that none is below 0.
-pub const RAISE: u64 = 1_152_921_504_606_846_976;
+/// By how much slacks are raised in a visit, so that none is below 0.
+pub const RAISED_PARTS: u64 = RAISE * PARTS;
 
 /// A batch, its length, and its slack in parts of a sixtieth, raised.
 #[derive(Clone, Copy)]
@@ -25,12 +29,28 @@ pub struct Find {
 /// How many batches are kept for each order.
 pub const FEW: usize = 3;
 
-/// For each order in turn the few batches of least slack through it that were found, the least first, of those whose slack is
-/// below a limit. Where fewer were found the last are empty.
+/// A visit of a wave's permitted batches: its items under duals, the most that later orders add, how many orders a batch may have,
+/// and the limit below which a slack is worth a find. A batch is left out where its slack less what later orders add isn't below
+/// the limit, and so are those that have it: none of theirs is.
 #[derive(Drop)]
-pub struct Finds {
-    pub kept: Vec<Find>,
-    pub limit: u64,
+struct BatchVisit<'a> {
+    wave: &'a Wave,
+    items: Vec<Item>,
+    reaches: Reaches,
+    capacity: u32,
+    limit: u64,
+}
+
+impl<'a> Model for BatchVisit<'a> {
+    ghost use Rattle.std.specs.Prelude.{length};
+    ghost use Rattle.wp_batch.specs.Waves.{WavePicks};
+    ghost use Rattle.wp_node.specs.Items.{AreItems};
+
+    ghost Value = { WavePicks };
+
+    ghost view = { λ v. v.wave.now };
+
+    ghost invariant = { λ v. AreItems (length v.wave.now.orders) v.items.items };
 }
 
 // Nothing found yet below a limit.
@@ -45,19 +65,27 @@ fn no_find(limit: u64) -> Find {
 /// The slack of a column whose orders have so much in duals, in parts of a sixtieth, raised.
 pub fn slack_of(length: u64, sum: u64) -> u64 {
     length
-        .saturating_mul(60 * PARTS)
-        .saturating_add(RAISE)
+        .saturating_mul(SIXTIETHS * PARTS)
+        .saturating_add(RAISED_PARTS)
         .saturating_sub(sum)
 }
 
-// Puts a find among the few that stand from a place on, and drops the worst.
+// Whether a find comes before another: it has less slack, or the same slack and the list of its orders comes first.
+fn is_nearer(next: &Find, kept: &Find) -> bool {
+    if next.slack == kept.slack {
+        return comes_first(next.batch, kept.batch);
+    }
+    next.slack < kept.slack
+}
+
+// Puts a find among the few that stand from a place on, and drops the last.
 fn keep_among(kept: &mut Vec<Find>, first: usize, find: &Find) {
     let mut next = *find;
     for at in first..kept.len().min(first.saturating_add(FEW)) {
-        if next.slack < kept[at].slack {
-            let worse = kept[at];
+        if is_nearer(&next, &kept[at]) {
+            let later = kept[at];
             kept[at] = next;
-            next = worse;
+            next = later;
         }
     }
 }
@@ -76,68 +104,172 @@ fn keep(kept: &mut Vec<Find>, find: &Find) {
     }
 }
 
-// Keeps a place, if its slack is below the limit, and tells its slack.
-fn keep_place(wave: &Wave, place: &VisitPlace, finds: &mut Finds) -> u64
-    requires { All (λ order. order < length wave.now.orders) place.now.batch }
-{
-    let batch = place.batch;
-    let length = wave.batch_length(batch);
-    let slack = slack_of(length, place.sum);
-    if slack < finds.limit {
-        let find = Find {
-            batch,
-            length,
-            slack,
-        };
-        keep(&mut finds.kept, &find);
-    }
-    slack
-}
-
-// Keeps the places that widen a place by items from one on. Those that have a place are left out, where its slack less what later
-// orders add isn't below the limit: none of theirs is.
-fn visit_from(visited: &Visited<'_>, place: &VisitPlace, first: usize, room: u32, finds: &mut Finds)
-    requires items { AreItems (length visited.now.wave.now.orders) visited.now.items.now }
-    requires place { All (λ order. order < length visited.now.wave.now.orders) place.now.batch }
-{
-    if room == 0 {
-        return;
-    }
-    for index in first..visited.items.len() {
-        let item = visited.items[index];
-        if let Some(wider) = widened(place, &item, room) {
-            let slack = keep_place(visited.wave, &wider, finds);
-            let left = room - item.size;
-            if slack.saturating_sub(visited.reaches.above(item.least, left)) < finds.limit {
-                visit_from(visited, &wider, index + 1, left, finds);
-            }
+// Puts what a worker found among what others did.
+fn keep_found(kept: &mut Vec<Find>, found: &[Find]) {
+    for (place, find) in found.iter().enumerate() {
+        if find.batch.len() > 0 {
+            keep_among(kept, place - place % FEW, find);
         }
     }
 }
 
-/// The few batches of least slack through each order, of all permitted ones whose slack is below a limit, for duals in parts
-/// of a sixtieth.
-pub fn visit(
-    alloc: Global,
-    wave: &Wave,
-    pairs: &Pairs,
-    duals: &[u64],
-    limit: u64,
-) -> Result<Vec<Find>, Memory>
-    requires { pairs.now.orders ≡ length wave.now.orders }
-{
-    let items = items_of(alloc, pairs, duals)?;
-    let reaches = Reaches::of(alloc, duals)?;
+// For each of so many orders a few finds that are none.
+fn no_finds(alloc: Global, orders: u32, limit: u64) -> Result<Vec<Find>, Memory> {
     let mut kept = Vec::new(alloc);
-    for _ in 0..FEW * pairs.orders() as usize {
+    for _ in 0..FEW * orders as usize {
         kept.push(no_find(limit))?;
     }
-    let mut finds = Finds { kept, limit };
-    let visited = Visited {
-        wave,
-        items: items.as_slice(),
-        reaches: &reaches,
-    };
-    visit_from(&visited, &no_place(), 0, pairs.capacity(), &mut finds);
-    Ok(finds.kept)
+    Ok(kept)
+}
+
+impl<'a> BatchVisit<'a> {
+    // A visit for duals in parts of a sixtieth.
+    fn of(
+        alloc: Global,
+        paired: &PairedWave<'a>,
+        duals: &[u64],
+        limit: u64,
+    ) -> Result<BatchVisit<'a>, Memory>
+        ensures { IfOk result (λ visit. visit ≡ paired.now.wave.now) }
+    {
+        let reaches = Reaches::of(alloc, duals)?;
+        let items = items_of(alloc, paired.pairs, duals)?;
+        Ok(BatchVisit {
+            wave: paired.wave,
+            items,
+            reaches,
+            capacity: paired.pairs.capacity(),
+            limit,
+        })
+    }
+}
+
+impl BatchVisit<'_> {
+    // Keeps a place, if its slack is below the limit, and tells its slack.
+    fn keep_place(&self, place: &VisitPlace, kept: &mut Vec<Find>) -> u64
+        requires { All (λ order. order < length self.now.orders) place.now.batch }
+    {
+        let batch = place.batch;
+        let length = self.wave.batch_length(batch);
+        let slack = slack_of(length, place.sum);
+        if slack < self.limit {
+            let find = Find {
+                batch,
+                length,
+                slack,
+            };
+            keep(kept, &find);
+        }
+        slack
+    }
+
+    // Whether a place with this slack, which has room for so many orders after those up to one, may lead to a find.
+    fn leads_on(&self, slack: u64, last: u32, room: u32) -> bool {
+        slack.saturating_sub(self.reaches.above(last, room)) < self.limit
+    }
+
+    // Keeps the places that widen a place by the item at an index, and maybe by later ones.
+    fn visit_item(&self, place: &VisitPlace, index: usize, room: u32, kept: &mut Vec<Find>)
+        requires { All (λ order. order < length self.now.orders) place.now.batch }
+    {
+        if self.items.len() <= index {
+            return;
+        }
+        let item = self.items[index];
+        let Some(wider) = widened(place, &item, room) else {
+            return;
+        };
+        let left = room.saturating_sub(item.size.max(1));
+        let slack = self.keep_place(&wider, kept);
+        if left > 0 && self.leads_on(slack, item.least, left) {
+            for next in index + 1..self.items.len() {
+                self.visit_item(&wider, next, left, kept);
+            }
+        }
+    }
+
+    // What is found in the subtrees of the first items of a share.
+    fn visit_share(&self, alloc: Global, share: Batch) -> Result<Vec<Find>, Memory> {
+        let mut kept = no_finds(alloc, self.wave.orders(), self.limit)?;
+        for index in 0..self.items.len() {
+            if share.has(self.items[index].least) {
+                self.visit_item(&no_place(), index, self.capacity, &mut kept);
+            }
+        }
+        Ok(kept)
+    }
+
+    // The orders that name items.
+    fn firsts(&self) -> Batch {
+        let mut firsts = Batch::empty();
+        for item in self.items.iter() {
+            if item.least < 64 {
+                firsts = firsts.with(item.least);
+            }
+        }
+        firsts
+    }
+
+    // What is found for all shares, each by a worker of its own.
+    fn visit_shares<R: Threads + Sync>(
+        &self,
+        rt: &R,
+        alloc: Global,
+        shares: &[Batch],
+    ) -> Result<Vec<Result<Vec<Find>, Memory>>, Memory> {
+        let visit = self;
+        let found = thread::map_indices(
+            rt,
+            alloc,
+            shares.len(),
+            &|worker: usize| -> Result<Vec<Find>, Memory>
+                requires { worker < length shares.now }
+            { visit.visit_share(alloc, shares[worker]) },
+        )?;
+        Ok(found)
+    }
+}
+
+/// The few batches of least slack through each order, of all permitted ones whose slack is below a limit, for duals in parts
+/// of a sixtieth: for each order in turn, the least first; where there are fewer the last are empty. Workers each visit the
+/// subtrees of some first items. Of equal slacks the one whose list of orders comes first counts as less, so the answer doesn't
+/// depend on the workers.
+pub fn visit<R: Threads + Sync, G: Gate>(
+    workers: &Workers<'_, R, G>,
+    paired: &PairedWave<'_>,
+    duals: &[u64],
+    limit: u64,
+) -> Result<Vec<Find>, Memory> {
+    let alloc = workers.alloc;
+    let visit = BatchVisit::of(alloc, paired, duals, limit)?;
+    let shares = shares_of(workers, &visit)?;
+    let found = visit.visit_shares(workers.rt, alloc, shares.as_slice())?;
+    together(alloc, paired.wave.orders(), limit, found.as_slice())
+}
+
+// The first items, dealt out to workers.
+fn shares_of<R, G>(
+    workers: &Workers<'_, R, G>,
+    visit: &BatchVisit<'_>,
+) -> Result<Vec<Batch>, Memory> {
+    let firsts = visit.firsts();
+    let taking_part = workers.worth(firsts.len(), visit.capacity);
+    deal(workers.alloc, visit.wave.orders(), firsts, taking_part)
+}
+
+// What all workers found, put together.
+fn together(
+    alloc: Global,
+    orders: u32,
+    limit: u64,
+    found: &[Result<Vec<Find>, Memory>],
+) -> Result<Vec<Find>, Memory> {
+    let mut kept = no_finds(alloc, orders, limit)?;
+    for part in found {
+        match part {
+            Ok(finds) => keep_found(&mut kept, finds.as_slice()),
+            Err(_) => return Err(Memory),
+        }
+    }
+    Ok(kept)
 }

@@ -1,24 +1,23 @@
-ghost use Rattle.std.specs.Prelude.{◌≡◌, ◌≤◌, ◌<◌, All, IfOk, IfSome, length, slice_index, sum};
+ghost use Rattle.std.specs.Prelude.{◌≡◌, All, IfOk, IfSome, length, slice_index, sum};
 ghost use Rattle.wp_cert.specs.Trees.{IsRightOwn};
-ghost use Rattle.wp_batch.specs.Duals.{AreFeasible};
-ghost use Rattle.wp_pairs.specs.Permitted.{AreHeldBelow};
+ghost use Rattle.wp_batch.specs.Duals.{AreDuals};
 ghost use Rattle.wp_price.specs.ShortMarks.{AreShortMarks};
-ghost use Rattle.wp_node.specs.Raises.{AreDuals};
+ghost use Rattle.wp_node.specs.Owns.{as_own};
+ghost use Rattle.wp_node.specs.Raises.{IsStart};
 ghost use Rattle.wp_node.specs.Weights.{IsWeighted};
 
-use crate::ascent::{GREATEST_DUAL, ascend, lower_all};
+use crate::ascent::{ascend_within, lower_columns};
 use crate::bound::{PricedColumns, Solved, WHOLE, price_columns};
-use crate::columns::{add_alone, add_finds, permitted_columns, ranked};
-use crate::own::own_of;
-use crate::visit::{FEW, PARTS, visit};
+use crate::columns::{add_alone, add_finds, nearest, permitted_columns, ranked};
+use crate::own::{NodeOwn, own_of};
+use crate::visit::{FEW, Find, PARTS, RAISED_PARTS, visit};
 use std::alloc::Global;
 use std::thread::Threads;
-use wp_batch::{PairedWave, Wave};
-use wp_cert::Own;
+use wp_batch::{OrderDuals, PairedWave};
 use wp_master::Column;
 use wp_model::Memory;
 use wp_outside::Gate;
-use wp_pairs::{Batch, Pairs};
+use wp_pairs::Batch;
 use wp_price::Workers;
 
 /// How many columns for each order a node hands on.
@@ -26,6 +25,18 @@ const HANDED_ON: usize = 3;
 
 /// With fewer columns than this for each order a node looks for more of its own.
 const FEW_COLUMNS: usize = 2;
+
+/// How many ascents a node makes at most to find columns.
+const MOST_ASCENTS: u32 = 8;
+
+/// How many turns an ascent has.
+const TURNS: u64 = 60;
+
+/// How many columns for each order are kept of those that ascents find.
+const MOST_FIRST: usize = 4;
+
+/// How often duals are lowered at most that aren't known to be feasible.
+const MOST_LOWERED: u32 = 16;
 
 /// A column of a linear program and its weight there, in parts of a whole one.
 #[derive(Clone, Copy)]
@@ -38,7 +49,7 @@ pub struct Weighted {
 /// and the batches to which its solution is rounded, which are tested before they are taken for a batching.
 #[derive(Drop)]
 pub struct Worked {
-    pub own: Own,
+    pub own: NodeOwn,
     pub columns: Vec<Batch>,
     pub weighted: Vec<Weighted>,
     pub whole: Vec<Batch>,
@@ -53,108 +64,126 @@ fn in_parts(alloc: Global, duals: &[u64]) -> Result<Vec<u64>, Memory> {
     Ok(parts)
 }
 
-// Puts duals in parts of a sixtieth in the place of others, rounded down.
-fn round_down(orders: u32, duals: &mut [u64], parts: &[u64])
-    requires { AreDuals orders duals.old }
-    ensures { AreDuals orders duals.new }
-{
-    for order in 0..duals.len() {
-        if let Some(part) = parts.get(order) {
-            duals[order] = (*part / PARTS).min(GREATEST_DUAL);
-        }
+// Duals in whole sixtieths, from their parts, rounded down.
+fn rounded_down(alloc: Global, parts: &[u64]) -> Result<Vec<u64>, Memory> {
+    let mut duals = Vec::new(alloc);
+    for part in parts {
+        duals.push(*part / PARTS)?;
     }
-}
-
-// The duals to which an ascent leads from those above the node.
-fn ascended(alloc: Global, wave: &Wave, pairs: &Pairs, above: &[u64]) -> Result<Vec<u64>, Memory>
-    requires pairs { pairs.now.orders ≡ length wave.now.orders }
-    requires duals { AreDuals (length wave.now.orders) above.now }
-    ensures { IfOk result (λ duals. AreDuals (length wave.now.orders) duals.items) }
-{
-    let mut duals = Vec::from_slice(alloc, above)?;
-    ascend(alloc, wave, pairs, duals.as_mut_slice())?;
     Ok(duals)
 }
 
-// Adds the columns that the duals of an ascent make nearly tight.
-fn add_nearly_tight(
-    alloc: Global,
-    wave: &Wave,
-    pairs: &Pairs,
-    above: &[u64],
+// The duals to which an ascent within some columns leads from those above the node.
+fn ascended(alloc: Global, above: &OrderDuals, columns: &[Column]) -> Result<Vec<u64>, Memory> {
+    let mut duals = Vec::from_slice(alloc, above.as_slice())?;
+    ascend_within(duals.as_mut_slice(), columns, TURNS);
+    Ok(duals)
+}
+
+// What is found of a wave's batches for duals in sixtieths.
+fn visit_by<R: Threads + Sync, G: Gate>(
+    workers: &Workers<'_, R, G>,
+    paired: &PairedWave<'_>,
+    duals: &[u64],
+    limit: u64,
+) -> Result<Vec<Find>, Memory> {
+    let parts = in_parts(workers.alloc, duals)?;
+    visit(workers, paired, parts.as_slice(), limit)
+}
+
+// Adds the columns that the duals of an ascent within the columns so far make nearly tight, and again from these, a few times.
+fn add_nearly_tight<R: Threads + Sync, G: Gate>(
+    workers: &Workers<'_, R, G>,
+    paired: &PairedWave<'_>,
+    above: &OrderDuals,
     columns: &mut Vec<Column>,
-) -> Result<(), Memory>
-    requires pairs { pairs.now.orders ≡ length wave.now.orders }
-    requires duals { AreDuals (length wave.now.orders) above.now }
-{
-    let duals = ascended(alloc, wave, pairs, above)?;
-    let parts = in_parts(alloc, duals.as_slice())?;
-    let finds = visit(alloc, wave, pairs, parts.as_slice(), u64::MAX)?;
-    add_finds(columns, finds.as_slice(), FEW)?;
+) -> Result<(), Memory> {
+    for _ in 0..MOST_ASCENTS {
+        let duals = ascended(workers.alloc, above, columns.as_slice())?;
+        let finds = visit_by(workers, paired, duals.as_slice(), u64::MAX)?;
+        if !add_finds(columns, finds.as_slice(), FEW)? {
+            return Ok(());
+        }
+    }
     Ok(())
 }
 
-// The columns that a node begins with: those that are handed to it and permitted, where these are few some that an ascent
-// finds, and each order with those alone that are to go with it.
-fn first_columns(
+// Of columns those that an ascent within them makes nearly tight, at most so many for each order, and each order alone.
+fn nearly_tight(
     alloc: Global,
-    wave: &Wave,
-    pairs: &Pairs,
-    above: &[u64],
-    handed: &[Batch],
-) -> Result<Vec<Column>, Memory>
-    requires pairs { pairs.now.orders ≡ length wave.now.orders }
-    requires duals { AreDuals (length wave.now.orders) above.now }
-{
-    let mut columns = permitted_columns(alloc, wave, pairs, handed)?;
-    if columns.len() < FEW_COLUMNS * wave.orders() as usize {
-        add_nearly_tight(alloc, wave, pairs, above, &mut columns)?;
-    }
-    add_alone(wave, pairs, &mut columns)?;
-    Ok(columns)
+    paired: &PairedWave<'_>,
+    above: &OrderDuals,
+    columns: Vec<Column>,
+) -> Result<Vec<Column>, Memory> {
+    let duals = ascended(alloc, above, columns.as_slice())?;
+    let parts = in_parts(alloc, duals.as_slice())?;
+    let most = MOST_FIRST * paired.wave.orders() as usize;
+    let mut kept = nearest(alloc, columns.as_slice(), parts.as_slice(), most)?;
+    add_alone(paired, &mut kept)?;
+    Ok(kept)
 }
 
-// The duals of an answer of the linear program, rounded down; where not all is priced they are lowered until no permitted batch
-// has too much.
+// The columns that a node begins with: those that are handed to it and permitted, each order with those alone that are to go with
+// it, and where these are few some that ascents find.
+fn first_columns<R: Threads + Sync, G: Gate>(
+    workers: &Workers<'_, R, G>,
+    paired: &PairedWave<'_>,
+    above: &OrderDuals,
+    handed: &[Batch],
+) -> Result<Vec<Column>, Memory> {
+    let mut columns = permitted_columns(workers.alloc, paired, handed)?;
+    let are_few = columns.len() < FEW_COLUMNS * paired.wave.orders() as usize;
+    add_alone(paired, &mut columns)?;
+    if !are_few {
+        return Ok(columns);
+    }
+    add_nearly_tight(workers, paired, above, &mut columns)?;
+    nearly_tight(workers.alloc, paired, above, columns)
+}
+
+// Lowers duals where a batch has too much, as often as a visit finds some.
+fn lower_found<R: Threads + Sync, G: Gate>(
+    workers: &Workers<'_, R, G>,
+    paired: &PairedWave<'_>,
+    duals: &mut Vec<u64>,
+) -> Result<(), Memory> {
+    for _ in 0..MOST_LOWERED {
+        let finds = visit_by(workers, paired, duals.as_slice(), RAISED_PARTS)?;
+        let mut columns = Vec::new(workers.alloc);
+        if !add_finds(&mut columns, finds.as_slice(), FEW)? {
+            return Ok(());
+        }
+        lower_columns(duals.as_mut_slice(), columns.as_slice());
+    }
+    Ok(())
+}
+
+// The duals of the linear program, rounded down, or where it has no answer those of an ascent.
 fn solved_duals(
     alloc: Global,
-    wave: &Wave,
-    pairs: &Pairs,
-    above: &[u64],
-    parts: &[u64],
-    all_priced: bool,
-) -> Result<Vec<u64>, Memory>
-    requires pairs { pairs.now.orders ≡ length wave.now.orders }
-    requires duals { AreDuals (length wave.now.orders) above.now }
-    ensures { IfOk result (λ duals. AreDuals (length wave.now.orders) duals.items) }
-{
-    let mut duals = Vec::from_slice(alloc, above)?;
-    round_down(wave.orders(), duals.as_mut_slice(), parts);
-    if !all_priced {
-        lower_all(alloc, wave, pairs, duals.as_mut_slice())?;
+    above: &OrderDuals,
+    priced: &PricedColumns,
+) -> Result<Vec<u64>, Memory> {
+    match &priced.solved {
+        Some(found) => rounded_down(alloc, found.duals.as_slice()),
+        None => ascended(alloc, above, priced.columns.as_slice()),
     }
-    Ok(duals)
 }
 
-// The duals to be tried: those of the linear program, or where it has no answer those of an ascent.
-fn tried_duals(
-    alloc: Global,
-    wave: &Wave,
-    pairs: &Pairs,
-    above: &[u64],
+// The duals to be tried: where not all is priced they are lowered, until no permitted batch has too much, or a few times.
+fn tried_duals<R: Threads + Sync, G: Gate>(
+    workers: &Workers<'_, R, G>,
+    paired: &PairedWave<'_>,
+    above: &OrderDuals,
     priced: &PricedColumns,
-) -> Result<Vec<u64>, Memory>
-    requires pairs { pairs.now.orders ≡ length wave.now.orders }
-    requires duals { AreDuals (length wave.now.orders) above.now }
-    ensures { IfOk result (λ duals. AreDuals (length wave.now.orders) duals.items) }
+) -> Result<OrderDuals, Memory>
+    ensures { IfOk result (λ duals. length duals ≡ length paired.now.wave.now.orders) }
 {
-    match &priced.solved {
-        Some(found) => {
-            let parts = found.duals.as_slice();
-            solved_duals(alloc, wave, pairs, above, parts, priced.all_priced)
-        }
-        None => ascended(alloc, wave, pairs, above),
+    let mut duals = solved_duals(workers.alloc, above, priced)?;
+    if !priced.all_priced {
+        lower_found(workers, paired, &mut duals)?;
     }
+    OrderDuals::limited(workers.alloc, paired.wave.orders(), duals.as_slice())
 }
 
 // The orders of a batch that aren't in another.
@@ -290,7 +319,7 @@ fn batches_of(alloc: Global, weighted: &[Weighted]) -> Result<Vec<Batch>, Memory
 fn worked_of(
     alloc: Global,
     orders: u32,
-    own: Own,
+    own: NodeOwn,
     weighted: Vec<Weighted>,
 ) -> Result<Worked, Memory>
     ensures { IfOk result (λ worked. worked.own ≡ own) }
@@ -305,29 +334,26 @@ fn worked_of(
     })
 }
 
-/// The work at one node of the search, whose pairs leave no order dead. Its duals come to no less than those above it, and
-/// where the linear program over all its permitted batches has an answer, to that, but for what is lost in rounding down to
-/// sixtieths. The columns that it begins with are taken from the batches that are handed to it. The workers are handed to the
-/// pricing.
+/// The work at one node of the search. Its duals come to no less than those above it, and where the linear program over all its
+/// permitted batches has an answer, to that, but for what is lost in rounding down to sixtieths. The columns that it begins with are
+/// taken from the batches that are handed to it. The workers share its visits and its pricing.
 pub fn work_node<R: Threads + Sync, G: Gate>(
     workers: &Workers<'_, R, G>,
     paired: &PairedWave<'_>,
-    above: &[u64],
+    above: &OrderDuals,
     columns: &[Batch],
 ) -> Result<Worked, Memory>
-    requires held { AreHeldBelow paired.now.pairs.now paired.now.pairs.now.orders }
-    requires duals { AreDuals (length paired.now.wave.now.orders) above.now }
-    requires feasible { AreFeasible paired.now.wave.now paired.now.pairs.now above.now }
-    ensures right { IfOk result (λ worked. IsRightOwn paired.now.wave.now paired.now.pairs.now (sum above.now) worked.own) }
-    ensures duals { IfOk result (λ worked. AreDuals (length paired.now.wave.now.orders) worked.own.duals) }
+    requires { IsStart paired.now.wave.now paired.now.pairs.now above.now }
+    ensures right { IfOk result (λ worked. IsRightOwn paired.now.wave.now paired.now.pairs.now (sum above.now) (as_own worked.own)) }
+    ensures duals { IfOk result (λ worked. AreDuals worked.own.duals) }
     ensures short { IfOk result (λ worked. AreShortMarks paired.now.wave.now paired.now.pairs.now worked.own.duals worked.own.marks) }
 {
-    let PairedWave { wave, pairs } = *paired;
     let alloc = workers.alloc;
-    let first = first_columns(alloc, wave, pairs, above, columns)?;
-    let priced = price_columns(alloc, wave, pairs, first)?;
-    let tried = tried_duals(alloc, wave, pairs, above, &priced)?;
-    let weighted = handed_on(alloc, wave.orders(), &priced)?;
-    let own = own_of(workers, paired, above, &tried)?;
-    worked_of(alloc, wave.orders(), own, weighted)
+    let orders = paired.wave.orders();
+    let first = first_columns(workers, paired, above, columns)?;
+    let priced = price_columns(workers, paired, first)?;
+    let tried = tried_duals(workers, paired, above, &priced)?;
+    let weighted = handed_on(alloc, orders, &priced)?;
+    let own = own_of(workers, paired, above, tried)?;
+    worked_of(alloc, orders, own, weighted)
 }

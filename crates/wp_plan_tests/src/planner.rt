@@ -12,18 +12,12 @@ use wp_graph::Layout;
 use wp_machine::WaveHolds;
 use wp_model::{Hold, Holds, Name, Names, StockRow};
 use wp_outside::OpenGate;
-use wp_planner::{DayPlanner, PlansWaves, Terms, plan_for};
+use wp_planner::{DayPlanner, Planning, PlansWaves, Terms, plan_for};
 use wp_tables::{Stock, read_stock};
 
 const STOCK: &str = "location,article,on_hand
 1-1-L,A,5
 ";
-
-const TERMS: Terms = Terms {
-    capacity: 1,
-    budget: 100_000_000,
-    workers: 1,
-};
 
 fn stock_of(alloc: Global, layout: &Layout) -> Result<Stock, Fail> {
     Ok(read_stock(alloc, &STOCK.as_bytes().to_vec(alloc)?, layout)?)
@@ -121,9 +115,19 @@ fn have_day_plans<R: Threads + Sync>(
     if !lie_in(layout, stock.as_rows()) {
         return Err("no stock".into());
     }
+    let terms = Terms::of(1, 100_000_000, 1);
     let plan = |alloc: Global, wave: &WaveHolds|
         requires { LiesIn layout.now stock }
-    { plan_for(rt, alloc, layout, &stock, wave, &TERMS, &OpenGate) };
+    {
+        let planning = Planning {
+            rt,
+            layout,
+            stock: &stock,
+            terms: &terms,
+            gate: &OpenGate,
+        };
+        plan_for(&planning, alloc, wave)
+    };
     have_plans_by(rt, alloc, plan, wave)
 }
 

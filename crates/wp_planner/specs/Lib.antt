@@ -1,3 +1,4 @@
+pub mod Terms
 pub mod Slots
 pub mod Released
 pub mod Plans

@@ -1,20 +1,12 @@
 -- Plans of waves that went out.
-use Rattle.std.specs.Prelude.{◌≤◌, ◌^◌, ◌↔◌, Option, IfSome, IsSome}
+use Rattle.std.specs.Prelude.{◌↔◌, Option, IfSome, IsSome}
 use Rattle.wp_model.specs.Opening.{Stock}
 use Rattle.wp_model.specs.Warehouse.{Layout}
 use Rattle.wp_machine.specs.declared.outcome.WaveHolds.{WaveHolds}
 use Rattle.wp_search.specs.Plans.{IsGoodPlan}
 use Rattle.wp_planner.specs.Released.{IsReleased, IsWaveOf}
-use Rattle.wp_planner.specs.declared.planner.Terms.{Terms}
+use Rattle.wp_planner.specs.Terms.{Terms}
 use Rattle.wp_planner.specs.declared.planner.WavePlan.{WavePlan}
-
--- a capacity, a budget and a number of workers within their ranges
-pub record AreTerms (terms : Terms) : Type 0 where
-  pub some_capacity : 1 ≤ terms.capacity
-  pub most_capacity : terms.capacity ≤ 8
-  pub budget : terms.budget ≤ 10 ^ 18
-  pub some_workers : 1 ≤ terms.workers
-  pub most_workers : terms.workers ≤ 16
 
 -- a good plan of the wave that picks where the one that went out holds units
 pub record IsPlanOf (layout : Layout) (stock : Stock) (released : WaveHolds) (terms : Terms) (plan : WavePlan) : Type 0 where

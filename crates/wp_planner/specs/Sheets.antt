@@ -12,7 +12,7 @@ use Rattle.wp_search.specs.declared.plan.Planned.{Planned}
 use Rattle.wp_search.specs.declared.plan.State.{State}
 use Rattle.wp_search.specs.declared.plan.State.TheVariants as state
 use Rattle.wp_sheets.specs.Sheets.{IsBatchText, end_line, heading_line}
-use Rattle.wp_planner.specs.declared.planner.Terms.{Terms}
+use Rattle.wp_planner.specs.Terms.{Terms}
 use Rattle.wp_planner.specs.declared.planner.WavePlan.{WavePlan}
 
 -- a shortest tour past all that the orders of a batch pick, and its length

@@ -7,12 +7,14 @@ mod planner;
 mod released;
 mod sheet;
 mod slots;
+mod terms;
 mod tours;
 mod waves;
 
 pub use day_planner::{DayPlanner, PlansWaves};
 pub use laws::waves_that_go_out_are_filled;
-pub use planner::{Terms, WavePlan, plan_for, plan_of};
+pub use planner::{Planning, WavePlan, plan_for, plan_of};
 pub use released::is_released;
-pub use sheet::print_sheet;
+pub use sheet::{SentWave, print_sheet};
+pub use terms::Terms;
 pub use waves::wave_of;

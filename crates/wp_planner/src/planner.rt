@@ -1,8 +1,9 @@
 ghost use Rattle.std.specs.Prelude.{◌≤◌, IfOk};
-ghost use Rattle.wp_planner.specs.Plans.{AreTerms, IsPlanFor, IsPlanOf};
+ghost use Rattle.wp_planner.specs.Plans.{IsPlanFor, IsPlanOf};
 ghost use Rattle.wp_planner.specs.Released.{IsReleased, LiesIn};
 
 use crate::released::is_released;
+use crate::terms::Terms;
 use crate::waves::wave_of;
 use std::alloc::Global;
 use std::thread::Threads;
@@ -19,13 +20,16 @@ use wp_tables::Stock;
 /// How many lengths are kept at most where the budget doesn't pay for duals of a node's own.
 const MOST_KEPT: u64 = 50_000;
 
-/// What waves are planned with: how many orders a batch may have, 1 to 8; what may be spent on a wave's bound, 0 to 10 ^ 18;
-/// and on how many threads, 1 to 16.
-#[derive(Clone, Copy)]
-pub struct Terms {
-    pub capacity: u32,
-    pub budget: u64,
-    pub workers: u32,
+/// What the waves of a day are planned with: the layout and the stock that lies in it, the terms, and the threads and the gate of
+/// the workers that price them.
+#[derive(Drop)]
+pub struct Planning<'a, R, G> {
+    pub rt: &'a R,
+    pub layout: &'a Layout,
+    pub stock: &'a Stock,
+    pub terms: &'a Terms,
+    pub gate: &'a G,
+    pub ghost lies: { LiesIn layout.now stock.now },
 }
 
 /// A wave and its plan.
@@ -66,33 +70,27 @@ fn kept_orders(wave: &Wave, capacity: Capacity, budget: u64) -> u32
 /// The plan of a wave that went out: a good plan, for the terms' capacity and budget, of the wave whose orders pick at the slots
 /// of the layout at which they hold units. The workers that price it pass the gate.
 pub fn plan_of<R: Threads + Sync, G: Gate>(
-    rt: &R,
+    planning: &Planning<'_, R, G>,
     alloc: Global,
-    layout: &Layout,
-    stock: &Stock,
     released: &WaveHolds,
-    terms: &Terms,
-    gate: &G,
 ) -> Result<WavePlan, Memory>
-    requires terms { AreTerms terms.now }
-    requires released { IsReleased stock.now released.now }
-    requires lies { LiesIn layout.now stock.now }
-    ensures { IfOk result (IsPlanOf layout.now stock.now released.now terms.now) }
+    requires { IsReleased planning.now.stock.now released.now }
+    ensures { IfOk result (IsPlanOf planning.now.layout.now planning.now.stock.now released.now planning.now.terms.now) }
 {
-    let mut wave = wave_of(alloc, layout, stock, released)?;
-    let capacity = Capacity {
-        most: terms.capacity,
-    };
-    let kept = kept_orders(&wave, capacity, terms.budget);
+    let mut wave = wave_of(alloc, planning.layout, planning.stock, released)?;
+    let capacity = planning.terms.capacity();
+    let budget = planning.terms.budget();
+    let workers = planning.terms.workers();
+    let kept = kept_orders(&wave, capacity, budget);
     wave.keep_lengths(alloc, kept)?;
     let planned = plan_wave(
-        rt,
+        planning.rt,
         alloc,
         &wave,
-        terms.capacity,
-        terms.budget,
-        terms.workers,
-        gate,
+        capacity.most,
+        budget,
+        workers,
+        planning.gate,
     )?;
     wave.keep_lengths(alloc, 0)?;
     Ok(WavePlan { wave, planned })
@@ -100,21 +98,15 @@ pub fn plan_of<R: Threads + Sync, G: Gate>(
 
 /// The plan of a wave that goes out. None comes exactly where a wave isn't one that does. The workers that price it pass the gate.
 pub fn plan_for<R: Threads + Sync, G: Gate>(
-    rt: &R,
+    planning: &Planning<'_, R, G>,
     alloc: Global,
-    layout: &Layout,
-    stock: &Stock,
     wave: &WaveHolds,
-    terms: &Terms,
-    gate: &G,
 ) -> Result<Option<WavePlan>, Memory>
-    requires terms { AreTerms terms.now }
-    requires lies { LiesIn layout.now stock.now }
-    ensures { IfOk result (IsPlanFor layout.now stock.now terms.now wave.now) }
+    ensures { IfOk result (IsPlanFor planning.now.layout.now planning.now.stock.now planning.now.terms.now wave.now) }
 {
-    if !is_released(stock, wave) {
+    if !is_released(planning.stock, wave) {
         return Ok(None);
     }
-    let plan = plan_of(rt, alloc, layout, stock, wave, terms, gate)?;
+    let plan = plan_of(planning, alloc, wave)?;
     Ok(Some(plan))
 }

@@ -24,7 +24,8 @@ use Rattle.wp_price.specs.declared.place.Place.{Place}
 use Rattle.wp_price.specs.Items.{AreItemsBelow, IsItemOf, IsUsable}
 use Rattle.wp_price.specs.Searches.{IsAt, IsBlocked, IsNoChild, IsReached, IsTask, NamesBelow, Task}
 use Rattle.wp_price.specs.Slacks.{HasNoCandidate}
-use Rattle.wp_price.proofs.Lists.{bounded_sum, one_list}
+use Rattle.wp_batch.proofs.DualBounds.{bounded_duals}
+use Rattle.wp_price.proofs.Lists.{one_list}
 
 -- nothing is in no order
 nothing : (xs : List ℕ) (x : ℕ) → xs ≡ [] → Contains xs x → ⊥
@@ -154,12 +155,6 @@ least_names pairing class order least up is first known = record {
       omega (arith, at, get_or_from_slice_get class 0 least 0 first);
 }
 
--- what orders have in duals, each at most the greatest
-pub bounded_duals : (duals batch : List ℕ) → All (λ order. order < length duals) batch → All (λ dual. dual ≤ greatest_dual) duals
-    → duals_of duals batch ≤ greatest_dual * length batch
-bounded_duals duals batch known low = bounded_sum (slice_index duals) greatest_dual batch
-    (λ x has. low x 0 (All-contains (λ (o : ℕ). o < length duals) batch x known has))
-
 -- what was read for an order is what it brings
 pub item_read : (now task : Task) (items : List Item) (order : ℕ) (item : Item) → task ≡ now → IsTask task items → order < now.pairing.orders
     → item ≡ slice_index_or items order item → IsItemOf now.pairing now.duals order item
@@ -233,7 +228,7 @@ pub permitted_small : (now task : Task) (items : List Item) (batch : List ℕ) �
 permitted_small now task items batch view is permitted =
     let old : IsPermitted task.pairing batch = subst (λ (t : Task). IsPermitted t.pairing batch) (sym view) permitted in
     let low = bounded_duals task.duals batch
-    (subst (λ (n : ℕ). All (λ order. order < n) batch) (sym is.count) old.known) is.bounded in
+    (subst (λ (n : ℕ). All (λ order. order < n) batch) (sym is.count) old.known) is.duals.within in
     subst (λ (t : Task). duals_of t.duals batch ≤ 8000000000000) view (omega (arith, low, old.fits, is.valid.most_capacity))
 
 -- what orders bring, with one more order

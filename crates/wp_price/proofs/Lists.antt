@@ -117,12 +117,6 @@ none_before [] [] none = refl
 none_before (x ∷ xs) [] none = refl
 none_before xs (y ∷ ys) none = absurd (cc none)
 
--- a sum of numbers, each at most the same
-pub bounded_sum : (f : ℕ → ℕ) (most : ℕ) (xs : List ℕ) → ((x : ℕ) → Contains xs x → f x ≤ most) → sum_by f xs ≤ most * length xs
-bounded_sum f most [] low = omega arith
-bounded_sum f most (x ∷ xs) low =
-    omega (arith, sum_by-cons f x xs, low x (contains_first x xs), bounded_sum f most xs (λ y has. low y (contains_later x y xs has)))
-
 -- without its first order a list is shorter
 pub shorter : (xs after : List ℕ) (x : ℕ) → IsStrictlyIncreasing xs → IsStrictlyIncreasing after → slice_get xs 0 ≡ Some x
     → ((p : ℕ) → Contains after p ↔ (Contains xs p × (p ≢ x))) → length after < length xs

@@ -4,7 +4,7 @@ use Rattle.wp_pairs.specs.Kept.{IsPairing}
 use Rattle.wp_pairs.specs.Permitted.{AreParted, IsPermitted, Pairing}
 use Rattle.wp_batch.specs.Lengths.{IsLengthOf}
 use Rattle.wp_batch.specs.Waves.{WavePicks}
-use Rattle.wp_batch.specs.Duals.{duals_of, greatest_dual}
+use Rattle.wp_batch.specs.Duals.{AreDuals, duals_of, greatest_dual, sixtieths_of}
 use Rattle.wp_batch.specs.Visits.{AddsItem, IsItem}
 use Rattle.wp_batch.proofs.Visits.{Extends}
 use Rattle.wp_price.specs.declared.best.LeastBatch.{LeastBatch}
@@ -24,20 +24,20 @@ pub record Task : Type 0 where
 pub record IsTask (task : Task) (items : List Item) : Type 0 where
   pub orders : task.pairing.orders ≡ length task.wave.orders
   pub count : length task.duals ≡ task.pairing.orders
-  pub bounded : All (λ dual. dual ≤ greatest_dual) task.duals
+  pub duals : AreDuals task.duals
   pub valid : IsPairing task.pairing
   pub filled : length items ≡ task.pairing.orders
   pub each : AreItemsBelow task.pairing task.duals task.pairing.orders items
 
 -- by how much slacks are raised
 abbrev pub raise : ℕ
-raise = 8000000000000
+raise = 8 * greatest_dual
 
 -- the slack of a batch, raised
 pub record IsRaised (task : Task) (batch : List ℕ) (raised : ℕ) : Type 0 where
   pub total : ℕ
   pub long : IsLengthOf task.wave batch total
-  pub is : raised + duals_of task.duals batch ≡ 60 * total + raise
+  pub is : raised + duals_of task.duals batch ≡ sixtieths_of total + raise
 
 -- what the search comes to: no order, or a permitted batch
 abbrev pub IsReached : Pairing → List ℕ → Type 0

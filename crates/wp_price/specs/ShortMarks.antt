@@ -3,16 +3,16 @@ use Rattle.std.specs.Prelude.{◌≡◌, ℕ, ◌+◌, ◌*◌, ◌<◌, ◌≤�
 use Rattle.wp_pairs.specs.Permitted.{IsPermitted, Pairing}
 use Rattle.wp_batch.specs.Lengths.{IsLengthOf}
 use Rattle.wp_batch.specs.Waves.{WavePicks}
-use Rattle.wp_batch.specs.Duals.{duals_of}
+use Rattle.wp_batch.specs.Duals.{duals_of, sixtieths_of}
 use Rattle.wp_batch.specs.Visits.{AddsItem, Children, Due, IsItem, IsReach, Place}
 
 -- The short marks of what is due. A place is marked as not to be entered exactly where its reach doesn't make it too much; else it is entered, and the places
 -- with one more item follow in the order of the items. An item that with the place makes no permitted batch is passed over.
 pub data AreShort (wave : WavePicks) (pairing : Pairing) (duals : List ℕ) : Due → List Bool → Type 0 where
   closed : {place : List ℕ} {from total reach : ℕ} → IsLengthOf wave place total → IsReach pairing duals place from reach
-      → duals_of duals place + reach ≤ 60 * total → AreShort wave pairing duals (Place place from) (false ∷ [])
+      → duals_of duals place + reach ≤ sixtieths_of total → AreShort wave pairing duals (Place place from) (false ∷ [])
   entered : {place : List ℕ} {from total reach : ℕ} {marks : List Bool} → IsLengthOf wave place total → IsReach pairing duals place from reach
-      → 60 * total < duals_of duals place + reach → AreShort wave pairing duals (Children place from) marks
+      → sixtieths_of total < duals_of duals place + reach → AreShort wave pairing duals (Children place from) marks
       → AreShort wave pairing duals (Place place from) (true ∷ marks)
   all_added : {place : List ℕ} {from : ℕ} → pairing.orders ≤ from → AreShort wave pairing duals (Children place from) []
   no_item : {place : List ℕ} {from : ℕ} {marks : List Bool} → (IsItem pairing from → ⊥)
@@ -37,5 +37,5 @@ pub record AddsShort (wave : WavePicks) (pairing : Pairing) (duals : List ℕ) (
 pub record IsMarked (wave : WavePicks) (duals place : List ℕ) (reach : ℕ) (closed : Bool) : Type 0 where
   pub total : ℕ
   pub long : IsLengthOf wave place total
-  pub within : closed ≡ true → duals_of duals place + reach ≤ 60 * total
-  pub above : closed ≡ false → 60 * total < duals_of duals place + reach
+  pub within : closed ≡ true → duals_of duals place + reach ≤ sixtieths_of total
+  pub above : closed ≡ false → sixtieths_of total < duals_of duals place + reach

@@ -3,13 +3,13 @@ use Rattle.std.specs.Prelude.{◌≡◌, ℕ, ◌*◌, Bool, true, false, List, 
 use Rattle.wp_pairs.specs.Permitted.{IsPermitted, Pairing}
 use Rattle.wp_batch.specs.Lengths.{IsLengthOf}
 use Rattle.wp_batch.specs.Waves.{WavePicks}
-use Rattle.wp_batch.specs.Duals.{duals_of}
+use Rattle.wp_batch.specs.Duals.{duals_of, sixtieths_of}
 
 -- the slack of a batch: sixty times its length, less what its orders have in duals
 pub record IsSlack (wave : WavePicks) (duals batch : List ℕ) (slack : ℤ) : Type 0 where
   pub total : ℕ
   pub long : IsLengthOf wave batch total
-  pub is : slack +ℤ pos (duals_of duals batch) ≡ pos (60 * total)
+  pub is : slack +ℤ pos (duals_of duals batch) ≡ pos (sixtieths_of total)
 
 -- a list of orders comes before another: it has a lower order at the first place where they differ, or it is a beginning of it
 abbrev pub comes_before : List ℕ → List ℕ → Bool

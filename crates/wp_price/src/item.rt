@@ -1,10 +1,9 @@
-ghost use Rattle.std.specs.Prelude.{◌≡◌, [], ◌*◌, ◌+◌, ◌<◌, ◌≤◌, All, length};
-ghost use Rattle.wp_batch.specs.Duals.{duals_of, greatest_dual};
+ghost use Rattle.std.specs.Prelude.{◌≡◌, [], ◌+◌, ◌<◌, ◌≤◌, length};
 ghost use Rattle.wp_batch.specs.Visits.{IsReach};
 ghost use Rattle.wp_price.specs.Items.{AreReachesBelow, IsItemOf};
 
-use wp_batch::{is_later, sum_of, take_best};
-use wp_pairs::{Batch, Pairs};
+use wp_batch::{DualWave, is_later, take_best};
+use wp_pairs::Batch;
 
 /// What an order brings to a place: the orders that are joined to it and those that are parted from it. It is usable where
 /// it names an item that is a permitted batch; then it has the number of its orders and what they have in duals. By the
@@ -19,17 +18,6 @@ pub struct Item {
     pub reach: [u64; 9],
 }
 
-/// What up to eight orders have in duals.
-pub fn few_sum(duals: &[u64], batch: Batch) -> u64
-    requires known { All (λ order. order < length duals.now) batch }
-    requires duals { All (λ dual. dual ≤ greatest_dual) duals.now }
-    requires few { length batch ≤ 8 }
-    ensures is { result ≡ duals_of duals.now batch }
-    ensures small { result ≤ greatest_dual * length batch }
-{
-    sum_of(duals, batch) as u64
-}
-
 fn no_reaches() -> [u64; 9]
     ensures { length result ≡ 9 }
 {
@@ -37,33 +25,31 @@ fn no_reaches() -> [u64; 9]
 }
 
 // For each number of orders up to the capacity, the most that so many orders of items from this one on have in duals.
-fn reaches_of(pairs: &Pairs, duals: &[u64], from: u32) -> [u64; 9]
-    requires count { length duals.now ≡ pairs.now.orders }
-    requires duals { All (λ dual. dual ≤ greatest_dual) duals.now }
-    ensures reaches { AreReachesBelow pairs.now duals.now from (pairs.now.capacity + 1) result }
-    ensures few { pairs.now.capacity ≤ 8 }
+fn reaches_of(given: &DualWave<'_>, from: u32) -> [u64; 9]
+    ensures reaches { AreReachesBelow given.now.pairs.now given.now.duals.now from (given.now.pairs.now.capacity + 1) result }
+    ensures few { given.now.pairs.now.capacity ≤ 8 }
 {
+    let duals = given.duals.as_slice();
     let mut reaches = no_reaches();
     let mut taken = Batch::empty();
-    for room in 0..pairs.capacity() + 1 {
-        reaches[room as usize] = few_sum(duals, taken);
-        taken = take_best(pairs, duals, taken, from);
+    for room in 0..given.pairs.capacity() + 1 {
+        reaches[room as usize] = given.duals.sum_of(taken);
+        taken = take_best(given.pairs, duals, taken, from);
     }
     reaches
 }
 
 /// What an order brings to a place.
-pub fn item_of(pairs: &Pairs, duals: &[u64], order: u32) -> Item
-    requires known { order < pairs.now.orders }
+pub fn item_of(given: &DualWave<'_>, order: u32) -> Item
+    requires known { order < given.now.pairs.now.orders }
     requires few { order < 64 }
-    requires count { length duals.now ≡ pairs.now.orders }
-    requires duals { All (λ dual. dual ≤ greatest_dual) duals.now }
-    ensures { IsItemOf pairs.now duals.now order result }
+    ensures { IsItemOf given.now.pairs.now given.now.duals.now order result }
 {
+    let pairs = given.pairs;
     let class = pairs.joined_to(order);
     let size = class.len();
     let parted = pairs.parted_from(order);
-    let reach = reaches_of(pairs, duals, order + 1);
+    let reach = reaches_of(given, order + 1);
     if !is_later(pairs, order, order) || !pairs.permits(class) {
         return Item {
             usable: false,
@@ -79,17 +65,15 @@ pub fn item_of(pairs: &Pairs, duals: &[u64], order: u32) -> Item
         class,
         parted,
         size,
-        sum: few_sum(duals, class),
+        sum: given.duals.sum_of(class),
         reach,
     }
 }
 
 /// The reach of the place of no order.
-pub fn whole_reach(pairs: &Pairs, duals: &[u64]) -> u64
-    requires count { length duals.now ≡ pairs.now.orders }
-    requires duals { All (λ dual. dual ≤ greatest_dual) duals.now }
-    ensures { IsReach pairs.now duals.now [] 0 result }
+pub fn whole_reach(given: &DualWave<'_>) -> u64
+    ensures { IsReach given.now.pairs.now given.now.duals.now [] 0 result }
 {
-    let reaches = reaches_of(pairs, duals, 0);
-    reaches[pairs.capacity() as usize]
+    let reaches = reaches_of(given, 0);
+    reaches[given.pairs.capacity() as usize]
 }

@@ -10,11 +10,12 @@ use crate::place::Place;
 use crate::search::SlackSearch;
 use crate::workers::Workers;
 use std::thread::Threads;
+use wp_batch::{GREATEST_DUAL, SIXTIETHS};
 use wp_model::Memory;
 use wp_outside::Gate;
 
 /// By how much slacks are raised: eight times the greatest dual.
-const RAISE: u64 = 8_000_000_000_000;
+pub const RAISE: u64 = 8 * GREATEST_DUAL;
 
 impl SlackSearch<'_> {
     // The slack of a place, raised.
@@ -23,7 +24,7 @@ impl SlackSearch<'_> {
         ensures { IsRaised self.now place.now.batch result }
     {
         let _room = self.room_at(place);
-        60 * self.length_of(place) + RAISE - place.sum
+        SIXTIETHS * self.length_of(place) + RAISE - place.sum
     }
 
     // A place as the best, with its slack, raised.

@@ -13,6 +13,9 @@ mod share;
 mod short;
 mod workers;
 
+pub use best::comes_first;
+pub use least::RAISE;
 pub use priced::Priced;
-pub use pricing::{least_slack, least_slack_by};
+pub use pricing::{are_feasible, least_slack, least_slack_by, short_marks};
+pub use share::deal;
 pub use workers::Workers;

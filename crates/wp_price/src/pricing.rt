@@ -1,4 +1,4 @@
-ghost use Rattle.std.specs.Prelude.{◌≡◌, ◌≤◌, ◌<◌, ◌↔◌, [], All, IfOk, IfSome, IfNone, IsSome, None, length, pos, ◌≤ℤ◌};
+ghost use Rattle.std.specs.Prelude.{◌≡◌, ◌≤◌, ◌<◌, ◌↔◌, [], All, IfOk, IfSome, IfNone, IsSome, IsTrue, None, length, pos, ◌≤ℤ◌};
 ghost use Rattle.wp_batch.specs.Duals.{AreFeasible, greatest_dual};
 ghost use Rattle.wp_batch.specs.Visits.{IsVisitOfAll, Passed};
 ghost use Rattle.wp_price.specs.ShortMarks.{AreShortMarks};
@@ -9,7 +9,7 @@ use crate::search::SlackSearch;
 use crate::workers::Workers;
 use std::alloc::Global;
 use std::thread::Threads;
-use wp_batch::{Marks, PairedWave, Wave};
+use wp_batch::{DualWave, Marks, OrderDuals, Wave};
 use wp_model::Memory;
 use wp_outside::Gate;
 use wp_pairs::Pairs;
@@ -63,7 +63,7 @@ fn price<R: Threads + Sync, G: Gate>(
 }
 
 /// The permitted batch of least slack, of those with an order where one is given: sixty times its length less the duals of
-/// its orders, one dual for each order of the wave, 0 to 1,000,000,000,000 sixtieths. Of batches with the same slack it is
+/// its orders. Of batches with the same slack it is
 /// the one whose list of orders comes first. None comes exactly where there is no such batch. Where no order is given and
 /// the slack isn't below 0 the duals are feasible, and their short marks come with it.
 ///
@@ -72,24 +72,45 @@ fn price<R: Threads + Sync, G: Gate>(
 /// by its own number, 1 at first, before it searches the subtree of a first item. The answer doesn't depend on the workers.
 pub fn least_slack_by<R: Threads + Sync, G: Gate>(
     workers: &Workers<'_, R, G>,
-    paired: &PairedWave<'_>,
-    duals: &Vec<u64>,
+    given: &DualWave<'_>,
     through: Option<u32>,
 ) -> Result<Option<Priced>, Memory>
-    requires count { length duals.now.items ≡ length paired.now.wave.now.orders }
-    requires duals { All (λ dual. dual ≤ greatest_dual) duals.now.items }
-    requires through { IfSome through (λ order. order < length paired.now.wave.now.orders) }
-    ensures none { IfOk result (λ found. IfNone found (HasNoCandidate paired.now.pairs.now through)) }
+    requires { IfSome through (λ order. order < length given.now.wave.now.orders) }
+    ensures none { IfOk result (λ found. IfNone found (HasNoCandidate given.now.pairs.now through)) }
     ensures least { IfOk result (λ found. IfSome found (λ priced.
-        IsLeastSlack paired.now.wave.now paired.now.pairs.now duals.now.items through priced.batch priced.slack)) }
+        IsLeastSlack given.now.wave.now given.now.pairs.now given.now.duals.now through priced.batch priced.slack)) }
     ensures marked { IfOk result (λ found. IfSome found (λ priced. IsSome priced.marks ↔ ((through ≡ None) × (pos 0 ≤ℤ priced.slack)))) }
     ensures short { IfOk result (λ found. IfSome found (λ priced.
-        IfSome priced.marks (AreShortMarks paired.now.wave.now paired.now.pairs.now duals.now.items))) }
+        IfSome priced.marks (AreShortMarks given.now.wave.now given.now.pairs.now given.now.duals.now))) }
     ensures pass { IfOk result (λ found. IfSome found (λ priced. IfSome priced.marks (λ marks.
-        IsVisitOfAll paired.now.wave.now paired.now.pairs.now duals.now.items marks (Passed [])))) }
+        IsVisitOfAll given.now.wave.now given.now.pairs.now given.now.duals.now marks (Passed [])))) }
 {
-    let search = SlackSearch::of(workers.alloc, paired, duals)?;
+    let search = SlackSearch::of(workers.alloc, given)?;
     price(workers, &search, through)
+}
+
+/// Whether duals are feasible: no permitted batch has a slack below 0. The workers are as in `least_slack_by`.
+pub fn are_feasible<R: Threads + Sync, G: Gate>(
+    workers: &Workers<'_, R, G>,
+    given: &DualWave<'_>,
+) -> Result<bool, Memory>
+    ensures { IfOk result (λ feasible. IsTrue feasible → AreFeasible given.now.wave.now given.now.pairs.now given.now.duals.now) }
+{
+    let search = SlackSearch::of(workers.alloc, given)?;
+    match search.best(workers, None)? {
+        Some(best) => Ok(search.slack_of(best.batch) >= 0),
+        None => Ok(true),
+    }
+}
+
+/// The short marks of duals, which pass where the duals are feasible. The workers find them beside each other.
+pub fn short_marks<R: Threads + Sync, G: Gate>(
+    workers: &Workers<'_, R, G>,
+    given: &DualWave<'_>,
+) -> Result<Marks, Memory>
+    ensures short { IfOk result (AreShortMarks given.now.wave.now given.now.pairs.now given.now.duals.now) }
+{
+    SlackSearch::of(workers.alloc, given)?.all_marks(workers)
 }
 
 /// The same for a wave, its pairs and workers that are handed in one by one: up to so many workers, 1 to 16.
@@ -123,5 +144,12 @@ pub fn least_slack<R: Threads + Sync, G: Gate>(
         number: workers,
         gate,
     };
-    least_slack_by(&workers, &PairedWave::of(wave, pairs), duals, through)
+    let _orders = wave.orders();
+    let duals = OrderDuals::copy_of(alloc, duals.as_slice())?;
+    let given = DualWave {
+        wave,
+        pairs,
+        duals: &duals,
+    };
+    least_slack_by(&workers, &given, through)
 }

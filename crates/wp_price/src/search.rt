@@ -1,18 +1,18 @@
-ghost use Rattle.std.specs.Prelude.{◌≡◌, ◌+◌, ◌<◌, ◌≤◌, ◌^◌, ◌↔◌, [], ℕ, All, Contains, IfNone, IfOk, IfSome, List, length, pos, ◌*◌, ◌+ℤ◌};
+ghost use Rattle.std.specs.Prelude.{◌≡◌, ◌+◌, ◌<◌, ◌≤◌, ◌^◌, ◌↔◌, [], ℕ, Contains, IfNone, IfOk, IfSome, List, length, pos, ◌+ℤ◌};
 ghost use Rattle.wp_pairs.specs.Kept.{IsPairing};
 ghost use Rattle.wp_pairs.specs.Permitted.{AreJoined, IsPermitted};
 ghost use Rattle.wp_batch.specs.Lengths.{IsLengthOf};
-ghost use Rattle.wp_batch.specs.Duals.{duals_of, greatest_dual};
+ghost use Rattle.wp_batch.specs.Duals.{duals_of, sixtieths_of};
 ghost use Rattle.wp_batch.specs.Visits.{AddsItem, IsItem, IsReach};
 ghost use Rattle.wp_price.specs.Items.{AreItemsBelow};
 ghost use Rattle.wp_price.specs.Searches.{IsAt, IsNoChild, raise};
 ghost use Rattle.wp_price.specs.Slacks.{IsSlack};
 
-use crate::item::{Item, few_sum, item_of, whole_reach};
+use crate::item::{Item, item_of, whole_reach};
 use crate::place::Place;
 use std::alloc::Global;
 use std::marker::Model;
-use wp_batch::{PairedWave, Wave};
+use wp_batch::{DualWave, OrderDuals, SIXTIETHS, Wave};
 use wp_model::Memory;
 use wp_pairs::{Batch, Pairs};
 
@@ -21,7 +21,7 @@ use wp_pairs::{Batch, Pairs};
 pub struct SlackSearch<'a> {
     wave: &'a Wave,
     pairs: &'a Pairs,
-    duals: &'a Vec<u64>,
+    duals: &'a OrderDuals,
     items: Vec<Item>,
 }
 
@@ -30,22 +30,20 @@ impl<'a> Model for SlackSearch<'a> {
 
     ghost Value = { Task };
 
-    ghost view = { λ s. record { wave = s.wave.now; pairing = s.pairs.now; duals = s.duals.now.items } };
+    ghost view = { λ s. record { wave = s.wave.now; pairing = s.pairs.now; duals = s.duals.now } };
 
-    ghost invariant = { λ s. IsTask (record { wave = s.wave.now; pairing = s.pairs.now; duals = s.duals.now.items }) s.items.items };
+    ghost invariant = { λ s. IsTask (record { wave = s.wave.now; pairing = s.pairs.now; duals = s.duals.now }) s.items.items };
 }
 
 // What each order of the wave brings to a place.
-fn items_of(alloc: Global, pairs: &Pairs, duals: &[u64]) -> Result<Vec<Item>, Memory>
-    requires count { length duals.now ≡ pairs.now.orders }
-    requires duals { All (λ dual. dual ≤ greatest_dual) duals.now }
-    ensures valid { IsPairing pairs.now }
-    ensures count { IfOk result (λ items. length items.items ≡ pairs.now.orders) }
-    ensures items { IfOk result (λ items. AreItemsBelow pairs.now duals.now pairs.now.orders items.items) }
+fn items_of(alloc: Global, given: &DualWave<'_>) -> Result<Vec<Item>, Memory>
+    ensures valid { IsPairing given.now.pairs.now }
+    ensures count { IfOk result (λ items. length items.items ≡ given.now.pairs.now.orders) }
+    ensures items { IfOk result (λ items. AreItemsBelow given.now.pairs.now given.now.duals.now given.now.pairs.now.orders items.items) }
 {
     let mut items = Vec::new(alloc);
-    for order in 0..pairs.orders() {
-        items.push(item_of(pairs, duals, order))?;
+    for order in 0..given.pairs.orders() {
+        items.push(item_of(given, order))?;
     }
     Ok(items)
 }
@@ -54,24 +52,19 @@ fn items_of(alloc: Global, pairs: &Pairs, duals: &[u64]) -> Result<Vec<Item>, Me
 fn slack_between(length: u64, sum: u64) -> i64
     requires length { length < 2 ^ 28 }
     requires sum { sum ≤ raise }
-    ensures { result +ℤ pos sum ≡ pos (60 * length) }
+    ensures { result +ℤ pos sum ≡ pos (sixtieths_of length) }
 {
-    60 * length as i64 - sum as i64
+    (SIXTIETHS * length) as i64 - sum as i64
 }
 
 impl<'a> SlackSearch<'a> {
-    /// A search with these duals.
-    pub fn of(
-        alloc: Global,
-        paired: &PairedWave<'a>,
-        duals: &'a Vec<u64>,
-    ) -> Result<SlackSearch<'a>, Memory>
-        requires count { length duals.now.items ≡ length paired.now.wave.now.orders }
-        requires duals { All (λ dual. dual ≤ greatest_dual) duals.now.items }
-        ensures { IfOk result (λ search. search ≡ record { wave = paired.now.wave.now; pairing = paired.now.pairs.now; duals = duals.now.items }) }
+    /// A search with a wave's pairs and duals.
+    pub fn of(alloc: Global, given: &DualWave<'a>) -> Result<SlackSearch<'a>, Memory>
+        ensures { IfOk result (λ search. search ≡ record { wave = given.now.wave.now; pairing = given.now.pairs.now; duals = given.now.duals.now }) }
     {
-        let PairedWave { wave, pairs } = *paired;
-        let items = items_of(alloc, pairs, duals.as_slice())?;
+        let DualWave { wave, pairs, duals } = *given;
+        let _count = duals.len();
+        let items = items_of(alloc, given)?;
         Ok(SlackSearch {
             wave,
             pairs,
@@ -170,7 +163,11 @@ impl SlackSearch<'_> {
     pub fn whole_reach(&self) -> u64
         ensures { IsReach self.now.pairing self.now.duals [] 0 result }
     {
-        whole_reach(self.pairs, self.duals.as_slice())
+        whole_reach(&DualWave {
+            wave: self.wave,
+            pairs: self.pairs,
+            duals: self.duals,
+        })
     }
 
     /// The orders that are joined to an order.
@@ -190,6 +187,6 @@ impl SlackSearch<'_> {
         ensures small { (other : List ℕ) → IsPermitted self.now.pairing other → duals_of self.now.duals other ≤ raise }
     {
         let length = self.wave.batch_length(batch);
-        slack_between(length, few_sum(self.duals.as_slice(), batch))
+        slack_between(length, self.duals.sum_of(batch))
     }
 }

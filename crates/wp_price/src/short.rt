@@ -5,7 +5,7 @@ ghost use Rattle.wp_price.specs.ShortMarks.{AddsShort, IsMarked};
 
 use crate::place::Place;
 use crate::search::SlackSearch;
-use wp_batch::Marks;
+use wp_batch::{Marks, SIXTIETHS};
 use wp_model::Memory;
 
 impl SlackSearch<'_> {
@@ -14,7 +14,7 @@ impl SlackSearch<'_> {
         requires { IsAt self.now place.now }
         ensures { IsMarked self.now.wave self.now.duals place.now.batch reach result }
     {
-        let most = 60 * self.length_of(place);
+        let most = SIXTIETHS * self.length_of(place);
         place.sum <= most && reach <= most - place.sum
     }
 

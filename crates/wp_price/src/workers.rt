@@ -26,6 +26,14 @@ pub struct Workers<'a, R, G> {
     pub ghost most: { number ≤ 16 },
 }
 
+// One of the workers: its number, from 1 on, the orders that name the items of its share, and the gate.
+#[derive(Clone, Copy)]
+struct Worker<'a, G> {
+    number: u32,
+    share: Batch,
+    gate: &'a G,
+}
+
 /// How many batches a worker is worth: to begin a thread takes as long as to search some thousand batches.
 const BATCHES_FOR_ONE: u64 = 4_000;
 
@@ -38,6 +46,18 @@ fn batches_of(items: u32, room: u32) -> u64 {
         batches = batches.saturating_add(sets);
     }
     batches
+}
+
+impl<R, G> Workers<'_, R, G> {
+    /// How many workers are to share the batches that so many items make, where there is room for so many of them: no more than
+    /// the batches are worth, and at least one.
+    pub fn worth(&self, items: u32, room: u32) -> u32
+        ensures some { 0 < result }
+        ensures most { result ≤ 16 }
+    {
+        let worth = (batches_of(items, room) / BATCHES_FOR_ONE).min(16) as u32;
+        self.number.min(items).min(worth).max(1)
+    }
 }
 
 impl SlackSearch<'_> {
@@ -55,22 +75,20 @@ impl SlackSearch<'_> {
         firsts
     }
 
-    // Searches the items of a share, one after the other, and passes the gate before each.
+    // Searches the items of a worker's share, one after the other, and passes the gate before each.
     fn search_share<G: Gate>(
         &self,
+        worker: &Worker<'_, G>,
         place: &Place,
-        share: Batch,
         best: Option<LeastBatch>,
-        number: u32,
-        gate: &G,
     ) -> Option<LeastBatch>
         requires { IsAt self.now place.now }
-        ensures { AreItemsSearched self.now place.now.batch (InShare self.now share) best result }
+        ensures { AreItemsSearched self.now place.now.batch (InShare self.now worker.now.share) best result }
     {
         let mut found = best;
         for order in 0..self.orders() {
-            if share.has(order) {
-                gate.pass(number, Moment::BeforePart);
+            if worker.share.has(order) {
+                worker.gate.pass(worker.number, Moment::BeforePart);
                 found = self.search_item(place, order, found);
             }
         }
@@ -100,7 +118,14 @@ impl SlackSearch<'_> {
                 requires { worker < length shares.now × (length shares.now ≤ 16) × IsAt search.now place.now }
                 ensures { AreItemsSearched search.entry.now place.entry.now.batch (InShare search.entry.now (slice_index_or shares.entry.now worker []))
                     best.entry.now result }
-            { search.search_share(place, shares[worker], *best, worker as u32 + 1, gate) },
+            {
+                let worker = Worker {
+                    number: worker as u32 + 1,
+                    share: shares[worker],
+                    gate,
+                };
+                search.search_share(&worker, place, *best)
+            },
         )?;
         Ok(found)
     }

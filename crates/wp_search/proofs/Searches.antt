@@ -34,6 +34,7 @@ use Rattle.wp_search.specs.declared.search.TreeSearch.{TreeSearch}
 use Rattle.wp_search.specs.declared.turn.LeafTurn.{LeafTurn}
 use Rattle.wp_search.specs.declared.turn.LeafTurn.TheVariants.{Onward, Settled, Spent, Worked as Made}
 use Rattle.wp_search.proofs.OwnCounts.{own_both, own_first}
+use Rattle.wp_node.specs.Owns.{as_own}
 use Rattle.wp_node.proofs.Owns.{own_within}
 
 -- a subtree's nodes are a right tree, whatever nodes follow
@@ -43,7 +44,7 @@ right_nodes wave pairing above (Leaf None) is rest = kept
 right_nodes wave pairing above (Leaf (Some worked)) is rest = leaf is.right
 right_nodes wave pairing above (Dead order) is rest = dead is
 right_nodes wave pairing above (Split' cut p together q apart) is rest =
-    subst (λ (nodes : List Node). IsRight wave pairing above (node.Split cut.first cut.second (Some cut.worked.own) ∷ nodes) rest
+    subst (λ (nodes : List Node). IsRight wave pairing above (node.Split cut.first cut.second (Some (as_own cut.worked.own)) ∷ nodes) rest
     (lower_of (bound_of (own_bound cut.worked) together) (bound_of (own_bound cut.worked) apart)))
     (sym (append_assoc (nodes_of together) (nodes_of apart) rest)) (split is.0.worked.right is.0.parts
     (right_nodes wave (with_pair pairing cut.first cut.second true) (sum cut.worked.own.duals) together is.2 (nodes_of apart ++ rest))
@@ -56,7 +57,7 @@ own_listed (Leaf (Some worked)) = refl
 own_listed (Dead order) = refl
 own_listed (Split' cut p together q apart) = omega (
   arith,
-  own_first (node.Split cut.first cut.second (Some cut.worked.own)) (nodes_of together ++ nodes_of apart),
+  own_first (node.Split cut.first cut.second (Some (as_own cut.worked.own))) (nodes_of together ++ nodes_of apart),
   own_both (nodes_of together) (nodes_of apart),
   own_listed together,
   own_listed apart,
@@ -69,20 +70,20 @@ nothing bound = All-nil (IsSplitWithin bound)
 -- the splits among them are within a bound where those of the subtree are
 pub splits_listed : (bound : ℕ) (branch : Branch) → AreCutsWithin bound branch → All (IsSplitWithin bound) (nodes_of branch)
 splits_listed bound (Leaf None) within = All-cons (IsSplitWithin bound) (node.Leaf None) [] _ (nothing bound)
-splits_listed bound (Leaf (Some worked)) within = All-cons (IsSplitWithin bound) (node.Leaf (Some worked.own)) [] _ (nothing bound)
+splits_listed bound (Leaf (Some worked)) within = All-cons (IsSplitWithin bound) (node.Leaf (Some (as_own worked.own))) [] _ (nothing bound)
 splits_listed bound (Dead order) within = All-cons (IsSplitWithin bound) (node.Dead order) [] _ (nothing bound)
 splits_listed bound (Split' cut p together q apart) within =
-    All-cons (IsSplitWithin bound) (node.Split cut.first cut.second (Some cut.worked.own)) (nodes_of together ++ nodes_of apart) within.0
+    All-cons (IsSplitWithin bound) (node.Split cut.first cut.second (Some (as_own cut.worked.own))) (nodes_of together ++ nodes_of apart) within.0
     (All-append (IsSplitWithin bound) (nodes_of together) (nodes_of apart) (splits_listed bound together within.1) (splits_listed bound apart within.2))
 
 -- and their duals are within their range
 pub duals_listed : (wave : WavePicks) (pairing : Pairing) (above : ℕ) (branch : Branch) → IsBranch wave pairing above branch → HaveDualsWithin (nodes_of branch)
 duals_listed wave pairing above (Leaf None) is = refl
-duals_listed wave pairing above (Leaf (Some worked)) is = own_within (length wave.orders) worked.own is.duals
+duals_listed wave pairing above (Leaf (Some worked)) is = own_within (as_own worked.own) is.duals
 duals_listed wave pairing above (Dead order) is = refl
 duals_listed wave pairing above (Split' cut p together q apart) is =
-    list_all-append is_node_within (node.Split cut.first cut.second (Some cut.worked.own) ∷ []) (nodes_of together ++ nodes_of apart)
-    ∙ both (own_within (length wave.orders) cut.worked.own is.0.worked.duals) (list_all-append is_node_within (nodes_of together) (nodes_of apart)
+    list_all-append is_node_within (node.Split cut.first cut.second (Some (as_own cut.worked.own)) ∷ []) (nodes_of together ++ nodes_of apart)
+    ∙ both (own_within (as_own cut.worked.own) is.0.worked.duals) (list_all-append is_node_within (nodes_of together) (nodes_of apart)
     ∙ both (duals_listed wave (with_pair pairing cut.first cut.second true) (sum cut.worked.own.duals) together is.2)
     (duals_listed wave (with_pair pairing cut.first cut.second false) (sum cut.worked.own.duals) apart is.3))
   where
@@ -96,7 +97,7 @@ short_listed wave pairing above (Leaf None) is rest = kept_marks
 short_listed wave pairing above (Leaf (Some worked)) is rest = leaf_marks is.short
 short_listed wave pairing above (Dead order) is rest = dead_marks
 short_listed wave pairing above (Split' cut p together q apart) is rest =
-    subst (λ (nodes : List Node). HasShortMarks wave pairing (node.Split cut.first cut.second (Some cut.worked.own) ∷ nodes) rest)
+    subst (λ (nodes : List Node). HasShortMarks wave pairing (node.Split cut.first cut.second (Some (as_own cut.worked.own)) ∷ nodes) rest)
     (sym (append_assoc (nodes_of together) (nodes_of apart) rest)) (split_marks is.0.worked.short
     (short_listed wave (with_pair pairing cut.first cut.second true) (sum cut.worked.own.duals) together is.2 (nodes_of apart ++ rest))
     (short_listed wave (with_pair pairing cut.first cut.second false) (sum cut.worked.own.duals) apart is.3 rest))
@@ -115,9 +116,8 @@ cuts_rise low high (Split' cut p together q apart) up within =
     (omega (arith, within.0, up), cuts_rise low high together up within.1, cuts_rise low high apart up within.2)
 
 -- a right tree has a bound that can be told
-pub bound_kept : (wave : WavePicks) (pairing : Pairing) (above : ℕ) (branch : Branch) → IsBranch wave pairing above branch → HasBound (length wave.orders) branch
-bound_kept wave pairing above (Leaf None) is = _
-bound_kept wave pairing above (Leaf (Some worked)) is = is.duals
+pub bound_kept : (wave : WavePicks) (pairing : Pairing) (above : ℕ) (branch : Branch) → IsBranch wave pairing above branch → HasBound branch
+bound_kept wave pairing above (Leaf own) is = _
 bound_kept wave pairing above (Dead order) is = _
 bound_kept wave pairing above (Split' cut p together q apart) is = is.1
 

@@ -1,5 +1,5 @@
 -- Turns at leaves and at nodes that are split.
-use Rattle.std.proofs.Common.{◌≡◌, ℕ, ◌+◌, ◌≤◌, ◌⊎◌, Bool, true, false, List, [], ◌∷◌, ◌++◌, arith, refl, ap, sym, ◌∙◌, subst, ⊎_elim}
+use Rattle.std.proofs.Common.{◌≡◌, ℕ, ◌+◌, ◌≤◌, ◌⊎◌, Bool, true, false, List, [], ◌∷◌, ◌++◌, length, arith, refl, ap, sym, ◌∙◌, subst, ⊎_elim}
 use Rattle.std.proofs.Math.Nat.{le-min, min-eq_left, min-le_left, min-le_right}
 use Rattle.std.proofs.lemmas.List.Elements.{Contains-append_left}
 use Rattle.std.specs.Prelude.{IfOk, Option, Some, None, Result, Ok, Err, min, sum}
@@ -18,6 +18,8 @@ use Rattle.wp_search.specs.declared.turn.LeafTurn.{LeafTurn}
 use Rattle.wp_search.specs.declared.turn.LeafTurn.TheVariants.{Onward, Settled, Spent, Worked as Made}
 use Rattle.wp_search.specs.declared.turn.TurnedBranch.{TurnedBranch}
 use Rattle.wp_node.specs.declared.work.Worked.{Worked}
+use Rattle.wp_node.specs.Owns.{as_own}
+use Rattle.wp_node.specs.Raises.{AreFeasibleDuals}
 use Rattle.wp_node.proofs.Owns.{right_below}
 
 -- what is permitted with a further pair is permitted without it
@@ -37,11 +39,17 @@ pub feasible_below : (wave : WavePicks) (pairing : Pairing) (new : OrderPair) (d
     → AreFeasible wave (record { orders = pairing.orders; capacity = pairing.capacity; pairs = pairing.pairs ++ new ∷ [] }) duals
 feasible_below wave pairing new duals feasible = λ batch total permitted long. feasible batch total (permitted_before pairing new batch permitted) long
 
+-- and so they may stand above a node below it
+pub feasible_duals_below : (wave : WavePicks) (pairing : Pairing) (new : OrderPair) (duals : List ℕ) → length duals ≡ length wave.orders
+    → AreFeasible wave pairing duals
+    → AreFeasibleDuals wave (record { orders = pairing.orders; capacity = pairing.capacity; pairs = pairing.pairs ++ new ∷ [] }) duals
+feasible_duals_below wave pairing new duals count feasible = record { count = count; feasible = feasible_below wave pairing new duals feasible }
+
 -- what a node has of its own is right below less
 pub worked_below : (wave : WavePicks) (pairing : Pairing) (low high : ℕ) (worked : Worked) → low ≤ high → IsWorked wave pairing high worked
     → IsWorked wave pairing low worked
 worked_below wave pairing low high worked less is = record {
-  right = right_below wave pairing low high worked.own less is.right;
+  right = right_below wave pairing low high (as_own worked.own) less is.right;
   duals = is.duals;
   short = is.short;
 }

@@ -6,9 +6,9 @@ use Rattle.wp_batch.specs.Waves.{WavePicks}
 use Rattle.wp_cert.specs.Trees.{IsRightOwn, lower_of, with_pair}
 use Rattle.wp_cert.specs.declared.tree.Node.{Node}
 use Rattle.wp_cert.specs.declared.tree.Node.TheVariants as node
-use Rattle.wp_batch.specs.Duals.{units_of}
+use Rattle.wp_batch.specs.Duals.{AreDuals, units_of}
 use Rattle.wp_price.specs.ShortMarks.{AreShortMarks}
-use Rattle.wp_node.specs.Raises.{AreDuals}
+use Rattle.wp_node.specs.Owns.{as_own}
 use Rattle.wp_search.specs.declared.branch.Branch.{Branch}
 use Rattle.wp_search.specs.declared.branch.Branch.TheVariants.{Leaf, Dead, Split'}
 use Rattle.wp_search.specs.declared.branch.Cut.{Cut}
@@ -21,9 +21,9 @@ own_bound worked = units_of (sum worked.own.duals)
 -- the nodes of a subtree in preorder, the one with the pair together first
 abbrev pub nodes_of : Branch → List Node
 nodes_of (Leaf None) = node.Leaf None ∷ []
-nodes_of (Leaf (Some worked)) = node.Leaf (Some worked.own) ∷ []
+nodes_of (Leaf (Some worked)) = node.Leaf (Some (as_own worked.own)) ∷ []
 nodes_of (Dead order) = node.Dead order ∷ []
-nodes_of (Split' cut p together q apart) = node.Split cut.first cut.second (Some cut.worked.own) ∷ (nodes_of together ++ nodes_of apart)
+nodes_of (Split' cut p together q apart) = node.Split cut.first cut.second (Some (as_own cut.worked.own)) ∷ (nodes_of together ++ nodes_of apart)
 
 -- a leaf that isn't dead
 abbrev pub IsLeaf : Branch → Type 0
@@ -43,17 +43,16 @@ bound_of above (Dead order) = None
 bound_of above (Split' cut p together q apart) = lower_of (bound_of (own_bound cut.worked) together) (bound_of (own_bound cut.worked) apart)
 
 -- a subtree's bound can be told at once: a leaf's from its duals, and a node that is split keeps it
-abbrev pub HasBound : ℕ → Branch → Type 0
-HasBound orders (Leaf None) = ⊤
-HasBound orders (Leaf (Some worked)) = AreDuals orders worked.own.duals
-HasBound orders (Dead order) = ⊤
-HasBound orders (Split' cut p together q apart) =
+abbrev pub HasBound : Branch → Type 0
+HasBound (Leaf leaf) = ⊤
+HasBound (Dead order) = ⊤
+HasBound (Split' cut p together q apart) =
     cut.least ≡ lower_of (bound_of (own_bound cut.worked) together) (bound_of (own_bound cut.worked) apart)
 
 -- what a node has of its own is right, its duals are within their range, and its marks are the short ones
 pub record IsWorked (wave : WavePicks) (pairing : Pairing) (above : ℕ) (worked : Worked) : Type 0 where
-  pub right : IsRightOwn wave pairing above worked.own
-  pub duals : AreDuals (length wave.orders) worked.own.duals
+  pub right : IsRightOwn wave pairing above (as_own worked.own)
+  pub duals : AreDuals worked.own.duals
   pub short : AreShortMarks wave pairing worked.own.duals worked.own.marks
 
 -- a node that is split has duals of its own, and is split on an undecided pair

@@ -1,10 +1,8 @@
-ghost use Rattle.std.specs.Prelude.{◌≡◌, ◌≤◌, ℕ, length, sum};
-ghost use Rattle.wp_batch.specs.Duals.{units_of};
+ghost use Rattle.std.specs.Prelude.{◌≡◌};
 ghost use Rattle.wp_search.specs.Branches.{HasBound, bound_of as least_of};
-ghost use Rattle.wp_node.specs.Raises.{AreDuals};
 ghost use Rattle.wp_cert.specs.Trees.{lower_of};
 
-use wp_node::{Worked, bound_of};
+use wp_node::Worked;
 
 /// A subtree of the search.
 #[derive(Drop)]
@@ -41,14 +39,13 @@ pub fn lower_bound(left: Option<u64>, right: Option<u64>) -> Option<u64>
 impl Branch {
     /// The least bound of its leaves that aren't dead, in units of length, where the duals of the node above give this bound. None
     /// comes exactly where all leaves are dead.
-    pub fn bound(&self, orders: u32, above: u64) -> Option<u64>
-        requires few { orders ≤ 64 }
-        requires kept { HasBound orders self.now }
+    pub fn bound(&self, above: u64) -> Option<u64>
+        requires { HasBound self.now }
         ensures { result ≡ least_of above self.now }
     {
         match self {
             Branch::Leaf(None) => Some(above),
-            Branch::Leaf(Some(worked)) => Some(bound_of(orders, worked.own.duals.as_slice())),
+            Branch::Leaf(Some(worked)) => Some(worked.own.duals.bound()),
             Branch::Dead(_) => None,
             Branch::Split(cut, _, _) => cut.least,
         }

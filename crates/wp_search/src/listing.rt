@@ -1,5 +1,6 @@
 ghost use Rattle.std.specs.Prelude.{◌≡◌, ◌+◌, ◌++◌, ◌∷◌, [], OnOk, Some, length};
 ghost use Rattle.wp_cert.specs.declared.tree.Node.TheVariants as node;
+ghost use Rattle.wp_node.specs.Owns.{as_own};
 ghost use Rattle.wp_search.specs.Branches.{nodes_of, stacked_nodes};
 ghost use Rattle.wp_search.specs.declared.branch.Branch.TheVariants as branches;
 
@@ -15,13 +16,13 @@ fn leaf_node(leaf: Option<Worked>) -> Node
 {
     match leaf {
         None => Node::Leaf(None),
-        Some(worked) => Node::Leaf(Some(worked.own)),
+        Some(worked) => Node::Leaf(Some(worked.own.into_own())),
     }
 }
 
 // The node of a split.
 fn split_node(cut: Cut) -> Node
-    ensures { result ≡ node.Split cut.first cut.second (Some cut.worked.own) }
+    ensures { result ≡ node.Split cut.first cut.second (Some (as_own cut.worked.own)) }
 {
     let Cut {
         first,
@@ -32,7 +33,7 @@ fn split_node(cut: Cut) -> Node
     Node::Split {
         first,
         second,
-        own: Some(worked.own),
+        own: Some(worked.own.into_own()),
     }
 }
 

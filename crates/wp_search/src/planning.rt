@@ -13,7 +13,7 @@ use std::thread::Threads;
 use wp_batch::{Wave, start_after};
 use wp_cert::{Nodes, Tree};
 use wp_model::Memory;
-use wp_node::{bound_of, share_duals};
+use wp_node::share_duals;
 use wp_outside::Gate;
 use wp_pairs::Capacity;
 use wp_price::Workers;
@@ -112,11 +112,10 @@ pub fn plan_wave<R: Threads + Sync, G: Gate>(
     let root = SearchRoot {
         wave,
         capacity: Capacity { most: capacity },
-        shares: shares.as_slice(),
+        shares: &shares,
     };
     let search = search_on(&workers, &root, start)?;
-    let orders = wave.orders();
-    let above = bound_of(orders, shares.as_slice());
-    let bound = search.tree.bound(orders, above).unwrap();
+    let above = shares.bound();
+    let bound = search.tree.bound(above).unwrap();
     plan_of(alloc, search, bound)
 }

@@ -3,7 +3,6 @@ ghost use Rattle.wp_batch.specs.Batchings.{no_pairs};
 ghost use Rattle.wp_batch.specs.Duals.{AreShares, units_of};
 ghost use Rattle.wp_search.specs.Branches.{HasBound, IsBranch, bound_of as least_of};
 ghost use Rattle.wp_node.specs.Prices.{price};
-ghost use Rattle.wp_node.specs.Raises.{AreDuals};
 ghost use Rattle.wp_search.specs.Searches.{HasEnded, IsBest, IsOnward, IsSearch, KeepsBest};
 ghost use Rattle.wp_search.specs.Turns.{IsFound, IsProper, IsTurned};
 
@@ -11,9 +10,9 @@ use crate::best::{BestBatching, best_of, cheaper_of};
 use crate::branch::Branch;
 use crate::turn::{LeafTurn, Turner, take_turn};
 use std::thread::Threads;
-use wp_batch::{Batching, Wave};
+use wp_batch::{Batching, OrderDuals, Wave};
 use wp_model::Memory;
-use wp_node::{bound_of, pays, price_of};
+use wp_node::{pays, price_of};
 use wp_outside::Gate;
 use wp_pairs::Capacity;
 use wp_price::Workers;
@@ -23,7 +22,7 @@ use wp_price::Workers;
 pub struct SearchRoot<'a> {
     pub wave: &'a Wave,
     pub capacity: Capacity,
-    pub shares: &'a [u64],
+    pub shares: &'a OrderDuals,
 }
 
 /// A search for a plan: its tree, the best batching that it knows, what it may spend, and what it has spent.
@@ -45,11 +44,10 @@ pub struct SearchStep {
 // A turn at the first leaf of the tree with the least bound.
 fn turn_at_root<R: Threads + Sync, G: Gate>(
     turner: &Turner<'_, R, G>,
-    shares: &[u64],
+    shares: &OrderDuals,
     search: &mut TreeSearch,
 ) -> Result<LeafTurn, Memory>
     requires shares { AreShares turner.now.wave.now turner.now.capacity.most shares.now }
-    requires duals { AreDuals (length turner.now.wave.now.orders) shares.now }
     requires tree { IsBranch turner.now.wave.now (no_pairs (length turner.now.wave.now.orders) turner.now.capacity.most) (sum shares.now) search.old.tree }
     requires bound { least_of (units_of (sum shares.now)) search.old.tree ≡ Some turner.now.least }
     ensures turned { IfOk result (IsTurned turner.now.wave.now (no_pairs (length turner.now.wave.now.orders) turner.now.capacity.most) (sum shares.now)
@@ -109,7 +107,6 @@ fn take_step<R: Threads + Sync, G: Gate>(
     bound: u64,
 ) -> Result<SearchStep, Memory>
     requires shares { AreShares root.now.wave.now root.now.capacity.most root.now.shares.now }
-    requires duals { AreDuals (length root.now.wave.now.orders) root.now.shares.now }
     requires search { IsSearch root.now.wave.now root.now.capacity.most (sum root.now.shares.now) search }
     requires bound { least_of (units_of (sum root.now.shares.now)) search.tree ≡ Some bound }
     ensures onward { IfOk result (λ step. IsOnward root.now.wave.now root.now.capacity.most (sum root.now.shares.now) search step.search step.goes_on) }
@@ -157,18 +154,16 @@ pub fn search_on<R: Threads + Sync, G: Gate>(
     start: TreeSearch,
 ) -> Result<TreeSearch, Memory>
     requires shares { AreShares root.now.wave.now root.now.capacity.most root.now.shares.now }
-    requires duals { AreDuals (length root.now.wave.now.orders) root.now.shares.now }
     requires start { IsSearch root.now.wave.now root.now.capacity.most (sum root.now.shares.now) start }
     ensures search { IfOk result (IsSearch root.now.wave.now root.now.capacity.most (sum root.now.shares.now)) }
     ensures budget { IfOk result (λ search. search.budget ≡ start.budget) }
     ensures ended { IfOk result (HasEnded root.now.wave.now root.now.capacity.most (sum root.now.shares.now)) }
     ensures kept { IfOk result (λ search. KeepsBest start.best search.best) }
 {
-    let orders = root.wave.orders();
-    let above = bound_of(orders, root.shares);
+    let above = root.shares.bound();
     let mut search = start;
     loop {
-        let bound = search.tree.bound(orders, above).unwrap();
+        let bound = search.tree.bound(above).unwrap();
         if search.best.cost <= bound {
             return Ok(search);
         }

@@ -1,10 +1,10 @@
 ghost use Rattle.std.specs.Prelude.{◌≡◌, ◌<◌, ◌≤◌, ℕ, ◌++◌, ◌∷◌, [], ◌↔◌, IfOk, IsTrue, OnOk, Some, length, sum};
 ghost use Rattle.wp_cert.specs.Paths.{IsPath, pairing_of};
 ghost use Rattle.wp_cert.specs.Trees.{lower_of, with_pair};
-ghost use Rattle.wp_batch.specs.Duals.{AreFeasible, units_of};
+ghost use Rattle.wp_batch.specs.Duals.{units_of};
 ghost use Rattle.wp_pairs.specs.Permitted.{AreUndecided};
 ghost use Rattle.wp_search.specs.Branches.{HasBound, IsBranch, IsCut, IsFreshSplit, IsLeaf, IsWorked, bound_of as least_of, own_bound};
-ghost use Rattle.wp_node.specs.Raises.{AreDuals};
+ghost use Rattle.wp_node.specs.Raises.{AreFeasibleDuals};
 ghost use Rattle.wp_search.specs.Turns.{IsTurned};
 ghost use Rattle.wp_search.specs.declared.branch.Branch.TheVariants as branches;
 
@@ -12,12 +12,12 @@ use crate::branch::{Branch, Cut, lower_bound};
 use crate::whole::better_batching;
 use std::alloc::Global;
 use std::thread::Threads;
-use wp_batch::{Batching, PairedWave, Wave};
+use wp_batch::{Batching, DualWave, OrderDuals, PairedWave, Wave};
 use wp_cert::pairs_of;
 use wp_model::Memory;
-use wp_node::{Worked, bound_of, choose_pair, class_batching, work_node};
+use wp_node::{Worked, choose_pair, class_batching, work_node};
 use wp_outside::Gate;
-use wp_pairs::{Batch, Capacity, OrderPair, Pairs};
+use wp_pairs::{Batch, Capacity, OrderPair};
 use wp_price::Workers;
 
 /// What stays the same in a turn: the workers, the wave and the capacity; the bound of the leaf that takes it, which is the
@@ -54,17 +54,15 @@ pub struct TurnedBranch {
 // A turn at a leaf that keeps the duals of the node above.
 fn turn_kept<R: Threads + Sync, G: Gate>(
     turner: &Turner<'_, R, G>,
-    pairs: &Pairs,
-    above: &[u64],
+    paired: &PairedWave<'_>,
+    above: &OrderDuals,
     columns: &[Batch],
 ) -> Result<TurnedBranch, Memory>
-    requires pairs { pairs.now.orders ≡ length turner.now.wave.now.orders }
-    requires duals { AreDuals (length turner.now.wave.now.orders) above.now }
-    requires feasible { AreFeasible turner.now.wave.now pairs.now above.now }
-    ensures { IfOk result (λ turned. IsTurned turner.now.wave.now pairs.now (sum above.now) turner.now.pays (units_of (sum above.now))
+    requires above { AreFeasibleDuals paired.now.wave.now paired.now.pairs.now above.now }
+    ensures { IfOk result (λ turned. IsTurned paired.now.wave.now paired.now.pairs.now (sum above.now) turner.now.pays (units_of (sum above.now))
         (branches.Leaf None) turned.branch turned.turn) }
 {
-    if let Some(order) = pairs.dead() {
+    if let Some(order) = paired.pairs.dead() {
         return Ok(TurnedBranch {
             branch: Branch::Dead(order),
             turn: LeafTurn::Onward,
@@ -76,18 +74,12 @@ fn turn_kept<R: Threads + Sync, G: Gate>(
             turn: LeafTurn::Spent,
         });
     }
-    let _orders = turner.wave.orders();
-    let paired = PairedWave {
-        wave: turner.wave,
-        pairs,
+    let worked = work_node(turner.workers, paired, above, columns)?;
+    let capacity = Capacity {
+        most: paired.pairs.capacity(),
     };
-    let worked = work_node(turner.workers, &paired, above, columns)?;
-    let found = better_batching(
-        turner.workers.alloc,
-        turner.wave,
-        pairs.capacity(),
-        worked.whole.as_slice(),
-    )?;
+    let whole = worked.whole.as_slice();
+    let found = better_batching(turner.workers.alloc, paired.wave, capacity, whole)?;
     Ok(TurnedBranch {
         branch: Branch::Leaf(Some(worked)),
         turn: LeafTurn::Worked(found),
@@ -95,18 +87,10 @@ fn turn_kept<R: Threads + Sync, G: Gate>(
 }
 
 // A node that is split on a pair: below it are two leaves that keep its duals.
-fn split_on(
-    alloc: Global,
-    orders: u32,
-    first: u32,
-    second: u32,
-    worked: Worked,
-) -> Result<Branch, Memory>
-    requires few { orders ≤ 64 }
-    requires duals { AreDuals orders worked.own.duals }
+fn split_on(alloc: Global, first: u32, second: u32, worked: Worked) -> Result<Branch, Memory>
     ensures { IfOk result (IsFreshSplit (record { first = first; second = second; worked = worked; least = Some (own_bound worked) })) }
 {
-    let least = bound_of(orders, worked.own.duals.as_slice());
+    let least = worked.own.duals.bound();
     let together = Box::new(alloc, Branch::Leaf(None))?;
     let apart = Box::new(alloc, Branch::Leaf(None))?;
     let cut = Cut {
@@ -121,27 +105,25 @@ fn split_on(
 // A turn at a leaf with duals of its own.
 fn turn_worked<R: Threads + Sync, G: Gate>(
     turner: &Turner<'_, R, G>,
-    pairs: &Pairs,
+    paired: &PairedWave<'_>,
     worked: Worked,
 ) -> Result<TurnedBranch, Memory>
-    requires pairs { pairs.now.orders ≡ length turner.now.wave.now.orders }
-    requires worked { IsWorked turner.now.wave.now pairs.now 0 worked }
+    requires worked { IsWorked paired.now.wave.now paired.now.pairs.now 0 worked }
     ensures { IfOk result (λ turned. (above : ℕ) → above ≤ sum worked.own.duals
-        → IsTurned turner.now.wave.now pairs.now above turner.now.pays (own_bound worked) (branches.Leaf (Some worked)) turned.branch turned.turn) }
+        → IsTurned paired.now.wave.now paired.now.pairs.now above turner.now.pays (own_bound worked) (branches.Leaf (Some worked)) turned.branch turned.turn) }
 {
-    match choose_pair(turner.workers.alloc, pairs, &worked)? {
+    match choose_pair(turner.workers.alloc, paired.pairs, &worked)? {
         Some((first, second)) => Ok(TurnedBranch {
-            branch: split_on(
-                turner.workers.alloc,
-                turner.wave.orders(),
-                first,
-                second,
-                worked,
-            )?,
+            branch: split_on(turner.workers.alloc, first, second, worked)?,
             turn: LeafTurn::Onward,
         }),
         None => {
-            let batching = class_batching(turner.workers.alloc, turner.wave, pairs, &worked.own)?;
+            let given = DualWave {
+                wave: paired.wave,
+                pairs: paired.pairs,
+                duals: &worked.own.duals,
+            };
+            let batching = class_batching(turner.workers.alloc, &given)?;
             Ok(TurnedBranch {
                 branch: Branch::Leaf(Some(worked)),
                 turn: LeafTurn::Settled(batching),
@@ -154,13 +136,12 @@ fn turn_worked<R: Threads + Sync, G: Gate>(
 fn turn_leaf<R: Threads + Sync, G: Gate>(
     turner: &Turner<'_, R, G>,
     path: &Vec<OrderPair>,
-    above: &[u64],
+    above: &OrderDuals,
     columns: &[Batch],
     leaf: Option<Worked>,
 ) -> Result<TurnedBranch, Memory>
     requires path { IsPath (length turner.now.wave.now.orders) turner.now.capacity.most path.now.items }
-    requires duals { AreDuals (length turner.now.wave.now.orders) above.now }
-    requires feasible { AreFeasible turner.now.wave.now (pairing_of (length turner.now.wave.now.orders) turner.now.capacity.most path.now.items) above.now }
+    requires above { AreFeasibleDuals turner.now.wave.now (pairing_of (length turner.now.wave.now.orders) turner.now.capacity.most path.now.items) above.now }
     requires leaf { IsBranch turner.now.wave.now (pairing_of (length turner.now.wave.now.orders) turner.now.capacity.most path.now.items) (sum above.now)
         (branches.Leaf leaf) }
     ensures { IfOk result (λ turned. (least : ℕ) → least_of (units_of (sum above.now)) (branches.Leaf leaf) ≡ Some least
@@ -168,9 +149,13 @@ fn turn_leaf<R: Threads + Sync, G: Gate>(
         turner.now.pays least (branches.Leaf leaf) turned.branch turned.turn) }
 {
     let pairs = pairs_of(turner.wave.orders(), turner.capacity, path);
+    let paired = PairedWave {
+        wave: turner.wave,
+        pairs: &pairs,
+    };
     match leaf {
-        None => turn_kept(turner, &pairs, above, columns),
-        Some(worked) => turn_worked(turner, &pairs, worked),
+        None => turn_kept(turner, &paired, above, columns),
+        Some(worked) => turn_worked(turner, &paired, worked),
     }
 }
 
@@ -180,13 +165,12 @@ fn turn_leaf<R: Threads + Sync, G: Gate>(
 fn turn_in_place<R: Threads + Sync, G: Gate>(
     turner: &Turner<'_, R, G>,
     path: &Vec<OrderPair>,
-    above: &[u64],
+    above: &OrderDuals,
     columns: &[Batch],
     branch: &mut Branch,
 ) -> Result<LeafTurn, Memory>
     requires path { IsPath (length turner.now.wave.now.orders) turner.now.capacity.most path.now.items }
-    requires duals { AreDuals (length turner.now.wave.now.orders) above.now }
-    requires feasible { AreFeasible turner.now.wave.now (pairing_of (length turner.now.wave.now.orders) turner.now.capacity.most path.now.items) above.now }
+    requires above { AreFeasibleDuals turner.now.wave.now (pairing_of (length turner.now.wave.now.orders) turner.now.capacity.most path.now.items) above.now }
     requires leaf { IsLeaf branch.old }
     requires branch { IsBranch turner.now.wave.now (pairing_of (length turner.now.wave.now.orders) turner.now.capacity.most path.now.items) (sum above.now)
         branch.old }
@@ -219,11 +203,9 @@ fn pair_of(cut: &Cut, together: bool) -> OrderPair
 }
 
 // Keeps the least bound below a node that is split.
-fn keep_least(orders: u32, cut: &mut Cut, together: &Branch, apart: &Branch)
-    requires few { orders ≤ 64 }
-    requires duals { AreDuals orders cut.old.worked.own.duals }
-    requires together { HasBound orders together.now }
-    requires apart { HasBound orders apart.now }
+fn keep_least(cut: &mut Cut, together: &Branch, apart: &Branch)
+    requires together { HasBound together.now }
+    requires apart { HasBound apart.now }
     ensures { cut.new ≡ record {
       first = cut.old.first;
       second = cut.old.second;
@@ -231,19 +213,16 @@ fn keep_least(orders: u32, cut: &mut Cut, together: &Branch, apart: &Branch)
       least = lower_of (least_of (own_bound cut.old.worked) together.now) (least_of (own_bound cut.old.worked) apart.now);
     } }
 {
-    let above = bound_of(orders, cut.worked.own.duals.as_slice());
-    cut.least = lower_bound(together.bound(orders, above), apart.bound(orders, above));
+    let above = cut.worked.own.duals.bound();
+    cut.least = lower_bound(together.bound(above), apart.bound(above));
 }
 
 // Whether the first leaf with the least bound is below a node where its pair goes together.
-fn is_together(orders: u32, cut: &Cut, together: &Branch, least: u64) -> bool
-    requires few { orders ≤ 64 }
-    requires duals { AreDuals orders cut.now.worked.own.duals }
-    requires together { HasBound orders together.now }
+fn is_together(cut: &Cut, together: &Branch, least: u64) -> bool
+    requires { HasBound together.now }
     ensures { IsTrue result ↔ (least_of (own_bound cut.now.worked) together.now ≡ Some least) }
 {
-    let above = bound_of(orders, cut.worked.own.duals.as_slice());
-    together.bound(orders, above) == Some(least)
+    together.bound(cut.worked.own.duals.bound()) == Some(least)
 }
 
 /// A turn at the first leaf of a subtree, in preorder, whose bound is the least. The subtree is at the end of a path of pairs, below
@@ -253,13 +232,12 @@ fn is_together(orders: u32, cut: &Cut, together: &Branch, least: u64) -> bool
 pub fn take_turn<R: Threads + Sync, G: Gate>(
     turner: &Turner<'_, R, G>,
     path: &mut Vec<OrderPair>,
-    above: &[u64],
+    above: &OrderDuals,
     columns: &[Batch],
     branch: &mut Branch,
 ) -> Result<LeafTurn, Memory>
     requires path { IsPath (length turner.now.wave.now.orders) turner.now.capacity.most path.old.items }
-    requires duals { AreDuals (length turner.now.wave.now.orders) above.now }
-    requires feasible { AreFeasible turner.now.wave.now (pairing_of (length turner.now.wave.now.orders) turner.now.capacity.most path.old.items) above.now }
+    requires above { AreFeasibleDuals turner.now.wave.now (pairing_of (length turner.now.wave.now.orders) turner.now.capacity.most path.old.items) above.now }
     requires branch { IsBranch turner.now.wave.now (pairing_of (length turner.now.wave.now.orders) turner.now.capacity.most path.old.items) (sum above.now)
         branch.old }
     requires least { least_of (units_of (sum above.now)) branch.old ≡ Some turner.now.least }
@@ -269,16 +247,15 @@ pub fn take_turn<R: Threads + Sync, G: Gate>(
 {
     match branch {
         Branch::Split(cut, together, apart) => {
-            let orders = turner.wave.orders();
-            if is_together(orders, cut, together, turner.least) {
+            if is_together(cut, together, turner.least) {
                 let pair = pair_of(cut, true);
                 let turn = take_turn_below(turner, path, pair, &cut.worked, together)?;
-                keep_least(orders, cut, together, apart);
+                keep_least(cut, together, apart);
                 return Ok(turn);
             }
             let pair = pair_of(cut, false);
             let turn = take_turn_below(turner, path, pair, &cut.worked, apart)?;
-            keep_least(orders, cut, together, apart);
+            keep_least(cut, together, apart);
             Ok(turn)
         }
         Branch::Leaf(_) => turn_in_place(turner, path, above, columns, branch),
@@ -307,9 +284,8 @@ fn take_turn_below<R: Threads + Sync, G: Gate>(
     ensures path { OnOk result (path.new.items ≡ path.old.items) }
 {
     path.push(pair)?;
-    let above = worked.own.duals.as_slice();
     let columns = worked.columns.as_slice();
-    let turn = take_turn(turner, path, above, columns, branch)?;
+    let turn = take_turn(turner, path, &worked.own.duals, columns, branch)?;
     path.pop();
     Ok(turn)
 }

@@ -124,8 +124,10 @@ const SIXTY_FOUR: Shown = (
     ],
 );
 
-/// Waves, how often their orders are repeated, a capacity, the nodes of a tree, and what its check says.
-const TREES: &[(&[Slots], u32, u32, &[Row], Says)] = &[
+/// A wave, how often its orders are repeated, a capacity, the nodes of a tree, and what its check says.
+type Checked = (&'static [Slots], u32, u32, &'static [Row], Says);
+
+const TREES: &[Checked] = &[
     (
         SAME,
         1,
@@ -460,25 +462,19 @@ fn is_said(answer: Result<u64, CertFault>, says: &Says) -> bool {
     }
 }
 
-fn says_so(
-    alloc: Global,
-    orders: &[Slots],
-    times: u32,
-    capacity: u32,
-    rows: &[Row],
-    says: &Says,
-) -> Option<bool> {
-    if capacity < 1 || 8 < capacity {
+fn says_so(alloc: Global, checked: &Checked) -> Option<bool> {
+    let (orders, times, capacity, rows, says) = checked;
+    if *capacity < 1 || 8 < *capacity {
         return None;
     }
-    let wave = wave_of(alloc, orders, times)?;
+    let wave = wave_of(alloc, orders, *times)?;
     let tree = tree_of(alloc, rows)?;
-    Some(is_said(check(alloc, &wave, capacity, &tree), says))
+    Some(is_said(check(alloc, &wave, *capacity, &tree), says))
 }
 
 fn wrong_check(alloc: Global) -> Option<usize> {
-    for (place, (orders, times, capacity, rows, says)) in TREES.iter().enumerate() {
-        if says_so(alloc, orders, *times, *capacity, rows, says) != Some(true) {
+    for (place, checked) in TREES.iter().enumerate() {
+        if says_so(alloc, checked) != Some(true) {
             return Some(place);
         }
     }

@@ -1,4 +1,4 @@
-use crate::search::checked_plan;
+use crate::search::{Terms, checked_plan};
 use std::alloc::Global;
 use std::thread::Threads;
 use wp_samples::{Draws, made_wave};
@@ -10,11 +10,20 @@ const ORDERS: u32 = 20;
 /// The bounds of the ten made waves, with at most three orders in a batch. They sum to 35,748; no tree of one node gives more.
 const BOUNDS: &[u64] = &[3074, 3557, 3817, 4089, 4023, 3524, 3426, 3465, 3963, 2810];
 
+/// What one worker is asked.
+fn by_one(capacity: u32, budget: u64) -> Terms {
+    Terms {
+        capacity,
+        budget,
+        workers: 1,
+    }
+}
+
 /// The bound of the plan of the next wave, for a budget that pays for one node.
 fn next_bound<R: Threads + Sync>(rt: &R, alloc: Global, draws: &mut Draws) -> Option<u64> {
     let mut wave = made_wave(alloc, draws, ORDERS)?;
     wave.keep_lengths(alloc, 3).ok()?;
-    Some(checked_plan(rt, alloc, &wave, 3, 120_000, 1)?.bound)
+    Some(checked_plan(rt, alloc, &wave, by_one(3, 120_000))?.bound)
 }
 
 /// The first wave whose plan has another bound than the table says, and that bound.
@@ -64,8 +73,8 @@ const FEW_NODES: u64 = 199_999;
 /// Whether a plan is proven with so many nodes, and costs less than the start, which is the plan for no budget.
 fn is_cheaper_by_nodes<R: Threads + Sync>(rt: &R, alloc: Global, row: &Rounded) -> Option<bool> {
     let wave = made_wave(alloc, &mut Draws::from_state(row.state), row.orders)?;
-    let start = checked_plan(rt, alloc, &wave, row.capacity, 0, 1)?.cost;
-    let planned = checked_plan(rt, alloc, &wave, row.capacity, FEW_NODES, 1)?;
+    let start = checked_plan(rt, alloc, &wave, by_one(row.capacity, 0))?.cost;
+    let planned = checked_plan(rt, alloc, &wave, by_one(row.capacity, FEW_NODES))?;
     let count = planned.tree.nodes.as_slice().len();
     Some(count == row.nodes && planned.state == State::Proven && planned.cost < start)
 }
@@ -93,7 +102,7 @@ fn is_proven<R: Threads + Sync>(
     capacity: u32,
 ) -> Option<bool> {
     let wave = made_wave(alloc, draws, orders)?;
-    let planned = checked_plan(rt, alloc, &wave, capacity, u64::MAX, 1)?;
+    let planned = checked_plan(rt, alloc, &wave, by_one(capacity, u64::MAX))?;
     Some(planned.state == State::Proven)
 }
 

@@ -1,6 +1,6 @@
 //! Many orders, which are worth many workers.
 
-use crate::price::{Given, asked, duals_of};
+use crate::price::{Given, Question, asked, duals_of};
 use crate::slow::batch_at;
 use std::alloc::Global;
 use std::thread::Threads;
@@ -88,9 +88,14 @@ fn found<R: Threads + Sync>(
     wave.keep_lengths(alloc, MANY.capacity).ok()?;
     let pairs = pairs_of(wave.orders(), MANY.capacity, MANY.pairs)?;
     let duals = duals_of(alloc, &parts_of(&wave, hundredths))?;
-    asked(
-        rt, alloc, &wave, &pairs, &duals, through, workers, &OpenGate,
-    )?
+    let question = Question {
+        wave: &wave,
+        pairs: &pairs,
+        duals: &duals,
+        through,
+        workers,
+    };
+    asked(rt, alloc, &question, &OpenGate)?
 }
 
 /// Whether 3 and 16 workers find what one finds.

@@ -3,7 +3,7 @@ ghost use Rattle.wp_batch.specs.Duals.{greatest_dual};
 
 use std::alloc::Global;
 use std::thread::Threads;
-use wp_batch::{Marks, Wave};
+use wp_batch::{GREATEST_DUAL, Marks, Wave};
 use wp_outside::{Gate, OpenGate};
 use wp_pairs::Pairs;
 use wp_price::{Priced, least_slack};
@@ -108,7 +108,9 @@ const DEAREST: Given = Given {
 };
 
 /// What is priced, through which order, and what is found.
-const CASES: &[(Given, Option<u32>, Option<Found>)] = &[
+type Case = (Given, Option<u32>, Option<Found>);
+
+const CASES: &[Case] = &[
     (FREE, None, Some((&[0, 1], 0, Some(b"1100100")))),
     (FREE, Some(0), Some((&[0, 1], 0, None))),
     (FREE, Some(2), Some((&[1, 2], 0, None))),
@@ -135,7 +137,7 @@ pub fn duals_of(alloc: Global, rows: &[u64]) -> Option<Vec<u64>>
 {
     let mut duals = Vec::new(alloc);
     for dual in rows {
-        if *dual > 1_000_000_000_000 {
+        if *dual > GREATEST_DUAL {
             return None;
         }
         duals.push(*dual).ok()?;
@@ -143,19 +145,32 @@ pub fn duals_of(alloc: Global, rows: &[u64]) -> Option<Vec<u64>>
     Some(duals)
 }
 
-/// What so many workers find who pass this gate, where it can be asked for.
+/// What is asked of so many workers: the batch of least slack of a wave, through an order where one is given.
+#[derive(Clone, Copy)]
+pub struct Question<'a> {
+    pub wave: &'a Wave,
+    pub pairs: &'a Pairs,
+    pub duals: &'a Vec<u64>,
+    pub through: Option<u32>,
+    pub workers: u32,
+}
+
+/// What workers find who pass this gate, where it can be asked for.
 pub fn asked<R: Threads + Sync, G: Gate>(
     rt: &R,
     alloc: Global,
-    wave: &Wave,
-    pairs: &Pairs,
-    duals: &Vec<u64>,
-    through: Option<u32>,
-    workers: u32,
+    question: &Question<'_>,
     gate: &G,
 ) -> Option<Option<Priced>>
-    requires { All (λ dual. dual ≤ greatest_dual) duals.now.items }
+    requires { All (λ dual. dual ≤ greatest_dual) question.now.duals.now.items }
 {
+    let Question {
+        wave,
+        pairs,
+        duals,
+        through,
+        workers,
+    } = *question;
     if pairs.orders() != wave.orders() || duals.len() != wave.orders() as usize {
         return None;
     }
@@ -220,20 +235,19 @@ fn found<R: Threads + Sync>(
     }
     let pairs = pairs_of(wave.orders(), given.capacity, given.pairs)?;
     let duals = duals_of(alloc, given.duals)?;
-    asked(
-        rt, alloc, &wave, &pairs, &duals, through, workers, &OpenGate,
-    )
+    let question = Question {
+        wave: &wave,
+        pairs: &pairs,
+        duals: &duals,
+        through,
+        workers,
+    };
+    asked(rt, alloc, &question, &OpenGate)
 }
 
 /// Whether pricing finds what is expected in one way.
-fn finds<R: Threads + Sync>(
-    rt: &R,
-    alloc: Global,
-    given: Given,
-    through: Option<u32>,
-    expected: Option<Found>,
-    way: Way,
-) -> Option<bool> {
+fn finds<R: Threads + Sync>(rt: &R, alloc: Global, case: &Case, way: Way) -> Option<bool> {
+    let (given, through, expected) = *case;
     match (found(rt, alloc, given, through, way)?, expected) {
         (Some(priced), Some(expected)) => Some(is_found(&priced, expected)),
         (None, None) => Some(true),
@@ -242,9 +256,9 @@ fn finds<R: Threads + Sync>(
 }
 
 fn wrong_case<R: Threads + Sync>(rt: &R, alloc: Global) -> Option<(usize, Way)> {
-    for (place, (given, through, expected)) in CASES.iter().enumerate() {
+    for (place, case) in CASES.iter().enumerate() {
         for way in WAYS {
-            if finds(rt, alloc, *given, *through, *expected, *way) != Some(true) {
+            if finds(rt, alloc, case, *way) != Some(true) {
                 return Some((place, *way));
             }
         }

@@ -192,15 +192,26 @@ fn own_nodes(tree: &Tree) -> usize {
         .count()
 }
 
+/// How many orders go into a batch at most, what a plan may cost, and how many workers make it.
+#[derive(Clone, Copy)]
+pub struct Terms {
+    pub capacity: u32,
+    pub budget: u64,
+    pub workers: u32,
+}
+
 /// The plan of a wave within the ranges of budget and workers, if the check accepts its tree with its bound.
 pub fn checked_plan<R: Threads + Sync>(
     rt: &R,
     alloc: Global,
     wave: &Wave,
-    capacity: u32,
-    budget: u64,
-    workers: u32,
+    terms: Terms,
 ) -> Option<Planned> {
+    let Terms {
+        capacity,
+        budget,
+        workers,
+    } = terms;
     if capacity < 1 || 8 < capacity || workers < 1 || 16 < workers {
         return None;
     }
@@ -222,7 +233,12 @@ fn is_as(planned: &Planned, case: &Case) -> bool {
 
 fn planned_as<R: Threads + Sync>(rt: &R, alloc: Global, case: &Case) -> Option<bool> {
     let wave = wave_of(alloc, case.orders, 1)?;
-    let planned = checked_plan(rt, alloc, &wave, case.capacity, case.budget, 1)?;
+    let terms = Terms {
+        capacity: case.capacity,
+        budget: case.budget,
+        workers: 1,
+    };
+    let planned = checked_plan(rt, alloc, &wave, terms)?;
     Some(is_as(&planned, case))
 }
 
@@ -251,7 +267,12 @@ fn proven_cost<R: Threads + Sync>(
     workers: u32,
 ) -> Option<u64> {
     let wave = wave_of(alloc, SHARED, 1)?;
-    let planned = checked_plan(rt, alloc, &wave, capacity, u64::MAX, workers)?;
+    let terms = Terms {
+        capacity,
+        budget: u64::MAX,
+        workers,
+    };
+    let planned = checked_plan(rt, alloc, &wave, terms)?;
     (planned.state == State::Proven).then_some(planned.cost)
 }
 

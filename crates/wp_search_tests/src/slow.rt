@@ -1,6 +1,6 @@
 ghost use Rattle.std.specs.Prelude.{◌≡◌, ◌<◌, All, length};
 
-use crate::price::{Given, asked, duals_of};
+use crate::price::{Given, Question, asked, duals_of};
 use std::alloc::Global;
 use std::thread::Threads;
 use wp_batch::{Wave, sum_of};
@@ -159,9 +159,14 @@ fn is_same<R: Threads + Sync>(
     if duals.len() != wave.orders() as usize {
         return None;
     }
-    let found = asked(
-        rt, alloc, &wave, &pairs, &duals, through, workers, &OpenGate,
-    )?;
+    let question = Question {
+        wave: &wave,
+        pairs: &pairs,
+        duals: &duals,
+        through,
+        workers,
+    };
+    let found = asked(rt, alloc, &question, &OpenGate)?;
     Some(are_same(found, best_of_all(&wave, &pairs, &duals, through)))
 }
 

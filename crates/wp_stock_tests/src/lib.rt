@@ -10,6 +10,8 @@ mod allot;
 #[cfg(test)]
 mod book;
 #[cfg(test)]
+mod carts;
+#[cfg(test)]
 mod given;
 #[cfg(test)]
 mod machine;

@@ -182,7 +182,8 @@ const STORIES: [Story; 3] = [
     },
 ];
 
-fn orders_of(alloc: Global, text: &str, stock: &Stock) -> Result<Orders, Fail>
+/// The orders that a text says, for this stock.
+pub fn orders_of(alloc: Global, text: &str, stock: &Stock) -> Result<Orders, Fail>
     ensures { IfOk result (AreReadOrders stock.now.articles) }
 {
     Ok(read_orders(alloc, &text.as_bytes().to_vec(alloc)?, stock)?)
@@ -194,7 +195,8 @@ fn opening_of(alloc: Global, stock: &str, orders: &str) -> Result<Opening, Fail>
     Ok(Opening::of(stock, orders))
 }
 
-fn scripts_of(alloc: Global, desk: &str) -> Result<Scripts, Fail> {
+/// The scripts that a desk file says.
+pub fn scripts_of(alloc: Global, desk: &str) -> Result<Scripts, Fail> {
     Ok(read_desks(alloc, &desk.as_bytes().to_vec(alloc)?)?)
 }
 
@@ -221,7 +223,7 @@ fn are_told(outcome: &Outcome, held: &[Held]) -> bool {
 }
 
 /// A machine's answer to a command of desk 1.
-fn ask(
+pub fn ask(
     rt: &impl Abort,
     alloc: Global,
     machine: &mut Machine<'_>,
@@ -299,7 +301,8 @@ fn askings_of(alloc: Global, script: &[Command]) -> Result<Vec<Asking>, Fail>
     Ok(askings)
 }
 
-fn text_of(alloc: Global, entries: &[Entry]) -> Result<String, Fail> {
+/// The lines of entries, one after the other.
+pub fn text_of(alloc: Global, entries: &[Entry]) -> Result<String, Fail> {
     let mut text = String::new(alloc);
     for entry in entries {
         writeln!(text, "{entry}")?;

@@ -9,7 +9,7 @@ use Rattle.wp_model.specs.Journal.{journal, line}
 use Rattle.wp_model.specs.Opening.{Stock}
 use Rattle.wp_model.specs.Warehouse.{Layout}
 use Rattle.wp_planner.specs.Sheets.{GrowsBy}
-use Rattle.wp_planner.specs.declared.planner.Terms.{Terms}
+use Rattle.wp_planner.specs.Terms.{Terms}
 use Rattle.wp_top.specs.Sections.{refills_section, stock_section}
 use Rattle.wp_top.specs.Sheets.{AreSheets}
 use Rattle.wp_top.specs.Stops.{IsTextOf}

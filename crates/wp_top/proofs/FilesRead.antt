@@ -3,10 +3,11 @@ use Rattle.std.proofs.Common.{◌≡◌, ◌∙◌, refl, sym, ap, subst, ℕ, �
 use Rattle.std.specs.Prelude.{IfSome}
 use Rattle.std.proofs.lemmas.List.{map-append}
 use Rattle.std.proofs.lemmas.List.Elements.{All-nil, All-push}
+use Rattle.wp_floor.specs.Opening.{opening_of}
 use Rattle.wp_model.specs.Outcomes.{and_then}
 use Rattle.wp_outside.specs.Outside.{FilesTold, NoneFalls, SameBytes}
 use Rattle.wp_top.specs.Ends.{EndsAt, among}
-use Rattle.wp_model.specs.Opening.{Opening, Stock}
+use Rattle.wp_model.specs.Opening.{Order, Stock}
 use Rattle.wp_model.specs.Warehouse.{Layout}
 use Rattle.wp_top.specs.Stops.{IsSaid, StopsFor, of_file, opening_files, opening_said}
 use Rattle.wp_top.specs.Texts.{File, HaveSaid, IsHeld, ReadFile, Said, Say, file_of, layout_in, nothing_said, orders_in, said_after, said_with, stock_in}
@@ -167,16 +168,16 @@ stock_files layout stock = file_of input.Layout layout ∷ file_of input.Stock s
 -- and what is said once the stock file was read too
 pub after_stock : (old mid new : FilesTold) (layout stock : List ℕ) (space : Layout) (rows : Stock)
     → HaveRead old mid (layout_file layout) (record nothing_said { layout = space }) → WasRead mid new → IsSaid (stock_in space) mid.holds stock rows
-    → HaveRead old new (stock_files layout stock) (opening_said space (record { stock = rows; orders = [] }))
+    → HaveRead old new (stock_files layout stock) (opening_said space (opening_of rows []))
 after_stock old mid new layout stock space rows so_far was is =
     say_next (stock_in space) old mid new (layout_file layout) (record nothing_said { layout = space })
-    (opening_said space (record { stock = rows; orders = [] })) input.Stock stock rows (λ text said. rw said refl) so_far was is
+    (opening_said space (opening_of rows [])) input.Stock stock rows (λ text said. rw said refl) so_far was is
 
 -- and the order file
-pub after_orders : (old mid new : FilesTold) (layout stock orders : List ℕ) (space : Layout) (opening : Opening)
-    → HaveRead old mid (stock_files layout stock) (opening_said space (record { stock = opening.stock; orders = [] })) → WasRead mid new
-    → IsSaid (orders_in opening.stock) mid.holds orders opening.orders
-    → HaveRead old new (opening_files layout stock orders) (opening_said space opening)
-after_orders old mid new layout stock orders space opening so_far was is =
-    say_next (orders_in opening.stock) old mid new (stock_files layout stock) (opening_said space (record { stock = opening.stock; orders = [] }))
-    (opening_said space opening) input.Orders orders opening.orders (λ text said. rw said refl) so_far was is
+pub after_orders : (old mid new : FilesTold) (layout stock orders : List ℕ) (space : Layout) (rows : Stock) (wanted : List Order)
+    → HaveRead old mid (stock_files layout stock) (opening_said space (opening_of rows [])) → WasRead mid new
+    → IsSaid (orders_in rows) mid.holds orders wanted
+    → HaveRead old new (opening_files layout stock orders) (opening_said space (opening_of rows wanted))
+after_orders old mid new layout stock orders space rows wanted so_far was is =
+    say_next (orders_in rows) old mid new (stock_files layout stock) (opening_said space (opening_of rows []))
+    (opening_said space (opening_of rows wanted)) input.Orders orders wanted (λ text said. rw said refl) so_far was is

@@ -4,6 +4,7 @@ use Rattle.std.specs.Prelude.{codes, nat_lt}
 use Rattle.std.specs.List.{All}
 use Rattle.std.proofs.lemmas.Bool.Decides.{nat_tests}
 use Rattle.std.proofs.lemmas.List.Elements.{All-cons, All-nil}
+use Rattle.wp_floor.specs.Opening.{opening_of}
 use Rattle.wp_layout.specs.LayoutFile.{layout_said}
 use Rattle.wp_make.specs.Accepted.{AreAccepted, Day, Say as Accept}
 use Rattle.wp_make.specs.Texts.{AreShort, Texts, made_texts}
@@ -50,21 +51,21 @@ say_with : (said more all : Said) (kind : Input) (name text : List ℕ) (later :
 say_with said more all kind name text later one rest = ap (λ (r : Result Said Refusal). and_then r (λ s. said_after s later)) one ∙ rest
 
 -- the files of short texts that the readers accept say the day of the texts
-files_say : (texts : Texts) (day : Day) → Accept texts day → AreShort texts → Say (made_files texts) (day_said day.layout day.opening day.scripts)
+files_say : (texts : Texts) (day : Day) → Accept texts day → AreShort texts → Say (made_files texts) (day_said day.layout (opening_of day.stock day.orders) day.scripts)
 files_say texts day says short =
-    let all = day_said day.layout day.opening day.scripts in
+    let all = day_said day.layout (opening_of day.stock day.orders) day.scripts in
     let desks = made_file input.Desks (codes "desks") texts.desks in
     let orders = made_file input.Orders (codes "orders") texts.orders in
     let stock = made_file input.Stock (codes "stock") texts.stock in
     let with_layout : Said = record nothing_said { layout = day.layout } in
-    let with_stock : Said = opening_said day.layout (record { stock = day.opening.stock; orders = [] }) in
-    let with_orders : Said = opening_said day.layout day.opening in
+    let with_stock : Said = opening_said day.layout (opening_of day.stock []) in
+    let with_orders : Said = opening_said day.layout (opening_of day.stock day.orders) in
     say_with nothing_said with_layout all input.Layout (codes "layout") texts.layout (stock ∷ orders ∷ desks ∷ [])
     (rw (short_said refusal.Layout layout_said texts.layout day.layout short.layout says.layout) refl)
     (say_with with_layout with_stock all input.Stock (codes "stock") texts.stock (orders ∷ desks ∷ [])
-    (rw (short_said refusal.Row (stock_said day.layout) texts.stock day.opening.stock short.stock says.stock) refl)
+    (rw (short_said refusal.Row (stock_said day.layout) texts.stock day.stock short.stock says.stock) refl)
     (say_with with_stock with_orders all input.Orders (codes "orders") texts.orders (desks ∷ [])
-    (rw (short_said refusal.Row (orders_said day.opening.stock) texts.orders day.opening.orders short.orders says.orders) refl)
+    (rw (short_said refusal.Row (orders_said day.stock) texts.orders day.orders short.orders says.orders) refl)
     (say_with with_orders all all input.Desks (codes "desks") texts.desks []
     (rw (short_said refusal.Row scripts_said texts.desks day.scripts short.desks says.desks) refl) refl)))
 
@@ -90,8 +91,8 @@ pub made_day_held : (shelf : List (List ℕ × List ℕ)) (texts : Texts) (numbe
 made_day_held shelf texts numbers held made (day, says) short =
     let say = files_say texts day says short in
     record {
-      day = day_said day.layout day.opening day.scripts;
-      made = subst (λ (t : Texts). Say (made_files t) (day_said day.layout day.opening day.scripts)) made say;
+      day = day_said day.layout (opening_of day.stock day.orders) day.scripts;
+      made = subst (λ (t : Texts). Say (made_files t) (day_said day.layout (opening_of day.stock day.orders) day.scripts)) made say;
       told = record {
         read = made_files texts;
         are = refl;

@@ -8,7 +8,7 @@ use Rattle.wp_model.specs.Opening.{Stock}
 use Rattle.wp_model.specs.Warehouse.{Layout}
 use Rattle.wp_planner.specs.Plans.{IsPlanOf}
 use Rattle.wp_planner.specs.Sheets.{GrowsBy, IsSheet}
-use Rattle.wp_planner.specs.declared.planner.Terms.{Terms}
+use Rattle.wp_planner.specs.Terms.{Terms}
 use Rattle.wp_planner.specs.declared.planner.WavePlan.{WavePlan}
 use Rattle.wp_top.proofs.Waves.{one_wave_more}
 use Rattle.wp_top.proofs.Writing.{take_more}

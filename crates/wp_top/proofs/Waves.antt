@@ -21,7 +21,7 @@ use Rattle.wp_model.specs.declared.memory.Memory.{Memory}
 use Rattle.wp_planner.proofs.Outgoing.{each_wave_out_is_filled}
 use Rattle.wp_planner.specs.Plans.{IsPlanFor}
 use Rattle.wp_planner.specs.Released.{IsReleased}
-use Rattle.wp_planner.specs.declared.planner.Terms.{Terms}
+use Rattle.wp_planner.specs.Terms.{Terms}
 use Rattle.wp_planner.specs.declared.planner.WavePlan.{WavePlan}
 use Rattle.wp_top.specs.Planned.{AreMadeBy, ArePlanned, IsPlanned, IsToldOf, Sent, waves_of}
 use Rattle.wp_top.specs.Runs.{IsHistoryOf}

@@ -9,7 +9,7 @@ use Rattle.wp_model.specs.Opening.{Stock}
 use Rattle.wp_model.specs.Warehouse.{Layout}
 use Rattle.wp_planner.specs.Plans.{IsPlanOf}
 use Rattle.wp_planner.specs.Released.{IsReleased}
-use Rattle.wp_planner.specs.declared.planner.Terms.{Terms}
+use Rattle.wp_planner.specs.Terms.{Terms}
 use Rattle.wp_planner.specs.declared.planner.WavePlan.{WavePlan}
 
 -- a wave that went out, and its plan where it has one

@@ -7,7 +7,7 @@ use Rattle.wp_model.specs.Opening.{Stock}
 use Rattle.wp_model.specs.Warehouse.{Layout}
 use Rattle.wp_planner.specs.Plans.{IsPlanOf}
 use Rattle.wp_planner.specs.Sheets.{IsSheet}
-use Rattle.wp_planner.specs.declared.planner.Terms.{Terms}
+use Rattle.wp_planner.specs.Terms.{Terms}
 use Rattle.wp_planner.specs.declared.planner.WavePlan.{WavePlan}
 use Rattle.wp_words.specs.Words.{PlanNames}
 

@@ -12,7 +12,7 @@ use Rattle.wp_model.specs.Warehouse.{Layout}
 use Rattle.wp_model.specs.declared.entry.Entry.{Entry}
 use Rattle.wp_model.specs.declared.row.Row.{Row}
 use Rattle.wp_planner.specs.Plans.{IsPlanOf}
-use Rattle.wp_planner.specs.declared.planner.Terms.{Terms}
+use Rattle.wp_planner.specs.Terms.{Terms}
 use Rattle.wp_planner.specs.declared.planner.WavePlan.{WavePlan}
 use Rattle.wp_search.specs.declared.plan.State.{State}
 use Rattle.wp_search.specs.declared.plan.State.TheVariants as states

@@ -1,10 +1,11 @@
 -- The files that a job reads, what they say one after the other, and why one is refused.
 use Rattle.std.specs.Prelude.{◌≡◌, ℕ, nat_lt, List, [], ◌∷◌, codes, Option, Some, IfSome, length, map, if◌then◌else◌, Result, Ok, Err}
 use Rattle.std.specs.List.{All}
+use Rattle.wp_floor.specs.Opening.{opening_of}
 use Rattle.wp_layout.specs.Keys.{fault_text}
 use Rattle.wp_layout.specs.LayoutFile.{layout_said}
 use Rattle.wp_model.specs.Opening.{Opening, Order, Stock}
-use Rattle.wp_model.specs.Warehouse.{Layout}
+use Rattle.wp_model.specs.Warehouse.{Layout, even_layout}
 use Rattle.wp_model.specs.History.{Script}
 use Rattle.wp_model.specs.Limits.{most_file_bytes}
 use Rattle.wp_tables.specs.DeskFile.{scripts_said}
@@ -59,8 +60,8 @@ pub record Said : Type 0 where
 -- nothing yet
 abbrev pub nothing_said : Said
 nothing_said = record {
-  layout = record { aisles = 0; slots = 0; pitch = 0; clearance = 0; spacing = 0; depot = 0 };
-  opening = record { stock = record { rows = []; articles = [] }; orders = [] };
+  layout = even_layout 0 0 0 0 0 0;
+  opening = opening_of (record { rows = []; articles = [] }) [];
   scripts = [];
   certificate = [];
   journal = [];
@@ -98,9 +99,9 @@ scripts_in = said_in refusal.Row scripts_said
 -- what is said with a further file, or why that file is refused: the stock lies in the layout, and the orders want its articles
 abbrev pub said_with : Said → Input → List ℕ → Result Said Refusal
 said_with said input.Layout text = and_then (layout_in text) (λ layout. Ok (record said { layout = layout }))
-said_with said input.Stock text = and_then (stock_in said.layout text) (λ stock. Ok (record said { opening = record { stock = stock; orders = [] } }))
+said_with said input.Stock text = and_then (stock_in said.layout text) (λ stock. Ok (record said { opening = opening_of stock [] }))
 said_with said input.Orders text = and_then (orders_in said.opening.stock text)
-    (λ orders. Ok (record said { opening = record { stock = said.opening.stock; orders = orders } }))
+    (λ orders. Ok (record said { opening = opening_of said.opening.stock orders }))
 said_with said input.Desks text = and_then (scripts_in text) (λ scripts. Ok (record said { scripts = scripts }))
 said_with said input.Certificate text = and_then (text_in text) (λ certificate. Ok (record said { certificate = certificate }))
 said_with said input.Journal text = and_then (text_in text) (λ journal. Ok (record said { journal = journal }))

@@ -3,7 +3,7 @@ ghost use Rattle.std.specs.Prelude.{◌≡◌, ◌++◌, IfOk, string_bytes};
 ghost use Rattle.wp_model.specs.Journal.{journal};
 ghost use Rattle.wp_model.specs.Tables.{IsReadOpening};
 ghost use Rattle.wp_model.specs.Warehouse.{Layout as Block};
-ghost use Rattle.wp_planner.specs.Plans.{AreTerms, IsPlanFor};
+ghost use Rattle.wp_planner.specs.Plans.{IsPlanFor};
 ghost use Rattle.wp_planner.specs.Released.{LiesIn};
 ghost use Rattle.wp_planner.specs.Sheets.{GrowsBy};
 ghost use Rattle.wp_top.specs.Planned.{AreMadeBy, IsToldOf, waves_of};
@@ -13,26 +13,32 @@ ghost use Rattle.wp_top.specs.Runs.{IsHistoryOf};
 ghost use Rattle.wp_top.specs.Stops.{IsDayOf, IsTextOf};
 
 use crate::print::{print_journal, print_refills, print_stock};
-use crate::sheets::print_sheets;
+use crate::reading::Warehouse;
+use crate::sheets::{PlannedDay, print_sheets};
 use std::alloc::Global;
 use std::sync::Wait;
 use std::thread::Threads;
 use wp_desk::{DayRun, run_desks};
-use wp_graph::Layout;
 use wp_machine::{Machine, Opening, WaveHolds};
 use wp_model::Memory;
 use wp_outside::Gate;
-use wp_planner::{DayPlanner, PlansWaves, Terms, WavePlan, plan_for};
+use wp_planner::{DayPlanner, Planning, PlansWaves, Terms, WavePlan, plan_for};
 use wp_tables::{Scripts, Stock};
+
+/// What a run is run with: its threads, the allocator that gives all memory, and the gate that desks and workers pass.
+#[derive(Drop)]
+pub struct Resources<'a, R, G> {
+    pub rt: &'a R,
+    pub alloc: Global,
+    pub gate: &'a G,
+}
 
 // Runs the scripts of all desks, from the opening on. Each wave that goes out is planned by these calls.
 fn run_planned<'a, R: Threads + Wait + Sync, C: PlansWaves, G: Gate>(
-    rt: &R,
-    alloc: Global,
+    resources: &Resources<'_, R, G>,
     opening: &'a Opening,
     scripts: &Scripts,
     calls: C,
-    gate: &G,
 ) -> Result<DayRun<'a, Option<WavePlan>>, Memory>
     requires { C.takes_any calls }
     ensures history { IsReadOpening opening.now → IfOk result (λ day. IsHistoryOf opening.now scripts.now day.machine) }
@@ -40,6 +46,7 @@ fn run_planned<'a, R: Threads + Wait + Sync, C: PlansWaves, G: Gate>(
     ensures plans { IfOk result (λ day. AreMadeBy (C.makes calls) day.plans.items) }
     ensures refills { IfOk result (λ day. day.refills.items ≡ refills_of day.machine) }
 {
+    let Resources { rt, alloc, gate } = *resources;
     let machine = Machine::open(alloc, opening)?;
     let planner = DayPlanner::by(calls);
     run_desks(rt, alloc, opening, machine, scripts, &planner, gate)
@@ -48,27 +55,31 @@ fn run_planned<'a, R: Threads + Wait + Sync, C: PlansWaves, G: Gate>(
 /// Runs the scripts of all desks, from the opening on. Each wave that goes out is planned. All desks, and the workers that price
 /// their waves, pass the gate.
 pub fn run_day<'a, R: Threads + Wait + Sync, G: Gate>(
-    rt: &R,
-    alloc: Global,
-    layout: &Layout,
-    opening: &'a Opening,
+    resources: &Resources<'_, R, G>,
+    warehouse: &'a Warehouse,
     terms: &Terms,
     scripts: &Scripts,
-    gate: &G,
 ) -> Result<DayRun<'a, Option<WavePlan>>, Memory>
-    requires read { IsReadOpening opening.now }
-    requires lies { LiesIn layout.now opening.now.stock }
-    requires terms { AreTerms terms.now }
-    ensures history { IfOk result (λ day. IsHistoryOf opening.now scripts.now day.machine) }
-    ensures told { IfOk result (IsToldOf layout.now terms.now) }
+    ensures history { IfOk result (λ day. IsHistoryOf warehouse.now.opening scripts.now day.machine) }
+    ensures told { IfOk result (IsToldOf warehouse.now.layout terms.now) }
 {
+    let Resources { rt, gate, .. } = *resources;
+    let Warehouse { layout, opening } = warehouse;
     let stock = opening.stock();
     let plan = |alloc: Global, wave: &WaveHolds|
-        requires terms { AreTerms terms.now }
-        requires lies { LiesIn layout.now stock.now }
+        requires { LiesIn layout.now stock.now }
         ensures { IfOk result (IsPlanFor layout.entry.now stock.entry.now terms.entry.now wave.entry.now) }
-    { plan_for(rt, alloc, layout, stock, wave, terms, gate) };
-    run_planned(rt, alloc, opening, scripts, plan, gate)
+    {
+        let planning = Planning {
+            rt,
+            layout,
+            stock,
+            terms,
+            gate,
+        };
+        plan_for(&planning, alloc, wave)
+    };
+    run_planned(resources, opening, scripts, plan)
 }
 
 fn print_entries(alloc: Global, text: &mut String, machine: &Machine<'_>) -> Result<(), Memory>
@@ -94,20 +105,18 @@ fn journal_and_sheets(
     day: &DayRun<'_, Option<WavePlan>>,
 ) -> Result<Vec<u8>, Memory>
     requires stock { day.now.machine.opening.stock ≡ stock.now }
-    requires terms { AreTerms terms.now }
     requires told { (layout : Block) × IsToldOf layout terms.now day.now }
     ensures { (layout : Block) → IsToldOf layout terms.now day.now → IfOk result (λ text. GrowsBy
         (AreSheets layout stock.now terms.now day.now.machine (released_of day.now.machine)) (journal day.now.machine.entries) text.items) }
 {
     let mut text = journal_text(alloc, &day.machine)?;
-    print_sheets(
-        alloc,
-        &mut text,
+    let planned = PlannedDay {
         stock,
         terms,
-        &day.machine,
-        day.plans.as_slice(),
-    )?;
+        machine: &day.machine,
+        plans: day.plans.as_slice(),
+    };
+    print_sheets(alloc, &mut text, &planned)?;
     Ok(text)
 }
 
@@ -120,7 +129,6 @@ fn text_of(
 ) -> Result<Vec<u8>, Memory>
     requires read { IsReadOpening day.now.machine.opening }
     requires stock { day.now.machine.opening.stock ≡ stock.now }
-    requires terms { AreTerms terms.now }
     requires told { (layout : Block) × IsToldOf layout terms.now day.now }
     ensures { (layout : Block) → IsToldOf layout terms.now day.now → IfOk result (λ text. IsTextOf layout terms.now day.now.machine text.items) }
 {
@@ -134,19 +142,13 @@ fn text_of(
 /// The text of a day of these scripts: the journal of all that the desks asked, in the order in which it was answered, a sheet for
 /// each wave that went out, and the refills and the stock as they leave it.
 pub fn day_text<R: Threads + Wait + Sync, G: Gate>(
-    rt: &R,
-    alloc: Global,
-    layout: &Layout,
-    opening: &Opening,
+    resources: &Resources<'_, R, G>,
+    warehouse: &Warehouse,
     terms: &Terms,
     scripts: &Scripts,
-    gate: &G,
 ) -> Result<Vec<u8>, Memory>
-    requires read { IsReadOpening opening.now }
-    requires lies { LiesIn layout.now opening.now.stock }
-    requires terms { AreTerms terms.now }
-    ensures { IfOk result (λ text. IsDayOf layout.now opening.now terms.now scripts.now text.items) }
+    ensures { IfOk result (λ text. IsDayOf warehouse.now.layout warehouse.now.opening terms.now scripts.now text.items) }
 {
-    let day = run_day(rt, alloc, layout, opening, terms, scripts, gate)?;
-    text_of(alloc, opening.stock(), terms, &day)
+    let day = run_day(resources, warehouse, terms, scripts)?;
+    text_of(resources.alloc, warehouse.opening.stock(), terms, &day)
 }

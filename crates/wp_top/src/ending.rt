@@ -8,6 +8,7 @@ ghost use Rattle.wp_top.specs.Stops.{Finishes, IsEndOf, IsEnding, StopsFor, stat
 use crate::audit::audit_output;
 use crate::check::check_output;
 use crate::complaint::{Complaint, Stop};
+use crate::day::Resources;
 use crate::make::make_output;
 use crate::plan::plan_output;
 use crate::status::Status;
@@ -54,11 +55,9 @@ fn ending_with(output: Result<Vec<u8>, Stop>) -> Result<Ending, Memory>
 
 // The output of the job that words ask for.
 fn job_output<R: Threads + Wait + Sync, F: Files, G: Gate>(
-    rt: &R,
-    alloc: Global,
+    resources: &Resources<'_, R, G>,
     words: &Vec<String>,
     files: &mut F,
-    gate: &G,
 ) -> Result<Vec<u8>, Stop>
     ensures output { IfOk result (λ text. IsOutput (asked_by words.now.items) (F.told files.old) (F.told files.new) text.items) }
     ensures stops { IfErr result (StopsFor (of_run (asked_by words.now.items) (F.told files.old) (F.told files.new))) }
@@ -66,29 +65,27 @@ fn job_output<R: Threads + Wait + Sync, F: Files, G: Gate>(
     ensures counts { NoneFalls (F.told files.old).faults (F.told files.new).faults }
     ensures reads { ReadsWithin (F.told files.old) (F.told files.new) (most_reads (asked_by words.now.items)) }
 {
-    let job = read_words(alloc, words)?;
+    let job = read_words(resources.alloc, words)?;
     match &job {
-        Job::Plan(words) => plan_output(rt, alloc, files, words, gate),
-        Job::Check(words) => check_output(alloc, files, words),
-        Job::Audit(words) => audit_output(alloc, files, words),
-        Job::Make(words) => make_output(rt, alloc, words, gate),
+        Job::Plan(words) => plan_output(resources, files, words),
+        Job::Check(words) => check_output(resources.alloc, files, words),
+        Job::Audit(words) => audit_output(resources.alloc, files, words),
+        Job::Make(words) => make_output(resources, words),
     }
 }
 
 /// How a run of these words ends.
 pub fn ending_of<R: Threads + Wait + Sync, F: Files, G: Gate>(
-    rt: &R,
-    alloc: Global,
+    resources: &Resources<'_, R, G>,
     words: &Vec<String>,
     files: &mut F,
-    gate: &G,
 ) -> Result<Ending, Memory>
     ensures is { IfOk result (IsEnding (asked_by words.now.items) (F.told files.old) (F.told files.new)) }
     ensures same { SameBytes (F.told files.old).holds (F.told files.new).holds }
     ensures counts { NoneFalls (F.told files.old).faults (F.told files.new).faults }
     ensures reads { ReadsWithin (F.told files.old) (F.told files.new) (most_reads (asked_by words.now.items)) }
 {
-    ending_with(job_output(rt, alloc, words, files, gate))
+    ending_with(job_output(resources, words, files))
 }
 
 /// How a check with these words ends.

@@ -26,6 +26,7 @@ ghost use Rattle.wp_top.specs.Ends.{asked_by, audit_job, check_job};
 ghost use Rattle.wp_top.specs.Promise.{Keeps, course};
 
 use crate::ending::{audit_ending, check_ending, ending_of, finish};
+pub use day::Resources;
 pub use laws::plans_print_right_journals;
 use std::alloc::Global;
 use std::sync::Wait;
@@ -48,7 +49,7 @@ pub fn run<R: Threads + Wait + Sync, F: Files, K: Sink, G: Gate>(
 ) -> u8
     ensures { Keeps (asked_by words.now.items) (course (F.told files.old) (K.told out.old) (F.told files.new) (K.told out.new)) result }
 {
-    let ending = ending_of(rt, alloc, words, files, gate);
+    let ending = ending_of(&Resources { rt, alloc, gate }, words, files);
     finish(alloc, ending, out).number()
 }
 

@@ -1,9 +1,7 @@
 //! The mode `make`.
 ghost use Rattle.std.specs.Prelude.{◌≡◌, ◌+◌, ◌∷◌, ◌++◌, [], Some, IfOk, IfErr, codes, map, string_bytes, vec_len};
 ghost use Rattle.wp_make.specs.Texts.{texts_of};
-ghost use Rattle.wp_model.specs.Tables.{IsReadOpening};
 ghost use Rattle.wp_outside.specs.InMemory.{bytes_or_empty};
-ghost use Rattle.wp_planner.specs.Released.{LiesIn};
 ghost use Rattle.wp_top.specs.Ends.{among};
 ghost use Rattle.wp_top.specs.Runs.{IsSummary};
 ghost use Rattle.wp_top.specs.Stops.{HoldMadeDay, IsMadeDay, StopsFor, beside_names, day_files, day_said};
@@ -13,7 +11,7 @@ ghost use Rattle.wp_words.specs.Reading.{make_numbers};
 ghost use Rattle.wp_words.specs.Words.{IsMakeable};
 
 use crate::complaint::Stop;
-use crate::day::run_day;
+use crate::day::{Resources, run_day};
 use crate::reading::{Warehouse, read_warehouse, scripts_from};
 use crate::summary::summary_text;
 use std::alloc::Global;
@@ -40,13 +38,10 @@ pub fn size_of(words: &MakeWords) -> Size
 
 // What the words say of how waves are planned.
 fn terms_of(words: &MakeWords) -> Terms
+    requires { IsMakeable (make_numbers words.now) }
     ensures { result ≡ made_terms (make_numbers words.now) }
 {
-    Terms {
-        capacity: words.capacity,
-        budget: words.budget,
-        workers: words.workers,
-    }
+    Terms::of(words.capacity, words.budget, words.workers)
 }
 
 fn add_name(alloc: Global, names: &mut Vec<String>, name: &str) -> Result<(), Memory>
@@ -104,62 +99,47 @@ fn files_of_day(alloc: Global, words: &MakeWords) -> Result<NeverFails, Memory>
 
 // The summary of the day of these scripts in a warehouse.
 fn summary_of_day<R: Threads + Wait + Sync, G: Gate>(
-    rt: &R,
-    alloc: Global,
+    resources: &Resources<'_, R, G>,
     words: &MakeWords,
     warehouse: &Warehouse,
     scripts: &Scripts,
-    gate: &G,
 ) -> Result<Vec<u8>, Memory>
     requires words { IsMakeable (make_numbers words.now) }
-    requires read { IsReadOpening warehouse.now.opening }
-    requires lies { LiesIn warehouse.now.layout warehouse.now.opening.stock }
     requires made { IsMadeDay (make_numbers words.now) (day_said warehouse.now.layout warehouse.now.opening scripts.now) }
     ensures { IfOk result (λ text. IsSummary (make_numbers words.now) text.items) }
 {
-    let day = run_day(
-        rt,
-        alloc,
-        &warehouse.layout,
-        &warehouse.opening,
-        &terms_of(words),
-        scripts,
-        gate,
-    )?;
-    summary_text(alloc, words, &day)
+    let day = run_day(resources, warehouse, &terms_of(words), scripts)?;
+    summary_text(resources.alloc, words, &day)
 }
 
 // The summary of the day that files hold.
 fn summary_of_files<R: Threads + Wait + Sync, F: Files, G: Gate>(
-    rt: &R,
-    alloc: Global,
+    resources: &Resources<'_, R, G>,
     files: &mut F,
     words: &MakeWords,
-    gate: &G,
 ) -> Result<Vec<u8>, Stop>
     requires words { IsMakeable (make_numbers words.now) }
     requires held { HoldMadeDay (F.told files.old).holds (make_numbers words.now) }
     ensures summary { IfOk result (λ text. IsSummary (make_numbers words.now) text.items) }
     ensures stops { IfErr result (StopsFor (among (F.told files.old) (F.told files.new) day_files)) }
 {
+    let alloc = resources.alloc;
     let warehouse = read_warehouse(alloc, files, "layout", "stock", "orders")?;
     let scripts = scripts_from(alloc, files, "desks")?;
-    let text = summary_of_day(rt, alloc, words, &warehouse, &scripts, gate)?;
+    let text = summary_of_day(resources, words, &warehouse, &scripts)?;
     Ok(text)
 }
 
 /// The output of a make: the summary of the day that is made and planned. What is read of it lies in memory, so no file of the
 /// run is read, and it stops for want of memory alone.
 pub fn make_output<R: Threads + Wait + Sync, G: Gate>(
-    rt: &R,
-    alloc: Global,
+    resources: &Resources<'_, R, G>,
     words: &MakeWords,
-    gate: &G,
 ) -> Result<Vec<u8>, Stop>
     requires { IsMakeable (make_numbers words.now) }
     ensures summary { IfOk result (λ text. IsSummary (make_numbers words.now) text.items) }
     ensures stops { IfErr result (λ why. why ≡ stop.Memory) }
 {
-    let mut files = files_of_day(alloc, words)?;
-    summary_of_files(rt, alloc, &mut files, words, gate)
+    let mut files = files_of_day(resources.alloc, words)?;
+    summary_of_files(resources, &mut files, words)
 }

@@ -1,4 +1,5 @@
 ghost use Rattle.std.specs.Prelude.{◌≡◌, ◌+◌, Err, IfOk, IfErr, OnOk, if◌then◌else◌};
+ghost use Rattle.std.proofs.Props.{props};
 ghost use Rattle.wp_model.specs.Tables.{AreReadOrders, AreReadScripts, IsReadOpening, IsReadStock};
 ghost use Rattle.wp_planner.specs.Released.{LiesIn};
 ghost use Rattle.wp_outside.specs.Outside.{NoneFalls, SameBytes};
@@ -150,6 +151,8 @@ pub fn scripts_from<F: Files>(alloc: Global, files: &mut F, name: &str) -> Resul
 pub struct Warehouse {
     pub layout: Layout,
     pub opening: Opening,
+    pub ghost read: { IsReadOpening opening } by { Prim.hlevel props },
+    pub ghost lies: { LiesIn layout opening.stock },
 }
 
 /// Reads the layout, the stock file and the order file, one after the other. The first that isn't read stops it.
@@ -162,8 +165,6 @@ pub fn read_warehouse<F: Files>(
 ) -> Result<Warehouse, Stop>
     ensures said { IfOk result (λ warehouse. HaveSaid (IsHeld (F.told files.old).holds) (opening_files layout_name.now stock_name.now orders_name.now)
         (opening_said warehouse.layout warehouse.opening)) }
-    ensures read { IfOk result (λ warehouse. IsReadOpening warehouse.opening) }
-    ensures lies { IfOk result (λ warehouse. LiesIn warehouse.layout warehouse.opening.stock) }
     ensures stops { IfErr result (StopsFor (among (F.told files.old) (F.told files.new) (opening_files layout_name.now stock_name.now orders_name.now))) }
     ensures same { SameBytes (F.told files.old).holds (F.told files.new).holds }
     ensures counts { NoneFalls (F.told files.old).faults (F.told files.new).faults }

@@ -87,7 +87,8 @@ fn sum_of_choice(layout: &Layout, picks: &Picks) -> Option<u64>
         if aisle > 1 {
             let cross = choice.cross(aisle - 1);
             class = after_cross(class, cross)?;
-            sum = sum.checked_add(copies(cross).checked_mul(u64::from(layout.spacing()))?)?;
+            let spacing = u64::from(layout.spacing_after(aisle - 1));
+            sum = sum.checked_add(copies(cross).checked_mul(spacing)?)?;
         }
         let way = choice.way(aisle);
         class = after_way(class, way)?;

@@ -169,7 +169,7 @@ fn past_aisle(layout: &Layout, picks: &Picks, aisle: u32) -> Summary
 {
     let through = Summary::of_aisle(&aisle_ways(layout, picks, aisle));
     if aisle < layout.aisles() {
-        through.compose(&Summary::of_crossing(layout.spacing()))
+        through.compose(&Summary::of_crossing(layout.spacing_after(aisle)))
     } else {
         through
     }

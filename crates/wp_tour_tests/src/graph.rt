@@ -1,6 +1,7 @@
 ghost use Rattle.std.specs.Prelude.{◌≡◌};
 
 use std::alloc::AllocError;
+use std::test::Fail;
 use wp_graph::{Layout, Picks, Point, aisle_ways, is_move, walk_length};
 use wp_samples::{At, Numbers, layout_of, picked};
 
@@ -18,13 +19,13 @@ fn middle() -> Layout {
     Layout::new(3, 4, 2, 1, 5, 2).unwrap()
 }
 
-fn great() -> Layout {
-    Layout::new(64, 200, 1, 1, 1, 1).unwrap()
+fn great() -> Option<Layout> {
+    Layout::new(64, 200, 1, 1, 1, 1)
 }
 
 /// The great layout with its depot at an aisle between others.
-fn wide() -> Layout {
-    Layout::new(64, 200, 1, 1, 1, 30).unwrap()
+fn wide() -> Option<Layout> {
+    Layout::new(64, 200, 1, 1, 1, 30)
 }
 
 const LAYOUTS: &[Numbers] = &[
@@ -173,8 +174,10 @@ fn misfound_slot(layout: &Layout) -> Option<At> {
 
 /// Slots are added, joined and looked up.
 #[test]
-fn picks_are_sets(rt: HostRuntime) {
-    assert_eq!(rt; misfound_slot(&great()), None);
+fn picks_are_sets(rt: HostRuntime) -> Result<(), Fail> {
+    let layout = great().ok_or("no layout")?;
+    assert_eq!(rt; misfound_slot(&layout), None);
+    Ok(())
 }
 
 /// A set with the slots of two.
@@ -220,11 +223,12 @@ fn first_slot(picks: &Picks, slots: &[At], had: bool) -> Option<At> {
 }
 
 #[test]
-fn joined_sets_have_the_slots_of_both(rt: HostRuntime) {
-    let picks = joined(&wide(), LEFT, RIGHT);
+fn joined_sets_have_the_slots_of_both(rt: HostRuntime) -> Result<(), Fail> {
+    let picks = joined(&wide().ok_or("no layout")?, LEFT, RIGHT);
     assert_eq!(rt; first_slot(&picks, LEFT, false), None);
     assert_eq!(rt; first_slot(&picks, RIGHT, false), None);
     assert_eq!(rt; first_slot(&picks, BESIDE, true), None);
+    Ok(())
 }
 
 /// Picks of two sets, an aisle, and the last aisle before it that is needed for both.
@@ -262,8 +266,10 @@ fn misfound_aisle(layout: &Layout) -> Option<usize> {
 }
 
 #[test]
-fn needed_aisles_are_found(rt: HostRuntime) {
-    assert_eq!(rt; misfound_aisle(&wide()), None);
+fn needed_aisles_are_found(rt: HostRuntime) -> Result<(), Fail> {
+    let layout = wide().ok_or("no layout")?;
+    assert_eq!(rt; misfound_aisle(&layout), None);
+    Ok(())
 }
 
 /// The six ways of an aisle, in the order of their fields.

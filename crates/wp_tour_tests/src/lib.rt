@@ -6,6 +6,8 @@
 #[cfg(test)]
 mod classes;
 #[cfg(test)]
+mod ends;
+#[cfg(test)]
 mod fast;
 #[cfg(test)]
 mod graph;

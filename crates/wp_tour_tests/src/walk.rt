@@ -38,10 +38,7 @@ fn passes_all(walk: &[Point], slots: &[At]) -> bool {
 
 /// Whether a walk goes by moves, has the length, begins and ends at the depot and passes every pick.
 fn is_tour(layout: &Layout, walk: &Vec<Point>, slots: &[At], length: u64) -> bool {
-    let home = Point {
-        aisle: layout.depot(),
-        slot: 0,
-    };
+    let home = layout.depot_point();
     length_of(layout, walk) == Some(length)
         && walk.first() == Some(&home)
         && walk.last() == Some(&home)

@@ -9,7 +9,7 @@ use Rattle.std.proofs.lemmas.Option.{none-some}
 use Rattle.wp_model.specs.declared.point.Point.{Point}
 use Rattle.wp_model.specs.Warehouse.{Layout, depot_point}
 use Rattle.wp_graph.specs.AisleLengths.{ways_of}
-use Rattle.wp_graph.specs.Required.{distance, has_point, is_at, is_required, largest_gap, required_distances, required_places}
+use Rattle.wp_graph.specs.Required.{distance, has_point, is_at, is_required, largest_gap, required_places, site_places}
 use Rattle.wp_graph.proofs.PointTests.{among_has, has_among, same_tests}
 use Rattle.wp_graph.proofs.Members.{Contains-from_among, among_from_Contains}
 use Rattle.wp_graph.proofs.Places.{range_parts}
@@ -22,20 +22,21 @@ use Rattle.wp_walk.specs.declared.turns.Reached.{Reached}
 use Rattle.wp_walk.specs.ReachedPlaces.{IsReached, Sums, first_required, reach_place}
 
 -- the depot's place is required
-pub depot_required : (layout : Layout) (picks : List Point) (aisle place : ℕ) → layout.depot ≡ aisle → place ≡ 0 → is_required layout picks aisle place ≡ true
-unfolding is_required has_point
-depot_required layout picks aisle place here front = or_left (is_at aisle place (depot_point layout)) _
-    (and_from _ _ (eq-eqb _ _ here) (eq-eqb _ _ (sym front)))
+pub depot_required : (layout : Layout) (picks : List Point) (aisle place : ℕ) → layout.depot ≡ aisle → (depot_point layout).slot ≡ place
+    → is_required layout picks aisle place ≡ true
+unfolding has_point
+depot_required layout picks aisle place here end = or_left (is_at aisle place (depot_point layout)) _
+    (and_from _ _ (eq-eqb _ _ here) (eq-eqb _ _ end))
 
 -- another place is required where it is picked
 pub pick_required : (layout : Layout) (picks : List Point) (aisle place : ℕ) (had : Bool)
-    → (had ≡ true ↔ Contains picks (record { aisle = aisle; slot = place })) → (layout.depot ≡ aisle → place ≡ 0 → ⊥)
+    → (had ≡ true ↔ Contains picks (record { aisle = aisle; slot = place })) → (layout.depot ≡ aisle → (depot_point layout).slot ≡ place → ⊥)
     → had ≡ is_required layout picks aisle place
-unfolding is_required has_point
+unfolding has_point
 pick_required layout picks aisle place had tells elsewhere =
     let off : is_at aisle place (depot_point layout) ≡ false =
-    false_from_ne_true _ (λ on. let parts = and_parts (layout.depot == aisle) (0 == place) on in
-    elsewhere (eqb-true _ _ parts.0) (sym (eqb-true _ _ parts.1))) in
+    false_from_ne_true _ (λ on. let parts = and_parts (layout.depot == aisle) ((depot_point layout).slot == place) on in
+    elsewhere (eqb-true _ _ parts.0) (eqb-true _ _ parts.1)) in
     rw off (same_tests had (has_point picks aisle place)
     (λ h. among_has picks (record { aisle = aisle; slot = place }) (among_from_Contains picks _ (tells.0 h)))
     (λ h. tells.1 (Contains-from_among picks _ (has_among picks aisle place h))))
@@ -139,7 +140,7 @@ looked_no layout picks aisle n reached off is =
 -- a pass over all places of an aisle comes to what its required places come to
 pub looked_all : (layout : Layout) (picks : List Point) (aisle n : ℕ) (reached : Option Reached) → n ≡ layout.slots + 2
     → IsReached layout (first_required layout picks aisle n) reached → IsReached layout (required_places layout picks aisle) reached
-unfolding required_places
+unfolding site_places
 looked_all layout picks aisle n reached all is = subst (λ k. IsReached layout (first_required layout picks aisle k) reached) all is
 
 last_at : (before : List ℕ) (x : ℕ) → slice_get (before ++ x ∷ []) (length (before ++ x ∷ []) - 1) ≡ Some x
@@ -179,7 +180,6 @@ turns_ends layout picks aisle Skip reached is other = tt
 -- the gap way turns at the two places around a largest gap
 pub turns_gap : (layout : Layout) (picks : List Point) (aisle : ℕ) (reached : Reached) (w : ℕ) → Sums layout reached (required_places layout picks aisle)
     → way_length (ways_of layout picks aisle) Gap ≡ Some w → AreTurns layout picks aisle Gap reached.near reached.far
-unfolding required_distances
 turns_gap layout picks aisle reached w is applies =
     let turns = some_turns layout picks aisle Gap w applies in
     let pair = turns.2.0 in

@@ -161,7 +161,8 @@ underway_next layout picks route left walked after cross way total allowed low h
         let crosses : TakesCross (spacing_after layout left) cross walked.class on.between on.across =
         record {
           allowed = ap (λ (x : Cross). class_after_cross walked.class x) (cross_is ∙ ap route.cross is) ∙ on.crosses.allowed;
-          length_is = on.crosses.length_is ∙ ap (λ (x : Cross). copies x * layout.spacing) (sym (cross_is ∙ ap route.cross is));
+          length_is = on.crosses.length_is ∙ ap (λ (x : Cross). copies x * spacing_after layout (suc more)) (sym (cross_is ∙ ap route.cross is))
+              ∙ ap (λ (a : ℕ). copies cross * spacing_after layout a) (sym is);
         } in
         let takes : TakesWay (ways_of layout picks (suc left)) way on.between on.next on.through = record {
           allowed = ap (λ (w : Way). class_after_way on.between w) (way_is ∙ ap route.way next) ∙ on.takes.allowed;

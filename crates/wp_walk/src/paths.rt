@@ -37,7 +37,7 @@ impl Paths {
         ensures { result ≡ record { start = depot_point layout.now; first = []; second = [] } }
     {
         Paths {
-            start: at(layout.depot(), 0),
+            start: layout.depot_point(),
             first: Path::none(alloc),
             second: Path::none(alloc),
         }

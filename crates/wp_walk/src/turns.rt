@@ -50,7 +50,8 @@ fn is_required(layout: &Layout, picks: &Picks, aisle: u32, place: u32) -> bool
 {
     let point = Point { aisle, slot: place };
     let picked = picks.has(point);
-    if layout.depot() == aisle && place == 0 {
+    let depot = layout.depot_point();
+    if depot.aisle == aisle && depot.slot == place {
         return true;
     }
     picked

@@ -110,10 +110,7 @@ pub fn walk_of(
     }
     let Walked { paths, class } = walked;
     let round = paths.closed(layout, class)?;
-    let depot = Point {
-        aisle: layout.depot(),
-        slot: 0,
-    };
+    let depot = layout.depot_point();
     let moves = round.path.moves_to(round.start, depot);
     round.path.turned(depot, moves)
 }

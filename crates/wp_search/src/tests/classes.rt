@@ -1,6 +1,6 @@
 //! Where all pairs of orders are decided, the classes are the batches. A search comes there only where a node's linear program has no
 //! answer.
-ghost use Rattle.std.specs.Prelude.{◌≡◌, ◌≤◌, ◌<◌, ℕ, List, All, IfSome, IsTrue, length};
+ghost use Rattle.std.specs.Prelude.{◌≡◌, ◌<◌, ℕ, List, All, IfSome, IsTrue, length};
 ghost use Rattle.wp_model.specs.Warehouse.{IsSlot};
 ghost use Rattle.wp_pairs.specs.Permitted.{AllDecided};
 ghost use Rattle.wp_batch.specs.Batchings.{IsBatching};
@@ -8,11 +8,10 @@ ghost use Rattle.wp_batch.specs.Duals.{AreTight, IsTightFor};
 
 use crate::cost::cost_of;
 use std::alloc::Global;
-use wp_batch::{Batching, Marks, Wave, sum_of};
-use wp_cert::{Duals, Own};
+use wp_batch::{Batching, DualWave, OrderDuals, SIXTIETHS, Wave};
 use wp_graph::{Layout, Picks, Point};
 use wp_node::class_batching;
-use wp_pairs::{Batch, Pairs};
+use wp_pairs::{Batch, Capacity, Pairs};
 
 /// One order.
 const ONE: &[(u32, u32)] = &[(2, 2)];
@@ -142,14 +141,12 @@ fn are_exactly(batching: &Batching, batches: &[&[u32]]) -> bool {
 }
 
 /// The pairs of a wave's orders, each undecided one in turn put together or apart, if all are decided then.
-fn decided_pairs(wave: &Wave, capacity: u32, together: &[bool]) -> Option<Pairs>
-    requires some_capacity { 1 ≤ capacity }
-    requires most_capacity { capacity ≤ 8 }
+fn decided_pairs(wave: &Wave, capacity: Capacity, together: &[bool]) -> Option<Pairs>
     ensures orders { IfSome result (λ pairs. pairs.orders ≡ length wave.now.orders) }
-    ensures capacity { IfSome result (λ pairs. pairs.capacity ≡ capacity) }
+    ensures capacity { IfSome result (λ pairs. pairs.capacity ≡ capacity.most) }
     ensures decided { IfSome result AllDecided }
 {
-    let mut pairs = Pairs::new(wave.orders(), capacity);
+    let mut pairs = Pairs::new(wave.orders(), capacity.most);
     for choice in together {
         if let Some((first, second)) = pairs.undecided() {
             pairs.add(first, second, *choice);
@@ -162,73 +159,58 @@ fn decided_pairs(wave: &Wave, capacity: u32, together: &[bool]) -> Option<Pairs>
 }
 
 /// Whether the class of an order is tight for it.
-fn is_class_tight(wave: &Wave, pairs: &Pairs, duals: &[u64], order: u32) -> bool
-    requires orders { pairs.now.orders ≡ length wave.now.orders }
-    requires count { length duals.now ≡ pairs.now.orders }
-    ensures { IsTrue result → (batch : List ℕ) × IsTightFor wave.now pairs.now duals.now order batch }
+fn is_class_tight(given: &DualWave<'_>, order: u32) -> bool
+    ensures { IsTrue result → (batch : List ℕ) × IsTightFor given.now.wave.now given.now.pairs.now given.now.duals.now order batch }
 {
-    if pairs.orders() <= order {
+    if given.pairs.orders() <= order {
         return false;
     }
-    let class = pairs.joined_to(order);
-    if !pairs.permits(class) || !class.has(order) {
+    let class = given.pairs.joined_to(order);
+    if !given.pairs.permits(class) || !class.has(order) {
         return false;
     }
-    sum_of(duals, class) == 60 * u128::from(wave.batch_length(class))
+    given.duals.sum_of(class) == SIXTIETHS * given.wave.batch_length(class)
 }
 
 /// Whether the classes are tight for all orders.
-fn are_classes_tight(wave: &Wave, pairs: &Pairs, duals: &[u64]) -> bool
-    requires orders { pairs.now.orders ≡ length wave.now.orders }
-    requires count { length duals.now ≡ pairs.now.orders }
-    ensures { IsTrue result → AreTight wave.now pairs.now duals.now }
+fn are_classes_tight(given: &DualWave<'_>) -> bool
+    ensures { IsTrue result → AreTight given.now.wave.now given.now.pairs.now given.now.duals.now }
 {
-    for order in 0..pairs.orders() {
-        if !is_class_tight(wave, pairs, duals, order) {
+    for order in 0..given.pairs.orders() {
+        if !is_class_tight(given, order) {
             return false;
         }
     }
     true
 }
 
-/// What a node with tight duals has of its own, of which no marks and batches are asked.
-fn own_of(alloc: Global, wave: &Wave, pairs: &Pairs, duals: &[u64]) -> Option<Own>
-    requires orders { pairs.now.orders ≡ length wave.now.orders }
-    ensures count { IfSome result (λ own. length own.duals ≡ pairs.now.orders) }
-    ensures tight { IfSome result (λ own. AreTight wave.now pairs.now own.duals) }
-{
-    let copied = Vec::from_slice(alloc, duals).ok()?;
-    if copied.len() != pairs.orders() as usize {
-        return None;
-    }
-    if !are_classes_tight(wave, pairs, copied.as_slice()) {
-        return None;
-    }
-    Some(Own {
-        duals: Duals::of(copied),
-        marks: Marks::new(alloc),
-        tight: Batching::of(Vec::new(alloc)),
-    })
-}
-
 /// The classes of a case, as a batching of its wave.
-fn classes_of(alloc: Global, wave: &Wave, case: &Classes) -> Option<Batching>
-    requires some_capacity { 1 ≤ case.now.capacity }
-    requires most_capacity { case.now.capacity ≤ 8 }
-    ensures { IfSome result (IsBatching (length wave.now.orders) case.now.capacity) }
+fn classes_of(alloc: Global, wave: &Wave, capacity: Capacity, case: &Classes) -> Option<Batching>
+    ensures { IfSome result (IsBatching (length wave.now.orders) capacity.most) }
 {
-    let pairs = decided_pairs(wave, case.capacity, case.together)?;
-    let own = own_of(alloc, wave, &pairs, case.duals)?;
-    class_batching(alloc, wave, &pairs, &own).ok()
+    let pairs = decided_pairs(wave, capacity, case.together)?;
+    let duals = OrderDuals::limited(alloc, wave.orders(), case.duals).ok()?;
+    let given = DualWave {
+        wave,
+        pairs: &pairs,
+        duals: &duals,
+    };
+    if !are_classes_tight(&given) {
+        return None;
+    }
+    class_batching(alloc, &given).ok()
 }
 
 fn classes_are_as(alloc: Global, case: &Classes) -> Option<bool> {
     if case.capacity < 1 || 8 < case.capacity {
         return None;
     }
+    let capacity = Capacity {
+        most: case.capacity,
+    };
     let wave = wave_of(alloc, case.slots)?;
-    let classes = classes_of(alloc, &wave, case)?;
-    let cost = cost_of(&wave, case.capacity, &classes);
+    let classes = classes_of(alloc, &wave, capacity, case)?;
+    let cost = cost_of(&wave, capacity.most, &classes);
     Some(cost == case.cost && are_exactly(&classes, case.batches))
 }
 

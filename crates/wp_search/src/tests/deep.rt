@@ -3,9 +3,9 @@
 use crate::branch::{Branch, Cut};
 use crate::listing::list_nodes;
 use std::alloc::Global;
-use wp_batch::{Batching, Marks};
-use wp_cert::{Duals, Node, Own};
-use wp_node::Worked;
+use wp_batch::{Batching, Marks, OrderDuals};
+use wp_cert::Node;
+use wp_node::{NodeOwn, Worked};
 
 /// How many splits stand below each other: one for each pair of 64 orders.
 const SPLITS: u32 = 2016;
@@ -29,8 +29,8 @@ fn kind_of(node: &Node) -> Kind {
 /// What a node has of its own that nobody worked at.
 fn unworked(alloc: Global) -> Worked {
     Worked {
-        own: Own {
-            duals: Duals::of(Vec::new(alloc)),
+        own: NodeOwn {
+            duals: OrderDuals::of(Vec::new(alloc)),
             marks: Marks::new(alloc),
             tight: Batching::of(Vec::new(alloc)),
         },

@@ -1,6 +1,6 @@
 use Rattle.std.proofs.Common.{◌≡◌, ℕ, arith, subst}
-use Rattle.wp_batch.proofs.Costs.{some_cost_no_more}
-use Rattle.wp_batch.proofs.Listings.{AreListedBelow, among, listed_is_batching, none_listed, nothing_listed, one_more_listed}
+use Rattle.wp_batch.proofs.Costs.{listed_costs_no_more}
+use Rattle.wp_batch.proofs.Listings.{AreListedBelow, all_listed, among, listed_is_batching, none_listed, nothing_listed, one_more_listed}
 use Rattle.wp_batch.proofs.listing.listed.Goals as goal
 use Rattle.wp_batch.proofs.listing.listed.Goals.{in-Some+in_ok-push, in_default}
 
@@ -21,5 +21,7 @@ returns-clause-batching c =
     (subst (λ (n : ℕ). AreListedBelow c.args.batches.now c.loop-order.listed.items n) all c.loop-order.invariant)
 
 pub returns-clause-no_dearer : goal.returns-clause-no_dearer
-returns-clause-no_dearer c = λ wave cost is. some_cost_no_more wave _ _ cost (among _ _ _ c.requires.batching _ _ c.loop-order.invariant)
-    c.loop-order.invariant.ascend is
+returns-clause-no_dearer c =
+    let all : c.loop-order.order ≡ c.args.orders = omega arith in
+    let end = subst (λ (n : ℕ). AreListedBelow c.args.batches.now c.loop-order.listed.items n) all c.loop-order.invariant in
+    λ wave. listed_costs_no_more wave _ _ (among _ _ _ c.requires.batching _ _ end) (all_listed _ _ _ c.requires.batching _ end) end.ascend

@@ -1,7 +1,7 @@
 use Rattle.std.proofs.Common.{◌+◌, ◌≤◌, List, ℕ, arith, refl, length, subst}
 use Rattle.wp_batch.specs.declared.merge.Join.{Join}
-use Rattle.wp_batch.specs.Batchings.{NoGain, batch_at}
-use Rattle.wp_batch.specs.Joins.{JoinSaves}
+use Rattle.wp_batch.specs.Batchings.{batch_at}
+use Rattle.wp_batch.specs.Joins.{JoinSaves, SavesAtMost}
 use Rattle.wp_batch.proofs.Gains.{batch_read, known_read, one_more_before}
 use Rattle.wp_batch.proofs.merge.best_with.Goals as goal
 
@@ -21,14 +21,15 @@ loop-left-preserved c =
     one_more_before _ _ _ _ _ c.loop-left.best found _ c.loop-left.invariant refl refl c.loop-left-test.true c.requires.within
     (λ some. subst (λ (xs : List ℕ). length xs + length (batch_at batches c.args.right) ≤ c.args.capacity) l
     (subst (λ (ys : List ℕ). length c.index-batches-left.result + length ys ≤ c.args.capacity) r (c.saving_of-saving.ensures.fits some)))
-    (λ nothing. subst (λ (xs : List ℕ). NoGain c.args.wave.now c.args.capacity xs (batch_at batches c.args.right)) l
-    (subst (λ (ys : List ℕ). NoGain c.args.wave.now c.args.capacity c.index-batches-left.result ys) r (c.saving_of-saving.ensures.none nothing)))
-    (λ some. subst (λ (xs : List ℕ). JoinSaves c.args.wave.now xs (batch_at batches c.args.right)) l
-    (subst (λ (ys : List ℕ). JoinSaves c.args.wave.now c.index-batches-left.result ys) r (c.saving_of-saving.ensures.saves some)))
-    c.better_of-best.ensures.either c.better_of-best.ensures.none
+    (subst (λ (xs : List ℕ). SavesAtMost c.args.wave.now c.args.capacity xs (batch_at batches c.args.right) c.saving_of-saving.result) l
+    (subst (λ (ys : List ℕ). SavesAtMost c.args.wave.now c.args.capacity c.index-batches-left.result ys c.saving_of-saving.result) r
+    c.saving_of-saving.ensures.most))
+    (λ some. subst (λ (xs : List ℕ). JoinSaves c.args.wave.now xs (batch_at batches c.args.right) c.saving_of-saving.result) l
+    (subst (λ (ys : List ℕ). JoinSaves c.args.wave.now c.index-batches-left.result ys c.saving_of-saving.result) r (c.saving_of-saving.ensures.saves some)))
+    c.better_of-best.ensures.either c.better_of-best.ensures.first c.better_of-best.ensures.second
 
 pub returns : goal.returns
 returns c = record {
   can = c.loop-left.invariant.can;
-  none = λ nothing left low. c.loop-left.invariant.none nothing left (omega (arith, c.loop-left-test.false));
+  most = λ left low. c.loop-left.invariant.most left (omega (arith, c.loop-left-test.false));
 }

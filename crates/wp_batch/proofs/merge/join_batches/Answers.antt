@@ -14,6 +14,9 @@ returns-clause-batching c = rw c.remove.ensures.items (join_is_batching _ _ _ _ 
 pub returns-clause-listed : goal.returns-clause-listed
 returns-clause-listed c = rw c.remove.ensures.items (join_is_listed _ _ _ _ _ _ (joins c))
 
+pub returns-clause-joined : goal.returns-clause-joined
+returns-clause-joined c = record { union = c.union-union.result; of_both = (joins c).of_both; is = c.remove.ensures.items }
+
 pub returns-clause-no_dearer : goal.returns-clause-no_dearer
-returns-clause-no_dearer c = rw c.remove.ensures.items (join_costs_no_more _ _ _ _ _ c.requires.join.order c.requires.join.within c.requires.join.saves
+returns-clause-no_dearer c = rw c.remove.ensures.items (join_costs_no_more _ _ _ _ _ c.requires.join.order c.requires.join.within _ c.requires.join.saves
     (union_length _ _ _ _ _ (joins c).of_both c.requires.join.saves.of_both))

@@ -1,6 +1,7 @@
 use Rattle.std.proofs.Common.{◌≤◌, vec_len}
 use Rattle.wp_batch.specs.Batchings.{IsBatching, IsListedByLeast}
 use Rattle.wp_batch.specs.Joins.{CostNoMore}
+use Rattle.wp_batch.specs.Savings.{AreMerged}
 use Rattle.wp_batch.proofs.merge.merge.Given as goal
 
 abbrev pub invariant-loop-join : goal.invariant-loop-join
@@ -8,6 +9,7 @@ invariant-loop-join l = record {
   batching : IsBatching l.orders l.capacity l.batches.items;
   listed : IsListedByLeast l.batches.items;
   fewer : vec_len l.batches ≤ vec_len l.initial.batches;
+  merged : AreMerged l.wave l.capacity l.initial.batches.items l.batches.items;
   no_dearer : CostNoMore l.wave l.initial.batches.items l.batches.items;
 }
 

@@ -1,6 +1,6 @@
 use Rattle.std.proofs.Common.{◌<◌, ℕ, length, ⊎_elim}
 use Rattle.std.proofs.lemmas.List.Elements.{All-contains}
-use Rattle.wp_batch.proofs.Gains.{both_length, no_gain_from}
+use Rattle.wp_batch.proofs.Gains.{both_length, saves_at_most}
 use Rattle.wp_batch.proofs.Unions.{all_from_contained}
 use Rattle.wp_batch.proofs.merge.saving_of.Goals as goal
 
@@ -9,9 +9,9 @@ batch_length-requires c = all_from_contained (λ (order : ℕ). order < length c
     (λ order has. ⊎_elim (λ l. All-contains (λ (o : ℕ). o < length c.args.wave.now.orders) c.args.left order c.requires.left l)
     (λ r. All-contains (λ (o : ℕ). o < length c.args.wave.now.orders) c.args.right order c.requires.right r) ((c.union.ensures.orders order).0 has))
 
-pub returns-clause-none : goal.returns-clause-none
-returns-clause-none c = λ zero. no_gain_from _ _ _ _ c.union.result _ _ _ c.union.ensures.orders c.batch_length-one.ensures.is c.batch_length-other.ensures.is
-    c.batch_length.ensures.is (c.saved.ensures.none zero)
+pub returns-clause-most : goal.returns-clause-most
+returns-clause-most c = saves_at_most _ _ _ _ c.union.result _ _ _ c.union.ensures.orders c.batch_length-one.ensures.is c.batch_length-other.ensures.is
+    c.batch_length.ensures.is _ c.saved.ensures.most
 
 pub returns-clause-saves : goal.returns-clause-saves
 returns-clause-saves c = λ some. record {
@@ -21,5 +21,5 @@ returns-clause-saves c = λ some. record {
   of_left = c.batch_length-one.ensures.is;
   of_right = c.batch_length-other.ensures.is;
   of_both = both_length _ _ _ c.union.result _ c.union.ensures.orders c.batch_length.ensures.is;
-  less = c.saved.ensures.some some;
+  sum = c.saved.ensures.some some;
 }

@@ -11,5 +11,11 @@ returns-clause-batching c =
     let all : c.loop-order.order ≡ c.args.orders = omega arith in
     singles_are_batching _ _ _ (subst (λ (n : ℕ). AreSingles c.loop-order.batches.items n) all c.loop-order.invariant) c.requires.capacity
 
+pub returns-clause-alone : goal.returns-clause-alone
+returns-clause-alone c =
+    let all : c.loop-order.order ≡ c.args.orders = omega arith in
+    let end = subst (λ (n : ℕ). AreSingles c.loop-order.batches.items n) all c.loop-order.invariant in
+    record { count = end.whole; own = end.own }
+
 pub returns-clause-listed : goal.returns-clause-listed
 returns-clause-listed c = singles_are_listed _ _ c.loop-order.invariant

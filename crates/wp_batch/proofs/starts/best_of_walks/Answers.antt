@@ -1,5 +1,5 @@
 use Rattle.std.proofs.Common.{inr}
-use Rattle.wp_batch.proofs.Costs.{cheaper_taken}
+use Rattle.wp_batch.proofs.Costs.{cheaper_taken, kept_costs_no_more}
 use Rattle.wp_batch.proofs.starts.best_of_walks.Goals as goal
 use Rattle.wp_batch.proofs.starts.best_of_walks.Goals.{then-total-least, else-total-least}
 
@@ -18,3 +18,9 @@ loop-preserved c =
         kept = rw w.best-is c.loop.invariant.kept;
       }
     ]
+
+pub returns-clause-no_dearer : goal.returns-clause-no_dearer
+returns-clause-no_dearer c =
+    let first = rw c.as_slice.ensures.value at c.cost_of-least.ensures in
+    let told = rw c.in_ok-best.ensures.items at first in
+    kept_costs_no_more c.args.instance.now.wave.now c.args.batches.now c.loop.best.items _ told c.loop.invariant.kept

@@ -19,21 +19,21 @@ choosing c =
     record {
       are = subst (λ (a : ℕ). AreOnward block left a c.args.after.now) next c.requires.after;
       ways_are = c.aisle_ways-ways.ensures.value ∙ ap block.ways next;
-      spacing_is = c.from-spacing.ensures ∙ c.spacing.ensures.value;
+      spacing_is = c.from-spacing.ensures ∙ c.spacing_after.ensures.value;
       by_ways = c.before_way-through.ensures;
       goes_on = (c.requires.goes_on.0, subst (λ (n : ℕ). Onward block n (c.args.aisle - 1) c.args.class c.requires.goes_on.0) more c.requires.goes_on.1);
     }
 
 pub before_way-through-requires-clause-ways : goal.before_way-through-requires-clause-ways
-before_way-through-requires-clause-ways c = λ way. ways_within _ _ _ _ c.spacing.ensures.valid c.aisle_ways-ways.ensures.value way
+before_way-through-requires-clause-ways c = λ way. ways_within _ _ _ _ c.spacing_after.ensures.valid c.aisle_ways-ways.ensures.value way
 
 pub before_way-through-requires-clause-after : goal.before_way-through-requires-clause-after
 before_way-through-requires-clause-after c = λ class.
-    lengths_within _ _ _ _ _ c.spacing.ensures.valid (omega (arith, c.spacing.ensures.valid.aisles)) c.requires.after class
+    lengths_within _ _ _ _ _ c.spacing_after.ensures.valid (omega (arith, c.spacing_after.ensures.valid.aisles)) c.requires.after class
 
 pub best_cross-cross-requires-clause-after : goal.best_cross-cross-requires-clause-after
 best_cross-cross-requires-clause-after c = λ class.
-    through_within _ _ _ _ _ _ _ c.spacing.ensures.valid (omega (arith, c.spacing.ensures.valid.aisles)) c.requires.after c.aisle_ways-ways.ensures.value
+    through_within _ _ _ _ _ _ _ c.spacing_after.ensures.valid (omega (arith, c.spacing_after.ensures.valid.aisles)) c.requires.after c.aisle_ways-ways.ensures.value
     c.before_way-through.ensures class
 
 pub unwrap-between-requires : goal.unwrap-between-requires
@@ -42,11 +42,11 @@ unwrap-between-requires c =
     c.best_cross-cross.ensures))
 
 pub best_way-way-requires-clause-ways : goal.best_way-way-requires-clause-ways
-best_way-way-requires-clause-ways c = λ way. ways_within _ _ _ _ c.spacing.ensures.valid c.aisle_ways-ways.ensures.value way
+best_way-way-requires-clause-ways c = λ way. ways_within _ _ _ _ c.spacing_after.ensures.valid c.aisle_ways-ways.ensures.value way
 
 pub best_way-way-requires-clause-after : goal.best_way-way-requires-clause-after
 best_way-way-requires-clause-after c = λ class.
-    lengths_within _ _ _ _ _ c.spacing.ensures.valid (omega (arith, c.spacing.ensures.valid.aisles)) c.requires.after class
+    lengths_within _ _ _ _ _ c.spacing_after.ensures.valid (omega (arith, c.spacing_after.ensures.valid.aisles)) c.requires.after class
 
 pub unwrap-requires : goal.unwrap-requires
 unwrap-requires c =

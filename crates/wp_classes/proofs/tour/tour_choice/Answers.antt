@@ -75,7 +75,9 @@ loop-left-preserved c =
 pub returns : goal.returns
 returns c =
     let valid = c.onward_table-table.ensures.valid in
-    let done = progress_done _ _ c.loop-left.left c.loop-left.ways c.loop-left.crosses c.loop-left.class _ (omega arith) (omega (arith, valid.aisles))
+    let upto = c.loop-left.auto.left-end (omega (arith, valid.aisles, c.aisles-left-end.ensures.value)) in
+    let all : c.loop-left.left ≡ c.args.layout.now.aisles = omega (arith, valid.aisles, c.aisles-left-end.ensures.value, c.loop-left-test.false, upto) in
+    let done = progress_done _ _ c.loop-left.left c.loop-left.ways c.loop-left.crosses c.loop-left.class _ (omega arith) (omega (arith, valid.aisles, all))
     (omega (arith, c.loop-left.invariant.ways_whole, valid.aisles)) (omega (arith, c.loop-left.invariant.crosses_whole, valid.aisles))
     (rw c.aisles.ensures.value at c.of.ensures.ways) (rw c.aisles.ensures.value at c.of.ensures.crosses) c.loop-left.invariant.progress in
     (done.0, done.1, shortest _ _ _ c.aisle_ways.ensures.slots done.2)

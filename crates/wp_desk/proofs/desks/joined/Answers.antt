@@ -12,9 +12,9 @@ returns-clause-work g c =
     let desks : List ℕ = map (λ (pass : Seen). pass.caller) passes ++ pass.caller ∷ [] in
     record {
       own = subst (AreOfDesks turn desks) (sym c.put.ensures.list) (desks_with_one turn passes pass c.requires.others.own c.requires.one.own);
-      done = subst (λ list. IfOk c.both_told.result (HaveDone c.args.day.now.opening.now c.args.scripts.now list)) (sym c.put.ensures.list)
-          (both_done c.args.day.now.opening.now c.args.scripts.now passes pass c.args.others.told c.args.one.told c.both_told.result c.both_told.ensures.both
+      done = subst (λ list. IfOk c.both_told.result (HaveDone c.args.day.now.opening.now c.args.run.now.scripts.now list)) (sym c.put.ensures.list)
+          (both_done c.args.day.now.opening.now c.args.run.now.scripts.now passes pass c.args.others.told c.args.one.told c.both_told.result c.both_told.ensures.both
           c.both_told.ensures.there c.requires.others.done c.requires.one.done);
-      planned = both_planned (g.P.Planner.plans c.args.planner.now) c.args.others.told c.args.one.told c.both_told.result c.both_told.ensures.both
+      planned = both_planned (g.P.Planner.plans c.args.run.now.planner.now) c.args.others.told c.args.one.told c.both_told.result c.both_told.ensures.both
           c.both_told.ensures.there c.requires.others.planned c.requires.one.planned;
     }

@@ -13,18 +13,18 @@ pub loop-aisle-preserved : goal.loop-aisle-preserved
 loop-aisle-preserved c =
     let marks = c.loop-aisle.marks in
     let node = c.node_of.result in
-    let now : List Bool = set marks node c.have_slot.result in
+    let now : List Bool = set marks node c.has_in.result in
     record {
-      whole = length-set marks node c.have_slot.result ∙ c.loop-aisle.invariant.whole;
-      slots = λ more. c.have_slot.ensures.slots;
+      whole = length-set marks node c.has_in.result ∙ c.loop-aisle.invariant.whole;
+      slots = λ more. rw c.requires at c.has_in.ensures.slots;
       unmarked = λ aisle some before unmarked has. ⊎_elim
           (λ (same : aisle ≡ c.loop-aisle.aisle).
-          let here : get_or now (63 + aisle) false ≡ c.have_slot.result =
+          let here : get_or now (63 + aisle) false ≡ c.has_in.result =
           ap (λ (k : ℕ). get_or now k false) (omega (arith, same, c.node_of.ensures))
-          ∙ get_or-set_same marks node c.have_slot.result false (omega (arith, c.loop-aisle.invariant.whole, c.node_of.ensures)) in
-          both_ways c.have_slot.result (sym here ∙ unmarked) (c.have_slot.ensures.exact.1 (has.0, has.1, has.2 ∙ same)))
+          ∙ get_or-set_same marks node c.has_in.result false (omega (arith, c.loop-aisle.invariant.whole, c.node_of.ensures)) in
+          both_ways c.has_in.result (sym here ∙ unmarked) (c.has_in.ensures.exact.1 (has.0, has.1, has.2 ∙ same)))
           (λ differs. c.loop-aisle.invariant.unmarked aisle some (omega (arith, before, differs))
-          (sym (get_or-set_other marks node (63 + aisle) c.have_slot.result false (λ e. differs (omega (arith, e, c.node_of.ensures)))) ∙ unmarked) has)
+          (sym (get_or-set_other marks node (63 + aisle) c.has_in.result false (λ e. differs (omega (arith, e, c.node_of.ensures)))) ∙ unmarked) has)
           (cases_eq aisle c.loop-aisle.aisle);
     }
 

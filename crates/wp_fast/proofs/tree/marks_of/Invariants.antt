@@ -1,6 +1,5 @@
 use Rattle.std.proofs.Common.{◌≡◌, ℕ, ◌+◌, ◌<◌, ◌≤◌, false, length, get_or}
-use Rattle.wp_graph.specs.PickSets.{AreSlots}
-use Rattle.wp_fast.specs.Runs.{HaveSlotIn}
+use Rattle.wp_graph.specs.PickSets.{AreSlots, HaveSlotIn}
 use Rattle.wp_fast.proofs.tree.marks_of.Given as goal
 
 abbrev pub invariant-loop-aisle : goal.invariant-loop-aisle

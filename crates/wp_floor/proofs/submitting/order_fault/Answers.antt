@@ -20,11 +20,15 @@ returns-then-contains c waves are =
     sym (contains_name c.args.order.now c.args.before.now) ∙ (sym c.contains.ensures.value ∙ c.if-contains.true) in
     twice c.args.opening.now waves c.args.before.now c.args.order.now c.in-Some.number found among
 
+pub cart_fault-requires-clause-found : goal.cart_fault-requires-clause-found
+cart_fault-requires-clause-found c =
+    found_in c.args.opening.now c.orders.result.now c.args.order.now c.find.result c.in-Some.number c.orders.ensures c.find.ensures c.in-Some.is
+
 pub bounds-takers-number : goal.bounds-takers-number
 bounds-takers-number c =
     found_within c.args.opening.now c.args.order.now c.in-Some.number _
     (found_in c.args.opening.now c.orders.result.now c.args.order.now c.find.result c.in-Some.number c.orders.ensures c.find.ensures c.in-Some.is)
-    c.requires
+    c.requires.count
 
 pub returns-in-Some-taker : goal.returns-in-Some-taker
 returns-in-Some-taker c waves are =
@@ -32,7 +36,7 @@ returns-in-Some-taker c waves are =
     let among : is_among c.args.before.now c.args.order.now ≡ false =
     sym (contains_name c.args.order.now c.args.before.now) ∙ (sym c.contains.ensures.value ∙ c.if-contains.false) in
     let there = slice_get-get_or c.args.takers.now c.in-Some.number c.index-takers-number.result
-    (found_within c.args.opening.now c.args.order.now c.in-Some.number _ found c.requires)
+    (found_within c.args.opening.now c.args.order.now c.in-Some.number _ found c.requires.count)
     ∙ ap Some (sym c.index-takers-number.is ∙ c.in-Some-taker.is) in
     by_taker c.args.opening.now waves c.args.takers.now c.args.before.now c.args.order.now c.in-Some.number (Some c.in-Some-taker.wave) are found among there
 
@@ -42,5 +46,6 @@ returns-in-None c waves are =
     let among : is_among c.args.before.now c.args.order.now ≡ false =
     sym (contains_name c.args.order.now c.args.before.now) ∙ (sym c.contains.ensures.value ∙ c.if-contains.false) in
     let there = slice_get-get_or c.args.takers.now c.in-Some.number c.index-takers-number.result
-    (found_within c.args.opening.now c.args.order.now c.in-Some.number _ found c.requires) ∙ ap Some (sym c.index-takers-number.is ∙ c.in-None.is) in
-    by_taker c.args.opening.now waves c.args.takers.now c.args.before.now c.args.order.now c.in-Some.number None are found among there
+    (found_within c.args.opening.now c.args.order.now c.in-Some.number _ found c.requires.count) ∙ ap Some (sym c.index-takers-number.is ∙ c.in-None.is) in
+    c.cart_fault.ensures
+    ∙ by_taker c.args.opening.now waves c.args.takers.now c.args.before.now c.args.order.now c.in-Some.number None are found among there

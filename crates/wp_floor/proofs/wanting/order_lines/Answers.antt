@@ -1,12 +1,12 @@
 use Rattle.std.proofs.Common.{◌≡◌, ◌∙◌, ◌≤◌, sym, ap, List, map, length, Some, subst}
 use Rattle.std.specs.List.{All}
-use Rattle.wp_model.proofs.Demand.{lines_are}
+use Rattle.wp_model.proofs.Demand.{few_lines, lines_are}
 use Rattle.wp_model.specs.Opening.{IsLine, Order, lines_of}
 use Rattle.wp_model.specs.Limits.{most_lines}
 use Rattle.wp_model.specs.TableLines.{article_in}
 use Rattle.wp_model.specs.declared.row.Line.{Line}
 use Rattle.wp_tables.specs.Orders.{name_of}
-use Rattle.wp_floor.proofs.OrderLines.{few_lines, lines_found, no_lines}
+use Rattle.wp_floor.proofs.OrderLines.{lines_found, no_lines}
 use Rattle.wp_floor.proofs.OrderFaults.{found_in, found_within}
 use Rattle.wp_floor.proofs.wanting.order_lines.Goals as goal
 

@@ -8,4 +8,4 @@ abbrev pub invariant-loop-name : goal.invariant-loop-name
 invariant-loop-name l =
     (goal.iterator-loop-name).can_next l.name-iterator
     × (goal.iterator-loop-name).is_finite l.name-iterator
-    × (list_all is_key (names_of (members_view l.fn.members.entries)) ≡ list_all (λ name. is_key (string_bytes name)) l.name-iterator)
+    × (list_all (is_key l.fn.keys) (names_of (members_view l.fn.members.entries)) ≡ list_all (λ name. is_key l.fn.keys (string_bytes name)) l.name-iterator)

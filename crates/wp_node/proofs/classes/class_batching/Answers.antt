@@ -6,7 +6,7 @@ use Rattle.wp_node.proofs.classes.class_batching.Goals.{then-eq+in_ok-push, else
 
 pub loop-order-preserved : goal.loop-order-preserved
 loop-order-preserved c =
-    let pairing = c.args.pairs.now in
+    let pairing = c.args.given.now.pairs.now in
     let order = c.loop-order.order in
     let class = c.joined_to-class.result in
     let is : IsClass pairing order class = record { is = c.least.ensures.valid; joined = c.joined_to-class.ensures } in
@@ -24,15 +24,15 @@ of-requires c = omega (arith, c.loop-order.invariant.few, c.loop-order.auto.orde
 
 pub returns : goal.returns
 returns c =
-    let wave = c.args.wave.now in
-    let pairing = c.args.pairs.now in
+    let wave = c.args.given.now.wave.now in
+    let pairing = c.args.given.now.pairs.now in
     let batches = c.loop-order.batches.items in
-    let duals = c.args.own.now.duals in
+    let duals = c.args.given.now.duals.now in
     let all : c.loop-order.order ≡ pairing.orders = omega (arith, c.loop-order-test.false, c.loop-order.auto.order-end, c.orders-order-end.ensures.value) in
     let are = subst (λ (count : ℕ). AreClassesBelow pairing batches count) all c.loop-order.invariant in
     rw c.of.ensures (record {
-      batching = subst (λ (orders : ℕ). IsBatching orders pairing.capacity batches) c.requires.pairs
+      batching = subst (λ (orders : ℕ). IsBatching orders pairing.capacity batches) c.args.given.now.as_many
           (classes_are_batching wave pairing duals c.requires.decided c.requires.tight batches are);
       listed = are.listed;
-      cost = classes_cost wave pairing duals c.requires.decided c.requires.tight batches are c.requires.count;
+      cost = classes_cost wave pairing duals c.requires.decided c.requires.tight batches are (c.args.given.now.count ∙ sym c.args.given.now.as_many);
     })

@@ -4,9 +4,8 @@ use Rattle.wp_node.proofs.raise.raise_all.Goals as goal
 
 pub loop-order-preserved : goal.loop-order-preserved
 loop-order-preserved g c = record {
-  duals = c.raise_order.ensures.duals;
-  feasible = c.raise_order.ensures.feasible;
-  no_lower = no_lower_through _ c.loop-order.duals.items _ c.loop-order.invariant.no_lower c.raise_order.ensures.no_lower;
-  tight = rw c.in_ok-push.ensures.items (one_more_tight _ _ c.loop-order.duals.items _ _ _ _ c.raise_order.ensures.no_lower c.raise_order.ensures.feasible
-      c.loop-order.invariant.tight c.in_ok-raise_order.ensures.tight);
+  start = c.tighten.ensures.start;
+  no_lower = no_lower_through _ c.loop-order.duals _ c.loop-order.invariant.no_lower c.tighten.ensures.no_lower;
+  tight = rw c.in_ok-push.ensures.items (one_more_tight _ _ c.loop-order.duals _ _ _ _ c.tighten.ensures.no_lower c.tighten.ensures.start.above.feasible
+      c.loop-order.invariant.tight c.in_ok-batch.ensures.tight);
 }

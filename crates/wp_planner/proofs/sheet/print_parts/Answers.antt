@@ -5,7 +5,8 @@ use Rattle.wp_planner.proofs.sheet.print_parts.Goals as goal
 
 pub loop-place-preserved : goal.loop-place-preserved
 loop-place-preserved c =
-    let more = one_more_batch c.args.plan.now.planned.batching c.loop-place.place c.at-batch.result.now c.at-batch.ensures in
+    let sent = c.args.sent.now in
+    let more = one_more_batch sent.plan.now.planned.batching c.loop-place.place c.at-batch.result.now c.at-batch.ensures in
     subst (λ (batches : List (List ℕ)).
-    GrowsBy (AreParts c.args.stock.now c.args.released.now c.args.plan.now.wave 1 batches) c.args.text.now.items c.print_part.new.text.items) (sym more.0)
+    GrowsBy (AreParts sent.stock.now sent.released.now sent.plan.now.wave 1 batches) c.args.text.now.items c.print_part.new.text.items) (sym more.0)
     (grown_more _ _ _ _ _ _ _ _ _ more.1 c.loop-place.invariant c.in_ok-print_part.ensures)

@@ -22,7 +22,3 @@ returns-then-not-is_later c = record {
   ];
   reaches = c.reaches_of-reach.ensures.reaches;
 }
-
-pub few_sum-requires-clause-few : goal.few_sum-requires-clause-few
-few_sum-requires-clause-few c =
-    let permitted = c.permits.ensures.0 c.if-not-permits.false in omega (arith, permitted.fits, c.reaches_of-reach.ensures.few)

@@ -5,7 +5,7 @@ use Rattle.wp_price.proofs.item.reaches_of.Given as goal
 
 abbrev pub invariant-loop-room : goal.invariant-loop-room
 invariant-loop-room l = record {
-  below : AreReachesBelow l.pairs l.duals l.from l.room l.reaches;
-  have : HaveMost l.pairs l.duals l.from l.room l.taken;
+  below : AreReachesBelow l.given.pairs.now l.given.duals.now l.from l.room l.reaches;
+  have : HaveMost l.given.pairs.now l.given.duals.now l.from l.room l.taken;
   filled : length l.reaches ≡ 9;
 }

@@ -11,6 +11,6 @@ loop-order-preserved c = record {
     ap (λ (xs : List Item). length xs) c.in_ok-push.ensures.items,
     length-append c.loop-order.items.items (c.item_of.result ∷ []),
   );
-  items = more_items c.args.pairs.now c.args.duals.now c.loop-order.order c.loop-order.items.items c.push.new.self.items c.item_of.result
+  items = more_items c.args.given.now.pairs.now c.args.given.now.duals.now c.loop-order.order c.loop-order.items.items c.push.new.self.items c.item_of.result
       c.loop-order.invariant.count c.loop-order.invariant.items c.item_of.ensures c.in_ok-push.ensures.items;
 }

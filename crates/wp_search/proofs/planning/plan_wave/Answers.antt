@@ -5,17 +5,16 @@ use Rattle.wp_search.proofs.planning.plan_wave.Goals as goal
 
 pub search_on-requires-clause-start : goal.search_on-requires-clause-start
 search_on-requires-clause-start g c κs within =
-    start_search c.args.wave.now c.args.capacity c.args.budget (sum c.as_slice.result.now) c.best_of.result c.best_of.ensures.best
+    start_search c.args.wave.now c.args.capacity c.args.budget (sum c.in_ok-shares.shares) c.best_of.result c.best_of.ensures.best
 
 pub unwrap-bound-requires : goal.unwrap-bound-requires
 unwrap-bound-requires g c =
-    rw (c.bound.ensures, c.bound_of-above.ensures, c.as_slice-2.ensures.value) (search_has_bound c.args.wave.now c.args.capacity
-    (sum c.in_ok-shares.shares.items) c.in_ok-search.search.tree c.requires.some (rw c.as_slice.ensures.value at c.in_ok-search.ensures.search.right))
+    rw (c.bound.ensures, c.bound-above.ensures) (search_has_bound c.args.wave.now c.args.capacity (sum c.in_ok-shares.shares) c.in_ok-search.search.tree
+    c.requires.some c.in_ok-search.ensures.search.right)
 
 pub returns : goal.returns
 returns g c =
-    good_result c.args.wave.now c.args.capacity c.in_ok-shares.shares.items c.in_ok-search.search c.unwrap-bound.result c.requires.some
-    c.in_ok-shares.ensures.shares (rw c.as_slice.ensures.value at c.in_ok-search.ensures.search)
-    (rw (c.bound.ensures, c.bound_of-above.ensures, c.as_slice-2.ensures.value) at c.unwrap-bound.ensures) c.args.budget c.plan_of.result
-    (rw c.as_slice.ensures.value at c.in_ok-search.ensures.ended) c.in_ok-search.ensures.budget c.plan_of.ensures.batching c.plan_of.ensures.cost
+    good_result c.args.wave.now c.args.capacity c.in_ok-shares.shares c.in_ok-search.search c.unwrap-bound.result c.requires.some
+    c.in_ok-shares.ensures c.in_ok-search.ensures.search (rw (c.bound.ensures, c.bound-above.ensures) at c.unwrap-bound.ensures) c.args.budget
+    c.plan_of.result c.in_ok-search.ensures.ended c.in_ok-search.ensures.budget c.plan_of.ensures.batching c.plan_of.ensures.cost
     c.plan_of.ensures.nodes c.plan_of.ensures.bound c.plan_of.ensures.state

@@ -1,9 +1,9 @@
-use Rattle.std.proofs.Common.{length, sum, subst, sym, ◌∙◌}
+use Rattle.std.proofs.Common.{length, refl, sum, subst, sym, ◌∙◌}
 use Rattle.std.proofs.lemmas.Bool.{false≢true}
 use Rattle.wp_cert.specs.Paths.{pairing_of}
 use Rattle.wp_search.specs.Branches.{IsBranch}
 use Rattle.wp_search.specs.declared.branch.Branch.{Branch}
-use Rattle.wp_search.proofs.Turns.{feasible_below, turned_apart, turned_together}
+use Rattle.wp_search.proofs.Turns.{feasible_duals_below, turned_apart, turned_together}
 use Rattle.wp_search.proofs.turn.+turns.Goals as goal
 
 pub take_turn-returns-then-is_together-clause-turned : goal.take_turn-returns-then-is_together-clause-turned
@@ -30,10 +30,10 @@ take_turn-returns-in_ok-turn-in-Split-2-clause-turned g t c =
     (λ low. false≢true (sym c.if-is_together.false ∙ c.is_together.ensures.1 (rw c.deref.ensures low)))
     (rw (c.pair_of-pair-in-Split.ensures, c.deref_mut-in-Split.ensures.value) at c.in_ok-turn-in-Split-2.ensures.turned))
 
-pub take_turn_below-take_turn-requires-clause-feasible : goal.take_turn_below-take_turn-requires-clause-feasible
-take_turn_below-take_turn-requires-clause-feasible g t c κs within =
+pub take_turn_below-take_turn-requires-clause-above : goal.take_turn_below-take_turn-requires-clause-above
+take_turn_below-take_turn-requires-clause-above g t c κs within =
     let turner = c.args.turner.now in
     let wave = turner.wave.now in
     let pairing = pairing_of (length wave.orders) turner.capacity.most c.args.path.now.items in
-    rw (c.in_ok-push.ensures.items, c.as_slice-above.ensures) (feasible_below wave pairing c.args.pair c.args.worked.now.own.duals
-    c.requires.worked.right.feasible)
+    rw c.in_ok-push.ensures.items (feasible_duals_below wave pairing c.args.pair c.args.worked.now.own.duals
+    (c.requires.worked.right.all.duals ∙ refl) c.requires.worked.right.feasible)

@@ -2,21 +2,21 @@ use Rattle.std.proofs.Common.{◌≡◌, ℕ, length, sum, ap, sym, ◌∙◌, s
 use Rattle.std.specs.Prelude.{Option}
 use Rattle.wp_pairs.specs.Permitted.{Pairing}
 use Rattle.wp_cert.specs.Paths.{pairing_of}
-use Rattle.wp_batch.specs.Duals.{AreFeasible}
+use Rattle.wp_node.specs.Raises.{AreFeasibleDuals}
 use Rattle.wp_search.specs.Branches.{IsBranch, IsWorked}
 use Rattle.wp_search.specs.declared.branch.Branch.TheVariants.{Leaf}
 use Rattle.wp_node.specs.declared.work.Worked.{Worked}
 use Rattle.wp_search.proofs.Turns.{worked_below, worked_turned}
 use Rattle.wp_search.proofs.turn.turn_leaf.Goals as goal
 
-pub turn_kept-requires-clause-feasible : goal.turn_kept-requires-clause-feasible
-turn_kept-requires-clause-feasible g c κs within =
+pub turn_kept-requires-clause-above : goal.turn_kept-requires-clause-above
+turn_kept-requires-clause-above g c κs within =
     let turner = c.args.turner.now in
     let wave = turner.wave.now in
     let pairing = pairing_of (length wave.orders) turner.capacity.most c.args.path.now.items in
     let same : c.pairs_of-pairs.result ≡ pairing = c.pairs_of-pairs.ensures
     ∙ ap (λ (n : ℕ). pairing_of n turner.capacity.most c.args.path.now.items) c.orders.ensures.value in
-    subst (λ (p : Pairing). AreFeasible wave p c.args.above.now) (sym same) c.requires.feasible
+    subst (λ (p : Pairing). AreFeasibleDuals wave p c.args.above.now) (sym same) c.requires.above
 
 pub turn_worked-requires-clause-worked : goal.turn_worked-requires-clause-worked
 turn_worked-requires-clause-worked g c κs within =

@@ -6,8 +6,8 @@ use Rattle.wp_search.proofs.turn.turn_worked.Goals as goal
 
 pub returns-in_ok-split_on-in-Some : goal.returns-in_ok-split_on-in-Some
 returns-in_ok-split_on-in-Some g c = λ above less.
-    split_turned c.args.turner.now.wave.now c.args.pairs.now above c.args.turner.now.pays c.args.worked c.in-Some.first c.in-Some.second
+    split_turned c.args.paired.now.wave.now c.args.paired.now.pairs.now above c.args.turner.now.pays c.args.worked c.in-Some.first c.in-Some.second
     c.in_ok-split_on-in-Some.field-0
-    (worked_at c.args.turner.now.wave.now c.args.pairs.now above c.args.worked less c.requires.worked)
-    (subst (λ (found : Option (ℕ × ℕ)). IfSome found (λ pair. AreUndecided c.args.pairs.now pair.0 pair.1)) c.in-Some.is c.in_ok-first.ensures.some)
+    (worked_at c.args.paired.now.wave.now c.args.paired.now.pairs.now above c.args.worked less c.requires.worked)
+    (subst (λ (found : Option (ℕ × ℕ)). IfSome found (λ pair. AreUndecided c.args.paired.now.pairs.now pair.0 pair.1)) c.in-Some.is c.in_ok-first.ensures.some)
     c.in_ok-split_on-in-Some.ensures

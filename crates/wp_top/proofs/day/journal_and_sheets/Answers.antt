@@ -6,8 +6,8 @@ use Rattle.wp_top.specs.Planned.{ArePlanned, Sent, waves_of}
 use Rattle.wp_top.specs.Sheets.{AreSheets}
 use Rattle.wp_top.proofs.day.journal_and_sheets.Goals as goal
 
-pub print_sheets-requires-clause-planned : goal.print_sheets-requires-clause-planned
-print_sheets-requires-clause-planned c =
+pub print_sheets-requires : goal.print_sheets-requires
+print_sheets-requires c =
     let told = c.requires.told in (
       told.0,
       subst (ArePlanned told.0 c.args.stock.now c.args.terms.now) (sym c.as_slice.ensures.value)

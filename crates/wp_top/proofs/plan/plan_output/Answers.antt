@@ -43,5 +43,5 @@ returns-clause-output g c =
     (plan_names c.args.words.now) c.in_ok-warehouse.warehouse.layout c.in_ok-warehouse.warehouse.opening text.items
     (record { accepted = said; same = read.same; counts = read.counts; reads = read.all })
     (record { same = went.same; counts = went.counts; reads = once })
-    (rw (c.as_str-4.ensures.value, c.terms_of.ensures) at day))
+    (rw (c.as_str-4.ensures.value, c.terms_of-terms.ensures) at day))
     went.output went.once

@@ -38,7 +38,7 @@ returns-in_err-orders-clause-stops g c =
     rw (p.1, p.2)
     (stops_there (orders_in c.in_ok-stock.stock) (told c.args.files.now) (told c.stock_from.new.files) (told c.orders_from.new.files)
     (stock_files c.args.layout_name.now c.args.stock_name.now) []
-    (opening_said c.in_ok-layout.layout (record { stock = c.in_ok-stock.stock; orders = [] })) input.Orders c.args.orders_name.now
+    (opening_said c.in_ok-layout.layout (opening_of c.in_ok-stock.stock [])) input.Orders c.args.orders_name.now
     c.in_err-orders.field-0.0 (λ text why none. rw none refl)
     (after_stock (told c.args.files.now) (told c.layout_from.new.files) (told c.stock_from.new.files) c.args.layout_name.now c.args.stock_name.now
     c.in_ok-layout.layout c.in_ok-stock.stock
@@ -54,7 +54,7 @@ returns-clause-said g c =
     let orders = c.in_ok-orders.ensures in
     let read = after_orders (told c.args.files.now) (told c.stock_from.new.files) (told c.orders_from.new.files) c.args.layout_name.now
     c.args.stock_name.now c.args.orders_name.now
-    c.in_ok-layout.layout (opening_of c.in_ok-stock.stock c.in_ok-orders.orders)
+    c.in_ok-layout.layout c.in_ok-stock.stock c.in_ok-orders.orders
     (after_stock (told c.args.files.now) (told c.layout_from.new.files) (told c.stock_from.new.files) c.args.layout_name.now c.args.stock_name.now
     c.in_ok-layout.layout c.in_ok-stock.stock
     (after_layout (told c.args.files.now) (told c.layout_from.new.files) c.args.layout_name.now c.in_ok-layout.layout
@@ -62,6 +62,3 @@ returns-clause-said g c =
     (record { same = stock.same; counts = stock.counts; reads = stock.once }) stock.said)
     (record { same = orders.same; counts = orders.counts; reads = orders.once }) orders.said in
     rw c.of-opening.ensures read.accepted
-
-pub returns-clause-lies : goal.returns-clause-lies
-returns-clause-lies g c = rw c.of-opening.ensures c.in_ok-stock.ensures.lies

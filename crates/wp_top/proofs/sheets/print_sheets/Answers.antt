@@ -7,19 +7,19 @@ use Rattle.wp_top.specs.Planned.{IsPlanned}
 
 pub loop-one-init : goal.loop-one-init
 loop-one-init c = λ layout are.
-    grown_by_none layout c.args.stock.now c.args.terms.now c.args.machine.now c.args.text.now.items
+    grown_by_none layout c.args.day.now.stock.now c.args.day.now.terms.now c.args.day.now.machine.now c.args.text.now.items
 
-pub print_one-requires-clause-planned : goal.print_one-requires-clause-planned
-print_one-requires-clause-planned c =
-    let at = slice_get_read c.args.planned.now (length c.args.planned.now) c.loop-one.one-index c.one-item.result refl c.loop-one-test.true c.one-item.is in
-    let planned = c.requires.planned in (
+pub print_one-requires : goal.print_one-requires
+print_one-requires c =
+    let at = slice_get_read c.args.day.now.plans.now (length c.args.day.now.plans.now) c.loop-one.one-index c.one-item.result refl c.loop-one-test.true c.one-item.is in
+    let planned = c.requires in (
       planned.0,
-      All-at (IsPlanned planned.0 c.args.stock.now c.args.terms.now) c.args.planned.now c.loop-one.one-index c.one-item.result planned.1 at,
+      All-at (IsPlanned planned.0 c.args.day.now.stock.now c.args.day.now.terms.now) c.args.day.now.plans.now c.loop-one.one-index c.one-item.result planned.1 at,
     )
 
 pub loop-one-preserved : goal.loop-one-preserved
 loop-one-preserved c = λ layout are.
-    let at = slice_get_read c.args.planned.now (length c.args.planned.now) c.loop-one.one-index c.one-item.result refl c.loop-one-test.true c.one-item.is in
-    let one = All-at (IsPlanned layout c.args.stock.now c.args.terms.now) c.args.planned.now c.loop-one.one-index c.one-item.result are at in
-    grown_next layout c.args.stock.now c.args.terms.now c.args.machine.now c.args.planned.now c.loop-one.one-index
+    let at = slice_get_read c.args.day.now.plans.now (length c.args.day.now.plans.now) c.loop-one.one-index c.one-item.result refl c.loop-one-test.true c.one-item.is in
+    let one = All-at (IsPlanned layout c.args.day.now.stock.now c.args.day.now.terms.now) c.args.day.now.plans.now c.loop-one.one-index c.one-item.result are at in
+    grown_next layout c.args.day.now.stock.now c.args.day.now.terms.now c.args.day.now.machine.now c.args.day.now.plans.now c.loop-one.one-index
     c.one-item.result c.args.text.now.items c.loop-one.text.items _ at (c.loop-one.invariant layout are) (c.in_ok-print_one.ensures layout one)

@@ -7,5 +7,5 @@ use Rattle.wp_top.proofs.sheets.print_sheets.Given as goal
 
 -- the sheets so far were written
 abbrev pub invariant-loop-one : goal.invariant-loop-one
-invariant-loop-one l = (layout : Layout) → ArePlanned layout l.stock l.terms l.planned
-    → GrowsBy (AreSheets layout l.stock l.terms l.machine (waves_of (take l.one-index l.planned))) l.fn.text.items l.text.items
+invariant-loop-one l = (layout : Layout) → ArePlanned layout l.day.stock.now l.day.terms.now l.day.plans.now
+    → GrowsBy (AreSheets layout l.day.stock.now l.day.terms.now l.day.machine.now (waves_of (take l.one-index l.day.plans.now))) l.fn.text.items l.text.items

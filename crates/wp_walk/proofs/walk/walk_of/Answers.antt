@@ -1,6 +1,5 @@
-use Rattle.std.proofs.Common.{◌≡◌, ◌∙◌, arith, refl, ap}
+use Rattle.std.proofs.Common.{◌≡◌, ◌∙◌, arith, ap}
 use Rattle.wp_graph.specs.AisleLengths.{ways_of}
-use Rattle.wp_model.specs.Warehouse.{depot_point}
 use Rattle.wp_classes.specs.Choices.{TakesWay, route_of}
 use Rattle.wp_classes.specs.declared.class.Class.TheVariants.{Z00}
 use Rattle.wp_classes.specs.Tables.{way_length}
@@ -33,19 +32,23 @@ loop-left-preserved c =
 
 pub moves_to-moves-requires : goal.moves_to-moves-requires
 moves_to-moves-requires c =
-    let depot : record { aisle = c.depot.result; slot = 0 } ≡ depot_point c.args.layout.now = rw c.depot.ensures.value refl in
+    let valid = c.aisles-left-end.ensures.valid in
+    let upto = c.loop-left.auto.left-end (omega (arith, valid.aisles, c.aisles-left-end.ensures.value)) in
+    let all : c.loop-left.left ≡ c.args.layout.now.aisles = omega (arith, c.aisles-left-end.ensures.value, c.loop-left-test.false, upto) in
     done_home c.args.layout.now c.args.picks.now.points (route_of c.args.choice.now) c.loop-left.walked c.requires.choice.0 c.in_ok-round.round.start _
     c.in_ok-round.round.path
     (underway_done c.args.layout.now c.args.picks.now.points
-    (route_of c.args.choice.now) c.loop-left.left c.loop-left.walked c.requires.choice.0 c.requires.choice.1.allowed (omega arith) c.loop-left.invariant)
-    c.in_ok-round.ensures.0 c.in_ok-round.ensures.1 depot
+    (route_of c.args.choice.now) c.loop-left.left c.loop-left.walked c.requires.choice.0 c.requires.choice.1.allowed all c.loop-left.invariant)
+    c.in_ok-round.ensures.0 c.in_ok-round.ensures.1 c.depot_point-depot.ensures.value
 
 pub returns : goal.returns
 returns c =
-    let depot : record { aisle = c.depot.result; slot = 0 } ≡ depot_point c.args.layout.now = rw c.depot.ensures.value refl in
+    let valid = c.aisles-left-end.ensures.valid in
+    let upto = c.loop-left.auto.left-end (omega (arith, valid.aisles, c.aisles-left-end.ensures.value)) in
+    let all : c.loop-left.left ≡ c.args.layout.now.aisles = omega (arith, c.aisles-left-end.ensures.value, c.loop-left-test.false, upto) in
     λ total is. if_ok_then c.turned.result _ _ (λ walk e.
     done_turned c.args.layout.now c.args.picks.now.points (route_of c.args.choice.now) c.loop-left.walked total c.moves_to-moves.result
     c.in_ok-round.round.start _ c.in_ok-round.round.path walk.items
     (underway_done c.args.layout.now c.args.picks.now.points (route_of c.args.choice.now) c.loop-left.left c.loop-left.walked total is.allowed
-    (omega arith) c.loop-left.invariant)
-    c.in_ok-round.ensures.0 c.in_ok-round.ensures.1 depot c.moves_to-moves.ensures.goal e) c.turned.ensures
+    all c.loop-left.invariant)
+    c.in_ok-round.ensures.0 c.in_ok-round.ensures.1 c.depot_point-depot.ensures.value c.moves_to-moves.ensures.goal e) c.turned.ensures

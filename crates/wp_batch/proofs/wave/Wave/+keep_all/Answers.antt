@@ -6,7 +6,10 @@ pub keep_all-requires : goal.keep_all-requires
 keep_all-requires t c = (
   omega arith,
   (
-    c.union_with-wider.ensures.layout,
-    (wider_union _ c.args.batch _ _ _ _ c.with.ensures.orders c.requires.points c.union_with-wider.ensures.points, c.loop-order.invariant),
+    record {
+      layout = c.union_with.ensures.layout;
+      points = wider_union _ c.args.picked.now.batch _ _ _ _ c.with.ensures.orders c.requires.picked.points c.union_with.ensures.points;
+    },
+    c.loop-order.invariant,
   ),
 )

@@ -10,8 +10,8 @@ use Rattle.wp_batch.proofs.wave.Wave.keep_one.Goals as goal
 
 pub returns-then-place-len : goal.returns-then-place-len
 returns-then-place-len c =
-    let is : IsLengthOf c.args.self.now c.args.batch c.tour_length-length.result =
-    subst (λ (layout : Layout). IsShortest layout (batch_picks c.args.self.now c.args.batch) c.tour_length-length.result)
+    let is : IsLengthOf c.args.self.now c.args.picked.now.batch c.tour_length-length.result =
+    subst (λ (layout : Layout). IsShortest layout (batch_picks c.args.self.now c.args.picked.now.batch) c.tour_length-length.result)
     (ap (λ (w : WavePicks). w.layout) c.self.view_is)
-    (same_shortest _ _ _ _ c.requires.points c.tour_length-length.ensures.shortest) in
+    (same_shortest _ _ _ _ c.requires.picked.points c.tour_length-length.ensures.shortest) in
     All-set (IsKept c.args.self.now) _ _ _ (record { is = is; small = c.tour_length-length.ensures.small }) c.requires.kept

@@ -13,7 +13,7 @@ loop-command-preserved g c =
       subst (λ desk. IsOfDesk c.args.self.now.turn desk c.ask-next.result.0.pass) done.0.desk_is c.ask-next.ensures.own,
       subst (λ commands. HasDone c.args.self.now.opening.now commands c.ask-next.result.0.pass c.ask-next.new.told) (sym more)
           (done_more c.args.self.now.opening.now (take c.loop-command.command-index script) c.loop-command.desk.pass c.ask-next.result.0.pass
-          c.command-item.result answer.0 c.loop-command.told c.ask-next.new.told (g.P.Planner.plans c.args.planner.now)
+          c.command-item.result answer.0 c.loop-command.told c.ask-next.new.told (g.P.Planner.plans c.args.run.now.planner.now)
           (done.0.alone ∙ ap (λ desk. desk ∷ []) (sym done.0.desk_is)) done.1 answer.1 answer.2),
       answer.2.planned,
     )

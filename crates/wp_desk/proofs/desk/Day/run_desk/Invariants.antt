@@ -6,4 +6,4 @@ use Rattle.wp_desk.proofs.desk.Day.run_desk.Given as goal
 abbrev pub invariant-loop-command : goal.invariant-loop-command
 invariant-loop-command g l =
     IsOfDesk l.self.turn l.fn.desk.pass.caller l.desk.pass × HasDone l.self.opening.now (take l.command-index l.script) l.desk.pass l.told
-    × ArePlanned (g.P.Planner.plans l.planner) l.told.plans.items
+    × ArePlanned (g.P.Planner.plans l.run.planner.now) l.told.plans.items

@@ -6,7 +6,7 @@ use Rattle.wp_price.proofs.search.SlackSearch.child_of.Goals as goal
 
 pub returns-then-not-item-clause-none : goal.returns-then-not-item-clause-none
 returns-then-not-item-clause-none c =
-    let is = item_read c.args.self.now (record { wave = c.self.inside.wave.now; pairing = c.self.inside.pairs.now; duals = c.self.inside.duals.now.items })
+    let is = item_read c.args.self.now (record { wave = c.self.inside.wave.now; pairing = c.self.inside.pairs.now; duals = c.self.inside.duals.now })
     c.self.inside.items.items c.args.order c.index-item.result.now c.self.view_is c.self.invariant c.requires.known c.index-item.ensures in
     let adds = adds_class c.args.self.now.pairing c.args.place.now.batch c.index-item.result.now.class c.union-batch.result c.args.order
     c.union-batch.ensures.valid.ascending is.class c.union-batch.ensures.orders in
@@ -15,7 +15,7 @@ returns-then-not-item-clause-none c =
 
 pub returns-then-has-2-clause-none : goal.returns-then-has-2-clause-none
 returns-then-has-2-clause-none c =
-    let is = item_read c.args.self.now (record { wave = c.self.inside.wave.now; pairing = c.self.inside.pairs.now; duals = c.self.inside.duals.now.items })
+    let is = item_read c.args.self.now (record { wave = c.self.inside.wave.now; pairing = c.self.inside.pairs.now; duals = c.self.inside.duals.now })
     c.self.inside.items.items c.args.order c.index-item.result.now c.self.view_is c.self.invariant c.requires.known c.index-item.ensures in
     let adds = adds_class c.args.self.now.pairing c.args.place.now.batch c.index-item.result.now.class c.union-batch.result c.args.order
     c.union-batch.ensures.valid.ascending is.class c.union-batch.ensures.orders in
@@ -24,7 +24,7 @@ returns-then-has-2-clause-none c =
 
 pub overflow_add-size : goal.overflow_add-size
 overflow_add-size c =
-    let is = item_read c.args.self.now (record { wave = c.self.inside.wave.now; pairing = c.self.inside.pairs.now; duals = c.self.inside.duals.now.items })
+    let is = item_read c.args.self.now (record { wave = c.self.inside.wave.now; pairing = c.self.inside.pairs.now; duals = c.self.inside.duals.now })
     c.self.inside.items.items c.args.order c.index-item.result.now c.self.view_is c.self.invariant c.requires.known c.index-item.ensures in
     let used = is.used c.if-not-item.false in
     let same = ap (λ (t : Task). t.pairing.capacity) c.self.view_is in
@@ -32,7 +32,7 @@ overflow_add-size c =
 
 pub returns-then-capacity-size-clause-none : goal.returns-then-capacity-size-clause-none
 returns-then-capacity-size-clause-none c =
-    let is = item_read c.args.self.now (record { wave = c.self.inside.wave.now; pairing = c.self.inside.pairs.now; duals = c.self.inside.duals.now.items })
+    let is = item_read c.args.self.now (record { wave = c.self.inside.wave.now; pairing = c.self.inside.pairs.now; duals = c.self.inside.duals.now })
     c.self.inside.items.items c.args.order c.index-item.result.now c.self.view_is c.self.invariant c.requires.known c.index-item.ensures in
     let adds = adds_class c.args.self.now.pairing c.args.place.now.batch c.index-item.result.now.class c.union-batch.result c.args.order
     c.union-batch.ensures.valid.ascending is.class c.union-batch.ensures.orders in
@@ -44,7 +44,7 @@ returns-then-capacity-size-clause-none c =
 
 pub returns-clause-permitted : goal.returns-clause-permitted
 returns-clause-permitted c =
-    let is = item_read c.args.self.now (record { wave = c.self.inside.wave.now; pairing = c.self.inside.pairs.now; duals = c.self.inside.duals.now.items })
+    let is = item_read c.args.self.now (record { wave = c.self.inside.wave.now; pairing = c.self.inside.pairs.now; duals = c.self.inside.duals.now })
     c.self.inside.items.items c.args.order c.index-item.result.now c.self.view_is c.self.invariant c.requires.known c.index-item.ensures in
     let adds = adds_class c.args.self.now.pairing c.args.place.now.batch c.index-item.result.now.class c.union-batch.result c.args.order
     c.union-batch.ensures.valid.ascending is.class c.union-batch.ensures.orders in
@@ -60,7 +60,7 @@ returns-clause-permitted c =
 
 pub returns-clause-adds : goal.returns-clause-adds
 returns-clause-adds c =
-    let is = item_read c.args.self.now (record { wave = c.self.inside.wave.now; pairing = c.self.inside.pairs.now; duals = c.self.inside.duals.now.items })
+    let is = item_read c.args.self.now (record { wave = c.self.inside.wave.now; pairing = c.self.inside.pairs.now; duals = c.self.inside.duals.now })
     c.self.inside.items.items c.args.order c.index-item.result.now c.self.view_is c.self.invariant c.requires.known c.index-item.ensures in
     let adds = adds_class c.args.self.now.pairing c.args.place.now.batch c.index-item.result.now.class c.union-batch.result c.args.order
     c.union-batch.ensures.valid.ascending is.class c.union-batch.ensures.orders in
@@ -68,7 +68,7 @@ returns-clause-adds c =
 
 pub returns-clause-at : goal.returns-clause-at
 returns-clause-at c =
-    let is = item_read c.args.self.now (record { wave = c.self.inside.wave.now; pairing = c.self.inside.pairs.now; duals = c.self.inside.duals.now.items })
+    let is = item_read c.args.self.now (record { wave = c.self.inside.wave.now; pairing = c.self.inside.pairs.now; duals = c.self.inside.duals.now })
     c.self.inside.items.items c.args.order c.index-item.result.now c.self.view_is c.self.invariant c.requires.known c.index-item.ensures in
     let adds = adds_class c.args.self.now.pairing c.args.place.now.batch c.index-item.result.now.class c.union-batch.result c.args.order
     c.union-batch.ensures.valid.ascending is.class c.union-batch.ensures.orders in

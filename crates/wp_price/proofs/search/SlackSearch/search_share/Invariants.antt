@@ -3,4 +3,4 @@ use Rattle.wp_price.specs.Searches.{AreItemsSearched}
 use Rattle.wp_price.proofs.search.SlackSearch.search_share.Given as goal
 
 abbrev pub invariant-loop-order : goal.invariant-loop-order
-invariant-loop-order g l = AreItemsSearched l.self l.place.batch (λ (item : ℕ). (item < l.order) × Contains l.share item) l.fn.best l.found
+invariant-loop-order g l = AreItemsSearched l.self l.place.batch (λ (item : ℕ). (item < l.order) × Contains l.worker.share item) l.fn.best l.found

@@ -3,4 +3,4 @@ use Rattle.wp_batch.specs.Duals.{IsTightFor}
 use Rattle.wp_search.proofs.tests.classes.are_classes_tight.Given as goal
 
 abbrev pub invariant-loop-order : goal.invariant-loop-order
-invariant-loop-order l = (lower : ℕ) → lower < l.order → (batch : List ℕ) × IsTightFor l.wave l.pairs l.duals lower batch
+invariant-loop-order l = (lower : ℕ) → lower < l.order → (batch : List ℕ) × IsTightFor l.given.wave.now l.given.pairs.now l.given.duals.now lower batch

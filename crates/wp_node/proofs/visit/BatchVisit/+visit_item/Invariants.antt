@@ -1,0 +1,4 @@
+use Rattle.wp_node.proofs.visit.BatchVisit.+visit_item.Given as goal
+
+abbrev pub decreases-visit_item : goal.decreases-visit_item
+decreases-visit_item l = l.room
