@@ -9,9 +9,9 @@ use crate::lengths::{Later, Length, PickedBatch};
 use crate::places::Places;
 use std::alloc::Global;
 use std::marker::Model;
+use wp_fast::tour_length;
 use wp_graph::{Layout, Picks};
 use wp_model::Memory;
-use wp_needed::tour_length;
 use wp_pairs::Batch;
 
 /// How many lengths are kept at most: 64 MiB have room for so many.

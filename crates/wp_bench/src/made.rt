@@ -4,9 +4,9 @@ ghost use Rattle.wp_make.specs.Draws.{next_state, state_after};
 ghost use Rattle.wp_make.specs.Lines.{after_orders, line_count};
 ghost use Rattle.wp_model.specs.declared.point.Point.{Point as PointData};
 
+use wp_fast::tour_length;
 use wp_graph::{Layout, Picks, Point};
 use wp_make::{Generator, made_layout};
-use wp_needed::tour_length;
 
 const AISLES: u32 = 60;
 

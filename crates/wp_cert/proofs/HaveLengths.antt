@@ -17,8 +17,8 @@ use Rattle.wp_classes.specs.Tables.{is_whole}
 use Rattle.wp_classes.proofs.LeastLengths.{least_crosses}
 use Rattle.wp_classes.proofs.Routes.{IsLeastFirst, least_route, some_way_on}
 use Rattle.wp_classes.proofs.Shortest.{shortest}
-use Rattle.wp_needed.specs.Lengths.{by_some_way}
-use Rattle.wp_needed.proofs.LeastNeeded.{least_by_some}
+use Rattle.wp_fast.specs.Lengths.{by_some_way}
+use Rattle.wp_fast.proofs.LeastNeeded.{least_by_some}
 use Rattle.wp_batch.specs.Lengths.{batch_picks}
 use Rattle.wp_batch.specs.Waves.{WavePicks, picks_of}
 use Rattle.wp_batch.proofs.FewerOrders.{more_orders_no_shorter}

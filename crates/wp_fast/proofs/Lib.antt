@@ -12,3 +12,14 @@ pub mod PastAisles
 pub mod TreeSteps
 pub mod TreeRoot
 pub mod KeptAisles
+pub mod Tables
+pub mod Steps
+pub mod Spare
+pub mod Crossing
+pub mod Alone
+pub mod Beginning
+pub mod Walks
+pub mod GoingRuns
+pub mod LeastNeeded
+pub mod Warehouse
+pub mod Shorter

@@ -5,3 +5,6 @@ pub mod Passages
 pub mod Laws
 pub mod Runs
 pub mod Trees
+pub mod Needed
+pub mod SpareRuns
+pub mod Lengths

@@ -65,7 +65,7 @@ fn joined_length(layout: &Layout, slots: &[At], mirrored: bool) -> u64 {
 fn has_length(alloc: Global, layout: &Layout, slots: &[At], mirrored: bool, length: u64) -> bool {
     let picks = picked(layout, slots, mirrored);
     wp_classes::tour_length(layout, &picks) == length
-        && wp_needed::tour_length(layout, &picks) == length
+        && wp_fast::tour_length(layout, &picks) == length
         && Runs::of(layout, &picks).length() == length
         && joined_length(layout, slots, mirrored) == length
         && walked_length(alloc, layout, &picks) == Some(length)

@@ -1,3 +1,0 @@
-pub mod Needed
-pub mod Lengths
-pub mod Runs
