@@ -1,5 +1,5 @@
--- For each tour there is one, no longer, that walks no aisle that isn't needed.
-use Rattle.std.proofs.Common.{◌≡◌, ℕ, zero, suc, ◌+◌, ◌*◌, ◌≤◌, ◌⊎◌, IsTrue, Bool, true, MatchOption, Option, Some, None, arith, inl, inr, refl, sym, ◌∙◌, subst}
+-- For each way on over a run of aisles that aren't needed there is one by crossings of one kind, no longer with the way to the run.
+use Rattle.std.proofs.Common.{◌≡◌, ℕ, zero, suc, ◌+◌, ◌*◌, ◌≤◌, ◌⊎◌, IsTrue, Bool, true, Option, Some, None, arith, inl, inr, refl, sym, ◌∙◌, subst}
 use Rattle.std.proofs.lemmas.Bool.{false≢true}
 use Rattle.std.proofs.lemmas.Option.{none-some, same_Some}
 use Rattle.wp_graph.specs.declared.ways.AisleWays.{AisleWays}
@@ -12,10 +12,12 @@ use Rattle.wp_classes.specs.declared.class.Cross.TheVariants.{C00, C11, C20, C02
 use Rattle.wp_classes.specs.Choices.{Block}
 use Rattle.wp_classes.specs.Onward.{Onward, Through}
 use Rattle.wp_classes.specs.Tables.{class_after_way, copies, is_whole, way_length}
-use Rattle.wp_fast.specs.Needed.{Along, Going, WhereNeeded, is_closed}
-use Rattle.wp_fast.proofs.Crossing.{IsPlain, Meets, Reaches, crossing_on, is_begun, way_on}
+use Rattle.wp_fast.specs.Lengths.{is_begun}
+use Rattle.wp_fast.proofs.Crossing.{IsPlain, Meets, Reaches, crossing_on, way_on}
+use Rattle.wp_fast.proofs.NoMore.{NoMore}
+use Rattle.wp_fast.proofs.OverRuns.{Along, GoesOver, is_closed, when_needed, when_spared}
 use Rattle.wp_fast.proofs.Spare.{Absorbs, Arrives, Continues, IsLong, arriving_absorbs, one_for_two, through_continues}
-use Rattle.wp_fast.proofs.Steps.{By, NoMore, Crossed, OnFrom, by_from, crossed_from, on_from_there}
+use Rattle.wp_fast.proofs.Steps.{By, Crossed, OnFrom, ThroughAndOn, by_from, crossed_from, on_from_there, through_by}
 use Rattle.wp_fast.proofs.Tables.{at_way}
 
 -- nothing is required in an aisle: it is passed, walked twice or skipped
@@ -29,12 +31,6 @@ pub record IsSpare (ways : AisleWays) : Type 0 where
 pub record IsEven (whole : ℕ) (block : Block) : Type 0 where
   pub long : (aisle : ℕ) → IsLong whole (block.ways aisle)
   pub spare : (aisle nothing : ℕ) → (block.ways aisle).skip ≡ Some nothing → IsSpare (block.ways aisle)
-
-pub when_needed : (ways : AisleWays) (A B : Type 0) → ways.skip ≡ None → A → WhereNeeded ways A B
-when_needed ways A B none a = subst (λ (o : Option ℕ). MatchOption o A (λ nothing. B)) (sym none) a
-
-pub when_spared : (ways : AisleWays) (A B : Type 0) (nothing : ℕ) → ways.skip ≡ Some nothing → B → WhereNeeded ways A B
-when_spared ways A B nothing some b = subst (λ (o : Option ℕ). MatchOption o A (λ nothing. B)) (sym some) b
 
 -- a way through an aisle in which nothing is required
 pub plain_way : (whole : ℕ) (ways : AisleWays) → IsLong whole ways → IsSpare ways → (way : Way) (long : ℕ) → way_length ways way ≡ Some long → IsPlain whole way long
@@ -166,17 +162,17 @@ through_done on ways t h = let by = by_from on ways Z01 t h in go by.0 by.1
     go Double by = absurd by.next
     go Skip by = (by.long, by.applies, by.rest, by.next)
 
-closed_goes : (block : Block) (left aisle span : ℕ) (class : Class) → IsTrue (is_closed class) → (r : ℕ) → Onward block left aisle Z01 r → Going block left aisle span class 0
+closed_goes : (block : Block) (left aisle span : ℕ) (class : Class) → IsTrue (is_closed class) → (r : ℕ) → Onward block left aisle Z01 r → GoesOver block left aisle span class 0
 closed_goes block zero aisle span class closed r h = (closed, refl)
 closed_goes block (suc left) aisle span class closed r h =
     let over = crossed_from On (block.spacing aisle) Z01 r h in
     go over.0 over.1 (λ u there. closed_goes block left (suc aisle) (span + block.spacing aisle) class closed u there)
   where
     On : Class → ℕ → Type 0
-    On between rest = Through (λ next more. Onward block left (suc aisle) next more) (block.ways (suc aisle)) between rest
+    On between rest = ThroughAndOn block left (suc aisle) between rest
 
     go : (cross : Cross) → Crossed On (block.spacing aisle) Z01 cross r →
-        ((u : ℕ) → Onward block left (suc aisle) Z01 u → Going block left (suc aisle) (span + block.spacing aisle) class 0) → Going block (suc left) aisle span class 0
+        ((u : ℕ) → Onward block left (suc aisle) Z01 u → GoesOver block left (suc aisle) (span + block.spacing aisle) class 0) → GoesOver block (suc left) aisle span class 0
     go C00 over further =
         let done = through_done (λ next more. Onward block left (suc aisle) next more) (block.ways (suc aisle)) over.rest over.next in
         when_spared (block.ways (suc aisle)) _ _ done.0 done.1 (further done.2 done.3)
@@ -185,16 +181,16 @@ closed_goes block (suc left) aisle span class closed r h =
     go C02 over further = absurd over.next
     go C22 over further = absurd over.next
 
--- a tour comes to a class, and goes on by the needed aisles alone
+-- a tour comes to a class, and goes on over the run behind by crossings of one kind
 pub record Spares (block : Block) (left aisle span : ℕ) (come : Class → ℕ → Type 0) (most : ℕ) : Type 0 where
   pub class : Class
   pub so_far : ℕ
   pub rest : ℕ
   pub comes : come class so_far
-  pub goes : Going block left aisle span class rest
+  pub goes : GoesOver block left aisle span class rest
   pub least : so_far + rest ≤ most
 
--- after a run and a plain way a tour can go on by the needed aisles alone, however it goes on
+-- after a run and a plain way a tour can go on so, however it goes on
 abbrev SparesOn : ℕ → Block → ℕ → ℕ → Type 1
 SparesOn whole block left aisle = (span : ℕ) (come : Class → ℕ → Type 0) → Absorbs whole come → (class : Class) (way : Way) (t long r : ℕ) →
     IsPlain whole way long → Reaches come span class t → OnFrom (λ next rest. Onward block left aisle next rest) (class_after_way class way) r →
@@ -214,7 +210,7 @@ spares_further whole block even left aisle on_further span come absorbs class wa
     after next more = Onward block left (suc aisle) next more
 
     on : Class → ℕ → Type 0
-    on between rest = Through after ways between rest
+    on between rest = ThroughAndOn block left (suc aisle) between rest
 
     continues : Continues whole on
     continues = through_continues whole after ways (even.long (suc aisle)) (λ u two. one_for_two block left (suc aisle) u two)
@@ -245,26 +241,14 @@ spares_further whole block even left aisle on_further span come absorbs class wa
 
     needed : ways.skip ≡ None → Meets come on (span + spacing) (t + long + r) → Spares block (suc left) aisle span come (t + long + r)
     needed none m =
-        let by = by_from after ways m.class m.rest m.goes in
-        let there = on_from_there after (class_after_way m.class by.0) by.1.rest by.1.next in
-        let come' : Class → ℕ → Type 0 = Arrives (Reaches come (span + spacing)) ways in
-        let arrives : come' there.0 (m.so_far + by.1.long) =
-        (m.class, m.so_far, by.0, by.1.long, m.reaches, record { allowed = there.1; applies = by.1.applies }, refl) in
-        let begun = begun_to m.class there.0 by.0 (reached_begun come (span + spacing) m.so_far m.class m.reaches) there.1 in
-        let further = on_further 0 come' (arriving_absorbs whole (Reaches come (span + spacing)) ways (even.long (suc aisle)))
-        there.0 Skip (m.so_far + by.1.long) 0 by.1.rest refl (reaches_now come' (m.so_far + by.1.long) there.0 begun arrives)
-        (subst (λ o. OnFrom after o by.1.rest) (sym (skip_stays there.0)) there.2) in
-        let came = further.comes in
-        let goes : Class → ℕ → Type 0 = λ before rest. Through (λ c more. Going block left (suc aisle) 0 c more) ways before rest in
-        let through : goes came.0 (came.3 + further.rest) = (came.2, (further.class, came.3, further.rest, came.5, further.goes, refl)) in
-        let splits = split_reach come goes (span + spacing) came.1 (came.3 + further.rest) came.0 came.4 through in
+        let splits = split_reach come on (span + spacing) m.so_far m.rest m.class m.reaches m.goes in
         record {
           class = splits.class;
           so_far = splits.so_far;
           rest = splits.rest;
           comes = splits.comes;
           goes = when_needed ways _ _ none splits.goes;
-          least = omega (arith, splits.total_is, further.least, came.6, m.least, by.1.total_is);
+          least = omega (arith, splits.total_is, m.least);
         }
 
     unneeded : (nothing : ℕ) → ways.skip ≡ Some nothing → Meets come on (span + spacing) (t + long + r) → Spares block (suc left) aisle span come (t + long + r)
@@ -315,3 +299,58 @@ spared whole block even zero aisle span come absorbs class way t long r plain re
     record { class = ends.class; so_far = ends.so_far; rest = 0; comes = ends.comes; goes = (ends.closed, refl); least = omega (arith, ends.least) }
 spared whole block even (suc left) aisle span come absorbs class way t long r plain reaches h =
     spares_further whole block even left aisle (spared whole block even left (suc aisle)) span come absorbs class way t long r plain reaches h
+
+-- to come to a class with nothing walked yet
+abbrev Stands : Class → Class → ℕ → Type 0
+Stands from class total = (class ≡ from) × (total ≡ 0)
+
+-- who comes to a class by a way through a needed aisle and goes on over the run behind it goes by the aisle and over the run
+comes_over : (block : Block) (left aisle : ℕ) (class : Class) (most : ℕ) → Spares block left aisle 0 (Arrives (Stands class) (block.ways aisle)) most →
+    NoMore (λ u. Through (λ next more. GoesOver block left aisle 0 next more) (block.ways aisle) class u) most
+comes_over block left aisle class most spares = from spares.comes
+  where
+    On : Class → ℕ → Type 0
+    On next more = GoesOver block left aisle 0 next more
+
+    from : Arrives (Stands class) (block.ways aisle) spares.class spares.so_far → NoMore (λ u. Through On (block.ways aisle) class u) most
+    from (before, none, way, through, (same, nothing), takes, total) = record {
+      total = through + spares.rest;
+      is = subst (λ c. Through On (block.ways aisle) c (through + spares.rest)) same (way, (spares.class, through, spares.rest, takes, spares.goes, refl));
+      least = omega (arith, spares.least, nothing, total);
+    }
+
+-- so whatever a tour walks over the run behind a needed aisle can be walked in that aisle, or left to what comes behind the run
+pub over_run : (whole : ℕ) (block : Block) → IsEven whole block → (left aisle : ℕ) → (block.ways aisle).skip ≡ None → (class : Class) (t : ℕ) →
+    ThroughAndOn block left aisle class t → NoMore (λ u. Through (λ next more. GoesOver block left aisle 0 next more) (block.ways aisle) class u) t
+over_run whole block even left aisle none class t h =
+    let by = by_from on ways class t h in
+    let next = on_from_there on (class_after_way class by.0) by.1.rest by.1.next in
+    let come : Class → ℕ → Type 0 = Arrives (Stands class) ways in
+    let stands : Stands class class 0 = (refl, refl) in
+    let arrives : come next.0 by.1.long = (class, 0, by.0, by.1.long, stands, record { allowed = next.1; applies = by.1.applies }, omega arith) in
+    comes_over block left aisle class t (subst (λ u. Spares block left aisle 0 come u) (omega (arith, by.1.total_is))
+    (spared whole block even left aisle 0 come (arriving_absorbs whole (Stands class) ways (even.long aisle)) next.0 Skip by.1.long 0 by.1.rest refl
+    (reaches_now come by.1.long next.0 (begun class by.0 by.1 next.0 next.1) arrives) (subst (λ o. OnFrom on o by.1.rest) (sym (skip_stays next.0)) next.2)))
+  where
+    ways : AisleWays
+    ways = block.ways aisle
+
+    on : Class → ℕ → Type 0
+    on next more = Onward block left aisle next more
+
+    is_next : (class next : Class) → IsTrue (is_begun class) → Some class ≡ Some next → IsTrue (is_begun next)
+    is_next class next begun e = subst (λ (c : Class). IsTrue (is_begun c)) (same_Some _ _ e) begun
+
+    begun : (class : Class) (way : Way) → By on ways class way t → (next : Class) → class_after_way class way ≡ Some next → IsTrue (is_begun next)
+    begun UU1 way by next e = begun_to UU1 next way refl e
+    begun E01 way by next e = begun_to E01 next way refl e
+    begun ZE1 way by next e = begun_to ZE1 next way refl e
+    begun EE1 way by next e = begun_to EE1 next way refl e
+    begun EE2 way by next e = begun_to EE2 next way refl e
+    begun Z00 Pass by next e = is_next UU1 next refl e
+    begun Z00 Back by next e = is_next E01 next refl e
+    begun Z00 Front by next e = is_next ZE1 next refl e
+    begun Z00 Gap by next e = is_next EE2 next refl e
+    begun Z00 Double by next e = is_next EE1 next refl e
+    begun Z00 Skip by next e = absurd (none-some _ (sym none ∙ by.applies))
+    begun Z01 way by next e = let done = through_done on ways t (through_by on ways Z01 way t by) in absurd (none-some _ (sym none ∙ done.1))

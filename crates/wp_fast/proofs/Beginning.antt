@@ -1,6 +1,7 @@
 -- A tour needs nothing in the aisles before the first needed one.
-use Rattle.std.proofs.Common.{◌≡◌, ℕ, zero, suc, ◌+◌, ◌*◌, ◌⊎◌, IsTrue, Option, Some, None, arith, inl, inr, refl, sym, ◌∙◌, subst}
-use Rattle.std.proofs.lemmas.Option.{none-some, same_Some}
+use Rattle.std.proofs.Common.{◌≡◌, ℕ, zero, suc, ◌+◌, ◌*◌, ◌<◌, ◌≤◌, ◌⊎◌, Some, None, arith, inl, inr, refl, sym, ◌∙◌, subst, ⊎_elim}
+use Rattle.std.proofs.lemmas.Bool.{cases_eq}
+use Rattle.std.proofs.lemmas.Option.{none-some}
 use Rattle.wp_graph.specs.declared.ways.AisleWays.{AisleWays}
 use Rattle.wp_classes.specs.declared.class.Class.{Class}
 use Rattle.wp_classes.specs.declared.class.Class.TheVariants.{UU1, E01, ZE1, EE1, EE2, Z00, Z01}
@@ -11,11 +12,12 @@ use Rattle.wp_classes.specs.declared.class.Cross.TheVariants.{C00, C11, C20, C02
 use Rattle.wp_classes.specs.Choices.{Block}
 use Rattle.wp_classes.specs.Onward.{Onward, Through}
 use Rattle.wp_classes.specs.Tables.{class_after_way}
-use Rattle.wp_fast.specs.Needed.{Begins, Going}
-use Rattle.wp_fast.proofs.Alone.{IsEven, plain_way, reaches_now, spared, through_done, when_needed, when_spared}
-use Rattle.wp_fast.proofs.Crossing.{IsPlain, is_begun}
-use Rattle.wp_fast.proofs.Spare.{Arrives, Continues, arriving_absorbs, one_for_two, through_continues}
-use Rattle.wp_fast.proofs.Steps.{By, NoMore, Crossed, OnFrom, across_crossed, by_from, crossed_from, on_from_there, through_by}
+use Rattle.wp_fast.proofs.Alone.{IsEven, plain_way, through_done}
+use Rattle.wp_fast.proofs.Crossing.{IsPlain}
+use Rattle.wp_fast.proofs.NoMore.{NoMore, itself}
+use Rattle.wp_fast.proofs.Spare.{Continues, one_for_two, through_continues}
+use Rattle.wp_fast.proofs.Walks.{skip_over}
+use Rattle.wp_fast.proofs.Steps.{By, Crossed, OnFrom, across_crossed, by_from, crossed_from, through_by, ThroughAndOn}
 
 -- an aisle from this one on is needed
 abbrev pub SomeNeeded : Block → ℕ → ℕ → Type 0
@@ -24,7 +26,7 @@ SomeNeeded block (suc left) aisle = ((block.ways aisle).skip ≡ None) ⊎ SomeN
 
 -- then a tour isn't done before it
 not_done : (block : Block) (left aisle : ℕ) → SomeNeeded block left aisle → (r : ℕ) →
-    Through (λ next more. Onward block left aisle next more) (block.ways aisle) Z01 r → ⊥
+    ThroughAndOn block left aisle Z01 r → ⊥
 not_done block zero aisle none r h = let done = through_done _ _ r h in none-some _ (sym none ∙ done.1)
 not_done block (suc left) aisle (inl none) r h = let done = through_done _ _ r h in none-some _ (sym none ∙ done.1)
 not_done block (suc left) aisle (inr later) r h =
@@ -32,7 +34,7 @@ not_done block (suc left) aisle (inr later) r h =
     let over = crossed_from On (block.spacing aisle) Z01 done.2 done.3 in go over.0 over.1 (λ u there. not_done block left (suc aisle) later u there)
   where
     On : Class → ℕ → Type 0
-    On between rest = Through (λ next more. Onward block left (suc aisle) next more) (block.ways (suc aisle)) between rest
+    On between rest = ThroughAndOn block left (suc aisle) between rest
 
     go : (cross : Cross) {u : ℕ} → Crossed On (block.spacing aisle) Z01 cross u → ((v : ℕ) → On Z01 v → ⊥) → ⊥
     go C00 over further = further over.rest over.next
@@ -58,7 +60,7 @@ onward_anew block left aisle later = record {
     spacing = block.spacing aisle
 
     On : Class → ℕ → Type 0
-    On between rest = Through (λ next more. Onward block left (suc aisle) next more) (block.ways (suc aisle)) between rest
+    On between rest = ThroughAndOn block left (suc aisle) between rest
 
     from_E01 : (t : ℕ) (cross : Cross) → Crossed On spacing E01 cross t → Onward block (suc left) aisle Z00 t
     from_E01 t C00 over = absurd (not_done block left (suc aisle) later over.rest over.next)
@@ -89,7 +91,7 @@ skipped_anew block (suc left) aisle (inl none) nothing some = absurd (none-some 
 skipped_anew block (suc left) aisle (inr later) nothing some = onward_anew block left aisle later
 
 through_anew : (block : Block) (left aisle : ℕ) → SomeNeeded block left aisle →
-    StartsAnew (λ class t. Through (λ next more. Onward block left aisle next more) (block.ways aisle) class t)
+    StartsAnew (λ class t. ThroughAndOn block left aisle class t)
 through_anew block left aisle needed = record {
   behind = λ t h. let by = by_from on ways E01 t h in from_E01 t by.0 by.1;
   in_front = λ t h. let by = by_from on ways ZE1 t h in from_ZE1 t by.0 by.1;
@@ -134,8 +136,8 @@ through_anew block left aisle needed = record {
 
 -- where an aisle isn't needed and a later one is, a tour begins behind it as well
 begins_later : (whole : ℕ) (block : Block) → IsEven whole block → (left aisle nothing t : ℕ) → (block.ways aisle).skip ≡ Some nothing →
-    SomeNeeded block left (suc aisle) → Through (λ next more. Onward block (suc left) aisle next more) (block.ways aisle) Z00 t →
-    NoMore (λ u. Through (λ next more. Onward block left (suc aisle) next more) (block.ways (suc aisle)) Z00 u) t
+    SomeNeeded block left (suc aisle) → ThroughAndOn block (suc left) aisle Z00 t →
+    NoMore (λ u. ThroughAndOn block left (suc aisle) Z00 u) t
 begins_later whole block even left aisle nothing t some later h =
     let by = by_from after (block.ways aisle) Z00 t h in
     go by.0 by.1 (plain_way whole (block.ways aisle) (even.long aisle) (even.spare aisle nothing some) by.0 by.1.long by.1.applies)
@@ -150,7 +152,7 @@ begins_later whole block even left aisle nothing t some later h =
     next_ways = block.ways (suc aisle)
 
     on : Class → ℕ → Type 0
-    on between rest = Through (λ next more. Onward block left (suc aisle) next more) next_ways between rest
+    on between rest = ThroughAndOn block left (suc aisle) between rest
 
     continues : Continues whole on
     continues = through_continues whole (λ next more. Onward block left (suc aisle) next more) next_ways (even.long (suc aisle))
@@ -196,74 +198,43 @@ begins_later whole block even left aisle nothing t some later h =
         let over = crossed_from on spacing Z00 by.rest by.next in
         let less = skipped by.rest over.0 over.1 in record { total = less.total; is = less.is; least = omega (arith, less.least, by.total_is) }
 
--- nowhere yet
-abbrev pub Nowhere : Class → ℕ → Type 0
-Nowhere class total = (class ≡ Z00) × (total ≡ 0)
+-- an aisle that is needed is one from each before it on
+needed_from : (block : Block) (left aisle needed : ℕ) → aisle ≤ needed → needed ≤ aisle + left → (block.ways needed).skip ≡ None → SomeNeeded block left aisle
+needed_from block zero aisle needed low high none = let same : needed ≡ aisle = omega arith in subst (λ a. (block.ways a).skip ≡ None) same none
+needed_from block (suc left) aisle needed low high none = ⊎_elim
+    (λ same. inl (subst (λ a. (block.ways a).skip ≡ None) (sym same) none))
+    (λ other. inr (needed_from block left (suc aisle) needed (omega (arith, low, other)) (omega (arith, high)) none))
+    (cases_eq aisle needed)
 
-pub begins_needed : (block : Block) (left aisle t : ℕ) → (block.ways aisle).skip ≡ None →
-    Through (λ next more. Going block left aisle 0 next more) (block.ways aisle) Z00 t → Begins block left aisle t
-begins_needed block zero aisle t none h = when_needed (block.ways aisle) _ _ none h
-begins_needed block (suc left) aisle t none h = when_needed (block.ways aisle) _ _ none h
+-- so many aisles aren't needed, and then comes the first that is: a tour begins there as well
+pub begins_first : (whole : ℕ) (block : Block) → IsEven whole block → (before more left aisle first t : ℕ) → more ≡ before + left → first ≡ aisle + before →
+    ((a : ℕ) → aisle ≤ a → a < first → (nothing : ℕ) × ((block.ways a).skip ≡ Some nothing)) → (block.ways first).skip ≡ None →
+    ThroughAndOn block more aisle Z00 t → NoMore (λ u. ThroughAndOn block left first Z00 u) t
+begins_first whole block even zero more left aisle first t m f none needed h =
+    let is_left : more ≡ left = omega (arith, m) in
+    let is_first : aisle ≡ first = omega (arith, f) in
+    itself (λ u. ThroughAndOn block left first Z00 u) t
+    (subst (λ a. ThroughAndOn block left a Z00 t) is_first (subst (λ n. ThroughAndOn block n aisle Z00 t) is_left h))
+begins_first whole block even (suc before) more left aisle first t m f none needed h =
+    let is_more : more ≡ suc (before + left) = omega (arith, m) in
+    let spare = none aisle (omega arith) (omega (arith, f)) in
+    let later = needed_from block (before + left) (suc aisle) first (omega (arith, f)) (omega (arith, f)) needed in
+    let less = begins_later whole block even (before + left) aisle spare.0 t spare.1 later (subst (λ n. ThroughAndOn block n aisle Z00 t) is_more h) in
+    let rest = begins_first whole block even before (before + left) left (suc aisle) first less.total refl (omega (arith, f))
+    (λ a low high. none a (omega (arith, low)) high) needed less.is in
+    record { total = rest.total; is = rest.is; least = omega (arith, rest.least, less.least) }
 
--- where the first aisle is needed
-begins_here : (whole : ℕ) (block : Block) → IsEven whole block → (left aisle t : ℕ) → (block.ways aisle).skip ≡ None →
-    Through (λ next more. Onward block left aisle next more) (block.ways aisle) Z00 t → NoMore (λ u. Begins block left aisle u) t
-begins_here whole block even left aisle t none h =
-    let by = by_from on ways Z00 t h in
-    let next = on_from_there on (class_after_way Z00 by.0) by.1.rest by.1.next in
-    let begun : IsTrue (is_begun next.0) = begins by.0 by.1 next.0 next.1 in
-    let come : Class → ℕ → Type 0 = Arrives Nowhere ways in
-    let arrives : come next.0 by.1.long = (Z00, 0, by.0, by.1.long, (refl, refl), record { allowed = next.1; applies = by.1.applies }, omega arith) in
-    let further = spared whole block even left aisle 0 come (arriving_absorbs whole Nowhere ways (even.long aisle)) next.0 Skip by.1.long 0 by.1.rest refl
-    (reaches_now come by.1.long next.0 begun arrives) (stays next.0 by.1.rest next.2) in
-    let came = further.comes in
-    let through : Through (λ c more. Going block left aisle 0 c more) ways Z00 (came.3 + further.rest) =
-    subst (λ c. Through (λ c more. Going block left aisle 0 c more) ways c (came.3 + further.rest)) came.4.0
-    (came.2, (further.class, came.3, further.rest, came.5, further.goes, refl)) in
-    record {
-      total = came.3 + further.rest;
-      is = begins_needed block left aisle (came.3 + further.rest) none through;
-      least = omega (arith, further.least, came.6, came.4.1, by.1.total_is);
-    }
-  where
-    ways : AisleWays
-    ways = block.ways aisle
-
-    on : Class → ℕ → Type 0
-    on next more = Onward block left aisle next more
-
-    stays : (class : Class) (r : ℕ) → on class r → OnFrom on (class_after_way class Skip) r
-    stays UU1 r h = h
-    stays E01 r h = h
-    stays ZE1 r h = h
-    stays EE1 r h = h
-    stays EE2 r h = h
-    stays Z00 r h = h
-    stays Z01 r h = h
-
-    is_next : (class next : Class) → IsTrue (is_begun class) → Some class ≡ Some next → IsTrue (is_begun next)
-    is_next class next begun e = subst (λ (c : Class). IsTrue (is_begun c)) (same_Some _ _ e) begun
-
-    begins : (way : Way) → By on ways Z00 way t → (next : Class) → class_after_way Z00 way ≡ Some next → IsTrue (is_begun next)
-    begins Pass by next e = is_next UU1 next refl e
-    begins Back by next e = is_next E01 next refl e
-    begins Front by next e = is_next ZE1 next refl e
-    begins Gap by next e = is_next EE2 next refl e
-    begins Double by next e = is_next EE1 next refl e
-    begins Skip by next e = absurd (none-some _ (sym none ∙ by.applies))
-
--- from the first aisle on
-pub begins_by_needed : (whole : ℕ) (block : Block) → IsEven whole block → (left aisle t : ℕ) → SomeNeeded block left aisle →
-    Through (λ next more. Onward block left aisle next more) (block.ways aisle) Z00 t → NoMore (λ u. Begins block left aisle u) t
-begins_by_needed whole block even zero aisle t none h = begins_here whole block even zero aisle t none h
-begins_by_needed whole block even (suc left) aisle t (inl none) h = begins_here whole block even (suc left) aisle t none h
-begins_by_needed whole block even (suc left) aisle t (inr later) h = go (block.ways aisle).skip refl (λ u there. begins_by_needed whole block even left (suc aisle) u later there)
-  where
-    go : (skip : Option ℕ) → (block.ways aisle).skip ≡ skip →
-        ((u : ℕ) → Through (λ next more. Onward block left (suc aisle) next more) (block.ways (suc aisle)) Z00 u → NoMore (λ u. Begins block left (suc aisle) u) u) →
-        NoMore (λ u. Begins block (suc left) aisle u) t
-    go None none further = begins_here whole block even (suc left) aisle t none h
-    go (Some nothing) some further =
-        let less = begins_later whole block even left aisle nothing t some later h in
-        let least = further less.total less.is in
-        record { total = least.total; is = when_spared (block.ways aisle) _ _ nothing some least.is; least = omega (arith, less.least, least.least) }
+-- and a tour that begins there begins before
+pub first_begins : (whole : ℕ) (block : Block) → IsEven whole block → (before more left aisle first t : ℕ) → more ≡ before + left → first ≡ aisle + before →
+    ((a : ℕ) → aisle ≤ a → a < first → (nothing : ℕ) × ((block.ways a).skip ≡ Some nothing)) → ThroughAndOn block left first Z00 t → ThroughAndOn block more aisle Z00 t
+first_begins whole block even zero more left aisle first t m f none h =
+    let is_left : left ≡ more = omega (arith, m) in
+    let is_first : first ≡ aisle = omega (arith, f) in
+    subst (λ a. ThroughAndOn block more a Z00 t) is_first (subst (λ n. ThroughAndOn block n first Z00 t) is_left h)
+first_begins whole block even (suc before) more left aisle first t m f none h =
+    let is_more : suc (before + left) ≡ more = omega (arith, m) in
+    let spare = none aisle (omega arith) (omega (arith, f)) in
+    let later = first_begins whole block even before (before + left) left (suc aisle) first t refl (omega (arith, f)) (λ a low high. none a (omega (arith, low)) high) h in
+    let same : 0 + (0 * block.spacing aisle + t) ≡ t = omega arith in
+    subst (λ n. ThroughAndOn block n aisle Z00 t) is_more (subst (λ u. ThroughAndOn block (suc (before + left)) aisle Z00 u) same
+    (skip_over block (before + left) aisle 0 (even.spare aisle spare.0 spare.1).skip Z00 Z00 C00 t refl later))

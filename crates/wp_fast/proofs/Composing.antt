@@ -1,58 +1,36 @@
 -- Summaries of two passages compose to one of both, and composing is associative.
-use Rattle.std.proofs.Common.{◌≡◌, ℕ, ◌+◌, ◌≤◌, Option, Some, None, arith, refl, subst}
+use Rattle.std.proofs.Common.{ℕ, ◌+◌, Option, arith, refl}
 use Rattle.wp_classes.specs.declared.class.Class.{Class}
 use Rattle.wp_classes.specs.Onward.{IsLeastOf}
 use Rattle.wp_classes.proofs.Leasts.{least_like, least_same}
 use Rattle.wp_fast.specs.declared.summary.Summary.{Summary}
 use Rattle.wp_fast.specs.Laws.{ComposingIsAssociative}
-use Rattle.wp_fast.specs.Passages.{AreLeast, IsComposed, Passage, Tells, Then}
+use Rattle.wp_fast.specs.Passages.{AreLeast, EndsFrom, IsComposed, Passage, Tells, Then}
 use Rattle.wp_fast.specs.Summaries.{length_between}
+use Rattle.wp_fast.proofs.NoMore.{NoMore, itself, least_between, least_found, least_has}
 use Rattle.wp_fast.proofs.ToTheEnd.{least_told}
-
--- the numbers with two properties have the same least one, where each number with the one is at least some with the other
-pub least_between : (P Q : ℕ → Type 0) (least : Option ℕ) → ((t : ℕ) → P t → (s : ℕ) × Q s × (s ≤ t)) → ((t : ℕ) → Q t → (s : ℕ) × P s × (s ≤ t)) → IsLeastOf P least
-    → IsLeastOf Q least
-least_between P Q None there back is = λ t h. is (back t h).0 (back t h).1
-least_between P Q (Some m) there back is =
-    let low = there m is.0 in
-    let again = back low.0 low.1 in
-    let up = is.1 again.0 again.1 in
-    let same : low.0 ≡ m = omega (arith, low.2, again.2, up) in
-    (subst Q same low.1, λ t h. let from = back t h in let least = is.1 from.0 from.1 in omega (arith, least, from.2))
-
--- a least number has the property
-pub least_has : (P : ℕ → Type 0) (least : Option ℕ) (m : ℕ) → IsLeastOf P least → least ≡ Some m → P m
-least_has P least m is told = (subst (λ (o : Option ℕ). IsLeastOf P o) told is).0
-
--- where some number has the property, there is a least one
-pub least_found : (P : ℕ → Type 0) (least : Option ℕ) (t : ℕ) → IsLeastOf P least → P t → (m : ℕ) × (least ≡ Some m) × (m ≤ t)
-least_found P None t is h = absurd (is t h)
-least_found P (Some m) t is h = (m, refl, is.1 t h)
 
 -- what two summaries tell one after the other, and the passages of which they tell the least lengths
 lengths_down : (First Next : Passage) (first next : Summary) (before after : Class) → AreLeast First first → AreLeast Next next → (t : ℕ) → Then First Next before after t
-    → (s : ℕ) × Then (Tells first) (Tells next) before after s × (s ≤ t)
+    → NoMore (Then (Tells first) (Tells next) before after) t
 lengths_down First Next first next before after near far t (between, (one, other, goes, goes_on, total)) =
     let to = least_found (First before between) (length_between first before between) one (near.least before between) goes in
     let on = least_found (Next between after) (length_between next between after) other (far.least between after) goes_on in
-    (to.0 + on.0, (between, (to.0, on.0, to.1, on.1, refl)), omega (arith, to.2, on.2, total))
+    record { total = to.total + on.total; is = (between, (to.total, on.total, to.is, on.is, refl)); least = omega (arith, to.least, on.least, total) }
 
 passages_up : (First Next : Passage) (first next : Summary) (before after : Class) → AreLeast First first → AreLeast Next next → (t : ℕ)
-    → Then (Tells first) (Tells next) before after t → (s : ℕ) × Then First Next before after s × (s ≤ t)
-passages_up First Next first next before after near far t (between, (one, other, told, told_on, total)) = (
-  t,
-  (
-    between,
-    (
-      one,
-      other,
-      least_has (First before between) (length_between first before between) one (near.least before between) told,
-      least_has (Next between after) (length_between next between after) other (far.least between after) told_on,
-      total,
-    ),
-  ),
-  omega arith,
-)
+    → Then (Tells first) (Tells next) before after t → NoMore (Then First Next before after) t
+passages_up First Next first next before after near far t (between, (one, other, told, told_on, total)) =
+    itself (Then First Next before after) t (
+      between,
+      (
+        one,
+        other,
+        least_has (First before between) (length_between first before between) one (near.least before between) told,
+        least_has (Next between after) (length_between next between after) other (far.least between after) told_on,
+        total,
+      ),
+    )
 
 -- a summary that is composed of two tells the least lengths of both passages together
 pub composed_least : (First Next : Passage) (first next both : Summary) → AreLeast First first → AreLeast Next next → IsComposed first next both
@@ -69,6 +47,29 @@ least_composed First Next first next both near far together = record {
   least = λ before after. least_between (Then First Next before after) (Then (Tells first) (Tells next) before after) (length_between both before after)
       (lengths_down First Next first next before after near far) (passages_up First Next first next before after near far) (together.least before after);
 }
+
+-- the least lengths of a passage to the end are those that its summary tells to the end
+told_ends : (Passes : Passage) (summary : Summary) (before : Class) → AreLeast Passes summary → (t : ℕ) → EndsFrom (Tells summary) before t
+    → NoMore (EndsFrom Passes before) t
+told_ends Passes summary before are t (after, whole, told) =
+    itself (EndsFrom Passes before) t
+    (after, whole, least_has (Passes before after) (length_between summary before after) t (are.least before after) told)
+
+ends_told : (Passes : Passage) (summary : Summary) (before : Class) → AreLeast Passes summary → (t : ℕ) → EndsFrom Passes before t
+    → NoMore (EndsFrom (Tells summary) before) t
+ends_told Passes summary before are t (after, whole, passes) =
+    let found = least_found (Passes before after) (length_between summary before after) t (are.least before after) passes in
+    record { total = found.total; is = (after, whole, found.is); least = found.least }
+
+pub least_past : (Passes : Passage) (summary : Summary) (before : Class) (least : Option ℕ) → AreLeast Passes summary
+    → IsLeastOf (EndsFrom (Tells summary) before) least → IsLeastOf (EndsFrom Passes before) least
+least_past Passes summary before least are is = least_between (EndsFrom (Tells summary) before) (EndsFrom Passes before) least
+    (told_ends Passes summary before are) (ends_told Passes summary before are) is
+
+pub told_past : (Passes : Passage) (summary : Summary) (before : Class) (least : Option ℕ) → AreLeast Passes summary
+    → IsLeastOf (EndsFrom Passes before) least → IsLeastOf (EndsFrom (Tells summary) before) least
+told_past Passes summary before least are is = least_between (EndsFrom Passes before) (EndsFrom (Tells summary) before) least
+    (ends_told Passes summary before are) (told_ends Passes summary before are) is
 
 -- two passages of the same lengths have the same least ones
 pub least_alike : (One Other : Passage) (summary : Summary) → ((before after : Class) (t : ℕ) → One before after t → Other before after t) →

@@ -1,6 +1,6 @@
 -- Over a run of aisles that aren't needed: what a tour walks in them can be walked in the needed aisle before the run, or left to
 -- what comes behind.
-use Rattle.std.proofs.Common.{◌≡◌, ℕ, ◌+◌, ◌*◌, ◌≤◌, ◌⊎◌, IsTrue, Bool, true, false, arith, inl, inr, refl, ⊎_elim}
+use Rattle.std.proofs.Common.{◌≡◌, ℕ, ◌+◌, ◌*◌, ◌≤◌, ◌⊎◌, IsTrue, false, arith, inl, inr, refl, ⊎_elim}
 use Rattle.wp_classes.specs.declared.class.Class.{Class}
 use Rattle.wp_classes.specs.declared.class.Class.TheVariants.{UU1, E01, ZE1, EE1, EE2, Z00, Z01}
 use Rattle.wp_classes.specs.declared.class.Way.{Way}
@@ -8,19 +8,11 @@ use Rattle.wp_classes.specs.declared.class.Way.TheVariants.{Pass, Back, Front, G
 use Rattle.wp_classes.specs.declared.class.Cross.{Cross}
 use Rattle.wp_classes.specs.declared.class.Cross.TheVariants.{C00, C11, C20, C02, C22}
 use Rattle.wp_classes.specs.Tables.{class_after_cross, class_after_way, copies}
-use Rattle.wp_fast.specs.Needed.{Along, is_closed}
-use Rattle.wp_fast.proofs.Steps.{NoMore, OnFrom}
+use Rattle.wp_fast.specs.Lengths.{is_begun}
+use Rattle.wp_fast.proofs.NoMore.{NoMore}
+use Rattle.wp_fast.proofs.OverRuns.{Along, is_closed}
+use Rattle.wp_fast.proofs.Steps.{OnFrom}
 use Rattle.wp_fast.proofs.Spare.{Absorbs, Continues}
-
--- something has been passed, and the tour isn't done
-abbrev pub is_begun : Class → Bool
-is_begun UU1 = true
-is_begun E01 = true
-is_begun ZE1 = true
-is_begun EE1 = true
-is_begun EE2 = true
-is_begun Z00 = false
-is_begun Z01 = false
 
 -- where a tour comes from a needed aisle by crossings of one kind that are so long together
 abbrev pub Reaches : (Class → ℕ → Type 0) → ℕ → Class → ℕ → Type 0

@@ -1,5 +1,5 @@
--- The least lengths by the needed aisles are the least of all.
-use Rattle.std.proofs.Common.{◌≡◌, ℕ, ◌+◌, ◌*◌, ◌-◌, ◌<◌, ◌≤◌, ◌^◌, ◌⊎◌, ◌↔◌, min, IsTrue, Option, Some, None, arith, refl, sym, ◌∙◌, ap, subst}
+-- The least lengths over a run of aisles that aren't needed, and through the needed aisle before it.
+use Rattle.std.proofs.Common.{◌≡◌, ℕ, ◌+◌, ◌*◌, ◌-◌, ◌≤◌, ◌↔◌, ◌⊎◌, min, IsTrue, Option, Some, None, arith, refl, ◌∙◌, ap, subst}
 use Rattle.std.proofs.lemmas.Bool.{false≢true}
 use Rattle.wp_model.specs.Sums.{sum_below}
 use Rattle.wp_graph.specs.declared.ways.AisleWays.{AisleWays}
@@ -10,15 +10,14 @@ use Rattle.wp_classes.specs.Least.{length_at}
 use Rattle.wp_classes.specs.Onward.{IsLeastOf, Through}
 use Rattle.wp_classes.proofs.LeastLengths.{least_ways}
 use Rattle.wp_classes.proofs.Leasts.{least_lesser, least_like, least_more}
-use Rattle.wp_classes.proofs.Small.{IsSmall, onward_small}
 use Rattle.wp_fast.specs.declared.lengths.NeededLengths.{NeededLengths}
-use Rattle.wp_fast.specs.Lengths.{AreGoing, AreShort, HaveLeast, along_run, by_some_way, ends, on_from}
-use Rattle.wp_fast.specs.Needed.{Along, Begins, Going, is_closed}
-use Rattle.wp_fast.specs.SpareRuns.{IsFirstLeast, NoneBetween}
-use Rattle.wp_fast.proofs.Alone.{IsEven}
-use Rattle.wp_fast.proofs.Beginning.{SomeNeeded, begins_by_needed}
-use Rattle.wp_fast.proofs.GoingRuns.{ByNeeded, far, far_is, to_end, to_first, to_needed}
-use Rattle.wp_fast.proofs.Walks.{begins_all, goes_on}
+use Rattle.wp_fast.specs.Lengths.{AreCarried, along_run, by_some_way, ends, on_from}
+use Rattle.wp_fast.specs.SpareRuns.{AreNeighbours, NoneBetween}
+use Rattle.wp_fast.proofs.Alone.{IsEven, over_run}
+use Rattle.wp_fast.proofs.NoMore.{itself, least_between}
+use Rattle.wp_fast.proofs.OverRuns.{Along, GoesOver, far, far_is, is_closed, to_end, to_needed}
+use Rattle.wp_fast.proofs.Steps.{ThroughAndOn}
+use Rattle.wp_fast.proofs.Walks.{through_on}
 
 -- the least length by some way, and on
 pub least_by_some : (on : Class → ℕ → Type 0) (ways : AisleWays) (least : Class → Option ℕ) → ((class : Class) → IsLeastOf (on class) (least class)) → (class : Class) →
@@ -36,47 +35,56 @@ least_by_some on ways least are class = least_ways on ways
     go Z00 = are Z00
     go Z01 = are Z01
 
--- the least lengths on from before the way through a needed aisle
-pub record AreBefore (on : Class → ℕ → Type 0) (lengths : NeededLengths) : Type 0 where
-  pub uu1 : IsLeastOf (on UU1) (Some lengths.uu1)
-  pub e01 : IsLeastOf (on E01) (Some lengths.e01)
-  pub ze1 : IsLeastOf (on ZE1) (Some lengths.ze1)
-  pub ee1 : IsLeastOf (on EE1) (Some lengths.ee1)
-  pub ee2 : IsLeastOf (on EE2) (Some lengths.ee2)
-
-pub before_are : (on : Class → ℕ → Type 0) (ways : AisleWays) (least : Class → Option ℕ) (lengths : NeededLengths) → ((class : Class) → IsLeastOf (on class) (least class)) →
-    HaveLeast ways least lengths → AreBefore (λ class t. Through on ways class t) lengths
-before_are on ways least lengths are have = record {
-  uu1 = subst (λ o. IsLeastOf (Through on ways UU1) o) (sym have.uu1) (least_by_some on ways least are UU1);
-  e01 = subst (λ o. IsLeastOf (Through on ways E01) o) (sym have.e01) (least_by_some on ways least are E01);
-  ze1 = subst (λ o. IsLeastOf (Through on ways ZE1) o) (sym have.ze1) (least_by_some on ways least are ZE1);
-  ee1 = subst (λ o. IsLeastOf (Through on ways EE1) o) (sym have.ee1) (least_by_some on ways least are EE1);
-  ee2 = subst (λ o. IsLeastOf (Through on ways EE2) o) (sym have.ee2) (least_by_some on ways least are EE2);
-}
+-- through a needed aisle, and over the run behind it by crossings of one kind, is the least of all ways on
+pub least_before : (whole : ℕ) (block : Block) → IsEven whole block → (left aisle : ℕ) → (block.ways aisle).skip ≡ None → (on : Class → Option ℕ) →
+    ((class : Class) → IsLeastOf (λ t. GoesOver block left aisle 0 class t) (on class)) → (class : Class) →
+    IsLeastOf (ThroughAndOn block left aisle class) (by_some_way (block.ways aisle) on class)
+least_before whole block even left aisle none on are class =
+    let Over : Class → ℕ → Type 0 = λ next more. GoesOver block left aisle 0 next more in
+    least_between (Through Over (block.ways aisle) class) (ThroughAndOn block left aisle class) (by_some_way (block.ways aisle) on class)
+    (λ t h. itself (ThroughAndOn block left aisle class) t (through_on whole block even left aisle class t h)) (over_run whole block even left aisle none class)
+    (least_by_some Over (block.ways aisle) on are class)
 
 -- the least lengths from the other end of a run
-pub along_least : (on : Class → ℕ → Type 0) (span : ℕ) (lengths : NeededLengths) → AreBefore on lengths → (class : Class) →
+pub along_least : (on : Class → ℕ → Type 0) (span : ℕ) (lengths : NeededLengths) → AreCarried on lengths → (class : Class) →
     IsLeastOf (Along on span class) (on_from (along_run span lengths) class)
-along_least on span lengths are UU1 = least_more (on UU1) (2 * span) (Some lengths.uu1) are.uu1
-along_least on span lengths are E01 = least_more (on E01) (2 * span) (Some lengths.e01) are.e01
-along_least on span lengths are ZE1 = least_more (on ZE1) (2 * span) (Some lengths.ze1) are.ze1
+along_least on span lengths are UU1 = least_more (on UU1) (2 * span) (Some lengths.uu1) (are.least UU1 refl)
+along_least on span lengths are E01 = least_more (on E01) (2 * span) (Some lengths.e01) (are.least E01 refl)
+along_least on span lengths are ZE1 = least_more (on ZE1) (2 * span) (Some lengths.ze1) (are.least ZE1 refl)
 along_least on span lengths are EE1 =
     let one = least_more (λ r. on E01 r ⊎ on ZE1 r) (2 * span) (Some (min lengths.e01 lengths.ze1))
-    (least_lesser (on E01) (on ZE1) (Some lengths.e01) (Some lengths.ze1) are.e01 are.ze1) in
-    let both = least_more (on EE1) (4 * span) (Some lengths.ee1) are.ee1 in
+    (least_lesser (on E01) (on ZE1) (Some lengths.e01) (Some lengths.ze1) (are.least E01 refl) (are.least ZE1 refl)) in
+    let both = least_more (on EE1) (4 * span) (Some lengths.ee1) (are.least EE1 refl) in
     let same : min (2 * span + min lengths.e01 lengths.ze1) (4 * span + lengths.ee1)
     ≡ min (min (2 * span + lengths.e01) (2 * span + lengths.ze1)) (4 * span + lengths.ee1) = omega arith in
     subst (λ n. IsLeastOf (Along on span EE1) (Some n)) same
     (least_lesser (λ t. (r : ℕ) × (on E01 r ⊎ on ZE1 r) × (t ≡ 2 * span + r)) (λ t. (r : ℕ) × on EE1 r × (t ≡ 4 * span + r))
     (Some (2 * span + min lengths.e01 lengths.ze1)) (Some (4 * span + lengths.ee1)) one both)
-along_least on span lengths are EE2 = least_more (on EE2) (4 * span) (Some lengths.ee2) are.ee2
+along_least on span lengths are EE2 = least_more (on EE2) (4 * span) (Some lengths.ee2) (are.least EE2 refl)
 along_least on span lengths are Z00 = λ t h. h
 along_least on span lengths are Z01 = λ t h. h
 
+-- from one needed aisle to the next
+pub least_to_needed : (block : Block) (all aisle later : ℕ) (lengths : NeededLengths) → AreNeighbours block aisle later → later ≤ all →
+    AreCarried (ThroughAndOn block (all - later) later) lengths → (class : Class) →
+    IsLeastOf (λ t. GoesOver block (all - aisle) aisle 0 class t) (on_from (along_run (sum_below later block.spacing - sum_below aisle block.spacing) lengths) class)
+least_to_needed block all aisle later lengths are last carried class =
+    let span : ℕ = sum_below later block.spacing - sum_below aisle block.spacing in
+    let between : ℕ = later - aisle - 1 in
+    let count : aisle + between + 1 ≡ later = omega (arith, are.order) in
+    let apart = far_is block.spacing between aisle ∙ ap (λ n. sum_below n block.spacing) count in
+    let same : 0 + far block.spacing between aisle ≡ span = omega (arith, apart) in
+    let runs : (t : ℕ) → GoesOver block (all - aisle) aisle 0 class t ↔ Along (ThroughAndOn block (all - later) later) span class t = λ t.
+    subst (λ s. GoesOver block (all - aisle) aisle 0 class t ↔ Along (ThroughAndOn block (all - later) later) s class t) same
+    (to_needed block between (all - aisle) (all - later) aisle later 0 (omega (arith, are.order, last)) (omega (arith, are.order)) are.between are.there class t) in
+    least_like (Along (ThroughAndOn block (all - later) later) span class) (λ t. GoesOver block (all - aisle) aisle 0 class t)
+    (on_from (along_run span lengths) class) (λ t h. (runs t).1 h) (λ t h. (runs t).0 h)
+    (along_least (ThroughAndOn block (all - later) later) span lengths carried class)
+
 -- after the last needed aisle
-pub ends_least : (block : Block) (left aisle : ℕ) → NoneBetween block aisle (aisle + left + 1) → (class : Class) →
-    IsLeastOf (λ t. Going block left aisle 0 class t) (ends class)
-ends_least block left aisle none class = least_like (λ t. IsTrue (is_closed class) × (t ≡ 0)) (λ t. Going block left aisle 0 class t) (ends class)
+pub least_to_end : (block : Block) (left aisle : ℕ) → NoneBetween block aisle (aisle + left + 1) → (class : Class) →
+    IsLeastOf (λ t. GoesOver block left aisle 0 class t) (ends class)
+least_to_end block left aisle none class = least_like (λ t. IsTrue (is_closed class) × (t ≡ 0)) (λ t. GoesOver block left aisle 0 class t) (ends class)
     (λ t h. (to_end block left aisle 0 none class t).1 h) (λ t h. (to_end block left aisle 0 none class t).0 h) (go class)
   where
     go : (class : Class) → IsLeastOf (λ t. IsTrue (is_closed class) × (t ≡ 0)) (ends class)
@@ -87,51 +95,3 @@ ends_least block left aisle none class = least_like (λ t. IsTrue (is_closed cla
     go EE2 = λ t h. false≢true h.0
     go Z00 = λ t h. false≢true h.0
     go Z01 = λ t h. false≢true h.0
-
--- after the needed aisle before this one
-pub going_before : (block : Block) (all next aisle span : ℕ) → next < aisle → aisle ≤ all → (block.ways aisle).skip ≡ None → NoneBetween block next aisle →
-    span ≡ sum_below aisle block.spacing - sum_below next block.spacing → (lengths : NeededLengths) →
-    AreBefore (λ class t. ByNeeded block (all - aisle) aisle class t) lengths → AreGoing block (all - next) next (along_run span lengths)
-going_before block all next aisle span order last needed none span_is lengths are = record {
-  least = λ class.
-      let between : ℕ = aisle - next - 1 in
-      let count : next + between + 1 ≡ aisle = omega arith in
-      let apart = far_is block.spacing between next ∙ ap (λ n. sum_below n block.spacing) count in
-      let same : 0 + far block.spacing between next ≡ span = omega (arith, apart, span_is) in
-      let runs : (t : ℕ) → Going block (all - next) next 0 class t ↔ Along (ByNeeded block (all - aisle) aisle) span class t = λ t.
-      subst (λ s. Going block (all - next) next 0 class t ↔ Along (ByNeeded block (all - aisle) aisle) s class t) same
-      (to_needed block between (all - next) (all - aisle) next aisle 0 (omega arith) (omega arith) none needed class t) in
-      least_like (Along (ByNeeded block (all - aisle) aisle) span class) (λ t. Going block (all - next) next 0 class t)
-      (on_from (along_run span lengths) class) (λ t h. (runs t).1 h) (λ t h. (runs t).0 h)
-      (along_least (ByNeeded block (all - aisle) aisle) span lengths are class);
-}
-
--- from the first needed aisle
-pub first_is_least : (whole : ℕ) (block : Block) → IsEven whole block → (all first least : ℕ) → 1 ≤ first → first ≤ all → NoneBetween block 0 first →
-    (block.ways first).skip ≡ None → SomeNeeded block (all - 1) 1 → IsLeastOf (λ t. ByNeeded block (all - first) first Z00 t) (Some least) →
-    IsFirstLeast block (all - 1) least
-first_is_least whole block even all first least some last none needed some_needed is =
-    let begins : (t : ℕ) → Begins block (all - 1) 1 t ↔ ByNeeded block (all - first) first Z00 t = λ t.
-    to_first block (first - 1) (all - 1) (all - first) 1 first t (omega arith) (omega arith) (λ a low high. none a (omega arith) high) needed in
-    record {
-      is = (
-        begins_all whole block even (all - 1) 1 least ((begins least).1 is.0),
-        λ t h.
-            let less = begins_by_needed whole block even (all - 1) 1 t some_needed h in
-            let up = is.1 less.total ((begins less.total).0 less.is) in omega (arith, up, less.least),
-      );
-    }
-
--- they are short
-pub going_short : (whole : ℕ) (block : Block) → IsEven whole block → IsSmall block → (left aisle : ℕ) → left ≤ 64 → (lengths : NeededLengths) → AreGoing block left aisle lengths →
-    AreShort lengths
-going_short whole block even small left aisle near lengths are = record {
-  uu1 = bound UU1 lengths.uu1 (are.least UU1).0;
-  e01 = bound E01 lengths.e01 (are.least E01).0;
-  ze1 = bound ZE1 lengths.ze1 (are.least ZE1).0;
-  ee1 = bound EE1 lengths.ee1 (are.least EE1).0;
-  ee2 = bound EE2 lengths.ee2 (are.least EE2).0;
-}
-  where
-    bound : (class : Class) (t : ℕ) → Going block left aisle 0 class t → t ≤ 2 ^ 40
-    bound class t h = let b = onward_small block small left aisle class t ((goes_on whole block even left).at aisle class t h) in omega (arith, b, near)

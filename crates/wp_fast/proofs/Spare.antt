@@ -12,7 +12,8 @@ use Rattle.wp_classes.specs.declared.class.Cross.TheVariants.{C00, C11, C20, C02
 use Rattle.wp_classes.specs.Choices.{Block, TakesWay}
 use Rattle.wp_classes.specs.Onward.{Onward, Through}
 use Rattle.wp_classes.specs.Tables.{class_after_way, way_length}
-use Rattle.wp_fast.proofs.Steps.{By, NoMore, Crossed, OnFrom, across_crossed, by_from, crossed_from, on_from_there, through_by}
+use Rattle.wp_fast.proofs.NoMore.{NoMore}
+use Rattle.wp_fast.proofs.Steps.{By, Crossed, OnFrom, across_crossed, by_from, crossed_from, on_from_there, through_by}
 use Rattle.wp_fast.proofs.Tables.{double_then, pass_then, then_double, then_pass, with_double, with_pass}
 
 -- a pass of the aisle is so long, and a double twice as long

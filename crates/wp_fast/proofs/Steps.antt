@@ -1,17 +1,16 @@
 -- One way or one crossing, and on from the class after it.
-use Rattle.std.proofs.Common.{◌≡◌, ℕ, ◌+◌, ◌*◌, ◌≤◌, Option, Some, None, refl, sym, subst}
+use Rattle.std.proofs.Common.{◌≡◌, ℕ, ◌+◌, ◌*◌, Option, Some, None, refl, sym, subst}
 use Rattle.wp_graph.specs.declared.ways.AisleWays.{AisleWays}
 use Rattle.wp_classes.specs.declared.class.Class.{Class}
 use Rattle.wp_classes.specs.declared.class.Way.{Way}
 use Rattle.wp_classes.specs.declared.class.Cross.{Cross}
-use Rattle.wp_classes.specs.Onward.{Across, Through}
+use Rattle.wp_classes.specs.Choices.{Block}
+use Rattle.wp_classes.specs.Onward.{Across, Onward, Through}
 use Rattle.wp_classes.specs.Tables.{class_after_cross, class_after_way, copies, way_length}
 
--- some number with a property is at most so great
-pub record NoMore (P : ℕ → Type 0) (most : ℕ) : Type 0 where
-  pub total : ℕ
-  pub is : P total
-  pub least : total ≤ most
+-- through an aisle, and on to the end past so many more
+abbrev pub ThroughAndOn : Block → ℕ → ℕ → Class → ℕ → Type 0
+ThroughAndOn block left aisle before total = Through (λ next rest. Onward block left aisle next rest) (block.ways aisle) before total
 
 -- on from a class, where there is one
 abbrev pub OnFrom : (Class → ℕ → Type 0) → Option Class → ℕ → Type 0

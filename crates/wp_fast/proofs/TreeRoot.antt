@@ -1,21 +1,19 @@
 -- The summary at the root of a tree: that of all aisles, which gives the length of a shortest tour.
-use Rattle.std.proofs.Common.{◌≡◌, ℕ, suc, ◌+◌, ◌-◌, ◌*◌, ◌≤◌, List, Option, get_or, arith, refl, subst, sym}
+use Rattle.std.proofs.Common.{◌≡◌, ℕ, suc, ◌+◌, ◌-◌, ◌*◌, ◌≤◌, List, Option, get_or, arith, refl, subst}
 use Rattle.wp_model.specs.declared.point.Point.{Point}
 use Rattle.wp_model.specs.Warehouse.{IsLayout, IsUpTo, Layout}
 use Rattle.wp_classes.specs.declared.class.Class.{Class}
 use Rattle.wp_classes.specs.declared.class.Class.TheVariants.{Z00}
 use Rattle.wp_classes.specs.Choices.{block_of}
 use Rattle.wp_classes.specs.Onward.{IsLeastOf}
-use Rattle.wp_classes.proofs.Leasts.{least_like}
 use Rattle.wp_classes.proofs.Routes.{IsLeastFirst}
 use Rattle.wp_fast.specs.declared.summary.Summary.{Summary}
 use Rattle.wp_fast.specs.Passages.{AreLeast, Then, ToTheEnd}
 use Rattle.wp_fast.specs.Runs.{PastAisle, PastRun}
-use Rattle.wp_fast.specs.Summaries.{length_between}
 use Rattle.wp_fast.specs.Trees.{IsTree}
-use Rattle.wp_fast.proofs.Composing.{composed_least, least_alike, least_between, least_found, least_has}
+use Rattle.wp_fast.proofs.Composing.{composed_least, least_alike, least_past}
 use Rattle.wp_fast.proofs.JoinedRuns.{first_run, none_run, run_first, run_none, run_parts, runs_join}
-use Rattle.wp_fast.proofs.WholeRuns.{RunToTheEnd, ThroughAndOn, goes_on_run, run_goes_on}
+use Rattle.wp_fast.proofs.WholeRuns.{first_of_run}
 
 -- each node with so many aisles below it, from the first one on, has the least lengths past them
 abbrev Spans : Layout → List Point → List Summary → ℕ → Type 0
@@ -71,32 +69,8 @@ root_least layout picks tree d is =
     let all = double_spans layout picks tree 32 is half (λ node first at low high. ((omega arith, omega arith), omega arith)) in
     all 1 1 d refl (omega arith) (omega arith)
 
--- the least length to the end past all aisles is the least length of all ways to go on from the first aisle
+-- the least length to the end that the root tells is the least length of all ways to go on from the first aisle
 pub first_of_root : (layout : Layout) (picks : List Point) (root : Summary) (least : Option ℕ) → IsLayout layout → AreLeast (PastRun layout picks 64 1) root
     → IsLeastOf (ToTheEnd root) least → IsLeastFirst (block_of layout picks) (layout.aisles - 1) least
-first_of_root layout picks root least valid are is = record {
-  is = least_like (RunToTheEnd layout picks 64 1 Z00) (ThroughAndOn layout picks (layout.aisles - 1) 1 Z00) least on_from_run run_from_on
-      (least_between (ToTheEnd root) (RunToTheEnd layout picks 64 1 Z00) least run_up run_down is);
-}
-  where
-    run_up : (t : ℕ) → ToTheEnd root t → (s : ℕ) × RunToTheEnd layout picks 64 1 Z00 s × (s ≤ t)
-    run_up t (after, whole, told) =
-        (t, (after, whole, least_has (PastRun layout picks 64 1 Z00 after) (length_between root Z00 after) t (are.least Z00 after) told), omega arith)
-
-    run_down : (t : ℕ) → RunToTheEnd layout picks 64 1 Z00 t → (s : ℕ) × ToTheEnd root s × (s ≤ t)
-    run_down t (after, whole, run) =
-        let found = least_found (PastRun layout picks 64 1 Z00 after) (length_between root Z00 after) t (are.least Z00 after) run in
-        (found.0, (after, whole, found.1), found.2)
-
-    count : suc (layout.aisles - 1) + (64 - layout.aisles) ≡ 64
-    count = omega (arith, valid.aisles)
-
-    on_from_run : (t : ℕ) → RunToTheEnd layout picks 64 1 Z00 t → ThroughAndOn layout picks (layout.aisles - 1) 1 Z00 t
-    on_from_run t (after, whole, run) =
-        run_goes_on layout picks (layout.aisles - 1) 1 (64 - layout.aisles) Z00 after t (omega (arith, valid.aisles))
-        (subst (λ (k : ℕ). PastRun layout picks k 1 Z00 after t) (sym count) run) whole
-
-    run_from_on : (t : ℕ) → ThroughAndOn layout picks (layout.aisles - 1) 1 Z00 t → RunToTheEnd layout picks 64 1 Z00 t
-    run_from_on t on =
-        let run = goes_on_run layout picks (layout.aisles - 1) 1 (64 - layout.aisles) Z00 t (omega (arith, valid.aisles)) on in
-        (run.0, run.1, subst (λ (k : ℕ). PastRun layout picks k 1 Z00 run.0 t) count run.2)
+first_of_root layout picks root least valid are is =
+    first_of_run layout picks 64 least valid.aisles (least_past (PastRun layout picks 64 1) root Z00 least are is)

@@ -1,6 +1,5 @@
 -- The aisles of a layout: they are as long as each other, and that of the depot is needed.
-use Rattle.std.proofs.Common.{◌≡◌, ℕ, zero, suc, ◌+◌, ◌-◌, ◌≤◌, ◌⊎◌, Bool, true, false, List, [], ◌∷◌, Option, Some, None, if◌then◌else◌, is_some, ap, arith, inl, inr, refl, sym, ◌∙◌, subst}
-use Rattle.std.proofs.lemmas.Bool.{cases_eq}
+use Rattle.std.proofs.Common.{◌≡◌, ℕ, ◌+◌, Bool, true, false, List, [], ◌∷◌, Option, Some, None, if◌then◌else◌, is_some, ap, arith, refl, sym, ◌∙◌, subst}
 use Rattle.std.proofs.lemmas.Option.{none-some}
 use Rattle.wp_model.specs.declared.point.Point.{Point}
 use Rattle.wp_model.specs.Warehouse.{End, IsLayout, Layout}
@@ -11,10 +10,9 @@ use Rattle.wp_graph.specs.Required.{aisle_length, required_distances}
 use Rattle.wp_graph.specs.Sites.{has_depot, site_of}
 use Rattle.wp_model.specs.Warehouse.End.{at_front, at_back}
 use Rattle.wp_graph.proofs.NeededWays.{depot_not_skipped, not_skipped, skip_tells}
-use Rattle.wp_classes.specs.Choices.{Block, block_of}
+use Rattle.wp_classes.specs.Choices.{block_of}
 use Rattle.wp_fast.specs.SpareRuns.{IsNextNeeded}
 use Rattle.wp_fast.proofs.Alone.{IsEven, IsSpare}
-use Rattle.wp_fast.proofs.Beginning.{SomeNeeded}
 
 -- an aisle that can be skipped has no required distance
 spare_with : (depot : End → Bool) (whole : ℕ) (distances : List ℕ) (nothing : ℕ) → (ways_with depot whole distances).skip ≡ Some nothing →
@@ -34,25 +32,7 @@ layout_even layout picks = record {
   spare = λ aisle nothing e. spare_with (has_depot (site_of layout) aisle) (aisle_length layout) (required_distances layout picks aisle) nothing e;
 }
 
--- some aisle is needed
-some_at : (block : Block) (left aisle needed : ℕ) → aisle ≤ needed → needed ≤ aisle + left → (block.ways needed).skip ≡ None → SomeNeeded block left aisle
-some_at block zero aisle needed low high none = let same : needed ≡ aisle = omega arith in subst (λ a. (block.ways a).skip ≡ None) same none
-some_at block (suc left) aisle needed low high none = go (block.ways aisle).skip refl (λ low'. some_at block left (suc aisle) needed low' (omega arith) none)
-  where
-    go : (skip : Option ℕ) → (block.ways aisle).skip ≡ skip → (suc aisle ≤ needed → SomeNeeded block left (suc aisle)) →
-        ((block.ways aisle).skip ≡ None) ⊎ SomeNeeded block left (suc aisle)
-    go None e further = inl e
-    go (Some nothing) e further = inr (further (above (cases_eq aisle needed)))
-      where
-        above : (aisle ≡ needed) ⊎ ((aisle ≡ needed) → ⊥) → suc aisle ≤ needed
-        above (inl same) = absurd (none-some nothing (sym (subst (λ a. (block.ways a).skip ≡ None) (sym same) none) ∙ e))
-        above (inr other) = omega arith
-
-pub some_needed : (layout : Layout) (picks : List Point) → IsLayout layout → SomeNeeded (block_of layout picks) (layout.aisles - 1) 1
-some_needed layout picks valid = some_at (block_of layout picks) (layout.aisles - 1) 1 layout.depot valid.depot.0 (omega (arith, valid.depot, valid.aisles))
-    (depot_not_skipped layout picks)
-
--- so there is a last needed aisle
+-- there is a last needed aisle, since that of the depot is one
 pub last_needed : (layout : Layout) (picks : List Point) (found : Option ℕ) → IsLayout layout →
     IsNextNeeded (block_of layout picks) (layout.aisles + 1) found → is_some found ≡ true
 last_needed layout picks None valid none =

@@ -1,14 +1,16 @@
--- The least lengths on from each class, by the needed aisles alone.
-use Rattle.std.specs.Prelude.{◌≡◌, ℕ, ◌+◌, ◌*◌, ◌≤◌, ◌^◌, min, Option, Some, None}
+-- The lengths that are carried from one needed aisle to the next, and how they come from each other.
+use Rattle.std.specs.Prelude.{◌≡◌, ℕ, ◌+◌, ◌-◌, ◌*◌, ◌≤◌, ◌^◌, min, Bool, true, false, IsTrue, List, Option, Some, None}
+use Rattle.wp_model.specs.declared.point.Point.{Point}
+use Rattle.wp_model.specs.Warehouse.{Layout}
 use Rattle.wp_graph.specs.declared.ways.AisleWays.{AisleWays}
-use Rattle.wp_graph.specs.AisleLengths.{AreAtMost}
+use Rattle.wp_graph.specs.AisleLengths.{AreAtMost, ways_of}
 use Rattle.wp_classes.specs.declared.class.Class.{Class}
 use Rattle.wp_classes.specs.declared.class.Class.TheVariants.{UU1, E01, ZE1, EE1, EE2, Z00, Z01}
-use Rattle.wp_classes.specs.Choices.{Block}
 use Rattle.wp_classes.specs.Least.{least_by_way}
 use Rattle.wp_classes.specs.Onward.{IsLeastOf}
 use Rattle.wp_fast.specs.declared.lengths.NeededLengths.{NeededLengths}
-use Rattle.wp_fast.specs.Needed.{Going}
+use Rattle.wp_fast.specs.Passages.{EndsFrom}
+use Rattle.wp_fast.specs.Runs.{PastRun}
 
 -- the length on from a class; there is none on from 000 or 001
 abbrev pub on_from : NeededLengths → Class → Option ℕ
@@ -66,6 +68,24 @@ along_run span before = record {
   ee2 = 4 * span + before.ee2;
 }
 
--- the least lengths on from each class after the way through a needed aisle, with so many more aisles
-pub record AreGoing (block : Block) (left aisle : ℕ) (lengths : NeededLengths) : Type 0 where
-  pub least : (class : Class) → IsLeastOf (λ t. Going block left aisle 0 class t) (on_from lengths class)
+-- from before an aisle, past it and all that are behind it, to the end of a tour
+abbrev pub PastTheRest : Layout → List Point → ℕ → Class → ℕ → Type 0
+PastTheRest layout picks aisle before total = EndsFrom (PastRun layout picks (layout.aisles + 1 - aisle) aisle) before total
+
+-- something has been passed in these classes, and the tour isn't done
+abbrev pub is_begun : Class → Bool
+is_begun UU1 = true
+is_begun E01 = true
+is_begun ZE1 = true
+is_begun EE1 = true
+is_begun EE2 = true
+is_begun Z00 = false
+is_begun Z01 = false
+
+-- lengths that are carried to an aisle: the least ones on from each class before it in which something has been passed
+pub record AreCarried (on : Class → ℕ → Type 0) (lengths : NeededLengths) : Type 0 where
+  pub least : (class : Class) → IsTrue (is_begun class) → IsLeastOf (on class) (on_from lengths class)
+
+-- lengths on from behind a needed aisle: by some way through it, and on by them, is the least past it and all behind it
+pub record AreBehind (layout : Layout) (picks : List Point) (aisle : ℕ) (on : Class → Option ℕ) : Type 0 where
+  pub least : (class : Class) → IsLeastOf (PastTheRest layout picks aisle class) (by_some_way (ways_of layout picks aisle) on class)

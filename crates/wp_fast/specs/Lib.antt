@@ -2,9 +2,8 @@ pub mod Rows
 pub mod Numbers
 pub mod Summaries
 pub mod Passages
-pub mod Laws
 pub mod Runs
 pub mod Trees
-pub mod Needed
 pub mod SpareRuns
 pub mod Lengths
+pub mod Laws

@@ -48,6 +48,10 @@ pub record AreLeast (Passes : Class → Class → ℕ → Type 0) (summary : Sum
 abbrev pub IsComposed : Summary → Summary → Summary → Type 0
 IsComposed first next both = AreLeast (Then (Tells first) (Tells next)) both
 
--- from class 000 to a class in which a tour may end
+-- from a class by a passage to a class in which a tour may end
+abbrev pub EndsFrom : Passage → Class → ℕ → Type 0
+EndsFrom Passes before total = (after : Class) × IsTrue (is_whole after) × Passes before after total
+
+-- from class 000 to the end, as a summary tells it
 abbrev pub ToTheEnd : Summary → ℕ → Type 0
-ToTheEnd summary total = (after : Class) × IsTrue (is_whole after) × Tells summary Z00 after total
+ToTheEnd summary total = EndsFrom (Tells summary) Z00 total

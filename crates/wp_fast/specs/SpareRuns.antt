@@ -1,8 +1,6 @@
 -- Runs of aisles that aren't needed.
 use Rattle.std.specs.Prelude.{◌≡◌, ℕ, ◌<◌, ◌≤◌, Option, Some, None}
-use Rattle.wp_classes.specs.declared.class.Class.TheVariants.{Z00}
 use Rattle.wp_classes.specs.Choices.{Block}
-use Rattle.wp_classes.specs.Onward.{IsLeastOf, Onward, Through}
 
 -- no aisle between two is needed
 abbrev pub NoneBetween : Block → ℕ → ℕ → Type 0
@@ -13,6 +11,9 @@ abbrev pub IsNextNeeded : Block → ℕ → Option ℕ → Type 0
 IsNextNeeded block aisle None = NoneBetween block 0 aisle
 IsNextNeeded block aisle (Some next) = (1 ≤ next) × (next < aisle) × ((block.ways next).skip ≡ None) × NoneBetween block next aisle
 
--- the least length of all ways to go on from the first aisle, with so many more
-pub record IsFirstLeast (block : Block) (left least : ℕ) : Type 0 where
-  pub is : IsLeastOf (λ t. Through (λ next more. Onward block left 1 next more) (block.ways 1) Z00 t) (Some least)
+-- an aisle and a later one are needed, and none between them
+pub record AreNeighbours (block : Block) (aisle later : ℕ) : Type 0 where
+  pub order : aisle < later
+  pub here : (block.ways aisle).skip ≡ None
+  pub there : (block.ways later).skip ≡ None
+  pub between : NoneBetween block aisle later

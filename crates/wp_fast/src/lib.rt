@@ -14,7 +14,10 @@ mod runs;
 mod summary;
 mod tree;
 
-pub use laws::composing_is_associative;
+pub use laws::{
+    carried_lengths_are_told, composing_is_associative, last_lengths_are_told,
+    stepping_is_composing,
+};
 pub use needed::tour_length;
 pub use runs::Runs;
 pub use summary::Summary;

@@ -1,11 +1,13 @@
-ghost use Rattle.std.specs.Prelude.{◌≡◌, ◌+◌, ◌-◌, ◌*◌, ◌<◌, ◌≤◌, ◌^◌, None};
+ghost use Rattle.std.specs.Prelude.{◌≡◌, ◌+◌, ◌-◌, ◌*◌, ◌<◌, ◌≤◌, ◌^◌, Some, None};
 ghost use Rattle.wp_graph.specs.Offsets.{aisle_offset};
 ghost use Rattle.wp_graph.specs.PickSets.{AreSlots};
 ghost use Rattle.wp_model.specs.Tours.{IsShortest};
 ghost use Rattle.wp_model.specs.Warehouse.{IsUpTo};
 ghost use Rattle.wp_classes.specs.Choices.{block_of};
-ghost use Rattle.wp_fast.specs.Lengths.{AreGoing};
-ghost use Rattle.wp_fast.specs.SpareRuns.{IsFirstLeast, NoneBetween};
+ghost use Rattle.wp_classes.specs.declared.class.Class.TheVariants.{Z00};
+ghost use Rattle.wp_classes.specs.Onward.{IsLeastOf};
+ghost use Rattle.wp_fast.specs.Lengths.{AreBehind, AreShort, PastTheRest, on_from};
+ghost use Rattle.wp_fast.specs.SpareRuns.{AreNeighbours, NoneBetween};
 
 use crate::lengths::{NeededLengths, before_last, before_way, first_length, only_length};
 use wp_graph::{Layout, Picks, aisle_ways};
@@ -21,7 +23,7 @@ fn span_between(layout: &Layout, aisle: u32, later: u32) -> u64
     u64::from(layout.length_between(aisle, later))
 }
 
-// The least lengths on from after the way through a needed aisle, from those on from after the next one behind it.
+// The lengths on from behind a needed aisle, from those on from behind the next needed one.
 fn after_next(
     layout: &Layout,
     picks: &Picks,
@@ -31,39 +33,39 @@ fn after_next(
 ) -> NeededLengths
     requires picks { picks.now.layout ≡ layout.now }
     requires first { 1 ≤ next }
-    requires order { next < aisle }
     requires last { aisle ≤ layout.now.aisles }
-    requires needed { ((block_of layout.now picks.now.points).ways aisle).skip ≡ None }
-    requires between { NoneBetween (block_of layout.now picks.now.points) next aisle }
-    requires after { AreGoing (block_of layout.now picks.now.points) (layout.now.aisles - aisle) aisle after.now }
-    ensures { AreGoing (block_of layout.now picks.now.points) (layout.now.aisles - next) next result }
+    requires neighbours { AreNeighbours (block_of layout.now picks.now.points) next aisle }
+    requires short { AreShort after.now }
+    requires after { AreBehind layout.now picks.now.points aisle (on_from after.now) }
+    ensures short { AreShort result }
+    ensures behind { AreBehind layout.now picks.now.points next (on_from result) }
 {
-    let before = before_way(&aisle_ways(layout, picks, aisle), after);
-    before.along(span_between(layout, next, aisle))
+    let carried = before_way(&aisle_ways(layout, picks, aisle), after);
+    carried.along(span_between(layout, next, aisle))
 }
 
-// The least lengths on from after the way through the needed aisle before the last one.
+// The lengths on from behind the needed aisle before the last one.
 fn after_next_to_last(layout: &Layout, picks: &Picks, next: u32, last: u32) -> NeededLengths
     requires picks { picks.now.layout ≡ layout.now }
     requires first { 1 ≤ next }
-    requires order { next < last }
     requires last { last ≤ layout.now.aisles }
-    requires needed { ((block_of layout.now picks.now.points).ways last).skip ≡ None }
-    requires between { NoneBetween (block_of layout.now picks.now.points) next last }
+    requires neighbours { AreNeighbours (block_of layout.now picks.now.points) next last }
     requires behind { NoneBetween (block_of layout.now picks.now.points) last (layout.now.aisles + 1) }
-    ensures { AreGoing (block_of layout.now picks.now.points) (layout.now.aisles - next) next result }
+    ensures short { AreShort result }
+    ensures behind { AreBehind layout.now picks.now.points next (on_from result) }
 {
-    let before = before_last(&aisle_ways(layout, picks, last));
-    before.along(span_between(layout, next, last))
+    let carried = before_last(&aisle_ways(layout, picks, last));
+    carried.along(span_between(layout, next, last))
 }
 
-// The length of a shortest tour, from the least lengths on from after the way through a needed aisle.
+// The length of a shortest tour, from the lengths on from behind a needed aisle.
 fn length_from(layout: &Layout, picks: &Picks, aisle: u32, after: NeededLengths) -> u64
     requires picks { picks.now.layout ≡ layout.now }
     requires aisle { IsUpTo layout.now.aisles aisle }
     requires needed { ((block_of layout.now picks.now.points).ways aisle).skip ≡ None }
-    requires after { AreGoing (block_of layout.now picks.now.points) (layout.now.aisles - aisle) aisle after }
-    ensures least { IsFirstLeast (block_of layout.now picks.now.points) (layout.now.aisles - 1) result }
+    requires short { AreShort after }
+    requires after { AreBehind layout.now picks.now.points aisle (on_from after) }
+    ensures least { IsLeastOf (PastTheRest layout.now picks.now.points 1 Z00) (Some result) }
     ensures slots { AreSlots layout.now picks.now.points }
 {
     let mut first = aisle;
@@ -81,7 +83,7 @@ fn length_to(layout: &Layout, picks: &Picks, last: u32) -> u64
     requires aisle { IsUpTo layout.now.aisles last }
     requires needed { ((block_of layout.now picks.now.points).ways last).skip ≡ None }
     requires behind { NoneBetween (block_of layout.now picks.now.points) last (layout.now.aisles + 1) }
-    ensures least { IsFirstLeast (block_of layout.now picks.now.points) (layout.now.aisles - 1) result }
+    ensures least { IsLeastOf (PastTheRest layout.now picks.now.points 1 Z00) (Some result) }
     ensures slots { AreSlots layout.now picks.now.points }
 {
     match picks.needed_below(last) {

@@ -1,17 +1,28 @@
-use Rattle.wp_fast.proofs.Shorter.{ways_needed, before_short, going_layout, after_short}
+use Rattle.wp_fast.proofs.Carrying.{along_short, behind_run, carried_short, carried_to, ways_needed}
+use Rattle.wp_fast.specs.Lengths.{AreCarried, PastTheRest}
 use Rattle.wp_fast.proofs.needed.after_next.Goals as goal
+use Rattle.wp_fast.proofs.needed.after_next.Goals.{After-before_way-carried}
 
-pub before_way-before-requires-clause-ways : goal.before_way-before-requires-clause-ways
-before_way-before-requires-clause-ways c = ways_needed _ _ _ _ c.aisle_ways.ensures.slots c.aisle_ways.ensures.value c.requires.needed
+-- what is carried to the aisle
+carried : (c : After-before_way-carried) → AreCarried (PastTheRest c.args.layout.now c.args.picks.now.points c.args.aisle) c.before_way-carried.result
+carried c = carried_to _ _ _ _ _ _ c.aisle_ways.ensures.value c.requires.after c.before_way-carried.ensures
 
-pub before_way-before-requires-clause-after : goal.before_way-before-requires-clause-after
-before_way-before-requires-clause-after c = after_short _ _ _ _ c.aisle_ways.ensures.slots c.requires.last c.requires.after
+pub before_way-carried-requires-clause-ways : goal.before_way-carried-requires-clause-ways
+before_way-carried-requires-clause-ways c = ways_needed _ _ _ _ c.aisle_ways.ensures.slots c.aisle_ways.ensures.value c.requires.neighbours.there
+
+pub span_between-requires-clause-order : goal.span_between-requires-clause-order
+span_between-requires-clause-order c = c.requires.neighbours.order
 
 pub along-requires-clause-lengths : goal.along-requires-clause-lengths
 along-requires-clause-lengths c =
-    before_short _ _ _ _ _ _ c.aisle_ways.ensures.slots c.requires.last c.aisle_ways.ensures.value c.requires.needed c.requires.after.least c.before_way-before.ensures
+    carried_short _ _ _ _ c.aisle_ways.ensures.slots.ranges c.requires.last (carried (goal.at.along-requires-clause-lengths c).After-before_way-carried)
 
-pub returns : goal.returns
-returns c =
-    rw c.along.ensures (going_layout _ _ _ _ _ _ _ _ c.aisle_ways.ensures.slots c.requires.order c.requires.last c.requires.needed c.requires.between
-    c.aisle_ways.ensures.value c.span_between.ensures.value c.requires.after.least c.before_way-before.ensures)
+pub returns-clause-short : goal.returns-clause-short
+returns-clause-short c =
+    rw c.along.ensures (along_short _ _ _ _ _ c.aisle_ways.ensures.slots.ranges c.requires.last c.span_between.ensures.small
+    (carried (goal.at.returns-clause-short c).After-before_way-carried))
+
+pub returns-clause-behind : goal.returns-clause-behind
+returns-clause-behind c =
+    rw c.along.ensures (behind_run _ _ _ _ _ _ c.requires.neighbours c.requires.last c.span_between.ensures.value
+    (carried (goal.at.returns-clause-behind c).After-before_way-carried))

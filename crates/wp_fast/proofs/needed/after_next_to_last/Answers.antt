@@ -1,15 +1,28 @@
-use Rattle.wp_fast.proofs.Shorter.{ways_needed, before_short, going_layout, ends_layout}
+use Rattle.wp_fast.proofs.Carrying.{along_short, behind_last, behind_run, carried_short, carried_to, ways_needed}
+use Rattle.wp_fast.specs.Lengths.{AreCarried, PastTheRest}
 use Rattle.wp_fast.proofs.needed.after_next_to_last.Goals as goal
+use Rattle.wp_fast.proofs.needed.after_next_to_last.Goals.{After-before_last-carried}
 
-pub before_last-before-requires : goal.before_last-before-requires
-before_last-before-requires c = ways_needed _ _ _ _ c.aisle_ways.ensures.slots c.aisle_ways.ensures.value c.requires.needed
+-- what is carried to the last needed aisle
+carried : (c : After-before_last-carried) → AreCarried (PastTheRest c.args.layout.now c.args.picks.now.points c.args.last) c.before_last-carried.result
+carried c = carried_to _ _ _ _ _ _ c.aisle_ways.ensures.value (behind_last _ _ _ c.requires.last c.requires.neighbours.there c.requires.behind) c.before_last-carried.ensures
+
+pub before_last-carried-requires : goal.before_last-carried-requires
+before_last-carried-requires c = ways_needed _ _ _ _ c.aisle_ways.ensures.slots c.aisle_ways.ensures.value c.requires.neighbours.there
+
+pub span_between-requires-clause-order : goal.span_between-requires-clause-order
+span_between-requires-clause-order c = c.requires.neighbours.order
 
 pub along-requires-clause-lengths : goal.along-requires-clause-lengths
 along-requires-clause-lengths c =
-    before_short _ _ _ _ _ _ c.aisle_ways.ensures.slots c.requires.last c.aisle_ways.ensures.value c.requires.needed
-    (ends_layout _ _ _ c.requires.last c.requires.behind) c.before_last-before.ensures
+    carried_short _ _ _ _ c.aisle_ways.ensures.slots.ranges c.requires.last (carried (goal.at.along-requires-clause-lengths c).After-before_last-carried)
 
-pub returns : goal.returns
-returns c =
-    rw c.along.ensures (going_layout _ _ _ _ _ _ _ _ c.aisle_ways.ensures.slots c.requires.order c.requires.last c.requires.needed c.requires.between
-    c.aisle_ways.ensures.value c.span_between.ensures.value (ends_layout _ _ _ c.requires.last c.requires.behind) c.before_last-before.ensures)
+pub returns-clause-short : goal.returns-clause-short
+returns-clause-short c =
+    rw c.along.ensures (along_short _ _ _ _ _ c.aisle_ways.ensures.slots.ranges c.requires.last c.span_between.ensures.small
+    (carried (goal.at.returns-clause-short c).After-before_last-carried))
+
+pub returns-clause-behind : goal.returns-clause-behind
+returns-clause-behind c =
+    rw c.along.ensures (behind_run _ _ _ _ _ _ c.requires.neighbours c.requires.last c.span_between.ensures.value
+    (carried (goal.at.returns-clause-behind c).After-before_last-carried))

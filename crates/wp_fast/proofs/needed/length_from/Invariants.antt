@@ -1,14 +1,15 @@
-use Rattle.std.proofs.Common.{◌≡◌, ◌-◌, None}
+use Rattle.std.proofs.Common.{◌≡◌, None}
 use Rattle.wp_model.specs.Warehouse.{IsUpTo}
 use Rattle.wp_classes.specs.Choices.{block_of}
-use Rattle.wp_fast.specs.Lengths.{AreGoing}
+use Rattle.wp_fast.specs.Lengths.{AreBehind, AreShort, on_from}
 use Rattle.wp_fast.proofs.needed.length_from.Given as goal
 
 abbrev pub invariant-loop-next : goal.invariant-loop-next
 invariant-loop-next l = record {
   aisle : IsUpTo l.layout.aisles l.first;
   needed : ((block_of l.layout l.picks.points).ways l.first).skip ≡ None;
-  going : AreGoing (block_of l.layout l.picks.points) (l.layout.aisles - l.first) l.first l.onward;
+  short : AreShort l.onward;
+  behind : AreBehind l.layout l.picks.points l.first (on_from l.onward);
 }
 
 abbrev pub decreases-loop-next : goal.decreases-loop-next

@@ -1,7 +1,7 @@
 use Rattle.std.proofs.Common.{◌+◌}
 use Rattle.wp_classes.specs.Choices.{block_of}
 use Rattle.wp_fast.specs.SpareRuns.{IsNextNeeded}
-use Rattle.wp_fast.proofs.Shorter.{shortest_layout, small_layout}
+use Rattle.wp_fast.proofs.Carrying.{shortest_layout, small_layout}
 use Rattle.wp_fast.proofs.Warehouse.{last_needed, next_needed}
 use Rattle.wp_fast.proofs.needed.tour_length.Goals as goal
 use Rattle.wp_fast.proofs.needed.tour_length.Goals.{After-needed_below}
