@@ -44,7 +44,7 @@ wave-le-row wave row w hold = elim (cases_eq hold.row row) [
 pub chain_wave-le-row : (wave row : ℕ) (nodes : List KeptHolds) → chain_units (is_for_wave wave row) nodes ≤ chain_units (is_at row) nodes
 chain_wave-le-row wave row nodes =
     sum_by-within (node_units (is_for_wave wave row)) (node_units (is_at row)) nodes (λ node.
-    sum_by-within (hold_units_where (is_for_wave wave row) node.wave) (hold_units_where (is_at row) node.wave) node.holds.items
+    sum_by-within (hold_units_where (is_for_wave wave row) node.wave) (hold_units_where (is_at row) node.wave) node.holds
     (wave-le-row wave row node.wave))
 
 -- what is held for an order is within what is held for its wave
@@ -61,7 +61,7 @@ order-le-wave wave order row w hold = pick (w == wave) (hold.order == order) (ho
 pub chain_order-le-wave : (wave order row : ℕ) (nodes : List KeptHolds) → chain_units (is_for wave order row) nodes ≤ chain_units (is_for_wave wave row) nodes
 chain_order-le-wave wave order row nodes =
     sum_by-within (node_units (is_for wave order row)) (node_units (is_for_wave wave row)) nodes (λ node.
-    sum_by-within (hold_units_where (is_for wave order row) node.wave) (hold_units_where (is_for_wave wave row) node.wave) node.holds.items
+    sum_by-within (hold_units_where (is_for wave order row) node.wave) (hold_units_where (is_for_wave wave row) node.wave) node.holds
     (order-le-wave wave order row node.wave))
 
 -- a sum whose terms are each the sum of two is the sum of both sums
@@ -75,7 +75,7 @@ pub chain_at_row : (wave row : ℕ) (nodes : List KeptHolds) → chain_units (is
 chain_at_row wave row nodes =
     sum_by-plus (node_units (is_at row)) (node_units (but_of wave (is_at row))) (node_units (is_for_wave wave row)) nodes (λ node.
     sum_by-plus (hold_units_where (is_at row) node.wave) (hold_units_where (but_of wave (is_at row)) node.wave)
-    (hold_units_where (is_for_wave wave row) node.wave) node.holds.items
+    (hold_units_where (is_for_wave wave row) node.wave) node.holds
     (λ hold. parts (node.wave == wave) (hold.row == row) hold.quantity))
   where
     parts : (a b : Bool) (q : ℕ) → (if b then q else 0) ≡ (if b && not a then q else 0) + (if a && b then q else 0)
@@ -126,7 +126,7 @@ order_fits rows chains wave order row kept = elim (cases_lt row (length rows)) [
 -- one more call's holds can go into the chain of their wave
 pub record CanAdd (rows : List Row) (chains : List (List KeptHolds)) (wave : ℕ) (node : KeptHolds) : Type 0 where
   pub kept : IsKept rows chains
-  pub can : CanHold (book_of rows chains) node.holds.items
+  pub can : CanHold (book_of rows chains) node.holds
   pub own : node.wave ≡ wave
 
 -- the chains with these holds
@@ -154,9 +154,9 @@ total_added rows chains wave node passes kept =
     omega (arith, total_moved rows chains wave (chain_for chains wave ++ node ∷ []) passes kept, sum_by_push (node_units passes) (chain_for chains wave) node)
 
 hold_row : (rows : List Row) (chains : List (List KeptHolds)) (wave : ℕ) (node : KeptHolds) → CanAdd rows chains wave node
-    → (k : ℕ) (r : Row) → slice_get rows k ≡ Some r → IsRow chains k r → IsRow (with_node chains wave node) k (hold_units (units_at node.holds.items k) r)
+    → (k : ℕ) (r : Row) → slice_get rows k ≡ Some r → IsRow chains k r → IsRow (with_node chains wave node) k (hold_units (units_at node.holds k) r)
 hold_row rows chains wave node add k r there is =
-    let enough = at_some _ (λ (r : Row). units_at node.holds.items k ≤ r.free) r there (add.can.free k) in
+    let enough = at_some _ (λ (r : Row). units_at node.holds k ≤ r.free) r there (add.can.free k) in
     record {
       balance = record { sum = omega (arith, is.balance.sum); most = is.balance.most };
       held = omega (arith, is.held, total_added rows chains wave node (is_at k) add.kept);
@@ -164,14 +164,14 @@ hold_row rows chains wave node add k r there is =
 
 -- after one more call's holds the rows and the chains keep a book
 pub hold_keeps : (rows : List Row) (chains : List (List KeptHolds)) (wave : ℕ) (node : KeptHolds) → CanAdd rows chains wave node
-    → IsKept (rows_held rows node.holds.items) (with_node chains wave node)
+    → IsKept (rows_held rows node.holds) (with_node chains wave node)
 hold_keeps rows chains wave node add = record {
   book = book_moved _ rows chains (with_node chains wave node) add.kept.book (hold_row rows chains wave node add) (λ k past.
       omega (
         arith,
         total_added rows chains wave node (is_at k) add.kept,
         nowhere_else rows chains k add.kept.book past,
-        no_units_past rows node.holds.items k add.can.rows past,
+        no_units_past rows node.holds k add.can.rows past,
       ));
   count = long;
   placed = placed_moved rows chains wave (chain_for chains wave ++ node ∷ []) add.kept (λ other elsewhere.
@@ -179,7 +179,7 @@ hold_keeps rows chains wave node add = record {
         arith,
         sum_by_push (node_units (is_of other)) (chain_for chains wave) node,
         add.kept.placed (wave % chain_count) other (chain_place wave) elsewhere,
-        other_wave-of node.wave other node.holds.items (λ e. elsewhere (ap (λ w. w % chain_count) (sym e ∙ add.own))),
+        other_wave-of node.wave other node.holds (λ e. elsewhere (ap (λ w. w % chain_count) (sym e ∙ add.own))),
       ));
 }
   where
@@ -188,24 +188,24 @@ hold_keeps rows chains wave node add = record {
 
 -- and the units of the holds have gone from free to held, for their wave alone
 pub hold_does : (rows : List Row) (chains : List (List KeptHolds)) (wave : ℕ) (node : KeptHolds) → CanAdd rows chains wave node
-    → HasHeld wave node.holds.items (book_of rows chains) (book_of (rows_held rows node.holds.items) (with_node chains wave node))
+    → HasHeld wave node.holds (book_of rows chains) (book_of (rows_held rows node.holds) (with_node chains wave node))
 hold_does rows chains wave node add = record {
   rows = refl;
   held = λ order row.
       omega (
         arith,
-        total_is (is_for wave order row) (rows_held rows node.holds.items) (with_node chains wave node),
+        total_is (is_for wave order row) (rows_held rows node.holds) (with_node chains wave node),
         total_is (is_for wave order row) rows chains,
         total_added rows chains wave node (is_for wave order row) add.kept,
-        same_wave-for node.wave wave order row node.holds.items add.own,
+        same_wave-for node.wave wave order row node.holds add.own,
       );
   others = λ w order row other.
       omega (
         arith,
-        total_is (is_for w order row) (rows_held rows node.holds.items) (with_node chains wave node),
+        total_is (is_for w order row) (rows_held rows node.holds) (with_node chains wave node),
         total_is (is_for w order row) rows chains,
         total_added rows chains wave node (is_for w order row) add.kept,
-        other_wave-for node.wave w order row node.holds.items (λ e. other (sym e ∙ add.own)),
+        other_wave-for node.wave w order row node.holds (λ e. other (sym e ∙ add.own)),
       );
 }
 
@@ -228,7 +228,7 @@ holds_of_none wave w (h ∷ hs) none =
 chain_of_none : (wave : ℕ) (nodes : List KeptHolds) → ((o r : ℕ) → chain_units (is_for wave o r) nodes ≡ 0) → chain_units (is_of wave) nodes ≡ 0
 chain_of_none wave [] none = refl
 chain_of_none wave (node ∷ nodes) none =
-    let here = holds_of_none wave node.wave node.holds.items (λ o r. omega (arith, none o r, sum_by-cons (node_units (is_for wave o r)) node nodes)) in
+    let here = holds_of_none wave node.wave node.holds (λ o r. omega (arith, none o r, sum_by-cons (node_units (is_for wave o r)) node nodes)) in
     let rest = chain_of_none wave nodes (λ o r. omega (arith, none o r, sum_by-cons (node_units (is_for wave o r)) node nodes)) in
     omega (arith, sum_by-cons (node_units (is_of wave)) node nodes, here, rest)
 

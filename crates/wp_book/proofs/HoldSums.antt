@@ -1,5 +1,5 @@
 -- Sums of held units.
-use Rattle.std.proofs.Common.{◌≡◌, ◌≢◌, ◌∙◌, refl, sym, ap, ℕ, ◌+◌, ◌-◌, ◌<◌, ◌≤◌, ◌==◌, ◌&&◌, not, Bool, true, false, List, [], ◌∷◌, length, drop, get_or}
+use Rattle.std.proofs.Common.{◌≡◌, ◌≢◌, ◌∙◌, refl, sym, ap, ℕ, suc, ◌+◌, ◌-◌, ◌<◌, ◌≤◌, ◌==◌, ◌&&◌, not, Bool, true, false, List, [], ◌∷◌, length, drop, get_or}
 use Rattle.std.proofs.Common.{if◌then◌else◌, arith, eq-eqb, ne_eqb}
 use Rattle.std.proofs.Math.ListN.{set}
 use Rattle.std.proofs.lemmas.Bool.{and_left, and_right, cond-false, cond-true, cond_both}
@@ -50,6 +50,11 @@ pub sum_by-none : {X : Type 0} (f : X → ℕ) (xs : List X) → ((x : X) → f 
 sum_by-none f [] none = refl
 sum_by-none f (x ∷ xs) none = omega (arith, sum_by-cons f x xs, none x, sum_by-none f xs none)
 
+-- a sum whose terms are 0 at each place is 0
+pub sum_by-zeros : {X : Type 0} (f : X → ℕ) (xs : List X) (d : X) → ((k : ℕ) → k < length xs → f (get_or xs k d) ≡ 0) → sum_by f xs ≡ 0
+sum_by-zeros f [] d none = refl
+sum_by-zeros f (x ∷ xs) d none = omega (arith, sum_by-cons f x xs, none 0 (omega arith), sum_by-zeros f xs d (λ k below. none (suc k) (omega arith)))
+
 -- a sum whose terms are each within those of another is within that one
 pub sum_by-within : {X : Type 0} (f g : X → ℕ) (xs : List X) → ((x : X) → f x ≤ g x) → sum_by f xs ≤ sum_by g xs
 sum_by-within f g [] within = omega arith
@@ -64,10 +69,6 @@ taken_so_far false units left left' most less = omega arith
 -- a hold is at its own row
 pub hold_at-own : (hold : Hold) → hold_at hold.row hold ≡ hold.quantity
 hold_at-own hold = cond-true (hold.row == hold.row) _ _ (eq-eqb hold.row hold.row refl)
-
--- a hold of nothing adds nothing
-pub hold_of_nothing : (passes : Where) (wave : ℕ) (hold : Hold) → hold.quantity ≡ 0 → hold_units_where passes wave hold ≡ 0
-hold_of_nothing passes wave hold none = cond_both (passes wave hold.order hold.row) hold.quantity 0 (λ n. n ≡ 0) (λ e. none) (λ e. refl)
 
 -- holds of another wave have no unit for an order of the wave at a row
 pub other_wave-for : (w wave order row : ℕ) (holds : List Hold) → w ≢ wave → sum_by (hold_units_where (is_for wave order row) w) holds ≡ 0

@@ -11,3 +11,4 @@ pub mod FreeCounts
 pub mod ArticleRows
 pub mod RowIndex
 pub mod SortedPairs
+pub mod OrderedHolds

@@ -23,7 +23,7 @@ but_most_if false b q = omega arith
 but_most : (wave : ℕ) (passes : Where) (nodes : List KeptHolds) → chain_units (but_of wave passes) nodes ≤ chain_units passes nodes
 but_most wave passes nodes =
     sum_by-within (node_units (but_of wave passes)) (node_units passes) nodes (λ node.
-    sum_by-within (hold_units_where (but_of wave passes) node.wave) (hold_units_where passes node.wave) node.holds.items
+    sum_by-within (hold_units_where (but_of wave passes) node.wave) (hold_units_where passes node.wave) node.holds
     (λ hold. but_most_if (passes node.wave hold.order hold.row) (not (node.wave == wave)) hold.quantity))
 
 but_none_if : (a b : Bool) (q : ℕ) → (a && b) ≡ false → (if a && b then q else 0) ≡ 0
@@ -32,7 +32,7 @@ but_none_if a b q e = ap (λ t. if t then q else 0) e
 but_none : (wave : ℕ) (passes : Where) (nodes : List KeptHolds) → IsOfWave wave passes → chain_units (but_of wave passes) nodes ≡ 0
 but_none wave passes nodes of =
     sum_by-none (node_units (but_of wave passes)) nodes (λ node.
-    sum_by-none (hold_units_where (but_of wave passes) node.wave) node.holds.items (λ hold.
+    sum_by-none (hold_units_where (but_of wave passes) node.wave) node.holds (λ hold.
     but_none_if (passes node.wave hold.order hold.row) (not (node.wave == wave)) hold.quantity (fails node.wave hold.order hold.row)))
   where
     right_false : (a b : Bool) → b ≡ false → (a && b) ≡ false
@@ -52,7 +52,7 @@ but_same : (wave w : ℕ) (passes : Where) (nodes : List KeptHolds) → w ≢ wa
     → chain_units (but_of wave passes) nodes ≡ chain_units passes nodes
 but_same wave w passes nodes other of =
     sum_by-same (node_units (but_of wave passes)) (node_units passes) nodes (λ node.
-    sum_by-same (hold_units_where (but_of wave passes) node.wave) (hold_units_where passes node.wave) node.holds.items (λ hold.
+    sum_by-same (hold_units_where (but_of wave passes) node.wave) (hold_units_where passes node.wave) node.holds (λ hold.
     ap (λ t. if t then hold.quantity else 0) (keeps node.wave hold.order hold.row)))
   where
     with_true : (a b : Bool) → b ≡ true → (a && b) ≡ a

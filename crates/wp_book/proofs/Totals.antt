@@ -16,7 +16,7 @@ use Rattle.wp_model.specs.declared.row.Row.{Row}
 use Rattle.wp_book.specs.Chains.{all_units, chain_units, holdings_of, node_units}
 use Rattle.wp_book.specs.Kept.{IsKept, book_of, chain_count}
 use Rattle.wp_book.specs.declared.room.KeptHolds.{KeptHolds}
-use Rattle.wp_book.proofs.HoldSums.{sum_by-within}
+use Rattle.wp_book.proofs.HoldSums.{sum_by-within, sum_by-zeros}
 
 sum_by-map : {A B : Type 0} (f : B → ℕ) (g : A → B) (xs : List A) → sum_by f (map g xs) ≡ sum_by (λ x. f (g x)) xs
 sum_by-map f g [] = refl
@@ -30,7 +30,7 @@ sum_by-flat f g h (x ∷ xs) each = omega (arith, sum_by-append f (g x) (flat_ma
 pub total_is : (passes : Where) (rows : List Row) (chains : List (List KeptHolds)) → held_where passes (book_of rows chains) ≡ all_units passes chains
 total_is passes rows chains =
     sum_by-flat (units_where passes) (flat_map holdings_of) (chain_units passes) chains (λ nodes.
-    sum_by-flat (units_where passes) holdings_of (node_units passes) nodes (λ node. sum_by-map (units_where passes) (of_wave node.wave) node.holds.items))
+    sum_by-flat (units_where passes) holdings_of (node_units passes) nodes (λ node. sum_by-map (units_where passes) (of_wave node.wave) node.holds))
 
 -- a sum of which all terms but one are 0
 pub sum_by-one : {X : Type 0} (f : X → ℕ) (xs : List X) (i : ℕ) (d : X) → i < length xs → ((k : ℕ) → k < length xs → k ≢ i → f (get_or xs k d) ≡ 0)
@@ -39,10 +39,6 @@ sum_by-one f [] i d within others = absurd (omega arith)
 sum_by-one f (x ∷ xs) zero d within others =
     let rest = sum_by-zeros f xs d (λ k below. others (suc k) (omega arith) (omega arith)) in
     omega (arith, sum_by-cons f x xs, rest)
-  where
-    sum_by-zeros : {X : Type 0} (f : X → ℕ) (xs : List X) (d : X) → ((k : ℕ) → k < length xs → f (get_or xs k d) ≡ 0) → sum_by f xs ≡ 0
-    sum_by-zeros f [] d none = refl
-    sum_by-zeros f (x ∷ xs) d none = omega (arith, sum_by-cons f x xs, none 0 (omega arith), sum_by-zeros f xs d (λ k below. none (suc k) (omega arith)))
 sum_by-one f (x ∷ xs) (suc i) d within others =
     let rest = sum_by-one f xs i d (omega arith) (λ k below other. others (suc k) (omega arith) (omega arith)) in
     omega (arith, sum_by-cons f x xs, rest, others 0 (omega arith) (omega arith))
@@ -76,7 +72,7 @@ wave_most wave passes w hold of = elim (cases_eq w wave) [
 pub chain_most : (wave : ℕ) (passes : Where) (nodes : List KeptHolds) → IsOfWave wave passes → chain_units passes nodes ≤ chain_units (is_of wave) nodes
 chain_most wave passes nodes of =
     sum_by-within (node_units passes) (node_units (is_of wave)) nodes (λ node.
-    sum_by-within (hold_units_where passes node.wave) (hold_units_where (is_of wave) node.wave) node.holds.items
+    sum_by-within (hold_units_where passes node.wave) (hold_units_where (is_of wave) node.wave) node.holds
     (λ hold. wave_most wave passes node.wave hold of))
 
 -- the chain of a wave

@@ -6,7 +6,7 @@ use Rattle.wp_book.specs.declared.room.KeptHolds.{KeptHolds}
 
 -- the holdings that one call made
 abbrev pub holdings_of : KeptHolds → List Holding
-holdings_of node = map (of_wave node.wave) node.holds.items
+holdings_of node = map (of_wave node.wave) node.holds
 
 -- all holdings of the chains
 abbrev pub holdings_in : List (List KeptHolds) → List Holding
@@ -14,7 +14,7 @@ holdings_in chains = flat_map (flat_map holdings_of) chains
 
 -- the units that pass a test, of one call's holds
 abbrev pub node_units : Where → KeptHolds → ℕ
-node_units passes node = sum_by (hold_units_where passes node.wave) node.holds.items
+node_units passes node = sum_by (hold_units_where passes node.wave) node.holds
 
 -- the units that pass a test, of a chain
 abbrev pub chain_units : Where → List KeptHolds → ℕ

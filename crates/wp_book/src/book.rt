@@ -122,10 +122,11 @@ impl StockBook {
     }
 
     /// The units of the room's holds go from free to held, for a wave.
-    pub fn hold(&mut self, wave: u32, room: Room)
+    pub fn hold(&mut self, wave: u32, mut room: Room)
         requires { CanHold self.old room.holds }
         ensures { HasHeld wave room.holds self.old self.new }
     {
+        room.sort();
         let (holds, cell) = room.into_parts();
         hold_in_rows(&mut self.rows, holds.as_slice());
         let chain = &mut self.chains[chain_of(wave)];

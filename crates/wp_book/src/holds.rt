@@ -1,7 +1,7 @@
 //! The holds of waves.
 ghost use Rattle.std.specs.Prelude.{◌≡◌, ◌≢◌, ◌≤◌, ◌<◌, ◌+◌, ◌-◌, ◌*◌, ◌^◌, ◌==◌, ◌&&◌, not, ℕ, length, if◌then◌else◌, IfSome, slice_get};
 ghost use Rattle.std.specs.List.{sum_by};
-ghost use Rattle.wp_model.specs.Book.{Where, but_of, hold_for, hold_units_where, is_for, is_for_wave, is_of, units_at, units_for};
+ghost use Rattle.wp_model.specs.Book.{Where, but_of, is_for, is_for_wave, is_of, units_at};
 ghost use Rattle.wp_model.specs.declared.row.Hold.{Hold as HoldData};
 ghost use Rattle.wp_model.specs.Change.{change_rows, free_held_units, hold_units};
 ghost use Rattle.wp_book.specs.Chains.{chain_units, node_units};
@@ -10,40 +10,14 @@ use crate::room::KeptHolds;
 use crate::rows::CountedRows;
 use wp_model::{Chain, Hold};
 
-// Takes units off a hold where it is for the order at the row, and gives how many are left to take.
-fn take_from_hold(hold: &mut Hold, order: u32, row: u32, units: u32) -> u32
-    ensures left { result ≡ units - hold_for order row hold.old }
-    ensures taken { (passes : Where) (wave : ℕ) → hold_units_where passes wave hold.new +
-        (if passes wave order row then units - result else 0) ≡ hold_units_where passes wave hold.old }
-{
-    if hold.order != order || hold.row != row {
-        return units;
-    }
-    let taken = units.min(hold.quantity);
-    hold.quantity -= taken;
-    units - taken
-}
-
-// Takes units off the holds for the order at the row, and gives how many are left to take.
-fn take_from_holds(holds: &mut [Hold], order: u32, row: u32, units: u32) -> u32
-    ensures left { result ≡ units - units_for holds.old order row }
-    ensures taken { (passes : Where) (wave : ℕ) → sum_by (hold_units_where passes wave) holds.new +
-        (if passes wave order row then units - result else 0) ≡ sum_by (hold_units_where passes wave) holds.old }
-{
-    let mut left = units;
-    for hold in holds.iter_mut() {
-        left = take_from_hold(hold, order, row, left);
-    }
-    left
-}
-
-// The same of the holds of one call, where they are the wave's.
+// Takes units off the holds of one call for the order at the row, where they are the wave's, and gives how many are left
+// to take.
 fn take_from_node(node: &mut KeptHolds, wave: u32, order: u32, row: u32, units: u32) -> u32
     ensures left { result ≡ units - node_units (is_for wave order row) node.old }
     ensures taken { (passes : Where) → node_units passes node.new + (if passes wave order row then units - result else 0) ≡ node_units passes node.old }
 {
     if node.wave == wave {
-        take_from_holds(&mut node.holds, order, row, units)
+        node.holds.take(order, row, units)
     } else {
         units
     }
@@ -85,32 +59,29 @@ pub fn hold_in_rows(rows: &mut CountedRows, holds: &[Hold])
     }
 }
 
-// The units of a hold go from held to free in its row, and it is of nothing then.
-fn give_back_hold(rows: &mut CountedRows, hold: &mut Hold)
-    requires within { 0 < hold.old.quantity → hold.old.row < length rows.old }
-    requires held { IfSome (slice_get rows.old hold.old.row) (λ r. (hold.old.quantity ≤ r.held) × (r.free + r.held < 2 ^ 32)) }
-    ensures rows { rows.new ≡ change_rows (λ row. free_held_units (if hold.old.row == row then hold.old.quantity else 0)) 0 rows.old }
-    ensures hold { hold.new ≡ record hold.old { quantity = 0 } }
+// The units of a hold go from held to free in its row.
+fn give_back_hold(rows: &mut CountedRows, hold: &Hold)
+    requires within { 0 < hold.now.quantity → hold.now.row < length rows.old }
+    requires held { IfSome (slice_get rows.old hold.now.row) (λ r. (hold.now.quantity ≤ r.held) × (r.free + r.held < 2 ^ 32)) }
+    ensures { rows.new ≡ change_rows (λ row. free_held_units (if hold.now.row == row then hold.now.quantity else 0)) 0 rows.old }
 {
     if hold.quantity > 0 {
         rows.unhold(hold.row, hold.quantity);
-        hold.quantity = 0;
     }
 }
 
-// The units of each hold go from held to free in its row, and the holds are of nothing then.
-fn give_back_holds(rows: &mut CountedRows, holds: &mut [Hold])
-    requires within { (row : ℕ) → length rows.old ≤ row → units_at holds.old row ≡ 0 }
-    requires held { (row : ℕ) → IfSome (slice_get rows.old row) (λ r. (units_at holds.old row ≤ r.held) × (r.free + r.held < 2 ^ 32)) }
-    ensures rows { rows.new ≡ change_rows (λ row. free_held_units (units_at holds.old row)) 0 rows.old }
-    ensures none { (passes : Where) (wave : ℕ) → sum_by (hold_units_where passes wave) holds.new ≡ 0 }
+// The units of each hold go from held to free in its row.
+fn give_back_holds(rows: &mut CountedRows, holds: &[Hold])
+    requires within { (row : ℕ) → length rows.old ≤ row → units_at holds.now row ≡ 0 }
+    requires held { (row : ℕ) → IfSome (slice_get rows.old row) (λ r. (units_at holds.now row ≤ r.held) × (r.free + r.held < 2 ^ 32)) }
+    ensures { rows.new ≡ change_rows (λ row. free_held_units (units_at holds.now row)) 0 rows.old }
 {
-    for hold in holds.iter_mut() {
+    for hold in holds {
         give_back_hold(rows, hold);
     }
 }
 
-// The same of the holds of one call, where they are the wave's.
+// The same of the holds of one call, where they are the wave's, and there are none of them then.
 fn give_back_node(rows: &mut CountedRows, node: &mut KeptHolds, wave: u32)
     requires within { (row : ℕ) → length rows.old ≤ row → node_units (is_for_wave wave row) node.old ≡ 0 }
     requires held { (row : ℕ) → IfSome (slice_get rows.old row) (λ r. (node_units (is_for_wave wave row) node.old ≤ r.held) × (r.free + r.held < 2 ^ 32)) }
@@ -118,7 +89,8 @@ fn give_back_node(rows: &mut CountedRows, node: &mut KeptHolds, wave: u32)
     ensures others { (passes : Where) → node_units passes node.new ≡ node_units (but_of wave passes) node.old }
 {
     if node.wave == wave {
-        give_back_holds(rows, &mut node.holds);
+        give_back_holds(rows, node.holds.as_slice());
+        node.holds.clear();
     }
 }
 
@@ -137,27 +109,13 @@ pub fn give_back_chain(rows: &mut CountedRows, chain: &mut Chain<KeptHolds>, wav
     *chain = done;
 }
 
-// The units of the holds for the order at the row.
-fn units_in_holds(holds: &[Hold], order: u32, row: u32) -> u32
-    requires { units_for holds.now order row < 2 ^ 32 }
-    ensures { result ≡ units_for holds.now order row }
-{
-    let mut units = 0;
-    for hold in holds {
-        if hold.order == order && hold.row == row {
-            units += hold.quantity;
-        }
-    }
-    units
-}
-
-// The same of the holds of one call, where they are the wave's.
+// The units of the holds of one call for the order at the row, where they are the wave's.
 fn units_in_node(node: &KeptHolds, wave: u32, order: u32, row: u32) -> u32
     requires { node_units (is_for wave order row) node.now < 2 ^ 32 }
     ensures { result ≡ node_units (is_for wave order row) node.now }
 {
     if node.wave == wave {
-        units_in_holds(&node.holds, order, row)
+        node.holds.units(order, row)
     } else {
         0
     }
@@ -188,7 +146,7 @@ fn are_of_nothing(holds: &[Hold]) -> bool
 fn node_holds_none(node: &KeptHolds, wave: u32) -> bool
     ensures { result ≡ (node_units (is_of wave) node.now == 0) }
 {
-    node.wave != wave || are_of_nothing(&node.holds)
+    node.wave != wave || are_of_nothing(node.holds.as_slice())
 }
 
 /// Whether nothing is held for the wave.

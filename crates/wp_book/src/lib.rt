@@ -6,6 +6,7 @@ mod holds;
 mod index;
 mod room;
 mod rows;
+mod sorted;
 
 pub use book::StockBook;
 pub use room::Room;

@@ -1,6 +1,7 @@
 ghost use Rattle.std.specs.Prelude.{◌≡◌, ◌+◌, ◌<◌, ◌≤◌, ◌==◌, ◌++◌, ◌∷◌, [], length, IfOk};
-ghost use Rattle.wp_book.specs.Room.{IsInOrder};
+ghost use Rattle.wp_book.specs.Room.{AreInOrder, IsInOrder};
 
+use crate::sorted::SortedHolds;
 use std::alloc::Global;
 use std::marker::Model;
 use wp_model::{Cell, Hold, Holds, Memory};
@@ -9,7 +10,7 @@ use wp_model::{Cell, Hold, Holds, Memory};
 #[derive(Drop)]
 pub struct KeptHolds {
     pub wave: u32,
-    pub holds: Vec<Hold>,
+    pub holds: SortedHolds,
 }
 
 /// Room for so many holds, and the holds that are in it. Contracts see both.
@@ -107,15 +108,16 @@ impl Room {
         Holds::of(holds)
     }
 
-    /// The holds, and the room for them in a chain.
-    pub(crate) fn into_parts(self) -> (Vec<Hold>, Cell<KeptHolds>)
-        ensures { result.0.items ≡ self.holds }
+    /// The holds, which are in order, and the room for them in a chain.
+    pub(crate) fn into_parts(self) -> (SortedHolds, Cell<KeptHolds>)
+        requires { AreInOrder self.holds }
+        ensures { result.0 ≡ self.holds }
     {
         let Room {
             size: _,
             holds,
             cell,
         } = self;
-        (holds, cell)
+        (SortedHolds::of(holds), cell)
     }
 }

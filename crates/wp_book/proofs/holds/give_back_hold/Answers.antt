@@ -3,5 +3,5 @@ use Rattle.wp_book.proofs.RowChanges.{change_none}
 use Rattle.wp_book.proofs.HoldSums.{none_freed}
 use Rattle.wp_book.proofs.holds.give_back_hold.Goals as goal
 
-pub returns-else-hold-gt0-clause-rows : goal.returns-else-hold-gt0-clause-rows
-returns-else-hold-gt0-clause-rows c = sym (change_none _ c.args.rows.now (λ k r. none_freed c.args.hold.now.row k c.args.hold.now.quantity r (omega arith)))
+pub returns-else-hold-gt0 : goal.returns-else-hold-gt0
+returns-else-hold-gt0 c = sym (change_none _ c.args.rows.now (λ k r. none_freed c.args.hold.now.row k c.args.hold.now.quantity r (omega arith)))

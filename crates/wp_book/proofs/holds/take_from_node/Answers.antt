@@ -4,4 +4,4 @@ use Rattle.wp_book.proofs.holds.take_from_node.Goals as goal
 
 pub returns-else-node-wave-clause-left : goal.returns-else-node-wave-clause-left
 returns-else-node-wave-clause-left c =
-    omega (arith, other_wave-for c.args.node.now.wave c.args.wave c.args.order c.args.row c.args.node.now.holds.items c.if-node-wave.false)
+    omega (arith, other_wave-for c.args.node.now.wave c.args.wave c.args.order c.args.row c.args.node.now.holds c.if-node-wave.false)
