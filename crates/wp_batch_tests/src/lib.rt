@@ -5,8 +5,12 @@
 #[cfg(test)]
 mod batch;
 #[cfg(test)]
+mod cheapest;
+#[cfg(test)]
 mod master;
 #[cfg(test)]
 mod pairs;
+#[cfg(test)]
+mod pools;
 #[cfg(test)]
 mod starts;

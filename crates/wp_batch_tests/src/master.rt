@@ -17,7 +17,7 @@ const UNCOVERED: &[(u32, &[Row], Option<u32>)] = &[
 ];
 
 /// Adds a column, where it is one over so many orders.
-fn is_added(pool: &mut Pool, orders: &[u32], length: u64) -> bool {
+pub fn is_added(pool: &mut Pool, orders: &[u32], length: u64) -> bool {
     if length >= 1 << 40 {
         return false;
     }

@@ -2,27 +2,14 @@ ghost use Rattle.std.specs.Prelude.{◌≡◌, ◌≤◌, ◌∷◌, List, IfErr
 ghost use Rattle.wp_pairs.specs.Permitted.{IsDead};
 ghost use Rattle.wp_cert.specs.declared.tree.Node.{Node as NodeData};
 ghost use Rattle.wp_cert.specs.declared.tree.Node.TheVariants as node;
-ghost use Rattle.wp_batch.specs.Duals.{units_of as in_units};
 ghost use Rattle.wp_cert.specs.Paths.{IsBrokenHere, IsPath, IsRightSplit, pairing_of};
 ghost use Rattle.wp_cert.specs.Trees.{IsRight};
 
 use crate::own::test_own;
 use crate::path::{is_dead, is_open, pairs_of};
 use crate::tree::{CertWhy, Own};
-use wp_batch::Wave;
+use wp_batch::{Wave, units_of};
 use wp_pairs::{Capacity, OrderPair};
-
-/// Sixtieths in whole units, rounded up.
-pub fn units_of(sixtieths: u128) -> u128
-    ensures { result ≡ in_units sixtieths }
-{
-    let whole = sixtieths / 60;
-    if sixtieths % 60 == 0 {
-        whole
-    } else {
-        whole + 1
-    }
-}
 
 /// Tests a leaf that isn't dead, and tells its bound.
 pub fn test_leaf(

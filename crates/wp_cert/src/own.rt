@@ -7,7 +7,7 @@ ghost use Rattle.wp_batch.specs.Visits.{IsVisitOfAll, Passed};
 
 use crate::tree::{CertWhy, Own};
 use crate::visit::visit;
-use wp_batch::{Wave, sum_of, total_of};
+use wp_batch::{SIXTIETHS, Wave, sum_of, total_of};
 use wp_pairs::{Batch, Pairs};
 
 /// What a node has of its own, to be tested: a wave, the node's pairs for as many orders, and a dual for each.
@@ -56,7 +56,8 @@ fn is_tight(tested: &TestedOwn<'_>, order: u32, batch: Batch) -> bool
     if !tested.pairs.permits(batch) || !batch.has(order) {
         return false;
     }
-    sum_of(tested.own.duals.as_slice(), batch) == 60 * u128::from(tested.wave.batch_length(batch))
+    let length = u128::from(tested.wave.batch_length(batch));
+    sum_of(tested.own.duals.as_slice(), batch) == u128::from(SIXTIETHS) * length
 }
 
 // The first order whose batch isn't tight for it. None comes exactly where all are.

@@ -1,14 +1,14 @@
-ghost use Rattle.std.specs.Prelude.{◌≡◌, ◌<◌, ◌≤◌, ◌+◌, ◌*◌, ◌⊎◌, List, ℕ, All, IfErr, IfNone, IfOk, IfSome, IsTrue, drop, false, length};
+ghost use Rattle.std.specs.Prelude.{◌≡◌, ◌<◌, ◌≤◌, ◌+◌, ◌⊎◌, List, ℕ, All, IfErr, IfNone, IfOk, IfSome, IsTrue, drop, false, length};
 ghost use Rattle.wp_pairs.specs.Permitted.{IsPermitted};
 ghost use Rattle.wp_batch.specs.Lengths.{IsLengthOf};
 ghost use Rattle.wp_cert.specs.Refusals.{IsRefusedVisit};
 ghost use Rattle.wp_cert.specs.Visited.{HasEachLength, IsNoLess, ReachesTooMuch, StandsForMore};
-ghost use Rattle.wp_batch.specs.Duals.{duals_of};
+ghost use Rattle.wp_batch.specs.Duals.{duals_of, sixtieths_of};
 ghost use Rattle.wp_batch.specs.Visits.{AddsItem, IsItem, IsVisit, Passed, Place};
 
 use crate::own::TestedOwn;
 use crate::tree::CertWhy;
-use wp_batch::{Wave, is_later, reach_of, sum_of};
+use wp_batch::{SIXTIETHS, Wave, is_later, reach_of, sum_of};
 use wp_pairs::{Batch, Pairs};
 
 // A place and one more item, where this order names one and both together are permitted.
@@ -30,12 +30,12 @@ fn child_of(pairs: &Pairs, place: Batch, item: u32) -> Option<Batch>
     }
 }
 
-// Whether sixty times a length is no less than a sum of duals and what is added to it.
+// Whether a length in sixtieths is no less than a sum of duals and what is added to it.
 fn covers(length: u64, sum: u128, more: u128) -> bool
-    ensures yes { IsTrue result → sum + more ≤ 60 * length }
-    ensures no { result ≡ false → 60 * length < sum + more }
+    ensures yes { IsTrue result → sum + more ≤ sixtieths_of length }
+    ensures no { result ≡ false → sixtieths_of length < sum + more }
 {
-    let most = 60 * u128::from(length);
+    let most = u128::from(SIXTIETHS) * u128::from(length);
     sum <= most && more <= most - sum
 }
 
@@ -45,8 +45,8 @@ fn length_for(wave: &Wave, place: Batch, known: u64, sum: u128, more: u128) -> u
     requires orders { All (λ order. order < length wave.now.orders) place }
     requires least { IsNoLess wave.now place known }
     ensures least { IsNoLess wave.now place result }
-    ensures enough { sum + more ≤ 60 * known → result ≡ known }
-    ensures exact { 60 * result < sum + more → IsLengthOf wave.now place result }
+    ensures enough { sum + more ≤ sixtieths_of known → result ≡ known }
+    ensures exact { sixtieths_of result < sum + more → IsLengthOf wave.now place result }
 {
     if covers(known, sum, more) {
         known

@@ -1,5 +1,6 @@
 pub mod Prices
 pub mod Raises
 pub mod Items
+pub mod Finds
 pub mod Weights
 pub mod Owns

@@ -1,4 +1,6 @@
 ghost use Rattle.std.specs.Prelude.{◌≡◌, ◌<◌, All, IfOk, length};
+ghost use Rattle.wp_batch.specs.Waves.{WavePicks};
+ghost use Rattle.wp_node.specs.Finds.{AreFinds, IsFind};
 
 use crate::items::{Item, VisitPlace, items_of, no_place, widened};
 use crate::reach::Reaches;
@@ -53,11 +55,14 @@ impl<'a> Model for BatchVisit<'a> {
     ghost invariant = { λ v. AreItems (length v.wave.now.orders) v.items.items };
 }
 
-// Nothing found yet below a limit.
-fn no_find(limit: u64) -> Find {
+// Nothing found yet below a limit: the batch of no order.
+fn no_find(wave: &Wave, limit: u64) -> Find
+    ensures { IsFind wave.now result }
+{
+    let batch = Batch::empty();
     Find {
-        batch: Batch::empty(),
-        length: 0,
+        batch,
+        length: wave.batch_length(batch),
         slack: limit,
     }
 }
@@ -79,7 +84,9 @@ fn is_nearer(next: &Find, kept: &Find) -> bool {
 }
 
 // Puts a find among the few that stand from a place on, and drops the last.
-fn keep_among(kept: &mut Vec<Find>, first: usize, find: &Find) {
+fn keep_among(kept: &mut Vec<Find>, first: usize, find: &Find)
+    ensures { (wave : WavePicks) → AreFinds wave kept.old.items → IsFind wave find.now → AreFinds wave kept.new.items }
+{
     let mut next = *find;
     for at in first..kept.len().min(first.saturating_add(FEW)) {
         if is_nearer(&next, &kept[at]) {
@@ -91,7 +98,9 @@ fn keep_among(kept: &mut Vec<Find>, first: usize, find: &Find) {
 }
 
 // Puts a find among those through each of its orders.
-fn keep(kept: &mut Vec<Find>, find: &Find) {
+fn keep(kept: &mut Vec<Find>, find: &Find)
+    ensures { (wave : WavePicks) → AreFinds wave kept.old.items → IsFind wave find.now → AreFinds wave kept.new.items }
+{
     let mut rest = find.batch;
     for _ in 0..find.batch.len() {
         let Some(order) = rest.least() else {
@@ -105,7 +114,9 @@ fn keep(kept: &mut Vec<Find>, find: &Find) {
 }
 
 // Puts what a worker found among what others did.
-fn keep_found(kept: &mut Vec<Find>, found: &[Find]) {
+fn keep_found(kept: &mut Vec<Find>, found: &[Find])
+    ensures { (wave : WavePicks) → AreFinds wave kept.old.items → AreFinds wave found.now → AreFinds wave kept.new.items }
+{
     for (place, find) in found.iter().enumerate() {
         if find.batch.len() > 0 {
             keep_among(kept, place - place % FEW, find);
@@ -113,11 +124,13 @@ fn keep_found(kept: &mut Vec<Find>, found: &[Find]) {
     }
 }
 
-// For each of so many orders a few finds that are none.
-fn no_finds(alloc: Global, orders: u32, limit: u64) -> Result<Vec<Find>, Memory> {
+// For each order of a wave a few finds that are none.
+fn no_finds(alloc: Global, wave: &Wave, limit: u64) -> Result<Vec<Find>, Memory>
+    ensures { IfOk result (λ kept. AreFinds wave.now kept.items) }
+{
     let mut kept = Vec::new(alloc);
-    for _ in 0..FEW * orders as usize {
-        kept.push(no_find(limit))?;
+    for _ in 0..FEW * wave.orders() as usize {
+        kept.push(no_find(wave, limit))?;
     }
     Ok(kept)
 }
@@ -147,7 +160,9 @@ impl<'a> BatchVisit<'a> {
 impl BatchVisit<'_> {
     // Keeps a place, if its slack is below the limit, and tells its slack.
     fn keep_place(&self, place: &VisitPlace, kept: &mut Vec<Find>) -> u64
-        requires { All (λ order. order < length self.now.orders) place.now.batch }
+        requires known { All (λ order. order < length self.now.orders) place.now.batch }
+        requires kept { AreFinds self.now kept.old.items }
+        ensures { AreFinds self.now kept.new.items }
     {
         let batch = place.batch;
         let length = self.wave.batch_length(batch);
@@ -170,7 +185,9 @@ impl BatchVisit<'_> {
 
     // Keeps the places that widen a place by the item at an index, and maybe by later ones.
     fn visit_item(&self, place: &VisitPlace, index: usize, room: u32, kept: &mut Vec<Find>)
-        requires { All (λ order. order < length self.now.orders) place.now.batch }
+        requires known { All (λ order. order < length self.now.orders) place.now.batch }
+        requires kept { AreFinds self.now kept.old.items }
+        ensures { AreFinds self.now kept.new.items }
     {
         if self.items.len() <= index {
             return;
@@ -189,8 +206,10 @@ impl BatchVisit<'_> {
     }
 
     // What is found in the subtrees of the first items of a share.
-    fn visit_share(&self, alloc: Global, share: Batch) -> Result<Vec<Find>, Memory> {
-        let mut kept = no_finds(alloc, self.wave.orders(), self.limit)?;
+    fn visit_share(&self, alloc: Global, share: Batch) -> Result<Vec<Find>, Memory>
+        ensures { IfOk result (λ kept. AreFinds self.now kept.items) }
+    {
+        let mut kept = no_finds(alloc, self.wave, self.limit)?;
         for index in 0..self.items.len() {
             if share.has(self.items[index].least) {
                 self.visit_item(&no_place(), index, self.capacity, &mut kept);
@@ -216,7 +235,9 @@ impl BatchVisit<'_> {
         rt: &R,
         alloc: Global,
         shares: &[Batch],
-    ) -> Result<Vec<Result<Vec<Find>, Memory>>, Memory> {
+    ) -> Result<Vec<Result<Vec<Find>, Memory>>, Memory>
+        ensures { IfOk result (λ parts. All (λ part. IfOk part (λ finds. AreFinds self.now finds.items)) parts.items) }
+    {
         let visit = self;
         let found = thread::map_indices(
             rt,
@@ -224,6 +245,7 @@ impl BatchVisit<'_> {
             shares.len(),
             &|worker: usize| -> Result<Vec<Find>, Memory>
                 requires { worker < length shares.now }
+                ensures { IfOk result (λ finds. AreFinds visit.entry.now finds.items) }
             { visit.visit_share(alloc, shares[worker]) },
         )?;
         Ok(found)
@@ -233,18 +255,20 @@ impl BatchVisit<'_> {
 /// The few batches of least slack through each order, of all permitted ones whose slack is below a limit, for duals in parts
 /// of a sixtieth: for each order in turn, the least first; where there are fewer the last are empty. Workers each visit the
 /// subtrees of some first items. Of equal slacks the one whose list of orders comes first counts as less, so the answer doesn't
-/// depend on the workers.
+/// depend on the workers. Each find has the length of a shortest tour of its batch.
 pub fn visit<R: Threads + Sync, G: Gate>(
     workers: &Workers<'_, R, G>,
     paired: &PairedWave<'_>,
     duals: &[u64],
     limit: u64,
-) -> Result<Vec<Find>, Memory> {
+) -> Result<Vec<Find>, Memory>
+    ensures { IfOk result (λ finds. AreFinds paired.now.wave.now finds.items) }
+{
     let alloc = workers.alloc;
     let visit = BatchVisit::of(alloc, paired, duals, limit)?;
     let shares = shares_of(workers, &visit)?;
     let found = visit.visit_shares(workers.rt, alloc, shares.as_slice())?;
-    together(alloc, paired.wave.orders(), limit, found.as_slice())
+    together(alloc, paired.wave, limit, found.as_slice())
 }
 
 // The first items, dealt out to workers.
@@ -260,11 +284,14 @@ fn shares_of<R, G>(
 // What all workers found, put together.
 fn together(
     alloc: Global,
-    orders: u32,
+    wave: &Wave,
     limit: u64,
     found: &[Result<Vec<Find>, Memory>],
-) -> Result<Vec<Find>, Memory> {
-    let mut kept = no_finds(alloc, orders, limit)?;
+) -> Result<Vec<Find>, Memory>
+    requires { All (λ part. IfOk part (λ finds. AreFinds wave.now finds.items)) found.now }
+    ensures { IfOk result (λ finds. AreFinds wave.now finds.items) }
+{
+    let mut kept = no_finds(alloc, wave, limit)?;
     for part in found {
         match part {
             Ok(finds) => keep_found(&mut kept, finds.as_slice()),

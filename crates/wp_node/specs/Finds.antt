@@ -1,0 +1,14 @@
+-- What a visit finds: batches of a wave with their lengths.
+use Rattle.std.specs.Prelude.{ℕ, ◌<◌, List, All, length}
+use Rattle.wp_batch.specs.Lengths.{IsLengthOf}
+use Rattle.wp_batch.specs.Waves.{WavePicks}
+use Rattle.wp_node.specs.declared.visit.Find.{Find}
+
+-- a find is a batch of the wave's orders with the length of a shortest tour of it
+pub record IsFind (wave : WavePicks) (find : Find) : Type 0 where
+  pub known : All (λ order. order < length wave.orders) find.batch
+  pub long : IsLengthOf wave find.batch find.length
+
+-- so is each of some finds
+abbrev pub AreFinds : WavePicks → List Find → Type 0
+AreFinds wave finds = All (IsFind wave) finds
