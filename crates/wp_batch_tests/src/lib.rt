@@ -1,9 +1,11 @@
-//! Tests of the crates of pairs, batches and pools: which batches pairs permit and what they leave undecided, the lengths of batches,
+//! Tests of the crates of pairs, batches and pools: which batches pairs permit and what they leave undecided, which carts there are and what fits them, the lengths of batches,
 //! the batches that a start has and that joins lead to, marks, and pools of columns with their tables and solutions.
 #![tactic(auto)]
 
 #[cfg(test)]
 mod batch;
+#[cfg(test)]
+mod carts;
 #[cfg(test)]
 mod cheapest;
 #[cfg(test)]

@@ -20,7 +20,7 @@ use Rattle.wp_batch.proofs.Unions.{same_shortest}
 use Rattle.wp_batch.specs.Duals.{AreTight, duals_of, units_of}
 use Rattle.wp_batch.proofs.Ascending.{same_sum}
 use Rattle.wp_batch.proofs.FewerOrders.{picked_by_more}
-use Rattle.wp_batch.proofs.OrderSums.{under_all}
+use Rattle.wp_pairs.proofs.SumsUnder.{under_all}
 use Rattle.wp_node.proofs.OrderTotals.{first_values, total_under}
 
 -- the orders that are joined to one

@@ -4,7 +4,7 @@ use Rattle.std.specs.Prelude.{slice_index, sum}
 use Rattle.std.specs.List.Sorted.{IsStrictlyIncreasing}
 use Rattle.std.proofs.lemmas.List.Sums.{sum_by_more}
 use Rattle.wp_batch.specs.Batchings.{IsBatching, batch_at}
-use Rattle.wp_batch.proofs.OrderSums.{sum_under, under_none, under_with, under_without}
+use Rattle.wp_pairs.proofs.SumsUnder.{sum_under, under_none, under_with, under_without}
 
 -- the sum over the orders of all batches that are below an end
 abbrev pub total_under : (ℕ → ℕ) → ℕ → List (List ℕ) → ℕ

@@ -7,3 +7,5 @@ pub mod PairNumbers
 pub mod Classes
 pub mod RowChanges
 pub mod Adding
+pub mod SumsUnder
+pub mod LoadWords

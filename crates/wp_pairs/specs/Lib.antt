@@ -2,3 +2,4 @@ pub mod Batches
 pub mod Words
 pub mod Permitted
 pub mod Kept
+pub mod Carts

@@ -3,11 +3,13 @@
 
 mod batch;
 mod capacity;
+mod cart;
 mod pair;
 mod pairs;
 mod rows;
 
 pub use batch::Batch;
 pub use capacity::Capacity;
+pub use cart::Cart;
 pub use pair::OrderPair;
 pub use pairs::Pairs;

@@ -2,7 +2,7 @@ use Rattle.std.proofs.Common.{ℕ, arith, sym, ◌∙◌, ◌<◌, length}
 use Rattle.std.specs.Prelude.{slice_index}
 use Rattle.std.proofs.lemmas.Bool.{both_ways}
 use Rattle.std.proofs.lemmas.List.Elements.{All-contains}
-use Rattle.wp_batch.proofs.OrderSums.{under_all, under_none, under_with, under_without}
+use Rattle.wp_pairs.proofs.SumsUnder.{under_all, under_none, under_with, under_without}
 use Rattle.wp_batch.proofs.sums.sum_of.Goals as goal
 use Rattle.wp_batch.proofs.sums.sum_of.Goals.{then-has, else-has}
 

@@ -1,6 +1,6 @@
 use Rattle.std.proofs.Common.{◌≡◌, ◌*◌, ◌^◌, ◌≤◌}
 use Rattle.std.specs.Prelude.{slice_index}
-use Rattle.wp_batch.proofs.OrderSums.{sum_under}
+use Rattle.wp_pairs.proofs.SumsUnder.{sum_under}
 use Rattle.wp_batch.proofs.sums.sum_of.Given as goal
 
 abbrev pub invariant-loop-order : goal.invariant-loop-order
