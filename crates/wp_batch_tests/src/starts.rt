@@ -12,7 +12,7 @@ struct Starts {
     costs: &'static [u64],
 }
 
-/// The sums are 36,250, 31,430, 28,714, 27,626, 25,492 and 15,371.
+/// The sums are 36,250, 31,430, 28,714, 27,626, 25,492 and 15,366.
 const STARTS: &[Starts] = &[
     Starts {
         orders: 20,
