@@ -121,10 +121,17 @@ fn room_within(duals: &[u64], columns: &[Column], order: u32) -> Option<u64> {
 
 // Raises duals, order by order, as far as some columns have room.
 fn raise_within(duals: &mut [u64], columns: &[Column]) {
-    for order in 0..duals.len() {
-        if let Some(room) = room_within(duals, columns, order as u32) {
-            duals[order] = duals[order].saturating_add(room);
+    for order in 0..duals.len().min(64) as u32 {
+        if let Some(room) = room_within(duals, columns, order) {
+            raise_dual(duals, order as usize, room);
         }
+    }
+}
+
+// Raises the dual of an order.
+fn raise_dual(duals: &mut [u64], order: usize, room: u64) {
+    if order < duals.len() {
+        duals[order] = duals[order].saturating_add(room);
     }
 }
 
