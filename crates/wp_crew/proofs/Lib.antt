@@ -1,0 +1,9 @@
+pub mod LoadSums
+pub mod Greatest
+pub mod Totals
+pub mod FallingTurns
+pub mod Deals
+pub mod NewNumbers
+pub mod Slices
+pub mod Crews
+pub mod FirstLoads
