@@ -1,5 +1,7 @@
-//! Tests of crews, by the public calls alone.
+//! Tests of crews and of the walks of rules, by the public calls alone.
 #![tactic(auto)]
 
 #[cfg(test)]
 mod crews;
+#[cfg(test)]
+mod rules;

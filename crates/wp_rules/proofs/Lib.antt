@@ -1,0 +1,6 @@
+pub mod Lines
+pub mod Trips
+pub mod OffGaps
+pub mod Served
+pub mod RuleTours
+pub mod Adding

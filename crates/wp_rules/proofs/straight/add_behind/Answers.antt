@@ -1,0 +1,11 @@
+use Rattle.std.proofs.Common.{◌∙◌, ◌++◌, ◌+◌, ◌-◌, List, ap}
+use Rattle.wp_model.specs.declared.point.Point.{Point}
+use Rattle.wp_classes.specs.Paths.{behind}
+use Rattle.wp_rules.proofs.Adding.{one_behind}
+use Rattle.wp_rules.proofs.straight.add_behind.Goals as goal
+
+pub loop-back-preserved : goal.loop-back-preserved
+loop-back-preserved c =
+    ap (λ (points : List Point). points ++ behind c.args.aisle c.args.to (c.args.from - (c.loop-back.back + 1))) c.in_ok-push.ensures.items
+    ∙ one_behind c.args.aisle c.loop-back.back c.args.from c.args.to c.loop-back.points.items (c.args.points.now.items ++ behind c.args.aisle c.args.to (c.args.from - c.args.to))
+    c.loop-back-test.true c.loop-back.invariant
