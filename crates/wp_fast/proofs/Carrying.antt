@@ -29,11 +29,11 @@ use Rattle.wp_fast.proofs.Warehouse.{layout_even}
 use Rattle.wp_fast.proofs.WholeRuns.{first_of_run, on_from_run, run_from_on}
 
 -- the ways through a needed aisle
-pub ways_needed : (layout : Layout) (picks : List Point) (aisle : ℕ) (ways : AisleWays) → AreSlots layout picks → ways ≡ ways_of layout picks aisle →
+pub ways_needed : (layout : Layout) (picks : List Point) (aisle : ℕ) (ways : AisleWays) → IsLayout layout → ways ≡ ways_of layout picks aisle →
     (ways_of layout picks aisle).skip ≡ None → AreWays ways
-ways_needed layout picks aisle ways slots is none = record {
+ways_needed layout picks aisle ways valid is none = record {
   needed = ap (λ (w : AisleWays). w.skip) is ∙ none;
-  short = subst (λ (w : AisleWays). AreAtMost 4020000 w) (sym is) (ways_small layout picks aisle slots.ranges);
+  short = subst (λ (w : AisleWays). AreAtMost 4020000 w) (sym is) (ways_small layout picks aisle valid);
 }
 
 -- past an aisle and all behind it: by some way through it, and on

@@ -14,6 +14,8 @@ pub mod WholeRuns
 pub mod TreeSteps
 pub mod TreeRoot
 pub mod KeptAisles
+pub mod KeptOrAnew
+pub mod WayNumbers
 pub mod Tables
 pub mod OverRuns
 pub mod Spare

@@ -6,4 +6,5 @@ pub mod Runs
 pub mod Trees
 pub mod SpareRuns
 pub mod Lengths
+pub mod KeptWays
 pub mod Laws

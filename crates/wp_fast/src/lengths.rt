@@ -25,6 +25,9 @@ struct On {
     double: u64,
 }
 
+/// What stands for a way that doesn't apply: it is longer than every way, and on.
+const NO_WAY: u64 = 1 << 42;
+
 // By a way, where it applies, or no longer than this.
 #[inline(always)]
 fn or_by(way: Option<u64>, on: u64, least: u64) -> u64
@@ -84,18 +87,31 @@ pub(crate) fn only_length(ways: &AisleWays) -> u64
     or_by(ways.back, 0, or_by(ways.front, 0, ways.double))
 }
 
-/// The least lengths on from before the way through a needed aisle, from those on from after it.
+/// The least lengths on from before the way through a needed aisle, from those on from after it. What several classes have in
+/// common is found once.
 pub(crate) fn before_way(ways: &AisleWays, after: &NeededLengths) -> NeededLengths
     requires ways { AreWays ways.now }
     requires after { AreShort after.now }
     ensures { HaveLeast ways.now (on_from after.now) result }
 {
+    let back = ways.back.unwrap_or(NO_WAY);
+    let front = ways.front.unwrap_or(NO_WAY);
+    let gap = ways.gap.unwrap_or(NO_WAY);
+    let inside = back.min(front).min(gap);
+    let odd = ways.pass + after.uu1;
+    let joined = ways.double + after.ee1;
     NeededLengths {
-        uu1: least_through(ways, after.from_odd()),
-        e01: least_through(ways, after.from_back()),
-        ze1: least_through(ways, after.from_front()),
-        ee1: least_through(ways, after.from_joined()),
-        ee2: least_through(ways, after.from_both()),
+        uu1: (ways.pass + after.ee1).min(inside.min(ways.double) + after.uu1),
+        e01: odd
+            .min(back + after.e01)
+            .min(front.min(gap) + after.ee2)
+            .min(joined),
+        ze1: odd
+            .min(front + after.ze1)
+            .min(back.min(gap) + after.ee2)
+            .min(joined),
+        ee1: odd.min(inside + after.ee1).min(joined),
+        ee2: odd.min(inside + after.ee2).min(joined),
     }
 }
 
@@ -109,77 +125,7 @@ pub(crate) fn first_length(ways: &AisleWays, after: &NeededLengths) -> u64
 }
 
 impl NeededLengths {
-    // On after each way in class UU1.
-    #[inline(always)]
-    fn from_odd(&self) -> On
-        ensures { result ≡ record { pass = self.now.ee1; back = self.now.uu1; front = self.now.uu1; gap = self.now.uu1; double = self.now.uu1 } }
-    {
-        On {
-            pass: self.ee1,
-            back: self.uu1,
-            front: self.uu1,
-            gap: self.uu1,
-            double: self.uu1,
-        }
-    }
-
-    // In class E01.
-    #[inline(always)]
-    fn from_back(&self) -> On
-        ensures { result ≡ record { pass = self.now.uu1; back = self.now.e01; front = self.now.ee2; gap = self.now.ee2; double = self.now.ee1 } }
-    {
-        On {
-            pass: self.uu1,
-            back: self.e01,
-            front: self.ee2,
-            gap: self.ee2,
-            double: self.ee1,
-        }
-    }
-
-    // In class 0E1.
-    #[inline(always)]
-    fn from_front(&self) -> On
-        ensures { result ≡ record { pass = self.now.uu1; back = self.now.ee2; front = self.now.ze1; gap = self.now.ee2; double = self.now.ee1 } }
-    {
-        On {
-            pass: self.uu1,
-            back: self.ee2,
-            front: self.ze1,
-            gap: self.ee2,
-            double: self.ee1,
-        }
-    }
-
-    // In class EE1.
-    #[inline(always)]
-    fn from_joined(&self) -> On
-        ensures { result ≡ record { pass = self.now.uu1; back = self.now.ee1; front = self.now.ee1; gap = self.now.ee1; double = self.now.ee1 } }
-    {
-        On {
-            pass: self.uu1,
-            back: self.ee1,
-            front: self.ee1,
-            gap: self.ee1,
-            double: self.ee1,
-        }
-    }
-
-    // In class EE2.
-    #[inline(always)]
-    fn from_both(&self) -> On
-        ensures { result ≡ record { pass = self.now.uu1; back = self.now.ee2; front = self.now.ee2; gap = self.now.ee2; double = self.now.ee1 } }
-    {
-        On {
-            pass: self.uu1,
-            back: self.ee2,
-            front: self.ee2,
-            gap: self.ee2,
-            double: self.ee1,
-        }
-    }
-
-    // In class 000.
+    // On after each way in class 000.
     #[inline(always)]
     fn from_nothing(&self) -> On
         ensures { result ≡ record { pass = self.now.uu1; back = self.now.e01; front = self.now.ze1; gap = self.now.ee2; double = self.now.ee1 } }

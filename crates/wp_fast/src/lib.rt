@@ -5,6 +5,7 @@
 //! gone over at once, by crossings of one kind. The classes and ways are those of Ratliff and Rosenthal, 1983.
 #![tactic(auto)]
 
+mod kept;
 mod laws;
 mod lengths;
 mod needed;
@@ -14,6 +15,7 @@ mod runs;
 mod summary;
 mod tree;
 
+pub use kept::KeptWays;
 pub use laws::{
     carried_lengths_are_told, composing_is_associative, last_lengths_are_told,
     stepping_is_composing,

@@ -4,22 +4,22 @@ use Rattle.wp_fast.proofs.needed.after_next_to_last.Goals as goal
 use Rattle.wp_fast.proofs.needed.after_next_to_last.Goals.{After-before_last-carried}
 
 -- what is carried to the last needed aisle
-carried : (c : After-before_last-carried) → AreCarried (PastTheRest c.args.layout.now c.args.picks.now.points c.args.last) c.before_last-carried.result
-carried c = carried_to _ _ _ _ _ _ c.aisle_ways.ensures.value (behind_last _ _ _ c.requires.last c.requires.neighbours.there c.requires.behind) c.before_last-carried.ensures
+carried : (c : After-before_last-carried) → AreCarried (PastTheRest c.args.aisles.now.layout.now c.args.aisles.now.picks.now.points c.args.last) c.before_last-carried.result
+carried c = carried_to _ _ _ _ _ _ c.ways_through.ensures.value (behind_last _ _ _ c.requires.last c.requires.neighbours.there c.requires.behind) c.before_last-carried.ensures
 
 pub before_last-carried-requires : goal.before_last-carried-requires
-before_last-carried-requires c = ways_needed _ _ _ _ c.aisle_ways.ensures.slots c.aisle_ways.ensures.value c.requires.neighbours.there
+before_last-carried-requires c = ways_needed _ _ _ _ c.ways_through.ensures.valid c.ways_through.ensures.value c.requires.neighbours.there
 
 pub span_between-requires-clause-order : goal.span_between-requires-clause-order
 span_between-requires-clause-order c = c.requires.neighbours.order
 
 pub along-requires-clause-lengths : goal.along-requires-clause-lengths
 along-requires-clause-lengths c =
-    carried_short _ _ _ _ c.aisle_ways.ensures.slots.ranges c.requires.last (carried (goal.at.along-requires-clause-lengths c).After-before_last-carried)
+    carried_short _ _ _ _ c.ways_through.ensures.valid c.requires.last (carried (goal.at.along-requires-clause-lengths c).After-before_last-carried)
 
 pub returns-clause-short : goal.returns-clause-short
 returns-clause-short c =
-    rw c.along.ensures (along_short _ _ _ _ _ c.aisle_ways.ensures.slots.ranges c.requires.last c.span_between.ensures.small
+    rw c.along.ensures (along_short _ _ _ _ _ c.ways_through.ensures.valid c.requires.last c.span_between.ensures.small
     (carried (goal.at.returns-clause-short c).After-before_last-carried))
 
 pub returns-clause-behind : goal.returns-clause-behind

@@ -6,10 +6,10 @@ use Rattle.wp_fast.proofs.needed.length_from.Given as goal
 
 abbrev pub invariant-loop-next : goal.invariant-loop-next
 invariant-loop-next l = record {
-  aisle : IsUpTo l.layout.aisles l.first;
-  needed : ((block_of l.layout l.picks.points).ways l.first).skip ≡ None;
+  aisle : IsUpTo l.aisles.layout.now.aisles l.first;
+  needed : ((block_of l.aisles.layout.now l.aisles.picks.now.points).ways l.first).skip ≡ None;
   short : AreShort l.onward;
-  behind : AreBehind l.layout l.picks.points l.first (on_from l.onward);
+  behind : AreBehind l.aisles.layout.now l.aisles.picks.now.points l.first (on_from l.onward);
 }
 
 abbrev pub decreases-loop-next : goal.decreases-loop-next
