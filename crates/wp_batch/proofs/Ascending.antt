@@ -1,5 +1,5 @@
 -- Ascending lists: what is left of one without another, and lists of the same numbers.
-use Rattle.std.proofs.Common.{◌≡◌, ◌≢◌, ℕ, ◌+◌, ◌<◌, ◌≤◌, List, [], ◌∷◌, length, arith, refl, ap, sym, ◌∙◌, subst, inl, inr, ◌⊎◌, ◌↔◌, ⊎_elim, Contains}
+use Rattle.std.proofs.Common.{◌≡◌, ◌≢◌, ℕ, ◌+◌, ◌<◌, List, [], ◌∷◌, length, arith, refl, ap, sym, ◌∙◌, subst, inl, inr, ◌⊎◌, ◌↔◌, ⊎_elim, Contains}
 use Rattle.std.specs.Prelude.{sum_by}
 use Rattle.std.specs.List.Sorted.{IsStrictlyIncreasing}
 use Rattle.std.proofs.lemmas.Bool.{cases_eq}
@@ -89,11 +89,6 @@ same_sum f part whole up down all back =
     let s = split_off f part whole up down all in
     let none = nothing_left s.rest (λ x has. s.not_of_part x has (back x (s.of_whole x has))) in
     omega (arith, s.sums, ap (λ (xs : List ℕ). sum_by f xs) none)
-
--- no more numbers have no larger sum
-pub smaller_sum : (f : ℕ → ℕ) (part whole : List ℕ) → IsStrictlyIncreasing part → IsStrictlyIncreasing whole
-    → ((x : ℕ) → Contains part x → Contains whole x) → sum_by f part ≤ sum_by f whole
-smaller_sum f part whole up down all = let s = split_off f part whole up down all in omega (arith, s.sums)
 
 -- a single number ascends
 pub single_ascends : (x : ℕ) → IsStrictlyIncreasing (x ∷ [])

@@ -8,7 +8,7 @@ use Rattle.wp_model.specs.Tours.{IsShortest}
 use Rattle.wp_model.specs.Warehouse.{Layout}
 use Rattle.wp_graph.proofs.Members.{Contains-from_among, among-flat_map, among_from_Contains, flat_map_source}
 use Rattle.wp_batch.specs.declared.merge.Join.{Join}
-use Rattle.wp_batch.specs.Batchings.{IsBatching, NoGain, batch_at}
+use Rattle.wp_batch.specs.Batchings.{FitInOne, IsBatching, NoGain, batch_at}
 use Rattle.wp_batch.specs.Joins.{AreKnown, CanJoin, IsBestBelow, IsBestWith, JoinSaves, SavesAtMost}
 use Rattle.wp_batch.specs.Lengths.{IsLengthOf, batch_picks}
 use Rattle.wp_batch.specs.Waves.{WavePicks, picks_of}
@@ -70,7 +70,7 @@ no_gain_at_all wave capacity left right most none is = λ fits one other both l 
 -- one more batch before the same one
 pub one_more_before : (wave : WavePicks) (capacity : ℕ) (batches : List (List ℕ)) (place right : ℕ) (best found result : Join)
     → IsBestWith wave capacity batches place right best → found.left ≡ place → found.right ≡ right → place < right → right < length batches
-    → (0 < found.saving → length (batch_at batches place) + length (batch_at batches right) ≤ capacity)
+    → (0 < found.saving → FitInOne wave capacity (batch_at batches place) (batch_at batches right))
     → SavesAtMost wave capacity (batch_at batches place) (batch_at batches right) found.saving
     → (0 < found.saving → JoinSaves wave (batch_at batches place) (batch_at batches right) found.saving) → (result ≡ best) ⊎ (result ≡ found)
     → best.saving ≤ result.saving → found.saving ≤ result.saving → IsBestWith wave capacity batches (place + 1) right result
@@ -80,9 +80,9 @@ one_more_before wave capacity batches place right best found result before l r l
       (λ (e : result ≡ found). subst (CanJoin wave capacity batches) (sym e) (record {
         order = omega (arith, l, r);
         within = omega (arith, r);
-        fits = let sum = fits (subst (λ (j : Join). 0 < j.saving) e some) in
-            subst (λ (x : ℕ). length (batch_at batches x) + length (batch_at batches found.right) ≤ capacity) (sym l)
-            (subst (λ (y : ℕ). length (batch_at batches place) + length (batch_at batches y) ≤ capacity) (sym r) sum);
+        fits = let both = fits (subst (λ (j : Join). 0 < j.saving) e some) in
+            subst (λ (x : ℕ). FitInOne wave capacity (batch_at batches x) (batch_at batches found.right)) (sym l)
+            (subst (λ (y : ℕ). FitInOne wave capacity (batch_at batches place) (batch_at batches y)) (sym r) both);
         saves = subst (λ (x : ℕ). JoinSaves wave (batch_at batches x) (batch_at batches found.right) found.saving) (sym l)
             (subst (λ (y : ℕ). JoinSaves wave (batch_at batches place) (batch_at batches y) found.saving) (sym r)
             (saves (subst (λ (j : Join). 0 < j.saving) e some)));
@@ -113,10 +113,8 @@ one_more_after wave capacity batches place best found result before with_one eit
 }
 
 -- the batches of a batching have orders of the wave alone
-pub batching_is_known : (wave : WavePicks) (orders capacity : ℕ) (batches : List (List ℕ)) → orders ≡ length wave.orders → IsBatching orders capacity batches
-    → AreKnown wave batches
-batching_is_known wave orders capacity batches all is = λ place within.
-    subst (λ (n : ℕ). All (λ order. order < n) (batch_at batches place)) all (is.each place within).known
+pub batching_is_known : (wave : WavePicks) (capacity : ℕ) (batches : List (List ℕ)) → IsBatching wave capacity batches → AreKnown wave batches
+batching_is_known wave capacity batches is = λ place within. (is.each place within).known
 
 -- what is read at a place of the list is the batch there
 pub batch_read : (batches : List (List ℕ)) (place : ℕ) (read : List ℕ) → place < length batches → read ≡ get_or batches place read

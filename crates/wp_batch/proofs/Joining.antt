@@ -8,8 +8,11 @@ use Rattle.std.proofs.lemmas.List.Edits.{get_or-remove_above, get_or-remove_belo
 use Rattle.std.proofs.lemmas.List.Elements.{All-contains, Contains-get_or}
 use Rattle.std.proofs.lemmas.List.{get_or-set_other, get_or-set_same, get_or_default, length-set}
 use Rattle.wp_pairs.specs.Batches.{IsBatch}
+use Rattle.wp_pairs.specs.Carts.{FitsAnyCart}
 use Rattle.wp_pairs.specs.Permitted.{IsPermitted}
-use Rattle.wp_batch.specs.Batchings.{IsBatching, IsListedByLeast, batch_at, no_pairs}
+use Rattle.wp_batch.specs.Batchings.{FitInOne, IsBatching, IsListedByLeast, batch_at, no_pairs}
+use Rattle.wp_batch.specs.Waves.{WavePicks}
+use Rattle.wp_batch.proofs.Loads.{IsUnion, apart_count, apart_fit, union_fits}
 use Rattle.wp_batch.proofs.Unions.{all_from_contained}
 
 -- the first of an ascending list is its least
@@ -27,28 +30,30 @@ first_least xs x up has =
     let is : get_or xs has.0 0 ≡ x = get_or_default xs has.0 0 x has.1 ∙ has.2 in omega (arith, rising xs up has.0 has.1, is)
 
 -- a batch is permitted where there is no pair, if it is filled and fits
-pub permitted_alone : (orders capacity : ℕ) (batch : List ℕ) → IsBatch batch → 0 < length batch → length batch ≤ capacity
-    → ((order : ℕ) → Contains batch order → order < orders) → IsPermitted (no_pairs orders capacity) batch
-permitted_alone orders capacity batch is filled fits known = record {
+pub permitted_alone : (wave : WavePicks) (capacity : ℕ) (batch : List ℕ) → IsBatch batch → 0 < length batch → length batch ≤ capacity
+    → FitsAnyCart wave.cart batch → ((order : ℕ) → Contains batch order → order < length wave.orders) → IsPermitted (no_pairs wave capacity) batch
+permitted_alone wave capacity batch is filled fits light known = record {
   ascending = is.ascending;
   filled = filled;
   fits = fits;
-  known = all_from_contained (λ (order : ℕ). order < orders) batch known;
+  light = light;
+  known = all_from_contained (λ (order : ℕ). order < length wave.orders) batch known;
   together = λ pair added kind. absurd (omega (arith, added.1));
   apart = λ pair added kind both. omega (arith, added.1);
 }
 
 -- two batches of a batching, the earlier first, and a batch of the orders of both, which fits
-pub record IsJoin (orders capacity : ℕ) (batches : List (List ℕ)) (i j : ℕ) (union : List ℕ) : Type 0 where
-  pub batching : IsBatching orders capacity batches
+pub record IsJoin (wave : WavePicks) (capacity : ℕ) (batches : List (List ℕ)) (i j : ℕ) (union : List ℕ) : Type 0 where
+  pub batching : IsBatching wave capacity batches
   pub listed : IsListedByLeast batches
   pub order : i < j
   pub within : j < length batches
   pub is : IsBatch union
   pub of_both : (p : ℕ) → Contains union p ↔ (Contains (batch_at batches i) p ⊎ Contains (batch_at batches j) p)
   pub fits : length union ≤ capacity
+  pub light : FitsAnyCart wave.cart union
 
-module _ (orders capacity : ℕ) (batches : List (List ℕ)) (i j : ℕ) (union : List ℕ) (h : IsJoin orders capacity batches i j union) where
+module _ (wave : WavePicks) (capacity : ℕ) (batches : List (List ℕ)) (i j : ℕ) (union : List ℕ) (h : IsJoin wave capacity batches i j union) where
   after : List (List ℕ)
   after = remove (set batches i union) j
 
@@ -129,7 +134,7 @@ module _ (orders capacity : ℕ) (batches : List (List ℕ)) (i j : ℕ) (union 
       (cases_lt s.old j))
       (cases_eq s.old j)
 
-  covers : (order : ℕ) → order < orders
+  covers : (order : ℕ) → order < length wave.orders
       → (place : ℕ) × (place < length (remove (set batches i union) j)) × Contains (batch_at (remove (set batches i union) j) place) order
   covers order known =
       let old = h.batching.covered order known in
@@ -159,27 +164,27 @@ module _ (orders capacity : ℕ) (batches : List (List ℕ)) (i j : ℕ) (union 
       (cases_eq place i))
       (cases_eq place j)
 
-  union_permitted : IsPermitted (no_pairs orders capacity) union
+  union_permitted : IsPermitted (no_pairs wave capacity) union
   union_permitted =
       let left = h.batching.each i (omega (arith, h.order, h.within)) in
       let right = h.batching.each j h.within in
       let first = (h.of_both (get_or (batch_at batches i) 0 0)).1 (inl (Contains-get_or (batch_at batches i) 0 0 left.filled)) in
-      permitted_alone orders capacity union h.is (omega (arith, first.1)) h.fits
-      (λ order has. ⊎_elim (λ l. All-contains (λ (o : ℕ). o < orders) (batch_at batches i) order left.known l)
-      (λ r. All-contains (λ (o : ℕ). o < orders) (batch_at batches j) order right.known r) ((h.of_both order).0 has))
+      permitted_alone wave capacity union h.is (omega (arith, first.1)) h.fits h.light
+      (λ order has. ⊎_elim (λ l. All-contains (λ (o : ℕ). o < length wave.orders) (batch_at batches i) order left.known l)
+      (λ r. All-contains (λ (o : ℕ). o < length wave.orders) (batch_at batches j) order right.known r) ((h.of_both order).0 has))
 
   permits : (place : ℕ) → place < length (remove (set batches i union) j)
-      → IsPermitted (no_pairs orders capacity) (batch_at (remove (set batches i union) j) place)
+      → IsPermitted (no_pairs wave capacity) (batch_at (remove (set batches i union) j) place)
   permits place within = ⊎_elim
-      (λ (e : place ≡ i). subst (IsPermitted (no_pairs orders capacity)) (sym (ap (batch_at (remove (set batches i union) j)) e ∙ at_join)) union_permitted)
+      (λ (e : place ≡ i). subst (IsPermitted (no_pairs wave capacity)) (sym (ap (batch_at (remove (set batches i union) j)) e ∙ at_join)) union_permitted)
       (λ (ne : place ≢ i). ⊎_elim
-      (λ (lt : place < j). subst (IsPermitted (no_pairs orders capacity)) (sym (at_low place lt ne)) (h.batching.each place (omega (arith, h.within))))
-      (λ (ge : j ≤ place). subst (IsPermitted (no_pairs orders capacity)) (sym (at_high place ge)) (h.batching.each (place + 1) (omega (arith, within, fewer))))
+      (λ (lt : place < j). subst (IsPermitted (no_pairs wave capacity)) (sym (at_low place lt ne)) (h.batching.each place (omega (arith, h.within))))
+      (λ (ge : j ≤ place). subst (IsPermitted (no_pairs wave capacity)) (sym (at_high place ge)) (h.batching.each (place + 1) (omega (arith, within, fewer))))
       (cases_lt place j))
       (cases_eq place i)
 
   -- after the join the batches are a batching
-  pub join_is_batching : IsBatching orders capacity (remove (set batches i union) j)
+  pub join_is_batching : IsBatching wave capacity (remove (set batches i union) j)
   join_is_batching = record {
     each = permits;
     covered = covers;
@@ -253,24 +258,56 @@ module _ (orders capacity : ℕ) (batches : List (List ℕ)) (i j : ℕ) (union 
       omega (arith, h.listed f.old g.old below g.old_within, f.same, g.same)
 
 -- two batches as they were read, and the batch of both
-pub joins_read : (orders capacity : ℕ) (batches : List (List ℕ)) (i j : ℕ) (left right union : List ℕ) → IsBatching orders capacity batches
-    → IsListedByLeast batches → i < j → j < length batches → length (batch_at batches i) + length (batch_at batches j) ≤ capacity
+pub joins_read : (wave : WavePicks) (capacity : ℕ) (batches : List (List ℕ)) (i j : ℕ) (left right union : List ℕ) → IsBatching wave capacity batches
+    → IsListedByLeast batches → i < j → j < length batches → FitInOne wave capacity (batch_at batches i) (batch_at batches j)
     → left ≡ get_or batches i left → right ≡ get_or batches j right → IsBatch union
     → ((p : ℕ) → Contains union p ↔ (Contains left p ⊎ Contains right p)) → length union ≤ length left + length right
-    → IsJoin orders capacity batches i j union
-joins_read orders capacity batches i j left right union batching listed order within fits l r is of_both count =
+    → IsJoin wave capacity batches i j union
+joins_read wave capacity batches i j left right union batching listed order within fits l r is of_both count =
     let l_is : left ≡ batch_at batches i = l ∙ get_or_default batches i left [] (omega (arith, order, within)) in
     let r_is : right ≡ batch_at batches j = r ∙ get_or_default batches j right [] within in
+    let both : (p : ℕ) → Contains union p ↔ (Contains (batch_at batches i) p ⊎ Contains (batch_at batches j) p) = λ p. (
+      λ h. ⊎_elim (λ a. inl (subst (λ (xs : List ℕ). Contains xs p) l_is a)) (λ b. inr (subst (λ (xs : List ℕ). Contains xs p) r_is b)) ((of_both p).0 h),
+      λ h. (of_both p).1 (⊎_elim (λ a. inl (subst (λ (xs : List ℕ). Contains xs p) (sym l_is) a))
+          (λ b. inr (subst (λ (xs : List ℕ). Contains xs p) (sym r_is) b)) h),
+    ) in
     record {
       batching = batching;
       listed = listed;
       order = order;
       within = within;
       is = is;
-      of_both = λ p. (
-        λ h. ⊎_elim (λ a. inl (subst (λ (xs : List ℕ). Contains xs p) l_is a)) (λ b. inr (subst (λ (xs : List ℕ). Contains xs p) r_is b)) ((of_both p).0 h),
-        λ h. (of_both p).1 (⊎_elim (λ a. inl (subst (λ (xs : List ℕ). Contains xs p) (sym l_is) a))
-            (λ b. inr (subst (λ (xs : List ℕ). Contains xs p) (sym r_is) b)) h),
-      );
-      fits = omega (arith, count, fits, ap (λ (xs : List ℕ). length xs) l_is, ap (λ (xs : List ℕ). length xs) r_is);
+      of_both = both;
+      fits = omega (arith, count, fits.few, ap (λ (xs : List ℕ). length xs) l_is, ap (λ (xs : List ℕ). length xs) r_is);
+      light = union_fits wave.cart (batch_at batches i) (batch_at batches j) union (record {
+        left_ascends = (batching.each i (omega (arith, order, within))).ascending;
+        right_ascends = (batching.each j within).ascending;
+        ascends = is.ascending;
+        of_both = both;
+      }) fits.light;
     }
+
+-- two batches of a batching fit into one exactly where the batch of all their orders is permitted where there is no pair
+pub permitted_as_one : (wave : WavePicks) (capacity : ℕ) (batches : List (List ℕ)) (i j : ℕ) (union : List ℕ) → IsBatching wave capacity batches
+    → i < j → j < length batches → IsBatch union → ((p : ℕ) → Contains union p ↔ (Contains (batch_at batches i) p ⊎ Contains (batch_at batches j) p))
+    → FitInOne wave capacity (batch_at batches i) (batch_at batches j) ↔ IsPermitted (no_pairs wave capacity) union
+permitted_as_one wave capacity batches i j union batching order within is of_both =
+    let inside : i < length batches = omega (arith, order, within) in
+    let left = batching.each i inside in
+    let right = batching.each j within in
+    let union_is : IsUnion (batch_at batches i) (batch_at batches j) union = record {
+      left_ascends = left.ascending;
+      right_ascends = right.ascending;
+      ascends = is.ascending;
+      of_both = of_both;
+    } in
+    let apart = λ (p : ℕ) (l : Contains (batch_at batches i) p) (r : Contains (batch_at batches j) p).
+    let same = batching.once p i j inside within l r in let none : ⊥ = omega (arith, same, order) in none in
+    let count = apart_count (batch_at batches i) (batch_at batches j) union union_is apart in
+    let first = (of_both (get_or (batch_at batches i) 0 0)).1 (inl (Contains-get_or (batch_at batches i) 0 0 left.filled)) in (
+      λ fit. permitted_alone wave capacity union is (omega (arith, first.1)) (omega (arith, count, fit.few))
+          (union_fits wave.cart _ _ union union_is fit.light)
+          (λ p has. ⊎_elim (λ l. All-contains (λ (o : ℕ). o < length wave.orders) (batch_at batches i) p left.known l)
+          (λ r. All-contains (λ (o : ℕ). o < length wave.orders) (batch_at batches j) p right.known r) ((of_both p).0 has)),
+      λ permitted. record { few = omega (arith, count, permitted.fits); light = apart_fit wave.cart _ _ union union_is apart permitted.light },
+    )

@@ -7,6 +7,7 @@ pub mod KeptLengths
 pub mod Splits
 pub mod Replacing
 pub mod Listings
+pub mod Loads
 pub mod Costs
 pub mod OrderSums
 pub mod FewerOrders

@@ -8,6 +8,7 @@ use Rattle.std.proofs.lemmas.List.{get_or_append_left, get_or_default, get_or_pu
 use Rattle.std.proofs.lemmas.Option.{get_or_from_slice_get, slice_get-get_or}
 use Rattle.wp_pairs.specs.Permitted.{IsPermitted}
 use Rattle.wp_batch.specs.Batchings.{IsBatching, IsListedByLeast, batch_at, no_pairs}
+use Rattle.wp_batch.specs.Waves.{WavePicks}
 
 -- the batches whose least orders are below this one, listed by them
 pub record AreListedBelow (batches listed : List (List ℕ)) (limit : ℕ) : Type 0 where
@@ -16,7 +17,7 @@ pub record AreListedBelow (batches listed : List (List ℕ)) (limit : ℕ) : Typ
   pub all : (m : ℕ) → m < length batches → get_or (batch_at batches m) 0 0 < limit → (k : ℕ) × (k < length listed) × (batch_at listed k ≡ batch_at batches m)
   pub ascend : IsListedByLeast listed
 
-module _ (orders capacity : ℕ) (batches : List (List ℕ)) (is : IsBatching orders capacity batches) where
+module _ (wave : WavePicks) (capacity : ℕ) (batches : List (List ℕ)) (is : IsBatching wave capacity batches) where
   first_of : (m : ℕ) → m < length batches → Contains (batch_at batches m) (get_or (batch_at batches m) 0 0)
   first_of m within = Contains-get_or (batch_at batches m) 0 0 (is.each m within).filled
 
@@ -86,12 +87,12 @@ module _ (orders capacity : ℕ) (batches : List (List ℕ)) (is : IsBatching or
       }
 
   -- at the end all are
-  pub listed_is_batching : (listed : List (List ℕ)) → AreListedBelow batches listed orders → IsBatching orders capacity listed
+  pub listed_is_batching : (listed : List (List ℕ)) → AreListedBelow batches listed (length wave.orders) → IsBatching wave capacity listed
   listed_is_batching listed all = record {
-    each = λ place within. let from = all.from place within in subst (IsPermitted (no_pairs orders capacity)) (sym from.2) (is.each from.0 from.1);
+    each = λ place within. let from = all.from place within in subst (IsPermitted (no_pairs wave capacity)) (sym from.2) (is.each from.0 from.1);
     covered = λ order known.
         let old = is.covered order known in
-        let first = All-contains (λ (o : ℕ). o < orders) (batch_at batches old.0) (get_or (batch_at batches old.0) 0 0)
+        let first = All-contains (λ (o : ℕ). o < length wave.orders) (batch_at batches old.0) (get_or (batch_at batches old.0) 0 0)
         (is.each old.0 old.1).known (first_of old.0 old.1) in
         let there = all.all old.0 old.1 first in
         (there.0, there.1, subst (λ (xs : List ℕ). Contains xs order) (sym there.2) old.2);
@@ -116,7 +117,7 @@ module _ (orders capacity : ℕ) (batches : List (List ℕ)) (is : IsBatching or
       (old.0, old.1, get_or_default batches old.0 (batch_at listed k) [] old.1 ∙ sym old.2)
 
   -- and each of the batches is listed at the end
-  pub all_listed : (listed : List (List ℕ)) → AreListedBelow batches listed orders → (m : ℕ) → m < length batches
+  pub all_listed : (listed : List (List ℕ)) → AreListedBelow batches listed (length wave.orders) → (m : ℕ) → m < length batches
       → (k : ℕ) × (k < length listed) × (batch_at listed k ≡ batch_at batches m)
   all_listed listed all m within = all.all m within
-      (All-contains (λ (o : ℕ). o < orders) (batch_at batches m) (get_or (batch_at batches m) 0 0) (is.each m within).known (first_of m within))
+      (All-contains (λ (o : ℕ). o < length wave.orders) (batch_at batches m) (get_or (batch_at batches m) 0 0) (is.each m within).known (first_of m within))

@@ -7,10 +7,11 @@ use Rattle.wp_pairs.specs.Permitted.{IsPermitted}
 use Rattle.wp_batch.specs.declared.split.Split.{Split}
 use Rattle.wp_batch.specs.Batchings.{IsBatching, batch_at, no_pairs}
 use Rattle.wp_batch.specs.Splits.{CanReplace}
+use Rattle.wp_batch.specs.Waves.{WavePicks}
 use Rattle.wp_batch.proofs.Joining.{permitted_alone}
 
-module _ (orders capacity : ℕ) (batches : List (List ℕ)) (i j : ℕ) (split : Split) (is : IsBatching orders capacity batches)
-    (h : CanReplace capacity batches i j split) where
+module _ (wave : WavePicks) (capacity : ℕ) (batches : List (List ℕ)) (i j : ℕ) (split : Split) (is : IsBatching wave capacity batches)
+    (h : CanReplace wave capacity batches i j split) where
   inside : i < length batches
   inside = omega (arith, h.order, h.within)
 
@@ -29,22 +30,22 @@ module _ (orders capacity : ℕ) (batches : List (List ℕ)) (i j : ℕ) (split 
   pub as_long : length (set (set batches i split.left) j split.right) ≡ length batches
   as_long = length-set (set batches i split.left) j split.right ∙ length-set batches i split.left
 
-  known : (order : ℕ) → Contains split.left order ⊎ Contains split.right order → order < orders
-  known order has = ⊎_elim (λ l. All-contains (λ (o : ℕ). o < orders) (batch_at batches i) order (is.each i inside).known l)
-      (λ r. All-contains (λ (o : ℕ). o < orders) (batch_at batches j) order (is.each j h.within).known r) ((h.of_both order).0 has)
+  known : (order : ℕ) → Contains split.left order ⊎ Contains split.right order → order < length wave.orders
+  known order has = ⊎_elim (λ l. All-contains (λ (o : ℕ). o < length wave.orders) (batch_at batches i) order (is.each i inside).known l)
+      (λ r. All-contains (λ (o : ℕ). o < length wave.orders) (batch_at batches j) order (is.each j h.within).known r) ((h.of_both order).0 has)
 
-  permits : (place : ℕ) → place < length batches → IsPermitted (no_pairs orders capacity) (batch_at (set (set batches i split.left) j split.right) place)
+  permits : (place : ℕ) → place < length batches → IsPermitted (no_pairs wave capacity) (batch_at (set (set batches i split.left) j split.right) place)
   permits place within = ⊎_elim
-      (λ (e : place ≡ i). subst (IsPermitted (no_pairs orders capacity)) (sym (ap (batch_at (set (set batches i split.left) j split.right)) e ∙ at_left))
-      (permitted_alone orders capacity split.left h.left_fit.is (omega (arith, h.left_fit.filled)) h.left_fit.fits (λ o has. known o (inl has))))
+      (λ (e : place ≡ i). subst (IsPermitted (no_pairs wave capacity)) (sym (ap (batch_at (set (set batches i split.left) j split.right)) e ∙ at_left))
+      (permitted_alone wave capacity split.left h.left_fit.is (omega (arith, h.left_fit.filled)) h.left_fit.fits h.left_fit.light (λ o has. known o (inl has))))
       (λ (ni : place ≢ i). ⊎_elim
-      (λ (e : place ≡ j). subst (IsPermitted (no_pairs orders capacity)) (sym (ap (batch_at (set (set batches i split.left) j split.right)) e ∙ at_right))
-      (permitted_alone orders capacity split.right h.right_fit.is (omega (arith, h.right_fit.filled)) h.right_fit.fits (λ o has. known o (inr has))))
-      (λ (nj : place ≢ j). subst (IsPermitted (no_pairs orders capacity)) (sym (at_other place ni nj)) (is.each place within))
+      (λ (e : place ≡ j). subst (IsPermitted (no_pairs wave capacity)) (sym (ap (batch_at (set (set batches i split.left) j split.right)) e ∙ at_right))
+      (permitted_alone wave capacity split.right h.right_fit.is (omega (arith, h.right_fit.filled)) h.right_fit.fits h.right_fit.light (λ o has. known o (inr has))))
+      (λ (nj : place ≢ j). subst (IsPermitted (no_pairs wave capacity)) (sym (at_other place ni nj)) (is.each place within))
       (cases_eq place j))
       (cases_eq place i)
 
-  covers : (order : ℕ) → order < orders
+  covers : (order : ℕ) → order < length wave.orders
       → (place : ℕ) × (place < length (set (set batches i split.left) j split.right))
       × Contains (batch_at (set (set batches i split.left) j split.right) place) order
   covers order low =
@@ -99,7 +100,7 @@ module _ (orders capacity : ℕ) (batches : List (List ℕ)) (i j : ℕ) (split 
   one_holder order left right l r (of_other ni nj a) (of_other mi mj b) = is.once order left right l r a b
 
   -- the batching stays one
-  pub replaced_is_batching : IsBatching orders capacity (set (set batches i split.left) j split.right)
+  pub replaced_is_batching : IsBatching wave capacity (set (set batches i split.left) j split.right)
   replaced_is_batching = record {
     each = λ place within. permits place (omega (arith, as_long));
     covered = covers;

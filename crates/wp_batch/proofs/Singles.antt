@@ -1,11 +1,19 @@
 -- Each order by itself is a batching.
 use Rattle.std.proofs.Common.{◌≡◌, ◌≢◌, ℕ, ◌+◌, ◌<◌, ◌≤◌, ◌↔◌, List, [], ◌∷◌, ◌++◌, length, length-append, get_or, arith, refl, ap, sym, ◌∙◌, subst, inr, ◌⊎◌}
-use Rattle.std.proofs.Common.{⊎_elim, Contains}
+use Rattle.std.proofs.Common.{⊎_elim, Contains, Option, None, Some}
+use Rattle.std.specs.Prelude.{slice_index}
+use Rattle.std.specs.List.Sorted.{IsStrictlyIncreasing}
 use Rattle.std.proofs.lemmas.Bool.{cases_eq, cases_lt}
 use Rattle.std.proofs.lemmas.List.Elements.{Contains-get_or}
+use Rattle.std.proofs.lemmas.List.Sums.{sum_by-cons}
 use Rattle.std.proofs.lemmas.List.{get_or_append_left, get_or_push}
 use Rattle.wp_pairs.specs.Batches.{IsBatch}
+use Rattle.wp_pairs.specs.Carts.{FitsAnyCart, IsCartFor, LoadedCart}
+use Rattle.wp_pairs.proofs.Classes.{no_heavier}
+use Rattle.wp_pairs.proofs.Members.{contains_first}
 use Rattle.wp_batch.specs.Batchings.{IsBatching, IsListedByLeast, batch_at}
+use Rattle.wp_batch.specs.Waves.{IsWave, WavePicks}
+use Rattle.wp_batch.proofs.Ascending.{single_ascends}
 use Rattle.wp_batch.proofs.Joining.{permitted_alone}
 use Rattle.wp_batch.proofs.Unions.{nothing_in}
 
@@ -52,14 +60,28 @@ at_most_one xs x is own = ⊎_elim (λ (few : length xs < 2). omega arith)
     absurd (omega (arith, up, first, second)))
     (cases_lt (length xs) 2)
 
+-- a batch of one order fits the cart of a wave
+pub alone_fits : (cart : Option LoadedCart) (orders : ℕ) (batch : List ℕ) (order : ℕ) → IsCartFor cart orders → order < orders → IsStrictlyIncreasing batch
+    → ((p : ℕ) → Contains batch p → p ≡ order) → FitsAnyCart cart batch
+alone_fits None orders batch order is low up own = tt
+alone_fits (Some held) orders batch order is low up own =
+    let loads = slice_index held.loads in
+    let only = no_heavier loads batch (order ∷ []) up (single_ascends order)
+    (λ p has. subst (λ (k : ℕ). Contains (order ∷ []) k) (sym (own p has)) (contains_first order [])) in
+    let light = is.0.light order 0 (omega (arith, low, is.1)) in
+    omega (arith, only, sum_by-cons loads order [], light)
+
 -- each order by itself is a batching
-pub singles_are_batching : (batches : List (List ℕ)) (orders capacity : ℕ) → AreSingles batches orders → 1 ≤ capacity → IsBatching orders capacity batches
-singles_are_batching batches orders capacity s some = record {
+pub singles_are_batching : (wave : WavePicks) (capacity : ℕ) (batches : List (List ℕ)) → IsWave wave → AreSingles batches (length wave.orders) → 1 ≤ capacity
+    → IsBatching wave capacity batches
+singles_are_batching wave capacity batches valid s some = record {
   each = λ place within.
-      let low : place < orders = omega (arith, s.whole) in
+      let low : place < length wave.orders = omega (arith, s.whole) in
       let own = (s.own place place low).1 refl in
-      let few = at_most_one (batch_at batches place) place (s.each place low) (λ p has. (s.own place p low).0 has) in
-      permitted_alone orders capacity (batch_at batches place) (s.each place low) (omega (arith, own.1)) (omega (arith, few))
+      let alone = λ (p : ℕ) (has : Contains (batch_at batches place) p). (s.own place p low).0 has in
+      let few = at_most_one (batch_at batches place) place (s.each place low) alone in
+      permitted_alone wave capacity (batch_at batches place) (s.each place low) (omega (arith, own.1)) (omega (arith, few))
+      (alone_fits wave.cart (length wave.orders) (batch_at batches place) place valid.cart low (s.each place low).ascending alone)
       (λ order has. let e = (s.own place order low).0 has in omega (arith, e));
   covered = λ order known. (order, omega (arith, s.whole), (s.own order order known).1 refl);
   once = λ order left right l r has has_too.

@@ -8,6 +8,7 @@ use Rattle.std.proofs.lemmas.Option.{get_or_from_slice_get, slice_get_within}
 use Rattle.wp_batch.specs.Batchings.{batch_at}
 use Rattle.wp_batch.specs.declared.split.Split.{Split}
 use Rattle.wp_batch.specs.Splits.{CanReplace, DividesInto, IsDivided, IsSplit}
+use Rattle.wp_batch.specs.Waves.{WavePicks}
 use Rattle.wp_batch.proofs.Unions.{all_from_contained, nothing_in}
 
 -- what stands first in a list is in it
@@ -74,10 +75,10 @@ part_known orders union part within known =
     all_from_contained (λ (order : ℕ). order < orders) part (λ p has. All-contains (λ (order : ℕ). order < orders) union p known (within p has))
 
 -- two batches of a list, as they were read, may be replaced by the parts of their union
-pub can_replace : (capacity : ℕ) (batches : List (List ℕ)) (i j : ℕ) (one other union : List ℕ) (split : Split) → i < j → j < length batches
+pub can_replace : (wave : WavePicks) (capacity : ℕ) (batches : List (List ℕ)) (i j : ℕ) (one other union : List ℕ) (split : Split) → i < j → j < length batches
     → one ≡ get_or batches i one → other ≡ get_or batches j other → ((p : ℕ) → Contains union p ↔ (Contains one p ⊎ Contains other p))
-    → IsSplit capacity union split → CanReplace capacity batches i j split
-can_replace capacity batches i j one other union split order within l r joined is =
+    → IsSplit wave capacity union split → CanReplace wave capacity batches i j split
+can_replace wave capacity batches i j one other union split order within l r joined is =
     let l_is : one ≡ batch_at batches i = l ∙ get_or_default batches i one [] (omega (arith, order, within)) in
     let r_is : other ≡ batch_at batches j = r ∙ get_or_default batches j other [] within in
     record {

@@ -8,7 +8,7 @@ use Rattle.std.proofs.lemmas.Bool.{cases_eq}
 use Rattle.std.proofs.lemmas.List.Elements.{All-contains}
 use Rattle.wp_pairs.specs.Permitted.{AreJoined, IsPermitted, Pairing, itself, onward as chain_onward}
 use Rattle.wp_pairs.proofs.Chains.{joined_back, joined_on}
-use Rattle.wp_pairs.proofs.Classes.{joined_in, no_longer}
+use Rattle.wp_pairs.proofs.Classes.{joined_in, no_longer, part_fits}
 use Rattle.wp_pairs.proofs.KeptPairs.{in_or_not}
 use Rattle.wp_pairs.proofs.Members.{contains_none}
 use Rattle.wp_batch.specs.Lengths.{IsLengthOf}
@@ -85,6 +85,7 @@ union_permitted pairing place batch union from is permitted holds has adds =
       ascending = adds.ascending;
       filled = omega (arith, one.1);
       fits = omega (arith, short, permitted.fits);
+      light = part_fits pairing.cart union batch adds.ascending permitted.ascending within permitted.light;
       known = all_from_contained (λ x. x < pairing.orders) union
           (λ x h. All-contains (λ o. o < pairing.orders) batch x permitted.known (within x h));
       together = λ pair added kind. (

@@ -1,7 +1,7 @@
 -- Two batches of a list that may be joined.
 use Rattle.std.specs.Prelude.{◌≡◌, ℕ, ◌+◌, ◌-◌, ◌^◌, ◌<◌, ◌≤◌, List, ◌++◌, All, length, min}
 use Rattle.wp_batch.specs.declared.merge.Join.{Join}
-use Rattle.wp_batch.specs.Batchings.{IsCost, batch_at}
+use Rattle.wp_batch.specs.Batchings.{FitInOne, IsCost, batch_at}
 use Rattle.wp_batch.specs.Lengths.{IsLengthOf}
 use Rattle.wp_batch.specs.Waves.{WavePicks}
 
@@ -18,7 +18,7 @@ pub record JoinSaves (wave : WavePicks) (left right : List ℕ) (saving : ℕ) :
 -- two batches that fit into one cost at most so much more than one of the orders of both
 abbrev pub SavesAtMost : WavePicks → ℕ → List ℕ → List ℕ → ℕ → Type 0
 SavesAtMost wave capacity left right most =
-    length left + length right ≤ capacity → (one other both : ℕ) → IsLengthOf wave left one → IsLengthOf wave right other
+    FitInOne wave capacity left right → (one other both : ℕ) → IsLengthOf wave left one → IsLengthOf wave right other
     → IsLengthOf wave (left ++ right) both → one + other ≤ both + most
 
 -- whatever batches cost after a change, they cost no less before it
@@ -39,7 +39,7 @@ pub record TellsCost (wave : WavePicks) (batches : List (List ℕ)) (told : ℕ)
 pub record CanJoin (wave : WavePicks) (capacity : ℕ) (batches : List (List ℕ)) (join : Join) : Type 0 where
   pub order : join.left < join.right
   pub within : join.right < length batches
-  pub fits : length (batch_at batches join.left) + length (batch_at batches join.right) ≤ capacity
+  pub fits : FitInOne wave capacity (batch_at batches join.left) (batch_at batches join.right)
   pub saves : JoinSaves wave (batch_at batches join.left) (batch_at batches join.right) join.saving
 
 -- all orders of all batches are orders of the wave

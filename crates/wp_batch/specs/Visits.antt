@@ -1,6 +1,6 @@
 -- Marks: which permitted batches are visited to see that duals are feasible. A batch that is marked as not to be entered stands for all batches that have
 -- more orders after it.
-use Rattle.std.specs.Prelude.{◌≡◌, ℕ, ◌+◌, ◌*◌, ◌<◌, ◌≤◌, ◌⊎◌, ◌↔◌, Bool, true, false, List, [], ◌∷◌, All, Contains, length}
+use Rattle.std.specs.Prelude.{◌≡◌, ℕ, ◌+◌, ◌<◌, ◌≤◌, ◌⊎◌, ◌↔◌, Bool, true, false, List, [], ◌∷◌, All, Contains, length}
 use Rattle.std.specs.List.Sorted.{IsStrictlyIncreasing}
 use Rattle.wp_pairs.specs.Permitted.{AreJoined, IsPermitted, Pairing}
 use Rattle.wp_batch.specs.Lengths.{IsLengthOf}

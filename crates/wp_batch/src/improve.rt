@@ -7,8 +7,7 @@ use crate::changes::Changes;
 use crate::instance::Instance;
 use crate::moves::{Pair, best_move};
 use crate::seen::SeenLengths;
-use crate::split::{Split, is_fit, replace, split_of};
-use crate::wave::Wave;
+use crate::split::{Split, replace, split_of};
 use wp_pairs::Batch;
 
 /// How many orders two batches have at most that are divided anew.
@@ -86,30 +85,31 @@ fn divide(union: Batch, choice: u32) -> Option<Split>
 }
 
 // A batch divided by a choice, if both parts fit.
-fn fitting_split(capacity: u32, union: Batch, choice: u32) -> Option<Split>
-    ensures { IfSome result (IsSplit capacity union) }
+fn fitting_split(instance: &Instance<'_>, union: Batch, choice: u32) -> Option<Split>
+    ensures { IfSome result (IsSplit instance.now.wave.now instance.now.capacity union) }
 {
     let split = divide(union, choice)?;
-    if !is_fit(capacity, split.left) {
+    if !instance.is_fit(split.left) {
         return None;
     }
-    if !is_fit(capacity, split.right) {
+    if !instance.is_fit(split.right) {
         return None;
     }
     Some(split)
 }
 
 // A division with what it costs, if that is less than this.
-fn costing_less(wave: &Wave, capacity: u32, union: Batch, split: Split, least: u64) -> Option<Split>
-    requires known { All (λ order. order < length wave.now.orders) union }
-    requires split { IsSplit capacity union split }
-    ensures split { IfSome result (IsSplit capacity union) }
-    ensures total { IfSome result (λ split. IsCost wave.now (split.left ∷ split.right ∷ []) split.total) }
+fn costing_less(instance: &Instance<'_>, union: Batch, split: Split, least: u64) -> Option<Split>
+    requires known { All (λ order. order < length instance.now.wave.now.orders) union }
+    requires split { IsSplit instance.now.wave.now instance.now.capacity union split }
+    ensures split { IfSome result (IsSplit instance.now.wave.now instance.now.capacity union) }
+    ensures total { IfSome result (λ split. IsCost instance.now.wave.now (split.left ∷ split.right ∷ []) split.total) }
     ensures less { IfSome result (λ split. split.total < least) }
 {
-    let total = wave
+    let total = instance
+        .wave
         .batch_length(split.left)
-        .saturating_add(wave.batch_length(split.right));
+        .saturating_add(instance.wave.batch_length(split.right));
     if total >= least {
         return None;
     }
@@ -121,14 +121,14 @@ fn costing_less(wave: &Wave, capacity: u32, union: Batch, split: Split, least: u
 }
 
 // A batch divided by a choice, if both parts fit and cost less than this.
-fn lesser_split(wave: &Wave, capacity: u32, union: Batch, choice: u32, least: u64) -> Option<Split>
-    requires { All (λ order. order < length wave.now.orders) union }
-    ensures split { IfSome result (IsSplit capacity union) }
-    ensures total { IfSome result (λ split. IsCost wave.now (split.left ∷ split.right ∷ []) split.total) }
+fn lesser_split(instance: &Instance<'_>, union: Batch, choice: u32, least: u64) -> Option<Split>
+    requires { All (λ order. order < length instance.now.wave.now.orders) union }
+    ensures split { IfSome result (IsSplit instance.now.wave.now instance.now.capacity union) }
+    ensures total { IfSome result (λ split. IsCost instance.now.wave.now (split.left ∷ split.right ∷ []) split.total) }
     ensures less { IfSome result (λ split. split.total < least) }
 {
-    let split = fitting_split(capacity, union, choice)?;
-    costing_less(wave, capacity, union, split, least)
+    let split = fitting_split(instance, union, choice)?;
+    costing_less(instance, union, split, least)
 }
 
 // How many ways there are to divide so many orders, the last one being on the right.
@@ -140,16 +140,16 @@ fn count_choices(orders: u32) -> u32 {
 }
 
 // The cheapest way to divide the orders of two batches anew, if one costs less than this.
-fn best_split(wave: &Wave, capacity: u32, union: Batch, most: u64) -> Option<Split>
-    requires { All (λ order. order < length wave.now.orders) union }
-    ensures split { IfSome result (IsSplit capacity union) }
-    ensures total { IfSome result (λ split. IsCost wave.now (split.left ∷ split.right ∷ []) split.total) }
+fn best_split(instance: &Instance<'_>, union: Batch, most: u64) -> Option<Split>
+    requires { All (λ order. order < length instance.now.wave.now.orders) union }
+    ensures split { IfSome result (IsSplit instance.now.wave.now instance.now.capacity union) }
+    ensures total { IfSome result (λ split. IsCost instance.now.wave.now (split.left ∷ split.right ∷ []) split.total) }
     ensures less { IfSome result (λ split. split.total < most) }
 {
     let mut least = most;
     let mut best = None;
     for choice in 0..count_choices(union.len()) {
-        if let Some(split) = lesser_split(wave, capacity, union, choice, least) {
+        if let Some(split) = lesser_split(instance, union, choice, least) {
             least = split.total;
             best = Some(split);
         }
@@ -159,23 +159,23 @@ fn best_split(wave: &Wave, capacity: u32, union: Batch, most: u64) -> Option<Spl
 
 // The orders of two batches put into two anew, if that costs less than this: the cheapest division of all where they have at most
 // ten orders together, or else that to which the cheapest move leads.
-fn cheaper_split(improver: &mut Improver<'_>, wave: &Wave, pair: &Pair, most: u64) -> Option<Split>
-    requires { All (λ order. order < length wave.now.orders) pair.now.union }
-    ensures split { IfSome result (IsSplit pair.now.capacity pair.now.union) }
-    ensures total { IfSome result (λ split. IsCost wave.now (split.left ∷ split.right ∷ []) split.total) }
+fn cheaper_split(improver: &mut Improver<'_>, pair: &Pair<'_>, most: u64) -> Option<Split>
+    requires { All (λ order. order < length pair.now.instance.wave.now.orders) pair.now.union }
+    ensures split { IfSome result (IsSplit pair.now.instance.wave.now pair.now.instance.capacity pair.now.union) }
+    ensures total { IfSome result (λ split. IsCost pair.now.instance.wave.now (split.left ∷ split.right ∷ []) split.total) }
     ensures less { IfSome result (λ split. split.total < most) }
 {
     if pair.union.len() <= MOST_IN_TWO {
-        return best_split(wave, pair.capacity, pair.union, most);
+        return best_split(&pair.instance, pair.union, most);
     }
-    let split = split_of(pair.capacity, pair.union, pair.left, pair.right)?;
+    let split = split_of(&pair.instance, pair.union, pair.left, pair.right)?;
     let at_most = Split {
         left: split.left,
         right: split.right,
         total: most,
     };
     let found = best_move(&mut improver.seen, pair, at_most);
-    costing_less(wave, pair.capacity, pair.union, found, most)
+    costing_less(&pair.instance, pair.union, found, most)
 }
 
 // Puts the orders of two batches into two anew, where that costs less.
@@ -186,10 +186,10 @@ fn improve_pair(
     left: usize,
     right: usize,
 ) -> bool
-    requires batching { IsBatching (length instance.now.wave.now.orders) instance.now.capacity batches.old.items }
+    requires batching { IsBatching instance.now.wave.now instance.now.capacity batches.old.items }
     requires order { left < right }
     requires within { right < length batches.old.items }
-    ensures batching { IsBatching (length instance.now.wave.now.orders) instance.now.capacity batches.new.items }
+    ensures batching { IsBatching instance.now.wave.now instance.now.capacity batches.new.items }
     ensures count { length batches.new.items ≡ length batches.old.items }
     ensures no_dearer { CostNoMore instance.now.wave.now batches.old.items batches.new.items }
 {
@@ -200,14 +200,14 @@ fn improve_pair(
         .batch_length(one)
         .saturating_add(instance.wave.batch_length(other));
     let pair = Pair {
-        capacity: instance.capacity,
+        instance: *instance,
         union: one.union(other),
         left: one,
         right: other,
     };
-    match cheaper_split(improver, instance.wave, &pair, most) {
+    match cheaper_split(improver, &pair, most) {
         Some(split) => {
-            replace(instance.capacity, batches, left, right, split);
+            replace(instance, batches, left, right, split);
             true
         }
         None => false,
@@ -221,9 +221,9 @@ fn improve_with(
     batches: &mut Vec<Batch>,
     right: usize,
 )
-    requires batching { IsBatching (length instance.now.wave.now.orders) instance.now.capacity batches.old.items }
+    requires batching { IsBatching instance.now.wave.now instance.now.capacity batches.old.items }
     requires within { right < length batches.old.items }
-    ensures batching { IsBatching (length instance.now.wave.now.orders) instance.now.capacity batches.new.items }
+    ensures batching { IsBatching instance.now.wave.now instance.now.capacity batches.new.items }
     ensures count { length batches.new.items ≡ length batches.old.items }
     ensures no_dearer { CostNoMore instance.now.wave.now batches.old.items batches.new.items }
 {
@@ -238,8 +238,8 @@ fn improve_with(
 
 // Improves all pairs of batches once, but for those of which none has changed since they were looked at.
 fn improve_once(improver: &mut Improver<'_>, instance: &Instance<'_>, batches: &mut Vec<Batch>)
-    requires batching { IsBatching (length instance.now.wave.now.orders) instance.now.capacity batches.old.items }
-    ensures batching { IsBatching (length instance.now.wave.now.orders) instance.now.capacity batches.new.items }
+    requires batching { IsBatching instance.now.wave.now instance.now.capacity batches.old.items }
+    ensures batching { IsBatching instance.now.wave.now instance.now.capacity batches.new.items }
     ensures count { length batches.new.items ≡ length batches.old.items }
     ensures no_dearer { CostNoMore instance.now.wave.now batches.old.items batches.new.items }
 {
@@ -252,8 +252,8 @@ fn improve_once(improver: &mut Improver<'_>, instance: &Instance<'_>, batches: &
 /// most ten orders together, all divisions of these are tried; or else one order goes to the other batch, two change places, or
 /// two of one batch and one of the other do.
 pub fn improve(seen: SeenLengths<'_>, instance: &Instance<'_>, batches: &mut Vec<Batch>)
-    requires batching { IsBatching (length instance.now.wave.now.orders) instance.now.capacity batches.old.items }
-    ensures batching { IsBatching (length instance.now.wave.now.orders) instance.now.capacity batches.new.items }
+    requires batching { IsBatching instance.now.wave.now instance.now.capacity batches.old.items }
+    ensures batching { IsBatching instance.now.wave.now instance.now.capacity batches.new.items }
     ensures count { length batches.new.items ≡ length batches.old.items }
     ensures no_dearer { CostNoMore instance.now.wave.now batches.old.items batches.new.items }
 {

@@ -1,8 +1,8 @@
 ghost use Rattle.std.specs.Prelude.{◌≡◌, ◌≢◌, ◌≤◌, ◌<◌, ◌↔◌, ℕ, Some, IfNone, IfOk, IfSome, IsTrue, length, slice_get};
 ghost use Rattle.wp_batch.specs.Batchings.{IsBatching, IsListedByLeast, batch_at};
 ghost use Rattle.wp_batch.specs.Joins.{CostNoMore};
-ghost use Rattle.wp_batch.specs.Waves.{WavePicks};
 
+use crate::instance::Instance;
 use std::alloc::Global;
 use wp_model::Memory;
 use wp_pairs::Batch;
@@ -31,18 +31,17 @@ fn place_of(batches: &[Batch], order: u32) -> Option<usize>
 /// The same batches, listed by their least orders.
 pub fn listed(
     alloc: Global,
-    orders: u32,
-    capacity: u32,
+    instance: &Instance<'_>,
     batches: &[Batch],
 ) -> Result<Vec<Batch>, Memory>
-    requires batching { IsBatching orders capacity batches.now }
-    ensures batching { IfOk result (λ listed. IsBatching orders capacity listed.items) }
+    requires batching { IsBatching instance.now.wave.now instance.now.capacity batches.now }
+    ensures batching { IfOk result (λ listed. IsBatching instance.now.wave.now instance.now.capacity listed.items) }
     ensures listed { IfOk result (λ listed. IsListedByLeast listed.items) }
-    ensures few { IfOk result (λ listed. length listed.items ≤ orders) }
-    ensures no_dearer { IfOk result (λ listed. (wave : WavePicks) → CostNoMore wave batches.now listed.items) }
+    ensures few { IfOk result (λ listed. length listed.items ≤ 64) }
+    ensures no_dearer { IfOk result (λ listed. CostNoMore instance.now.wave.now batches.now listed.items) }
 {
     let mut listed = Vec::new(alloc);
-    for order in 0..orders {
+    for order in 0..instance.wave.orders() {
         if let Some(place) = place_of(batches, order) {
             listed.push(batches[place])?;
         }

@@ -1,5 +1,5 @@
-ghost use Rattle.std.specs.Prelude.{◌≡◌, ◌+◌, ◌≤◌, ◌<◌, ◌^◌, ◌↔◌, ◌⊎◌, All, IfNone, IfOk, IfSome, IsTrue, length, vec_len, ℕ};
-ghost use Rattle.wp_batch.specs.Batchings.{IsBatching, IsListedByLeast, NoJoinGains};
+ghost use Rattle.std.specs.Prelude.{◌≡◌, ◌+◌, ◌≤◌, ◌<◌, ◌^◌, ◌⊎◌, All, IfNone, IfOk, IfSome, length, vec_len, ℕ};
+ghost use Rattle.wp_batch.specs.Batchings.{FitInOne, IsBatching, IsListedByLeast, NoJoinGains};
 ghost use Rattle.wp_batch.specs.Joins.{AreKnown, CanJoin, CostNoMore, IsBestBelow, IsBestWith, JoinSaves, SavesAtMost};
 ghost use Rattle.wp_batch.specs.Savings.{AreAlone, AreMerged, CostNoMoreThanSavings, IsBySavings, IsGreatestJoin, IsJoined};
 
@@ -22,24 +22,18 @@ struct Join {
     saving: u64,
 }
 
-// Whether two batches together have no more orders than the capacity.
-fn fits(capacity: u32, left: Batch, right: Batch) -> bool
-    ensures { IsTrue result ↔ (length left + length right ≤ capacity) }
-{
-    left.len() <= capacity && right.len() <= capacity - left.len()
-}
-
 // What is saved where two batches are joined, 0 where they don't fit into one.
-fn saving_of(wave: &Wave, capacity: u32, left: Batch, right: Batch) -> u64
-    requires left { All (λ order. order < length wave.now.orders) left }
-    requires right { All (λ order. order < length wave.now.orders) right }
-    ensures fits { 0 < result → length left + length right ≤ capacity }
-    ensures most { SavesAtMost wave.now capacity left right result }
-    ensures saves { 0 < result → JoinSaves wave.now left right result }
+fn saving_of(instance: &Instance<'_>, left: Batch, right: Batch) -> u64
+    requires left { All (λ order. order < length instance.now.wave.now.orders) left }
+    requires right { All (λ order. order < length instance.now.wave.now.orders) right }
+    ensures fits { 0 < result → FitInOne instance.now.wave.now instance.now.capacity left right }
+    ensures most { SavesAtMost instance.now.wave.now instance.now.capacity left right result }
+    ensures saves { 0 < result → JoinSaves instance.now.wave.now left right result }
 {
-    if !fits(capacity, left, right) {
+    if !instance.fit_in_one(left, right) {
         return 0;
     }
+    let wave = instance.wave;
     let one = wave.batch_length(left);
     let other = wave.batch_length(right);
     saved(one, other, wave.batch_length(left.union(right)))
@@ -68,10 +62,10 @@ fn better_of(first: Join, second: Join) -> Join
 }
 
 // The best join of a batch with one before it.
-fn best_with(wave: &Wave, capacity: u32, batches: &[Batch], right: usize) -> Join
-    requires known { AreKnown wave.now batches.now }
+fn best_with(instance: &Instance<'_>, batches: &[Batch], right: usize) -> Join
+    requires known { AreKnown instance.now.wave.now batches.now }
     requires within { right < length batches.now }
-    ensures { IsBestWith wave.now capacity batches.now right right result }
+    ensures { IsBestWith instance.now.wave.now instance.now.capacity batches.now right right result }
 {
     let mut best = Join {
         left: 0,
@@ -79,7 +73,7 @@ fn best_with(wave: &Wave, capacity: u32, batches: &[Batch], right: usize) -> Joi
         saving: 0,
     };
     for left in 0..right {
-        let saving = saving_of(wave, capacity, batches[left], batches[right]);
+        let saving = saving_of(instance, batches[left], batches[right]);
         best = better_of(
             best,
             Join {
@@ -93,10 +87,10 @@ fn best_with(wave: &Wave, capacity: u32, batches: &[Batch], right: usize) -> Joi
 }
 
 // The join of two batches that saves most. None comes exactly where no two gain by joining.
-fn best_join(wave: &Wave, capacity: u32, batches: &[Batch]) -> Option<Join>
-    requires { AreKnown wave.now batches.now }
-    ensures none { IfNone result (NoJoinGains wave.now capacity batches.now) }
-    ensures some { IfSome result (IsGreatestJoin wave.now capacity batches.now) }
+fn best_join(instance: &Instance<'_>, batches: &[Batch]) -> Option<Join>
+    requires { AreKnown instance.now.wave.now batches.now }
+    ensures none { IfNone result (NoJoinGains instance.now.wave.now instance.now.capacity batches.now) }
+    ensures some { IfSome result (IsGreatestJoin instance.now.wave.now instance.now.capacity batches.now) }
 {
     let mut best = Join {
         left: 0,
@@ -104,7 +98,7 @@ fn best_join(wave: &Wave, capacity: u32, batches: &[Batch]) -> Option<Join>
         saving: 0,
     };
     for right in 0..batches.len() {
-        best = better_of(best, best_with(wave, capacity, batches, right));
+        best = better_of(best, best_with(instance, batches, right));
     }
     if best.saving == 0 {
         return None;
@@ -113,15 +107,15 @@ fn best_join(wave: &Wave, capacity: u32, batches: &[Batch]) -> Option<Join>
 }
 
 // Joins two batches: the later one goes into the earlier.
-fn join_batches(wave: &Wave, orders: u32, capacity: u32, batches: &mut Vec<Batch>, join: Join)
-    requires batching { IsBatching orders capacity batches.old.items }
+fn join_batches(instance: &Instance<'_>, batches: &mut Vec<Batch>, join: Join)
+    requires batching { IsBatching instance.now.wave.now instance.now.capacity batches.old.items }
     requires listed { IsListedByLeast batches.old.items }
-    requires join { CanJoin wave.now capacity batches.old.items join }
-    ensures batching { IsBatching orders capacity batches.new.items }
+    requires join { CanJoin instance.now.wave.now instance.now.capacity batches.old.items join }
+    ensures batching { IsBatching instance.now.wave.now instance.now.capacity batches.new.items }
     ensures listed { IsListedByLeast batches.new.items }
     ensures count { vec_len batches.new + 1 ≡ vec_len batches.old }
     ensures joined { IsJoined batches.old.items join batches.new.items }
-    ensures no_dearer { CostNoMore wave.now batches.old.items batches.new.items }
+    ensures no_dearer { CostNoMore instance.now.wave.now batches.old.items batches.new.items }
 {
     let union = batches[join.left].union(batches[join.right]);
     batches[join.left] = union;
@@ -129,33 +123,31 @@ fn join_batches(wave: &Wave, orders: u32, capacity: u32, batches: &mut Vec<Batch
 }
 
 /// Joins batches by the greatest saving, until no join saves.
-pub fn merge(wave: &Wave, orders: u32, capacity: u32, batches: &mut Vec<Batch>)
-    requires orders { orders ≡ length wave.now.orders }
-    requires batching { IsBatching orders capacity batches.old.items }
+pub fn merge(instance: &Instance<'_>, batches: &mut Vec<Batch>)
+    requires batching { IsBatching instance.now.wave.now instance.now.capacity batches.old.items }
     requires listed { IsListedByLeast batches.old.items }
-    ensures batching { IsBatching orders capacity batches.new.items }
+    ensures batching { IsBatching instance.now.wave.now instance.now.capacity batches.new.items }
     ensures listed { IsListedByLeast batches.new.items }
-    ensures joined { NoJoinGains wave.now capacity batches.new.items }
+    ensures joined { NoJoinGains instance.now.wave.now instance.now.capacity batches.new.items }
     ensures fewer { vec_len batches.new ≤ vec_len batches.old }
-    ensures merged { AreMerged wave.now capacity batches.old.items batches.new.items }
-    ensures no_dearer { CostNoMore wave.now batches.old.items batches.new.items }
+    ensures merged { AreMerged instance.now.wave.now instance.now.capacity batches.old.items batches.new.items }
+    ensures no_dearer { CostNoMore instance.now.wave.now batches.old.items batches.new.items }
 {
-    while let Some(join) = best_join(wave, capacity, batches.as_slice()) {
-        join_batches(wave, orders, capacity, batches, join);
+    while let Some(join) = best_join(instance, batches.as_slice()) {
+        join_batches(instance, batches, join);
     }
 }
 
 // Each order by itself.
-fn singles(alloc: Global, orders: u32, capacity: u32) -> Result<Vec<Batch>, Memory>
-    requires orders { orders ≤ 64 }
-    requires capacity { 1 ≤ capacity }
-    ensures batching { IfOk result (λ batches. IsBatching orders capacity batches.items) }
+fn singles(alloc: Global, instance: &Instance<'_>) -> Result<Vec<Batch>, Memory>
+    requires { 1 ≤ instance.now.capacity }
+    ensures batching { IfOk result (λ batches. IsBatching instance.now.wave.now instance.now.capacity batches.items) }
     ensures listed { IfOk result (λ batches. IsListedByLeast batches.items) }
-    ensures count { IfOk result (λ batches. vec_len batches ≡ orders) }
-    ensures alone { IfOk result (λ batches. AreAlone orders batches.items) }
+    ensures count { IfOk result (λ batches. vec_len batches ≡ length instance.now.wave.now.orders) }
+    ensures alone { IfOk result (λ batches. AreAlone (length instance.now.wave.now.orders) batches.items) }
 {
     let mut batches = Vec::new(alloc);
-    for order in 0..orders {
+    for order in 0..instance.wave.orders() {
         batches.push(Batch::empty().with(order))?;
     }
     Ok(batches)
@@ -171,28 +163,27 @@ pub fn joined(
 ) -> Result<Batching, Memory>
     requires some { 1 ≤ capacity }
     requires most { capacity ≤ 8 }
-    requires batching { IsBatching (length wave.now.orders) capacity batches.now }
-    ensures batching { IfOk result (IsBatching (length wave.now.orders) capacity) }
+    requires batching { IsBatching wave.now capacity batches.now }
+    ensures batching { IfOk result (IsBatching wave.now capacity) }
     ensures listed { IfOk result IsListedByLeast }
     ensures joined { IfOk result (NoJoinGains wave.now capacity) }
     ensures no_dearer { IfOk result (CostNoMore wave.now batches.now) }
 {
-    let orders = wave.orders();
-    let mut start = listed(alloc, orders, capacity, batches)?;
-    merge(wave, orders, capacity, &mut start);
+    let instance = Instance { wave, capacity };
+    let mut start = listed(alloc, &instance, batches)?;
+    merge(&instance, &mut start);
     Ok(Batching::of(start))
 }
 
 // The batching by savings: orders that begin alone are joined by the greatest saving, as long as some join saves (Clarke and
 // Wright, 1964).
-fn savings(alloc: Global, wave: &Wave, capacity: u32) -> Result<Vec<Batch>, Memory>
-    requires { 1 ≤ capacity }
-    ensures batching { IfOk result (λ batches. IsBatching (length wave.now.orders) capacity batches.items) }
-    ensures savings { IfOk result (λ batches. IsBySavings wave.now capacity batches.items) }
+fn savings(alloc: Global, instance: &Instance<'_>) -> Result<Vec<Batch>, Memory>
+    requires { 1 ≤ instance.now.capacity }
+    ensures batching { IfOk result (λ batches. IsBatching instance.now.wave.now instance.now.capacity batches.items) }
+    ensures savings { IfOk result (λ batches. IsBySavings instance.now.wave.now instance.now.capacity batches.items) }
 {
-    let orders = wave.orders();
-    let mut batches = singles(alloc, orders, capacity)?;
-    merge(wave, orders, capacity, &mut batches);
+    let mut batches = singles(alloc, instance)?;
+    merge(instance, &mut batches);
     Ok(batches)
 }
 
@@ -203,7 +194,7 @@ fn savings(alloc: Global, wave: &Wave, capacity: u32) -> Result<Vec<Batch>, Memo
 pub fn merged_start(alloc: Global, wave: &Wave, capacity: u32) -> Result<Batching, Memory>
     requires some { 1 ≤ capacity }
     requires most { capacity ≤ 8 }
-    ensures batching { IfOk result (IsBatching (length wave.now.orders) capacity) }
+    ensures batching { IfOk result (IsBatching wave.now capacity) }
     ensures listed { IfOk result IsListedByLeast }
     ensures joined { IfOk result (NoJoinGains wave.now capacity) }
     ensures no_dearer { IfOk result (CostNoMoreThanSavings wave.now capacity) }
@@ -221,8 +212,8 @@ pub fn improved(
 ) -> Result<Batching, Memory>
     requires some { 1 ≤ capacity }
     requires most { capacity ≤ 8 }
-    requires batching { IsBatching (length wave.now.orders) capacity batches.now }
-    ensures batching { IfOk result (IsBatching (length wave.now.orders) capacity) }
+    requires batching { IsBatching wave.now capacity batches.now }
+    ensures batching { IfOk result (IsBatching wave.now capacity) }
     ensures listed { IfOk result IsListedByLeast }
     ensures joined { IfOk result (NoJoinGains wave.now capacity) }
     ensures no_dearer { IfOk result (CostNoMore wave.now batches.now) }
@@ -244,13 +235,13 @@ pub fn start_after(
 ) -> Result<Batching, Memory>
     requires some { 1 ≤ capacity }
     requires most { capacity ≤ 8 }
-    ensures batching { IfOk result (IsBatching (length wave.now.orders) capacity) }
+    ensures batching { IfOk result (IsBatching wave.now capacity) }
     ensures listed { IfOk result IsListedByLeast }
     ensures joined { IfOk result (NoJoinGains wave.now capacity) }
     ensures no_dearer { IfOk result (CostNoMoreThanSavings wave.now capacity) }
 {
-    let batches = savings(alloc, wave, capacity)?;
     let instance = Instance { wave, capacity };
+    let batches = savings(alloc, &instance)?;
     let best = best_of_walks(alloc, &instance, rounds, batches.as_slice())?;
     let start = improved(alloc, wave, capacity, best.as_slice())?;
     Ok(start)

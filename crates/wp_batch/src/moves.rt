@@ -1,6 +1,7 @@
 ghost use Rattle.std.specs.Prelude.{◌<◌, IfSome};
 ghost use Rattle.wp_batch.specs.Splits.{IsSplit};
 
+use crate::instance::Instance;
 use crate::seen::SeenLengths;
 use crate::split::{Split, split_of};
 use wp_pairs::Batch;
@@ -8,10 +9,10 @@ use wp_pairs::Batch;
 /// How many orders a batch has at most.
 const MOST_IN_BATCH: u32 = 8;
 
-/// Two batches between which orders are moved, the orders of both, and how many a batch may have.
+/// Two batches between which orders are moved, the orders of both, and what is to be put into batches.
 #[derive(Clone, Copy)]
-pub struct Pair {
-    pub capacity: u32,
+pub struct Pair<'a> {
+    pub instance: Instance<'a>,
     pub union: Batch,
     pub left: Batch,
     pub right: Batch,
@@ -66,11 +67,11 @@ pub fn least_and_rest(batch: Batch) -> Option<(u32, Batch)>
 }
 
 // The cheaper of a division and of two sides, where these are one.
-fn cheaper(seen: &mut SeenLengths<'_>, pair: &Pair, best: Split, sides: &Sides) -> Split
-    requires { IsSplit pair.now.capacity pair.now.union best }
-    ensures { IsSplit pair.now.capacity pair.now.union result }
+fn cheaper(seen: &mut SeenLengths<'_>, pair: &Pair<'_>, best: Split, sides: &Sides) -> Split
+    requires { IsSplit pair.now.instance.wave.now pair.now.instance.capacity pair.now.union best }
+    ensures { IsSplit pair.now.instance.wave.now pair.now.instance.capacity pair.now.union result }
 {
-    let Some(split) = split_of(pair.capacity, pair.union, sides.left, sides.right) else {
+    let Some(split) = split_of(&pair.instance, pair.union, sides.left, sides.right) else {
         return best;
     };
     let left = seen.length_of(split.left);
@@ -91,13 +92,13 @@ fn cheaper(seen: &mut SeenLengths<'_>, pair: &Pair, best: Split, sides: &Sides) 
 // The cheapest of a division and of those in which one more of some orders goes to the right.
 fn best_giving(
     seen: &mut SeenLengths<'_>,
-    pair: &Pair,
+    pair: &Pair<'_>,
     best: Split,
     sides: &Sides,
     orders: Batch,
 ) -> Split
-    requires { IsSplit pair.now.capacity pair.now.union best }
-    ensures { IsSplit pair.now.capacity pair.now.union result }
+    requires { IsSplit pair.now.instance.wave.now pair.now.instance.capacity pair.now.union best }
+    ensures { IsSplit pair.now.instance.wave.now pair.now.instance.capacity pair.now.union result }
 {
     let mut best = best;
     let mut rest = orders;
@@ -115,13 +116,13 @@ fn best_giving(
 // left of either side.
 fn best_taking(
     seen: &mut SeenLengths<'_>,
-    pair: &Pair,
+    pair: &Pair<'_>,
     best: Split,
     sides: &Sides,
     left: Batch,
 ) -> Split
-    requires { IsSplit pair.now.capacity pair.now.union best }
-    ensures { IsSplit pair.now.capacity pair.now.union result }
+    requires { IsSplit pair.now.instance.wave.now pair.now.instance.capacity pair.now.union best }
+    ensures { IsSplit pair.now.instance.wave.now pair.now.instance.capacity pair.now.union result }
 {
     let mut best = best;
     let mut rest = pair.right;
@@ -139,9 +140,9 @@ fn best_taking(
 }
 
 // The cheapest of a division and of those in which an order of the left goes to the right, alone or against others.
-fn best_exchange(seen: &mut SeenLengths<'_>, pair: &Pair, best: Split, sides: &Sides) -> Split
-    requires { IsSplit pair.now.capacity pair.now.union best }
-    ensures { IsSplit pair.now.capacity pair.now.union result }
+fn best_exchange(seen: &mut SeenLengths<'_>, pair: &Pair<'_>, best: Split, sides: &Sides) -> Split
+    requires { IsSplit pair.now.instance.wave.now pair.now.instance.capacity pair.now.union best }
+    ensures { IsSplit pair.now.instance.wave.now pair.now.instance.capacity pair.now.union result }
 {
     let mut best = best;
     let mut rest = pair.left;
@@ -159,9 +160,9 @@ fn best_exchange(seen: &mut SeenLengths<'_>, pair: &Pair, best: Split, sides: &S
 
 /// The cheapest of a division of two batches' orders and of those to which a move leads: one order goes to the other batch, two
 /// change places, or two of one batch and one of the other do.
-pub fn best_move(seen: &mut SeenLengths<'_>, pair: &Pair, best: Split) -> Split
-    requires { IsSplit pair.now.capacity pair.now.union best }
-    ensures { IsSplit pair.now.capacity pair.now.union result }
+pub fn best_move(seen: &mut SeenLengths<'_>, pair: &Pair<'_>, best: Split) -> Split
+    requires { IsSplit pair.now.instance.wave.now pair.now.instance.capacity pair.now.union best }
+    ensures { IsSplit pair.now.instance.wave.now pair.now.instance.capacity pair.now.union result }
 {
     let sides = Sides {
         left: pair.left,

@@ -90,12 +90,11 @@ fn joined_again(
     instance: &Instance<'_>,
     batches: &[Batch],
 ) -> Result<Vec<Batch>, Memory>
-    requires { IsBatching (length instance.now.wave.now.orders) instance.now.capacity batches.now }
-    ensures { IfOk result (λ again. IsBatching (length instance.now.wave.now.orders) instance.now.capacity again.items) }
+    requires { IsBatching instance.now.wave.now instance.now.capacity batches.now }
+    ensures { IfOk result (λ again. IsBatching instance.now.wave.now instance.now.capacity again.items) }
 {
-    let orders = instance.wave.orders();
-    let mut again = listed(alloc, orders, instance.capacity, batches)?;
-    merge(instance.wave, orders, instance.capacity, &mut again);
+    let mut again = listed(alloc, instance, batches)?;
+    merge(instance, &mut again);
     Ok(again)
 }
 
@@ -107,8 +106,8 @@ fn walk_from(
     batches: &[Batch],
     stage: u32,
 ) -> Result<Walk, Memory>
-    requires { IsBatching (length instance.now.wave.now.orders) instance.now.capacity batches.now }
-    ensures { IfOk result (IsWalk (length instance.now.wave.now.orders) instance.now.capacity) }
+    requires { IsBatching instance.now.wave.now instance.now.capacity batches.now }
+    ensures { IfOk result (IsWalk instance.now.wave.now instance.now.capacity) }
 {
     let start = joined_again(alloc, instance, batches)?;
     let mut walk = Walk::from(alloc, instance, &mut mover.seen, start)?;
@@ -125,8 +124,8 @@ fn best_of_round(
     mover: &mut Mover<'_>,
     batches: &[Batch],
 ) -> Result<Vec<Batch>, Memory>
-    requires { IsBatching (length instance.now.wave.now.orders) instance.now.capacity batches.now }
-    ensures { IfOk result (λ best. IsBatching (length instance.now.wave.now.orders) instance.now.capacity best.items) }
+    requires { IsBatching instance.now.wave.now instance.now.capacity batches.now }
+    ensures { IfOk result (λ best. IsBatching instance.now.wave.now instance.now.capacity best.items) }
 {
     let mut best = Vec::from_slice(alloc, batches)?;
     let mut at = Vec::from_slice(alloc, batches)?;
@@ -151,8 +150,8 @@ pub fn best_of_walks(
     rounds: u32,
     batches: &[Batch],
 ) -> Result<Vec<Batch>, Memory>
-    requires batching { IsBatching (length instance.now.wave.now.orders) instance.now.capacity batches.now }
-    ensures batching { IfOk result (λ best. IsBatching (length instance.now.wave.now.orders) instance.now.capacity best.items) }
+    requires batching { IsBatching instance.now.wave.now instance.now.capacity batches.now }
+    ensures batching { IfOk result (λ best. IsBatching instance.now.wave.now instance.now.capacity best.items) }
     ensures kept { IfOk result (λ best. (best.items ≡ batches.now) ⊎ CostLess instance.now.wave.now batches.now best.items) }
     ensures no_dearer { IfOk result (λ best. CostNoMore instance.now.wave.now batches.now best.items) }
 {

@@ -104,8 +104,8 @@ fn move_of(from: Batch, to: Batch, order: u32, back: Option<u32>) -> Move
 
 // Makes a move, where it leaves two batches that fit, and tells whether it does.
 fn make_move(instance: &Instance<'_>, batches: &mut Vec<Batch>, drawn: &Move) -> bool
-    requires { IsBatching (length instance.now.wave.now.orders) instance.now.capacity batches.old.items }
-    ensures batching { IsBatching (length instance.now.wave.now.orders) instance.now.capacity batches.new.items }
+    requires { IsBatching instance.now.wave.now instance.now.capacity batches.old.items }
+    ensures batching { IsBatching instance.now.wave.now instance.now.capacity batches.new.items }
     ensures count { length batches.new.items ≡ length batches.old.items }
 {
     let first = drawn.first.min(drawn.second);
@@ -114,10 +114,10 @@ fn make_move(instance: &Instance<'_>, batches: &mut Vec<Batch>, drawn: &Move) ->
         return false;
     }
     let union = batches[first].union(batches[second]);
-    let Some(split) = split_of(instance.capacity, union, drawn.left, drawn.right) else {
+    let Some(split) = split_of(instance, union, drawn.left, drawn.right) else {
         return false;
     };
-    replace(instance.capacity, batches, first, second, split);
+    replace(instance, batches, first, second, split);
     true
 }
 
@@ -129,8 +129,8 @@ impl Walk {
         seen: &mut SeenLengths<'_>,
         batches: Vec<Batch>,
     ) -> Result<Walk, Memory>
-        requires { IsBatching (length instance.now.wave.now.orders) instance.now.capacity batches.items }
-        ensures { IfOk result (IsWalk (length instance.now.wave.now.orders) instance.now.capacity) }
+        requires { IsBatching instance.now.wave.now instance.now.capacity batches.items }
+        ensures { IfOk result (IsWalk instance.now.wave.now instance.now.capacity) }
     {
         let best = Vec::from_slice(alloc, batches.as_slice())?;
         let cost = seen.sum_of(batches.as_slice());
@@ -144,8 +144,8 @@ impl Walk {
 
     // Keeps the batching where the walk is, if it is cheaper than all before.
     fn keep_best(&mut self, instance: &Instance<'_>)
-        requires { IsWalk (length instance.now.wave.now.orders) instance.now.capacity self.old }
-        ensures { IsWalk (length instance.now.wave.now.orders) instance.now.capacity self.new }
+        requires { IsWalk instance.now.wave.now instance.now.capacity self.old }
+        ensures { IsWalk instance.now.wave.now instance.now.capacity self.new }
     {
         if self.cost < self.least {
             self.least = self.cost;
@@ -225,8 +225,8 @@ impl Mover<'_> {
 
     // One move, if it costs at most as much more as is drawn.
     fn step(&mut self, instance: &Instance<'_>, walk: &mut Walk, heat: u64)
-        requires { IsWalk (length instance.now.wave.now.orders) instance.now.capacity walk.old }
-        ensures { IsWalk (length instance.now.wave.now.orders) instance.now.capacity walk.new }
+        requires { IsWalk instance.now.wave.now instance.now.capacity walk.old }
+        ensures { IsWalk instance.now.wave.now instance.now.capacity walk.new }
     {
         let Some(drawn) = self.draw_move(instance, walk.batches.as_slice()) else {
             return;
@@ -256,8 +256,8 @@ impl Mover<'_> {
 
     /// Goes on by so many drawn moves. One that costs more is made the less often the more it costs against the heat.
     pub fn walk_on(&mut self, instance: &Instance<'_>, walk: &mut Walk, heat: u64, moves: u32)
-        requires { IsWalk (length instance.now.wave.now.orders) instance.now.capacity walk.old }
-        ensures { IsWalk (length instance.now.wave.now.orders) instance.now.capacity walk.new }
+        requires { IsWalk instance.now.wave.now instance.now.capacity walk.old }
+        ensures { IsWalk instance.now.wave.now instance.now.capacity walk.new }
     {
         for _ in 0..moves {
             self.step(instance, walk, heat);

@@ -1,6 +1,8 @@
-ghost use Rattle.std.specs.Prelude.{◌≡◌, ◌≤◌, ◌<◌, ◌^◌, ◌↔◌, ◌⊎◌, ℕ, All, Contains, IfOk, IfSome, length};
+ghost use Rattle.std.specs.Prelude.{◌≡◌, ◌≤◌, ◌<◌, ◌^◌, ◌↔◌, ◌⊎◌, ◌++◌, ℕ, All, Contains, IfOk, IfSome, IsTrue, None, Some, length};
 ghost use Rattle.wp_model.specs.declared.point.Point.{Point as PointData};
 ghost use Rattle.wp_model.specs.Warehouse.{Layout as Block};
+ghost use Rattle.wp_pairs.specs.Carts.{FitsAnyCart, IsCartFor};
+ghost use Rattle.wp_batch.specs.Batchings.{no_pairs};
 ghost use Rattle.wp_batch.specs.Waves.{HaveSamePicks, IsWave, picks_of};
 ghost use Rattle.wp_batch.specs.KeptLengths.{HaveLengths, IsPicked};
 ghost use Rattle.wp_batch.specs.Lengths.{IsLengthOf, batch_picks};
@@ -12,16 +14,18 @@ use std::marker::Model;
 use wp_fast::tour_length;
 use wp_graph::{Layout, Picks};
 use wp_model::Memory;
-use wp_pairs::Batch;
+use wp_pairs::{Batch, Cart, Pairs};
 
 /// How many lengths are kept at most: 64 MiB have room for so many.
 const MOST_LENGTHS: u64 = 4_194_304;
 
-/// A wave of 1 to 64 orders: a layout, and the slots at which each order picks. An order is named by its place, from 0 on.
+/// A wave of 1 to 64 orders: a layout, the slots at which each order picks, and a cart with what each order loads, if there is
+/// one. An order is named by its place, from 0 on.
 #[derive(Drop)]
 pub struct Wave {
     layout: Layout,
     orders: Vec<Picks>,
+    cart: Option<Cart>,
     places: Places,
     lengths: Vec<Length>,
 }
@@ -32,10 +36,10 @@ impl Model for Wave {
 
     ghost Value = { WavePicks };
 
-    ghost view = { λ w. record { layout = w.layout; orders = w.orders.items } };
+    ghost view = { λ w. record { layout = w.layout; orders = w.orders.items; cart = w.cart } };
 
-    ghost invariant = { λ w. IsWave (record { layout = w.layout; orders = w.orders.items })
-        × HaveLengths (record { layout = w.layout; orders = w.orders.items }) w.lengths.items };
+    ghost invariant = { λ w. IsWave (record { layout = w.layout; orders = w.orders.items; cart = w.cart })
+        × HaveLengths (record { layout = w.layout; orders = w.orders.items; cart = w.cart }) w.lengths.items };
 }
 
 // The same slots once more.
@@ -71,10 +75,50 @@ impl Wave {
         requires filled { All (λ picks. 0 < length picks.points) orders.now.items }
         ensures layout { IfOk result (λ wave. wave.layout ≡ layout) }
         ensures orders { IfOk result (λ wave. HaveSamePicks wave.orders orders.now.items) }
+        ensures cart { IfOk result (λ wave. wave.cart ≡ None) }
+    {
+        Wave::begun(alloc, layout, orders, None)
+    }
+
+    /// The wave of these orders' picks in a layout, with a cart that has a load for each of them.
+    pub fn with_cart(
+        alloc: Global,
+        layout: Layout,
+        orders: &Vec<Picks>,
+        cart: Cart,
+    ) -> Result<Wave, Memory>
+        requires loads { length cart.loads ≡ length orders.now.items }
+        requires of_layout { All (λ picks. picks.layout ≡ layout) orders.now.items }
+        requires filled { All (λ picks. 0 < length picks.points) orders.now.items }
+        ensures layout { IfOk result (λ wave. wave.layout ≡ layout) }
+        ensures orders { IfOk result (λ wave. HaveSamePicks wave.orders orders.now.items) }
+        ensures cart { IfOk result (λ wave. wave.cart ≡ Some cart) }
+    {
+        let of_wave = cart.orders() as usize == orders.len();
+        prove!(of_wave);
+        Wave::begun(alloc, layout, orders, Some(cart))
+    }
+
+    // The wave of these orders' picks in a layout, with a cart for them or with none.
+    fn begun(
+        alloc: Global,
+        layout: Layout,
+        orders: &Vec<Picks>,
+        cart: Option<Cart>,
+    ) -> Result<Wave, Memory>
+        requires some { 1 ≤ length orders.now.items }
+        requires most { length orders.now.items ≤ 64 }
+        requires of_layout { All (λ picks. picks.layout ≡ layout) orders.now.items }
+        requires filled { All (λ picks. 0 < length picks.points) orders.now.items }
+        requires cart { IsCartFor cart (length orders.now.items) }
+        ensures layout { IfOk result (λ wave. wave.layout ≡ layout) }
+        ensures orders { IfOk result (λ wave. HaveSamePicks wave.orders orders.now.items) }
+        ensures cart { IfOk result (λ wave. wave.cart ≡ cart) }
     {
         Ok(Wave {
             layout,
             orders: copies_of(alloc, &layout, orders)?,
+            cart,
             places: Places::none(),
             lengths: Vec::new(alloc),
         })
@@ -95,6 +139,46 @@ impl Wave {
         self.layout
     }
 
+    /// The cart that batches are to fit, with a load for each order. None comes exactly where there is no cart.
+    pub fn cart(&self) -> Option<Cart>
+        ensures value { result ≡ self.now.cart }
+        ensures valid { IsWave self.now }
+    {
+        self.cart
+    }
+
+    /// The wave's orders and its cart for batches of so many orders, with no pair decided.
+    pub fn pairs(&self, capacity: u32) -> Pairs
+        requires some { 1 ≤ capacity }
+        requires most { capacity ≤ 8 }
+        ensures { result ≡ no_pairs self.now capacity }
+    {
+        match &self.cart {
+            None => Pairs::new(self.orders(), capacity),
+            Some(cart) => Pairs::with_cart(self.orders(), capacity, *cart),
+        }
+    }
+
+    /// Whether a batch fits the cart, if there is one.
+    pub fn holds(&self, batch: Batch) -> bool
+        ensures { IsTrue result ↔ FitsAnyCart self.now.cart batch }
+    {
+        match &self.cart {
+            None => true,
+            Some(cart) => cart.holds(batch),
+        }
+    }
+
+    /// Whether two batches together fit the cart, if there is one.
+    pub fn holds_both(&self, left: Batch, right: Batch) -> bool
+        ensures { IsTrue result ↔ FitsAnyCart self.now.cart (left ++ right) }
+    {
+        match &self.cart {
+            None => true,
+            Some(cart) => cart.holds_both(left, right),
+        }
+    }
+
     /// The slots at which an order picks.
     pub fn picks(&self, i: u32) -> Picks
         requires { i < length self.now.orders }
@@ -102,6 +186,15 @@ impl Wave {
         ensures points { (p : PointData) → Contains result.points p ↔ Contains (picks_of self.now i) p }
     {
         copy_of(&self.layout, &self.orders[i as usize])
+    }
+
+    /// The slots at which an order picks, as the wave has them.
+    pub fn order(&self, i: u32) -> &Picks
+        requires { i < length self.now.orders }
+        ensures layout { result.now.layout ≡ self.now.layout }
+        ensures points { result.now.points ≡ picks_of self.now i }
+    {
+        &self.orders[i as usize]
     }
 
     /// The length of a shortest tour past all slots at which the orders of a batch pick, 0 for no order. It is below 2 ^ 28.

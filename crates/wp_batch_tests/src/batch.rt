@@ -2,18 +2,18 @@ ghost use Rattle.std.specs.Prelude.{◌≤◌, ◌<◌, ℕ, Contains, IsTrue};
 ghost use Rattle.wp_batch.specs.Batchings.{IsBatching};
 
 use std::alloc::Global;
-use wp_batch::{Marks, Wave, joined, merged_start};
-use wp_pairs::{Batch, Pairs};
+use wp_batch::{Batching, Marks, Wave, joined, merged_start};
+use wp_pairs::Batch;
 use wp_samples::{Slots, are_exactly, batch_below, batch_of, wave_of};
 
 /// Three orders with a slot each.
-const APART: &[Slots] = &[&[(1, 4)], &[(2, 4)], &[(3, 1)]];
+pub const APART: &[Slots] = &[&[(1, 4)], &[(2, 4)], &[(3, 1)]];
 
 /// Three orders at one slot.
-const SAME: &[Slots] = &[&[(3, 4)], &[(3, 4)], &[(3, 4)]];
+pub const SAME: &[Slots] = &[&[(3, 4)], &[(3, 4)], &[(3, 4)]];
 
 /// Orders with several slots.
-const MANY: &[Slots] = &[
+pub const MANY: &[Slots] = &[
     &[(1, 4), (2, 1)],
     &[(2, 4), (3, 1)],
     &[(1, 1), (1, 4), (3, 4)],
@@ -80,6 +80,14 @@ const STARTS: &[(&[Slots], u32, u32, &[&[u32]])] = &[
     ),
 ];
 
+/// The start of a wave, with 1 to 8 orders in a batch at most.
+pub fn start_of(alloc: Global, wave: &Wave, capacity: u32) -> Option<Batching> {
+    if capacity < 1 || 8 < capacity {
+        return None;
+    }
+    merged_start(alloc, wave, capacity).ok()
+}
+
 fn starts_as(
     alloc: Global,
     orders: &[Slots],
@@ -88,10 +96,7 @@ fn starts_as(
     batches: &[&[u32]],
 ) -> Option<bool> {
     let wave = wave_of(alloc, orders, times)?;
-    if capacity < 1 || 8 < capacity {
-        return None;
-    }
-    let start = merged_start(alloc, &wave, capacity).ok()?;
+    let start = start_of(alloc, &wave, capacity)?;
     Some(are_exactly(&start, batches))
 }
 
@@ -110,7 +115,7 @@ fn starts_are_merged_by_the_greatest_saving(rt: HostRuntime) {
 }
 
 /// Six orders: at each of three slots two.
-const TWICE: &[Slots] = &[
+pub const TWICE: &[Slots] = &[
     &[(1, 4)],
     &[(2, 4)],
     &[(3, 1)],
@@ -123,7 +128,7 @@ const TWICE: &[Slots] = &[
 const NO_GAIN: &[Slots] = &[&[(1, 4)], &[(3, 1)]];
 
 /// Batches of a wave.
-type Batches = &'static [&'static [u32]];
+pub type Batches = &'static [&'static [u32]];
 
 /// Waves, the batches of a batching, in any order, a capacity, and the batches that these are joined to.
 const JOINED: &[(&[Slots], Batches, u32, Batches)] = &[
@@ -168,15 +173,13 @@ fn has_all(orders: u32, batch: Batch) -> bool
     true
 }
 
-/// Whether batches are a batching of so many orders.
-fn is_batching(orders: u32, capacity: u32, batches: &[Batch]) -> bool
-    requires some_orders { 1 ≤ orders }
-    requires most_orders { orders ≤ 64 }
+/// Whether batches are a batching of a wave.
+fn is_batching(wave: &Wave, capacity: u32, batches: &[Batch]) -> bool
     requires some_capacity { 1 ≤ capacity }
     requires most_capacity { capacity ≤ 8 }
-    ensures { IsTrue result → IsBatching orders capacity batches.now }
+    ensures { IsTrue result → IsBatching wave.now capacity batches.now }
 {
-    let pairs = Pairs::new(orders, capacity);
+    let pairs = wave.pairs(capacity);
     let mut covered = Batch::empty();
     for batch in batches {
         if !pairs.permits(*batch) || covered.meets(*batch) {
@@ -184,10 +187,11 @@ fn is_batching(orders: u32, capacity: u32, batches: &[Batch]) -> bool
         }
         covered = covered.union(*batch);
     }
-    has_all(orders, covered)
+    has_all(wave.orders(), covered)
 }
 
-fn batches_of(alloc: Global, batches: Batches) -> Option<Vec<Batch>> {
+/// The batches of some orders each.
+pub fn batches_of(alloc: Global, batches: Batches) -> Option<Vec<Batch>> {
     let mut made = Vec::new(alloc);
     for orders in batches {
         made.push(batch_of(orders)).ok()?;
@@ -196,14 +200,14 @@ fn batches_of(alloc: Global, batches: Batches) -> Option<Vec<Batch>> {
 }
 
 /// Whether a batching is joined to these batches.
-fn is_joined_to(
+pub fn is_joined_to(
     alloc: Global,
     wave: &Wave,
     given: &[Batch],
     capacity: u32,
     batches: Batches,
 ) -> Option<bool> {
-    if capacity < 1 || 8 < capacity || !is_batching(wave.orders(), capacity, given) {
+    if capacity < 1 || 8 < capacity || !is_batching(wave, capacity, given) {
         return None;
     }
     let found = joined(alloc, wave, capacity, given).ok()?;
@@ -237,11 +241,8 @@ fn joins_that_save_are_made_to_any_batching(rt: HostRuntime) {
 }
 
 fn count_batches(alloc: Global, orders: u32, capacity: u32) -> Option<u32> {
-    if capacity < 1 || 8 < capacity {
-        return None;
-    }
     let wave = wave_of(alloc, &[&[(3, 4)]], orders)?;
-    Some(merged_start(alloc, &wave, capacity).ok()?.len())
+    Some(start_of(alloc, &wave, capacity)?.len())
 }
 
 #[test]

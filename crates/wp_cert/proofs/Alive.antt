@@ -1,5 +1,5 @@
 -- A right tree has a leaf that isn't dead: a split has tight duals, so each order is in some permitted batch, and it still is where two more orders go apart.
-use Rattle.std.proofs.Common.{◌≡◌, ◌≢◌, ℕ, ◌<◌, ◌≤◌, ◌↔◌, true, false, List, [], ◌∷◌, ◌++◌, arith, refl, ap, sym, ◌∙◌, subst, inl, inr, ◌⊎◌}
+use Rattle.std.proofs.Common.{◌≡◌, ◌≢◌, ℕ, ◌<◌, ◌≤◌, ◌↔◌, true, false, List, [], ◌∷◌, ◌++◌, length, arith, refl, ap, sym, ◌∙◌, subst, inl, inr, ◌⊎◌}
 use Rattle.std.proofs.Common.{⊎_elim, Contains}
 use Rattle.std.specs.Prelude.{Option, Some, None, sum}
 use Rattle.std.specs.List.Sorted.{IsStrictlyIncreasing}
@@ -8,10 +8,11 @@ use Rattle.std.proofs.lemmas.List.Elements.{All-contains, Contains-push_cases}
 use Rattle.wp_pairs.specs.declared.pair.OrderPair.{OrderPair}
 use Rattle.wp_pairs.specs.Permitted.{AreJoined, ArePair, AreUndecided, IsHeld, Pairing, itself, onward}
 use Rattle.wp_pairs.proofs.Chains.{joined_back, joined_before, joined_more, joined_on}
-use Rattle.wp_pairs.proofs.Classes.{head_below, joined_in, no_longer, tail_ascends}
+use Rattle.wp_pairs.proofs.Classes.{head_below, joined_in, no_longer, part_fits, tail_ascends}
 use Rattle.wp_pairs.proofs.Members.{ascending_cons, contains_cases, contains_first, contains_later, contains_none}
 use Rattle.wp_batch.specs.Batchings.{no_pairs}
-use Rattle.wp_batch.specs.Waves.{WavePicks}
+use Rattle.wp_batch.specs.Waves.{IsWave, WavePicks}
+use Rattle.wp_batch.proofs.Singles.{alone_fits}
 use Rattle.wp_batch.proofs.Unions.{all_from_contained}
 use Rattle.wp_cert.specs.declared.tree.Node.{Node}
 use Rattle.wp_cert.specs.Trees.{IsRight, dead, kept, leaf, lower_of, split, with_pair}
@@ -89,6 +90,7 @@ held_apart pairing first second order told parts held =
         ascending = c.ascending;
         filled = omega (arith, here.1);
         fits = omega (arith, no_longer c.chosen batch c.ascending held.1.ascending within, held.1.fits);
+        light = part_fits pairing.cart c.chosen batch c.ascending held.1.ascending within held.1.light;
         known = all_from_contained (λ o. o < pairing.orders) c.chosen (λ x has. All-contains (λ o. o < pairing.orders) batch x held.1.known (within x has));
         together = λ pair added kind. ⊎_elim
             (λ old. (
@@ -128,14 +130,15 @@ tree_alive wave pairing above _ rest _ (split {first} {second} {own} {nodes} {be
     (held order low)))
 
 -- with no pair, each order is in some permitted batch
-held_alone : (orders capacity order : ℕ) → 1 ≤ capacity → order < orders → IsHeld (no_pairs orders capacity) order
-held_alone orders capacity order some low = (
+held_alone : (wave : WavePicks) (capacity order : ℕ) → IsWave wave → 1 ≤ capacity → order < length wave.orders → IsHeld (no_pairs wave capacity) order
+held_alone wave capacity order is some low = (
   order ∷ [],
   record {
     ascending = single_ascends order;
     filled = omega arith;
     fits = omega (arith, some);
-    known = all_from_contained (λ o. o < orders) (order ∷ []) (λ x has. omega (arith, only_one order x has, low));
+    light = alone_fits wave.cart (length wave.orders) (order ∷ []) order is.cart low (single_ascends order) (λ x has. sym (only_one order x has));
+    known = all_from_contained (λ o. o < length wave.orders) (order ∷ []) (λ x has. omega (arith, only_one order x has, low));
     together = λ pair added kind. absurd (omega (arith, added.1));
     apart = λ pair added kind both. omega (arith, added.1);
   },
@@ -143,7 +146,7 @@ held_alone orders capacity order some low = (
 )
 
 -- a right tree of a wave has a bound
-pub right_has_bound : (wave : WavePicks) (orders capacity above : ℕ) (nodes rest : List Node) (bound : Option ℕ) → 1 ≤ capacity
-    → IsRight wave (no_pairs orders capacity) above nodes rest bound → HasBound bound
-right_has_bound wave orders capacity above nodes rest bound some right =
-    tree_alive wave (no_pairs orders capacity) above nodes rest bound right told_of_none (λ order low. held_alone orders capacity order some low)
+pub right_has_bound : (wave : WavePicks) (capacity above : ℕ) (nodes rest : List Node) (bound : Option ℕ) → IsWave wave → 1 ≤ capacity
+    → IsRight wave (no_pairs wave capacity) above nodes rest bound → HasBound bound
+right_has_bound wave capacity above nodes rest bound is some right =
+    tree_alive wave (no_pairs wave capacity) above nodes rest bound right told_of_none (λ order low. held_alone wave capacity order is some low)

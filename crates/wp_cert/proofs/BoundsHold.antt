@@ -28,7 +28,7 @@ share_within wave capacity order share batch total some is has long =
 
 -- the share duals are feasible where no pair was added
 pub shares_feasible : (wave : WavePicks) (capacity : ℕ) (shares : List ℕ) → 1 ≤ capacity → AreShares wave capacity shares
-    → AreFeasible wave (no_pairs (length wave.orders) capacity) shares
+    → AreFeasible wave (no_pairs wave capacity) shares
 shares_feasible wave capacity shares some are = λ batch total permitted long.
     let each = all_from_contained (λ order. slice_index shares order ≤ 60 * total / capacity) batch
     (λ order has. share_within wave capacity order (slice_index shares order) batch total some
@@ -38,14 +38,14 @@ shares_feasible wave capacity shares some are = λ batch total permitted long.
     omega (arith, sums, wide, mul-div-le (60 * total) capacity)
 
 -- a batching respects that there is no pair
-batching_respects : (orders capacity : ℕ) (batches : List (List ℕ)) → IsBatching orders capacity batches → Respects (no_pairs orders capacity) batches
-batching_respects orders capacity batches is = record { each = is.each; covered = is.covered; once = is.once }
+batching_respects : (wave : WavePicks) (capacity : ℕ) (batches : List (List ℕ)) → IsBatching wave capacity batches → Respects (no_pairs wave capacity) batches
+batching_respects wave capacity batches is = record { each = is.each; covered = is.covered; once = is.once }
 
 -- no batching costs less than the bound of a right tree
 pub bounds_hold : BoundsHold
 bounds_hold = λ wave capacity nodes bound some right batches cost is costs.
-    let pairing = no_pairs (length wave.orders) capacity in
-    let respects = batching_respects (length wave.orders) capacity batches is in
+    let pairing = no_pairs wave capacity in
+    let respects = batching_respects wave capacity batches is in
     let shares = right.1.0 in
     let low = sum_within wave pairing shares batches cost right.1.1.count (shares_feasible wave capacity shares some right.1.1) respects costs in
     let above : right.0 ≤ 60 * cost = omega (arith, low, right.1.2) in

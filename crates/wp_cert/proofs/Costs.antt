@@ -47,6 +47,7 @@ permitted_together pairing first second batch permitted both =
       ascending = permitted.ascending;
       filled = permitted.filled;
       fits = permitted.fits;
+      light = permitted.light;
       known = permitted.known;
       together = λ pair added kind. ⊎_elim (λ old. permitted.together pair old kind)
           (λ (e : new ≡ pair). subst (λ (p : OrderPair). Contains batch p.first ↔ Contains batch p.second) e both)
@@ -63,6 +64,7 @@ permitted_apart pairing first second batch permitted never =
       ascending = permitted.ascending;
       filled = permitted.filled;
       fits = permitted.fits;
+      light = permitted.light;
       known = permitted.known;
       together = λ pair added kind. ⊎_elim (λ old. permitted.together pair old kind)
           (λ (e : new ≡ pair). absurd (false≢true (ap (λ (p : OrderPair). p.together) e ∙ kind))) (Contains-push_cases pairing.pairs new pair added);

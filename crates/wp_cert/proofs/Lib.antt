@@ -8,6 +8,7 @@ pub mod Ways
 pub mod Alive
 pub mod WholeTrees
 mod TextBatches
+mod TextCarts
 mod TextJson
 mod TextLists
 mod TextOrders
@@ -25,3 +26,4 @@ pub mod AscendingUnions
 pub mod OneFault
 pub mod PutIntoBatches
 pub mod Walked
+pub mod LevelPicks

@@ -127,21 +127,21 @@ one_fault = λ wave capacity nodes one other first second. once wave capacity no
     once : (wave : WavePicks) (capacity : ℕ) (nodes : List Node) (one other : CertFault) → IsFirstBroken wave capacity nodes one
         → IsFirstBroken wave capacity nodes other → one ≡ other
     once wave capacity nodes one other (in_tree {shares} {left} are broken here) (in_tree {shares = sums} {left = others} are_too broken_too there) =
-        let pairing = no_pairs (length wave.orders) capacity in
+        let pairing = no_pairs wave capacity in
         let both = one_broken wave pairing shares nodes left others one.why other.why broken
         (subst (λ (s : ℕ). IsBroken wave pairing s nodes others other.why) (same_shares wave capacity sums shares are_too are) broken_too) in
         same_fault wave nodes left others one other both.nodes both.whys here there
     once wave capacity nodes one other (in_tree {shares} {left} are broken here) (nodes_left {shares = sums} {left = others} {bound} are_too right some there is) =
-        let pairing = no_pairs (length wave.orders) capacity in
+        let pairing = no_pairs wave capacity in
         absurd (right_not_broken wave pairing shares nodes others left bound one.why
         (subst (λ (s : ℕ). IsRight wave pairing s nodes others bound) (same_shares wave capacity sums shares are_too are) right) broken)
     once wave capacity nodes one other (nodes_left {shares} {left} {bound} are right some here is) (in_tree {shares = sums} {left = others} are_too broken there) =
-        let pairing = no_pairs (length wave.orders) capacity in
+        let pairing = no_pairs wave capacity in
         absurd (right_not_broken wave pairing sums nodes left others bound other.why
         (subst (λ (s : ℕ). IsRight wave pairing s nodes left bound) (same_shares wave capacity shares sums are are_too) right) broken)
     once wave capacity nodes one other (nodes_left {shares} {left} {bound} are right some here is)
         (nodes_left {shares = sums} {left = others} {bound = found} are_too right_too some_too there is_too) =
-        let pairing = no_pairs (length wave.orders) capacity in
+        let pairing = no_pairs wave capacity in
         let both = right_agree wave pairing shares nodes left others bound found right
         (subst (λ (s : ℕ). IsRight wave pairing s nodes others found) (same_shares wave capacity sums shares are_too are) right_too) in
         same_fault wave nodes left others one other both.nodes (is ∙ sym is_too) here there

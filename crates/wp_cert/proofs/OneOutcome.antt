@@ -203,13 +203,13 @@ same_shares wave capacity one other first second =
 pub whole_not_broken : (wave : WavePicks) (capacity : ℕ) (nodes : List Node) (bound : ℕ) (fault : CertFault) → IsBoundOf wave capacity nodes bound
     → IsFirstBroken wave capacity nodes fault → ⊥
 whole_not_broken wave capacity nodes bound fault right (in_tree {shares} {left} are broken numbered) =
-    right_not_broken wave (no_pairs (length wave.orders) capacity) shares nodes [] left (Some bound) fault.why
-    (subst (λ (s : ℕ). IsRight wave (no_pairs (length wave.orders) capacity) s nodes [] (Some bound))
+    right_not_broken wave (no_pairs wave capacity) shares nodes [] left (Some bound) fault.why
+    (subst (λ (s : ℕ). IsRight wave (no_pairs wave capacity) s nodes [] (Some bound))
     (same_shares wave capacity right.0 shares right.1 are) right.2)
     broken
 whole_not_broken wave capacity nodes bound fault right (nodes_left {shares} {left} {bound = other} are also some numbered because) =
-    let same = right_agree wave (no_pairs (length wave.orders) capacity) shares nodes [] left (Some bound) other
-    (subst (λ (s : ℕ). IsRight wave (no_pairs (length wave.orders) capacity) s nodes [] (Some bound))
+    let same = right_agree wave (no_pairs wave capacity) shares nodes [] left (Some bound) other
+    (subst (λ (s : ℕ). IsRight wave (no_pairs wave capacity) s nodes [] (Some bound))
     (same_shares wave capacity right.0 shares right.1 are) right.2)
     also in
     let none = ap (λ (ns : List Node). length ns) same.nodes in omega (arith, none, some)
@@ -227,8 +227,8 @@ same_number one other e = ap number_of e
 pub whole_agree : (wave : WavePicks) (capacity : ℕ) (nodes : List Node) (one other : ℕ) → IsBoundOf wave capacity nodes one
     → IsBoundOf wave capacity nodes other → one ≡ other
 whole_agree wave capacity nodes one other first second =
-    let same = right_agree wave (no_pairs (length wave.orders) capacity) second.0 nodes [] [] (Some one) (Some other)
-    (subst (λ (s : ℕ). IsRight wave (no_pairs (length wave.orders) capacity) s nodes [] (Some one))
+    let same = right_agree wave (no_pairs wave capacity) second.0 nodes [] [] (Some one) (Some other)
+    (subst (λ (s : ℕ). IsRight wave (no_pairs wave capacity) s nodes [] (Some one))
     (same_shares wave capacity first.0 second.0 first.1 second.1)
     first.2) second.2 in
     same_number one other same.bounds

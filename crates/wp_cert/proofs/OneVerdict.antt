@@ -7,6 +7,7 @@ use Rattle.wp_model.specs.Warehouse.{Layout}
 use Rattle.wp_graph.specs.PickSets.{PickSet}
 use Rattle.wp_graph.proofs.Members.{Contains-from_among, among-flat_map, among_from_Contains, flat_map_source}
 use Rattle.wp_model.specs.Tours.{IsShortest}
+use Rattle.wp_pairs.specs.Carts.{LoadedCart}
 use Rattle.wp_pairs.specs.Permitted.{IsPermitted, Pairing}
 use Rattle.wp_batch.specs.Batchings.{no_pairs}
 use Rattle.wp_batch.specs.Lengths.{IsLengthOf, batch_picks}
@@ -296,19 +297,29 @@ one_sum wave other same capacity one two count first second =
     (second.1.each k (omega (arith, low, first.1.count, count)))) in
     sym first.2 ∙ (ap sum lists ∙ second.2)
 
+-- so many orders, such a capacity and such a cart, and no pair
+abbrev pairs_with : ℕ → ℕ → Option LoadedCart → Pairing
+pairs_with orders capacity cart = record { orders = orders; capacity = capacity; cart = cart; pairs = [] }
+
+-- waves of as many orders with the same cart have the same pairs at first
+same_pairs : (wave other : WavePicks) (capacity : ℕ) → length wave.orders ≡ length other.orders → wave.cart ≡ other.cart
+    → no_pairs wave capacity ≡ no_pairs other capacity
+same_pairs wave other capacity count cart =
+    ap₂ (λ (n : ℕ) (c : Option LoadedCart). pairs_with n capacity c) count cart
+
 -- a tree that has a bound for the one wave is not refused for the other
-pub bound_not_broken : (wave other : WavePicks) → HaveSameLengths wave other → length wave.orders ≡ length other.orders → (capacity : ℕ) (nodes : List Node)
-    (bound : ℕ) (fault : CertFault) → IsBoundOf wave capacity nodes bound → IsFirstBroken other capacity nodes fault → ⊥
-bound_not_broken wave other same count capacity nodes bound fault right (in_tree {shares} {left} are broken place) =
+pub bound_not_broken : (wave other : WavePicks) → HaveSameLengths wave other → length wave.orders ≡ length other.orders → wave.cart ≡ other.cart
+    → (capacity : ℕ) (nodes : List Node) (bound : ℕ) (fault : CertFault) → IsBoundOf wave capacity nodes bound → IsFirstBroken other capacity nodes fault → ⊥
+bound_not_broken wave other same count cart capacity nodes bound fault right (in_tree {shares} {left} are broken place) =
     let sums = one_sum wave other same capacity right.0 shares count right.1 are in
-    none_broken wave other same (no_pairs (length wave.orders) capacity) right.0 nodes [] left (Some bound) fault.why right.2
-    (subst (λ (n : ℕ). IsBroken other (no_pairs n capacity) right.0 nodes left fault.why) (sym count)
-    (subst (λ (s : ℕ). IsBroken other (no_pairs (length other.orders) capacity) s nodes left fault.why) (sym sums) broken))
-bound_not_broken wave other same count capacity nodes bound fault right (nodes_left {shares} {left} {bound = found} are also some place is) =
+    none_broken wave other same (no_pairs wave capacity) right.0 nodes [] left (Some bound) fault.why right.2
+    (subst (λ (p : Pairing). IsBroken other p right.0 nodes left fault.why) (sym (same_pairs wave other capacity count cart))
+    (subst (λ (s : ℕ). IsBroken other (no_pairs other capacity) s nodes left fault.why) (sym sums) broken))
+bound_not_broken wave other same count cart capacity nodes bound fault right (nodes_left {shares} {left} {bound = found} are also some place is) =
     let sums = one_sum wave other same capacity right.0 shares count right.1 are in
-    let none = one_rest wave other same (no_pairs (length wave.orders) capacity) right.0 nodes [] left (Some bound) found right.2
-    (subst (λ (n : ℕ). IsRight other (no_pairs n capacity) right.0 nodes left found) (sym count)
-    (subst (λ (s : ℕ). IsRight other (no_pairs (length other.orders) capacity) s nodes left found) (sym sums) also)) in
+    let none = one_rest wave other same (no_pairs wave capacity) right.0 nodes [] left (Some bound) found right.2
+    (subst (λ (p : Pairing). IsRight other p right.0 nodes left found) (sym (same_pairs wave other capacity count cart))
+    (subst (λ (s : ℕ). IsRight other (no_pairs other capacity) s nodes left found) (sym sums) also)) in
     omega (arith, ap (λ (ns : List Node). length ns) none, some)
 
 -- orders that pick at the same places: what an order picks in the one list it picks in the other
@@ -361,6 +372,6 @@ pub told_right : (layout : Layout) (bytes : List ℕ) (wave other : WavePicks) (
     → IsFirstBroken other further more fault → ⊥
 told_right layout bytes wave other capacity further nodes more bound fault one also right broken =
     let is = told_once layout bytes wave other capacity further nodes more one also in
-    bound_not_broken wave other (told_lengths layout bytes wave other capacity further nodes more one also) is.orders.count capacity nodes bound fault right
+    bound_not_broken wave other (told_lengths layout bytes wave other capacity further nodes more one also) is.orders.count is.cart capacity nodes bound fault right
     (subst (λ (c : ℕ). IsFirstBroken other c nodes fault) (sym is.capacity_is)
     (subst (λ (ns : List Node). IsFirstBroken other further ns fault) (sym is.nodes_are) broken))

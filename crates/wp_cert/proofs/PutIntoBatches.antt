@@ -1,18 +1,22 @@
 -- Orders that are put into batches: in ascending order the batches are a batching, and a batching puts its orders so.
 use Rattle.std.proofs.Common.{◌≡◌, ◌≢◌, ℕ, zero, suc, ◌+◌, ◌<◌, ◌≤◌, ◌↔◌, cond, List, [], ◌∷◌, length, get_or, arith, refl, ap, sym, ◌∙◌, subst, inl, inr, ⊎_elim}
-use Rattle.std.proofs.Common.{All, Contains}
+use Rattle.std.proofs.Common.{All, Contains, Option, None, Some}
 use Rattle.std.proofs.lemmas.Bool.{cases_eq, cases_lt, eq-eqb, ne_eqb}
 use Rattle.std.proofs.lemmas.List.{get_or_default}
 use Rattle.std.proofs.lemmas.List.Elements.{All-contains, Contains-get_or}
 use Rattle.std.proofs.lemmas.List.Sums.{sum_by-cons}
-use Rattle.std.specs.Prelude.{nat_eq}
+use Rattle.std.specs.Prelude.{nat_eq, slice_index, sum_by}
 use Rattle.std.specs.List.{count_by}
 use Rattle.std.specs.List.Sorted.{IsStrictlyIncreasing}
+use Rattle.wp_pairs.specs.Carts.{FitsAnyCart, LoadedCart}
 use Rattle.wp_pairs.specs.Permitted.{IsPermitted}
 use Rattle.wp_pairs.proofs.Classes.{head_below, tail_ascends}
 use Rattle.wp_pairs.proofs.KeptPairs.{in_or_not}
 use Rattle.wp_pairs.proofs.Members.{contains_cases, contains_first, contains_later, contains_none}
 use Rattle.wp_batch.specs.Batchings.{IsBatching, batch_at, no_pairs}
+use Rattle.wp_batch.specs.Waves.{WavePicks}
+use Rattle.wp_batch.proofs.Ascending.{single_ascends}
+use Rattle.wp_batch.proofs.Loads.{union_weighs}
 use Rattle.wp_batch.proofs.Unions.{all_from_contained}
 use Rattle.wp_cert.specs.Bounds.{PutBatchesAreBatchings}
 use Rattle.wp_cert.specs.Walks.{ArePutIntoBatches, times_in}
@@ -98,9 +102,10 @@ pub record IsAscending (xs ys : List ℕ) : Type 0 where
   pub ascending : IsStrictlyIncreasing ys
   pub same : (x : ℕ) → Contains ys x ↔ Contains xs x
   pub count : length ys ≤ length xs
+  pub weight : (f : ℕ → ℕ) → sum_by f ys ≤ sum_by f xs
 
 pub sorted : (xs : List ℕ) → (ys : List ℕ) × IsAscending xs ys
-sorted [] = ([], record { ascending = λ k within. absurd (omega (arith, within)); same = λ x. (λ has. has, λ has. has); count = omega arith })
+sorted [] = ([], record { ascending = λ k within. absurd (omega (arith, within)); same = λ x. (λ has. has, λ has. has); count = omega arith; weight = λ f. omega arith })
 sorted (x ∷ xs) =
     let rest = sorted xs in
     let all = one_in x rest.0 rest.1.ascending in (
@@ -115,6 +120,18 @@ sorted (x ∷ xs) =
               (λ later. (all.1.both z).1 (inr ((rest.1.same z).1 later))) (contains_cases x z xs has),
         );
         count = omega (arith, all.1.count, rest.1.count);
+        weight = λ f. omega (
+          arith,
+          union_weighs f (x ∷ []) rest.0 all.0 (record {
+            left_ascends = single_ascends x;
+            right_ascends = rest.1.ascending;
+            ascends = all.1.ascending;
+            of_both = all.1.both;
+          }),
+          rest.1.weight f,
+          sum_by-cons f x xs,
+          sum_by-cons f x [],
+        );
       },
     )
 
@@ -132,11 +149,17 @@ sorted_at [] place low = absurd (omega arith)
 sorted_at (batch ∷ batches) zero low = (sorted batch).1
 sorted_at (batch ∷ batches) (suc place) low = sorted_at batches place (omega arith)
 
+-- what weighs no more than a batch that fits a cart fits it
+lighter_fits : (cart : Option LoadedCart) (batch lighter : List ℕ) → ((f : ℕ → ℕ) → sum_by f lighter ≤ sum_by f batch) → FitsAnyCart cart batch
+    → FitsAnyCart cart lighter
+lighter_fits None batch lighter less light = tt
+lighter_fits (Some held) batch lighter less light = omega (arith, less (slice_index held.loads), light)
+
 -- orders that are put into batches are a batching, where these are listed in ascending order
-put_in_order : (orders capacity : ℕ) (batches lists : List (List ℕ)) → length lists ≡ length batches
-    → ((place : ℕ) → place < length batches → IsAscending (batch_at batches place) (batch_at lists place)) → ArePutIntoBatches orders capacity batches
-    → IsBatching orders capacity lists
-put_in_order orders capacity batches lists count at_place put = record {
+put_in_order : (wave : WavePicks) (capacity : ℕ) (batches lists : List (List ℕ)) → length lists ≡ length batches
+    → ((place : ℕ) → place < length batches → IsAscending (batch_at batches place) (batch_at lists place)) → ArePutIntoBatches wave capacity batches
+    → IsBatching wave capacity lists
+put_in_order wave capacity batches lists count at_place put = record {
   each = λ place low. permits place (omega (arith, low, count));
   covered = λ order low. let at = times_some batches order (omega (arith, put.once order low)) in
       (at.0, omega (arith, at.1, count), ((at_place at.0 at.1).same order).1 at.2);
@@ -144,12 +167,12 @@ put_in_order orders capacity batches lists count at_place put = record {
       let low_left : left < length batches = omega (arith, l, count) in
       let low_right : right < length batches = omega (arith, r, count) in
       let here = ((at_place left low_left).same order).0 has in
-      let known = All-contains (λ (o : ℕ). o < orders) (batch_at batches left) order (put.known left [] low_left) here in
+      let known = All-contains (λ (o : ℕ). o < length wave.orders) (batch_at batches left) order (put.known left [] low_left) here in
       times_once batches order left right (omega (arith, put.once order known)) low_left low_right here
       (((at_place right low_right).same order).0 has_too);
 }
   where
-    permits : (place : ℕ) → place < length batches → IsPermitted (no_pairs orders capacity) (batch_at lists place)
+    permits : (place : ℕ) → place < length batches → IsPermitted (no_pairs wave capacity) (batch_at lists place)
     permits place low =
         let batch = batch_at batches place in
         let s = at_place place low in
@@ -157,16 +180,17 @@ put_in_order orders capacity batches lists count at_place put = record {
           ascending = s.ascending;
           filled = omega (arith, first.1);
           fits = omega (arith, s.count, put.fits place [] low);
-          known = all_from_contained (λ (order : ℕ). order < orders) (batch_at lists place)
-              (λ order has. All-contains (λ (o : ℕ). o < orders) batch order (put.known place [] low) ((s.same order).0 has));
+          light = lighter_fits wave.cart batch (batch_at lists place) s.weight (put.light place [] low);
+          known = all_from_contained (λ (order : ℕ). order < length wave.orders) (batch_at lists place)
+              (λ order has. All-contains (λ (o : ℕ). o < length wave.orders) batch order (put.known place [] low) ((s.same order).0 has));
           together = λ pair added kind. absurd (omega (arith, added.1));
           apart = λ pair added kind both. omega (arith, added.1);
         }
 
-pub put_is_batching : (orders capacity : ℕ) (batches : List (List ℕ)) → ArePutIntoBatches orders capacity batches
-    → IsBatching orders capacity (sorted_all batches)
-put_is_batching orders capacity batches put =
-    put_in_order orders capacity batches (sorted_all batches) (all_sorted batches) (sorted_at batches) put
+pub put_is_batching : (wave : WavePicks) (capacity : ℕ) (batches : List (List ℕ)) → ArePutIntoBatches wave capacity batches
+    → IsBatching wave capacity (sorted_all batches)
+put_is_batching wave capacity batches put =
+    put_in_order wave capacity batches (sorted_all batches) (all_sorted batches) (sorted_at batches) put
 
 -- what holds of each batch by its place holds of all
 pub all_places : (P : List ℕ → Type 0) (batches : List (List ℕ)) → ((place : ℕ) → place < length batches → P (batch_at batches place)) → All P batches
@@ -174,11 +198,12 @@ all_places P batches each = all_from_contained P batches
     (λ batch has. subst P (get_or_default batches has.0 [] batch has.1 ∙ has.2) (each has.0 has.1))
 
 -- and a batching puts its orders into batches
-pub batching_is_put : (orders capacity : ℕ) (batches : List (List ℕ)) → IsBatching orders capacity batches → ArePutIntoBatches orders capacity batches
-batching_is_put orders capacity batches is = record {
+pub batching_is_put : (wave : WavePicks) (capacity : ℕ) (batches : List (List ℕ)) → IsBatching wave capacity batches → ArePutIntoBatches wave capacity batches
+batching_is_put wave capacity batches is = record {
   filled = all_places (λ (batch : List ℕ). 0 < length batch) batches (λ place low. (is.each place low).filled);
   fits = all_places (λ (batch : List ℕ). length batch ≤ capacity) batches (λ place low. (is.each place low).fits);
-  known = all_places (λ (batch : List ℕ). All (λ (order : ℕ). order < orders) batch) batches (λ place low. (is.each place low).known);
+  known = all_places (λ (batch : List ℕ). All (λ (order : ℕ). order < length wave.orders) batch) batches (λ place low. (is.each place low).known);
+  light = all_places (FitsAnyCart wave.cart) batches (λ place low. (is.each place low).light);
   once = λ order low.
       let at = is.covered order low in
       let some = in_times batches at.0 order at.1 at.2 in
@@ -188,8 +213,9 @@ batching_is_put orders capacity batches is = record {
 
 -- so are those whose batches ascend
 pub ascending_put_is_batching : PutBatchesAreBatchings
-ascending_put_is_batching = λ orders capacity batches put ascend. put_in_order orders capacity batches batches refl (λ place low. record {
+ascending_put_is_batching = λ wave capacity batches put ascend. put_in_order wave capacity batches batches refl (λ place low. record {
   ascending = ascend place [] low;
   same = λ x. (λ has. has, λ has. has);
   count = omega arith;
+  weight = λ f. omega arith;
 }) put

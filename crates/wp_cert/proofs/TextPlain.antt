@@ -1,9 +1,10 @@
 -- A certificate's value has no float, and its lists and objects lie at most five deep.
-use Rattle.std.proofs.Common.{◌≡◌, ℕ, ◌≤◌, false, List, [], ◌∷◌, map, Some, None, arith, refl, ap, sym, subst, ◌∙◌}
+use Rattle.std.proofs.Common.{◌≡◌, ℕ, ◌≤◌, false, List, [], ◌∷◌, map, Option, Some, None, arith, refl, ap, sym, subst, ◌∙◌}
 use Rattle.serde_json.specs.Read.{read}
 use Rattle.serde_json.specs.Data.{Data, depth, items_depth}
 use Rattle.serde_json.specs.View.{items_of}
 use Rattle.serde_json.specs.Written.{compact_text, has_float, items_have_float}
+use Rattle.wp_pairs.specs.Carts.{LoadedCart}
 use Rattle.wp_cert.specs.declared.text.form.WrittenSlot.{WrittenSlot}
 use Rattle.wp_cert.specs.declared.tree.Node.{Node}
 use Rattle.wp_cert.specs.declared.tree.Node.TheVariants as node
@@ -30,9 +31,12 @@ plain_node (node.Split first second (Some own)) = rw (plain_numbers own.duals, p
 plain_node (node.Dead order) = refl
 
 -- no number of a certificate is a float
-pub plain_certificate : (orders : List (List WrittenSlot)) (capacity : ℕ) (nodes : List Node) → has_float (certificate_data orders capacity nodes) ≡ false
-plain_certificate orders capacity nodes =
+pub plain_certificate : (orders : List (List WrittenSlot)) (cart : Option LoadedCart) (capacity : ℕ) (nodes : List Node)
+    → has_float (certificate_data orders cart capacity nodes) ≡ false
+plain_certificate orders None capacity nodes =
     rw (plain_list node_data plain_node nodes, plain_list (list_data place_data) plain_places orders) refl
+plain_certificate orders (Some cart) capacity nodes =
+    rw (plain_numbers cart.loads, plain_list node_data plain_node nodes, plain_list (list_data place_data) plain_places orders) refl
 
 shallow_list : {A : Type 0} (shown : A → Data) (most : ℕ) → ((x : A) → depth (shown x) ≤ most) → (xs : List A) → items_depth (items_of (map shown xs)) ≤ most
 shallow_list shown most shallow [] = omega arith
@@ -55,25 +59,34 @@ shallow_node (node.Split first second (Some own)) = omega (arith, shallow_number
 shallow_node (node.Dead order) = omega arith
 
 -- a certificate is no deeper than a reader goes
-pub shallow_certificate : (orders : List (List WrittenSlot)) (capacity : ℕ) (nodes : List Node) → depth (certificate_data orders capacity nodes) ≤ 127
-shallow_certificate orders capacity nodes =
+pub shallow_certificate : (orders : List (List WrittenSlot)) (cart : Option LoadedCart) (capacity : ℕ) (nodes : List Node)
+    → depth (certificate_data orders cart capacity nodes) ≤ 127
+shallow_certificate orders None capacity nodes =
     omega (
       arith,
       shallow_list node_data 3 shallow_node nodes,
       shallow_list (list_data place_data) 2 (λ places. omega (arith, shallow_places places)) orders,
     )
+shallow_certificate orders (Some cart) capacity nodes =
+    omega (
+      arith,
+      shallow_numbers cart.loads,
+      shallow_list node_data 3 shallow_node nodes,
+      shallow_list (list_data place_data) 2 (λ places. omega (arith, shallow_places places)) orders,
+    )
 
 -- bytes that are a value's compact text are a certificate's text, where the value is the certificate's
-pub printed : (value : Data) (orders : List (List WrittenSlot)) (capacity : ℕ) (nodes : List Node) (bytes : List ℕ)
-    → value ≡ certificate_data orders capacity nodes → (has_float value ≡ false → bytes ≡ compact_text value) → bytes ≡ certificate_text orders capacity nodes
+pub printed : (value : Data) (orders : List (List WrittenSlot)) (cart : Option LoadedCart) (capacity : ℕ) (nodes : List Node) (bytes : List ℕ)
+    → value ≡ certificate_data orders cart capacity nodes → (has_float value ≡ false → bytes ≡ compact_text value)
+    → bytes ≡ certificate_text orders cart capacity nodes
 unfolding certificate_text
-printed value orders capacity nodes bytes is text =
-    text (ap has_float is ∙ plain_certificate orders capacity nodes) ∙ ap compact_text is
+printed value orders cart capacity nodes bytes is text =
+    text (ap has_float is ∙ plain_certificate orders cart capacity nodes) ∙ ap compact_text is
 
 -- bytes that are read as a value as deep as this are read as the certificate's
-pub read_again : (value : Data) (orders : List (List WrittenSlot)) (capacity : ℕ) (nodes : List Node) (bytes : List ℕ)
-    → value ≡ certificate_data orders capacity nodes → (depth value ≤ 127 → read bytes ≡ Some value)
-    → read bytes ≡ Some (certificate_data orders capacity nodes)
-read_again value orders capacity nodes bytes is read_back =
-    let shallow = subst (λ (v : Data). depth v ≤ 127) (sym is) (shallow_certificate orders capacity nodes) in
+pub read_again : (value : Data) (orders : List (List WrittenSlot)) (cart : Option LoadedCart) (capacity : ℕ) (nodes : List Node) (bytes : List ℕ)
+    → value ≡ certificate_data orders cart capacity nodes → (depth value ≤ 127 → read bytes ≡ Some value)
+    → read bytes ≡ Some (certificate_data orders cart capacity nodes)
+read_again value orders cart capacity nodes bytes is read_back =
+    let shallow = subst (λ (v : Data). depth v ≤ 127) (sym is) (shallow_certificate orders cart capacity nodes) in
     read_back shallow ∙ ap (λ (v : Data). Some v) is

@@ -1,5 +1,5 @@
 -- The value of a certificate says the certificate: what is printed is read again.
-use Rattle.std.proofs.Common.{◌≡◌, ℕ, ◌+◌, ◌<◌, ◌≤◌, ◌^◌, Bool, true, false, List, [], ◌∷◌, map, All, Contains, Option, Some, None}
+use Rattle.std.proofs.Common.{◌≡◌, ℕ, ◌+◌, ◌<◌, ◌≤◌, ◌^◌, Bool, true, false, List, [], ◌∷◌, map, All, Contains, Option, Some, None, option_map}
 use Rattle.std.proofs.Common.{arith, refl}
 use Rattle.std.specs.List.Sorted.{IsStrictlyIncreasing}
 use Rattle.std.proofs.lemmas.List.Elements.{All-contains, All-head, All-tail}
@@ -7,11 +7,14 @@ use Rattle.serde_json.specs.Data.{Data}
 use Rattle.serde_json.specs.View.{items_of}
 use Rattle.wp_pairs.proofs.Members.{contains_first, contains_later}
 use Rattle.wp_pairs.specs.Batches.{IsBatch}
+use Rattle.wp_pairs.specs.Carts.{LoadedCart}
+use Rattle.wp_cert.specs.declared.text.form.Form.{Form}
+use Rattle.wp_cert.specs.declared.text.form.WrittenCart.{WrittenCart}
 use Rattle.wp_cert.specs.declared.text.form.WrittenSlot.{WrittenSlot}
 use Rattle.wp_cert.specs.declared.tree.Node.{Node}
 use Rattle.wp_cert.specs.declared.tree.Node.TheVariants as node
 use Rattle.wp_cert.specs.Text.{batch_said, each_of, each_said, form_said, list_said, mark_said, node_said, number_said, orders_from, place_said}
-use Rattle.wp_cert.specs.Text.{within}
+use Rattle.wp_cert.specs.Text.{version_of, within}
 use Rattle.wp_cert.specs.TextData.{IsKeptNode, IsPosition, batch_data, certificate_data, list_data, mark_code, node_data, number_data, place_data}
 use Rattle.wp_cert.proofs.TextBatches.{head_below, tail_ascends}
 
@@ -83,7 +86,18 @@ node_again (node.Dead order) kept = rw (position_again order kept) refl
 nodes_again : (nodes : List Node) → All IsKeptNode nodes → each_said node_said (items_of (map node_data nodes)) ≡ Some nodes
 nodes_again nodes all = said_again node_said node_data IsKeptNode node_again nodes all
 
+-- a cart as it is printed
+abbrev pub written_cart : LoadedCart → WrittenCart
+written_cart cart = record { units = cart.units; loads = cart.loads }
+
+-- the form that is printed
+abbrev pub printed_form : List (List WrittenSlot) → Option LoadedCart → ℕ → List Node → Form
+printed_form orders cart capacity nodes =
+    let written = option_map written_cart cart in
+    record { version = version_of written; capacity = capacity; cart = written; orders = orders; nodes = nodes }
+
 -- the form of a certificate is said again
-pub form_again : (orders : List (List WrittenSlot)) (capacity : ℕ) (nodes : List Node) → All IsKeptNode nodes
-    → form_said (certificate_data orders capacity nodes) ≡ Some (record { version = 1; capacity = capacity; orders = orders; nodes = nodes })
-form_again orders capacity nodes all = rw (nodes_again nodes all, orders_all_again orders) refl
+pub form_again : (orders : List (List WrittenSlot)) (cart : Option LoadedCart) (capacity : ℕ) (nodes : List Node) → All IsKeptNode nodes
+    → form_said (certificate_data orders cart capacity nodes) ≡ Some (printed_form orders cart capacity nodes)
+form_again orders None capacity nodes all = rw (nodes_again nodes all, orders_all_again orders) refl
+form_again orders (Some cart) capacity nodes all = rw (numbers_again cart.loads, nodes_again nodes all, orders_all_again orders) refl

@@ -1,5 +1,5 @@
 -- What the same bytes tell is the same.
-use Rattle.std.proofs.Common.{◌≡◌, ℕ, zero, suc, ◌<◌, ◌↔◌, List, [], ◌∷◌, Contains, Ok, Result, length, get_or, arith, sym, subst, ◌∙◌}
+use Rattle.std.proofs.Common.{◌≡◌, ℕ, zero, suc, ◌<◌, ◌↔◌, List, [], ◌∷◌, Contains, Ok, Result, length, get_or, arith, ap, sym, subst, ◌∙◌, option_map}
 use Rattle.wp_model.specs.Warehouse.{Layout}
 use Rattle.wp_model.specs.declared.point.Point.{Point}
 use Rattle.wp_batch.specs.Waves.{HaveSamePicks, WavePicks}
@@ -8,7 +8,7 @@ use Rattle.wp_cert.specs.declared.text.form.Form.{Form}
 use Rattle.wp_cert.specs.declared.text.form.WrittenSlot.{WrittenSlot}
 use Rattle.wp_cert.specs.declared.tree.CertWhy.{CertWhy}
 use Rattle.wp_cert.specs.declared.tree.Node.{Node}
-use Rattle.wp_cert.specs.Text.{IsSame, PickAt, Tells, certificate_said}
+use Rattle.wp_cert.specs.Text.{IsSame, PickAt, Tells, certificate_said, loaded_cart}
 use Rattle.wp_cert.proofs.TextPicks.{as_many}
 
 each_at : (left right : List PickSet) (places : List (List WrittenSlot)) → PickAt left places → PickAt right places → (order : ℕ) (d : PickSet)
@@ -41,6 +41,7 @@ told_once layout bytes wave other capacity other_capacity nodes other_nodes one 
       layout = one.layout_is ∙ sym also.layout_is;
       orders = same_at wave.orders other.orders one.form.orders one.orders_pick
           (subst (λ (f : Form). PickAt other.orders f.orders) (sym form) also.orders_pick);
+      cart = one.cart_is ∙ ap (λ (f : Form). option_map loaded_cart f.cart) form ∙ sym also.cart_is;
       capacity_is = sym one.capacity_is ∙ subst (λ (f : Form). f.capacity ≡ other_capacity) (sym form) also.capacity_is;
       nodes_are = sym one.nodes_are ∙ subst (λ (f : Form). f.nodes ≡ other_nodes) (sym form) also.nodes_are;
     }

@@ -31,7 +31,8 @@ pub shown_more : {A : Type 0} (shown : A → Data) (values : List Value) (value 
 shown_more {A} shown values value xs i d within all one =
     pushed shown values value (take i xs) (get_or xs i d) all one ∙ ap (λ (ys : List A). map shown ys) (sym (take_more xs i d within))
 
-item_at : {A : Type 0} (xs : List A) (i : ℕ) (x d : A) → slice_get xs i ≡ Some x → get_or xs i d ≡ x
+-- the item at a place, whatever is told where there is none
+pub item_at : {A : Type 0} (xs : List A) (i : ℕ) (x d : A) → slice_get xs i ≡ Some x → get_or xs i d ≡ x
 item_at [] i x d h = absurd (cc h)
 item_at (y ∷ xs) zero x d h = cc h
 item_at (y ∷ xs) (suc i) x d h = item_at xs i x d h

@@ -1,11 +1,12 @@
 -- What is printed of a certificate tells its wave, its capacity and its tree.
-use Rattle.std.proofs.Common.{◌≡◌, ℕ, suc, ◌<◌, ◌≤◌, Bool, true, List, [], ◌∷◌, length, map, All, Contains, Some, Ok, ◌&&◌}
-use Rattle.std.proofs.Common.{arith, refl, ap, subst, IsUtf8}
+use Rattle.std.proofs.Common.{◌≡◌, ℕ, suc, ◌<◌, ◌≤◌, Bool, true, List, [], ◌∷◌, length, map, All, Contains, Option, Some, None, Ok, ◌&&◌, ◌==◌, option_map}
+use Rattle.std.proofs.Common.{arith, refl, sym, ap, subst, IsUtf8}
 use Rattle.std.specs.List.{list_all}
 use Rattle.std.specs.Prelude.{nat_le}
 use Rattle.std.proofs.lemmas.List.Elements.{All-head, All-tail}
 use Rattle.serde_json.specs.Read.{read}
 use Rattle.wp_model.specs.declared.point.Point.{Point}
+use Rattle.wp_model.specs.Limits.{most_cart_units}
 use Rattle.wp_model.specs.Warehouse.{IsSlot, Layout}
 use Rattle.wp_batch.specs.Waves.{IsWave, WavePicks}
 use Rattle.wp_graph.proofs.Marks.{listed_passes, passing_listed}
@@ -13,19 +14,27 @@ use Rattle.wp_graph.proofs.Members.{Contains-from_among, among-map, among_from_C
 use Rattle.wp_graph.proofs.PointTests.{among_has, has_among}
 use Rattle.wp_graph.specs.PickSets.{AreSlots, PickSet, points_where}
 use Rattle.wp_graph.specs.Required.{has_point}
-use Rattle.wp_cert.specs.declared.text.form.Form.{Form}
+use Rattle.wp_pairs.specs.Carts.{IsCartFor, LoadedCart}
+use Rattle.wp_cert.specs.declared.text.form.WrittenCart.{WrittenCart}
 use Rattle.wp_cert.specs.declared.tree.Node.{Node}
-use Rattle.wp_cert.specs.Text.{PickAt, PicksAt, Tells, form_said, is_order_of, is_slot_of, is_up_to, is_within, place_of, value_says}
+use Rattle.wp_cert.specs.Text.{PickAt, PicksAt, Tells, form_said, is_any_cart_for, is_order_of, is_slot_of, is_up_to, is_within, loaded_cart, place_of, value_says}
+use Rattle.wp_cert.specs.Text.{version_of}
 use Rattle.wp_cert.specs.TextData.{HaveDualsWithin, HaveSlots, IsKeptNode, certificate_data, order_places, wave_places}
 use Rattle.wp_cert.proofs.TextJson.{value_read-text}
 use Rattle.wp_cert.proofs.TextPicks.{same_point}
-use Rattle.wp_cert.proofs.TextReadBack.{form_again}
+use Rattle.wp_cert.proofs.TextReadBack.{form_again, printed_form, written_cart}
 
 both : (a b : Bool) → a ≡ true → b ≡ true → (a && b) ≡ true
 both a b one other = rw (one, other) refl
 
 up_to : (most n : ℕ) → 1 ≤ n → n ≤ most → is_up_to most n ≡ true
 up_to most n low high = grind arith
+
+no_more_than : (n most : ℕ) → n ≤ most → nat_le n most ≡ true
+no_more_than n most h = grind arith
+
+same_number : (m n : ℕ) → m ≡ n → (m == n) ≡ true
+same_number m n h = grind arith
 
 -- ---- the slots of an order
 
@@ -99,34 +108,54 @@ as_many_places layout (picks ∷ orders) = ap suc (as_many_places layout orders)
 
 -- ---- the whole
 
--- the form that is printed
-abbrev printed_form : WavePicks → ℕ → List Node → Form
-printed_form wave capacity nodes = record { version = 1; capacity = capacity; orders = wave_places wave; nodes = nodes }
+light_loads : (units : ℕ) (loads : List ℕ) → All (λ (load : ℕ). load ≤ units) loads → list_all (λ (load : ℕ). nat_le load units) loads ≡ true
+light_loads units [] light = refl
+light_loads units (load ∷ loads) light =
+    both _ _ (no_more_than load units (All-head (λ (n : ℕ). n ≤ units) load loads light))
+    (light_loads units loads (All-tail (λ (n : ℕ). n ≤ units) load loads light))
+
+cart_within : (orders : ℕ) (cart : Option LoadedCart) → IsCartFor cart orders → is_any_cart_for orders (option_map written_cart cart) ≡ true
+cart_within orders None is = refl
+cart_within orders (Some cart) is =
+    both _ _ (up_to most_cart_units cart.units is.0.units.0 is.0.units.1)
+    (both _ _ (same_number (length cart.loads) orders is.1) (light_loads cart.units cart.loads is.0.light))
+
+right_version : (cart : Option WrittenCart) → (version_of cart == version_of cart) ≡ true
+right_version None = refl
+right_version (Some cart) = refl
 
 form_within : (wave : WavePicks) (capacity : ℕ) (nodes : List Node) → IsWave wave → HaveSlots wave.layout wave.orders → 1 ≤ capacity → capacity ≤ 8
-    → HaveDualsWithin nodes → is_within wave.layout (printed_form wave capacity nodes) ≡ true
+    → HaveDualsWithin nodes → is_within wave.layout (printed_form (wave_places wave) wave.cart capacity nodes) ≡ true
 form_within wave capacity nodes valid slots some most duals =
     let count = as_many_places wave.layout wave.orders in
-    both _ _ (up_to 8 capacity some most)
+    let cart = subst (λ (orders : ℕ). IsCartFor wave.cart orders) (sym count) valid.cart in
+    both _ _ (right_version (option_map written_cart wave.cart))
+    (both _ _ (up_to 8 capacity some most)
     (both _ _ (up_to 64 (length (wave_places wave)) (omega (arith, count, valid.some)) (omega (arith, count, valid.most)))
-    (both _ _ (orders_within wave.layout wave.orders slots valid.filled) duals))
+    (both _ _ (orders_within wave.layout wave.orders slots valid.filled)
+    (both _ _ duals (cart_within (length (wave_places wave)) wave.cart cart)))))
 
 said_within : (wave : WavePicks) (capacity : ℕ) (nodes : List Node)
-    → form_said (certificate_data (wave_places wave) capacity nodes) ≡ Some (printed_form wave capacity nodes)
-    → is_within wave.layout (printed_form wave capacity nodes) ≡ true
-    → value_says wave.layout (certificate_data (wave_places wave) capacity nodes) ≡ Ok (printed_form wave capacity nodes)
+    → form_said (certificate_data (wave_places wave) wave.cart capacity nodes) ≡ Some (printed_form (wave_places wave) wave.cart capacity nodes)
+    → is_within wave.layout (printed_form (wave_places wave) wave.cart capacity nodes) ≡ true
+    → value_says wave.layout (certificate_data (wave_places wave) wave.cart capacity nodes) ≡ Ok (printed_form (wave_places wave) wave.cart capacity nodes)
 said_within wave capacity nodes said inside = rw (said, inside) refl
+
+same_cart : (cart : Option LoadedCart) → cart ≡ option_map loaded_cart (option_map written_cart cart)
+same_cart None = refl
+same_cart (Some cart) = refl
 
 -- bytes that are text and are read as the certificate's value tell the certificate
 pub told_again : (wave : WavePicks) (capacity : ℕ) (nodes : List Node) (bytes : List ℕ) → IsWave wave → HaveSlots wave.layout wave.orders
     → 1 ≤ capacity → capacity ≤ 8 → HaveDualsWithin nodes → All IsKeptNode nodes → IsUtf8 bytes
-    → read bytes ≡ Some (certificate_data (wave_places wave) capacity nodes) → Tells wave.layout bytes wave capacity nodes
+    → read bytes ≡ Some (certificate_data (wave_places wave) wave.cart capacity nodes) → Tells wave.layout bytes wave capacity nodes
 told_again wave capacity nodes bytes valid slots some most duals kept text is = record {
-  form = printed_form wave capacity nodes;
-  said = rw (value_read-text bytes (certificate_data (wave_places wave) capacity nodes) (text, is)) (said_within wave capacity nodes
-      (form_again (wave_places wave) capacity nodes kept) (form_within wave capacity nodes valid slots some most duals));
+  form = printed_form (wave_places wave) wave.cart capacity nodes;
+  said = rw (value_read-text bytes (certificate_data (wave_places wave) wave.cart capacity nodes) (text, is)) (said_within wave capacity nodes
+      (form_again (wave_places wave) wave.cart capacity nodes kept) (form_within wave capacity nodes valid slots some most duals));
   layout_is = refl;
   orders_pick = orders_at wave.layout wave.orders slots;
+  cart_is = same_cart wave.cart;
   capacity_is = refl;
   nodes_are = refl;
 }

@@ -1,8 +1,7 @@
 -- What carts walk is no less than the bound of a right tree, and no batching costs less than what carts walk at least.
-use Rattle.std.proofs.Common.{◌≡◌, ℕ, zero, suc, ◌+◌, ◌<◌, ◌≤◌, List, [], ◌∷◌, length, arith, refl, sym, subst, ⊎_elim, Contains}
+use Rattle.std.proofs.Common.{◌≡◌, ℕ, zero, suc, ◌+◌, ◌<◌, ◌≤◌, List, [], ◌∷◌, arith, refl, sym, subst, ⊎_elim, Contains}
 use Rattle.std.proofs.Math.ListN.{get_or-map}
 use Rattle.std.proofs.lemmas.Bool.{cases_lt}
-use Rattle.std.proofs.lemmas.List.{length-map}
 use Rattle.std.specs.Prelude.{slice_index_or}
 use Rattle.wp_model.specs.declared.point.Point.{Point}
 use Rattle.wp_model.specs.Tours.{IsShortest, IsTour}
@@ -15,7 +14,7 @@ use Rattle.wp_batch.specs.Lengths.{batch_picks}
 use Rattle.wp_batch.specs.Waves.{WavePicks, picks_of}
 use Rattle.wp_batch.proofs.Unions.{same_tour}
 use Rattle.wp_cert.specs.Bounds.{CostsAreWalked, NoBatchingCostsLess, WalksAreNoShorter}
-use Rattle.wp_cert.specs.Walks.{ArePutIntoBatches, AreWalked, NoWalksAreShorter, order_points, picks_in}
+use Rattle.wp_cert.specs.Walks.{AreWalked, NoWalksAreShorter, order_points, picks_in}
 use Rattle.wp_cert.proofs.BoundsHold.{bounds_hold}
 use Rattle.wp_cert.proofs.PutIntoBatches.{batching_is_put, put_is_batching, sorted, sorted_all}
 
@@ -81,15 +80,10 @@ module _ (wave : WavePicks) where
     is.4,
   )
 
-  as_many : length (order_points wave) ≡ length wave.orders
-  as_many = length-map wave.orders (λ (picks : PickSet). picks.points)
-
   -- where no batching costs less than a number, carts walk no less
-  pub no_walks_are_shorter : (capacity bound : ℕ) → NoBatchingCostsLess wave capacity bound
-      → NoWalksAreShorter wave.layout (order_points wave) capacity bound
+  pub no_walks_are_shorter : (capacity bound : ℕ) → NoBatchingCostsLess wave capacity bound → NoWalksAreShorter wave capacity bound
   no_walks_are_shorter capacity bound least = λ batches total put walked.
-      let put_here = subst (λ (orders : ℕ). ArePutIntoBatches orders capacity batches) as_many put in
-      let batching = put_is_batching (length wave.orders) capacity batches put_here in ⊎_elim
+      let batching = put_is_batching wave capacity batches put in ⊎_elim
       (λ (shorter : total < bound). absurd (cost_no_more batches total walked
       (λ found. let low = least (sorted_all batches) found.0 batching found.1 in omega (arith, low, found.2, shorter))))
       (λ (as_long : bound ≤ total). as_long) (cases_lt total bound)
@@ -97,8 +91,7 @@ module _ (wave : WavePicks) where
 -- where carts walk no less than a number, no batching costs less
 pub costs_are_walked : CostsAreWalked
 costs_are_walked = λ wave capacity bound least batches cost is costs.
-    least batches cost (subst (λ (orders : ℕ). ArePutIntoBatches orders capacity batches) (sym (as_many wave))
-    (batching_is_put (length wave.orders) capacity batches is)) (cost_is_walked wave batches cost costs)
+    least batches cost (batching_is_put wave capacity batches is) (cost_is_walked wave batches cost costs)
 
 -- carts walk no less than the bound of a right tree
 pub walks_are_no_shorter : WalksAreNoShorter

@@ -23,14 +23,14 @@ same_pair pair together is = ap (λ (t : Bool). record { first = pair.first; sec
 module _ (wave : WavePicks) (capacity : ℕ) (nodes : List Node) (shares : ℕ) where
   -- the pairs on a way are a path
   pub way_path : (pairs : List OrderPair) (notes : List Note) (above at : ℕ) → IsWay wave capacity nodes shares pairs notes above at
-      → IsPath (length wave.orders) capacity pairs
-  way_path _ _ _ _ at_root = empty_path (length wave.orders) capacity
+      → IsPath wave capacity pairs
+  way_path _ _ _ _ at_root = empty_path wave capacity
   way_path pairs _ _ _ (in_first {path} {notes} {pair} {above} {at} note way here split side same _) =
-      subst (λ (ps : List OrderPair). IsPath (length wave.orders) capacity ps) (sym same)
-      (longer_path (pairing_of (length wave.orders) capacity path) pair.first pair.second pair.together (way_path path notes above at way) split.right.parts)
+      subst (λ (ps : List OrderPair). IsPath wave capacity ps) (sym same)
+      (longer_path wave capacity path pair.first pair.second pair.together (way_path path notes above at way) split.right.parts)
   way_path pairs _ _ _ (in_second {path} {notes} {pair} {above} {at} note way here split side right same _) =
-      subst (λ (ps : List OrderPair). IsPath (length wave.orders) capacity ps) (sym same)
-      (longer_path (pairing_of (length wave.orders) capacity path) pair.first pair.second pair.together (way_path path notes above at way) split.right.parts)
+      subst (λ (ps : List OrderPair). IsPath wave capacity ps) (sym same)
+      (longer_path wave capacity path pair.first pair.second pair.together (way_path path notes above at way) split.right.parts)
 
   -- each has a note
   pub way_even : (pairs : List OrderPair) (notes : List Note) (above at : ℕ) → IsWay wave capacity nodes shares pairs notes above at → length pairs ≡ length notes
@@ -42,20 +42,20 @@ module _ (wave : WavePicks) (capacity : ℕ) (nodes : List Node) (shares : ℕ) 
 
   -- where a subtree is refused, the tree at the root is
   pub way_refused : (pairs : List OrderPair) (notes : List Note) (above at : ℕ) (fault : CertFault) → IsWay wave capacity nodes shares pairs notes above at
-      → IsRefusedFrom wave (pairing_of (length wave.orders) capacity pairs) above nodes at fault
-      → IsRefusedFrom wave (pairing_of (length wave.orders) capacity []) shares nodes 0 fault
+      → IsRefusedFrom wave (pairing_of wave capacity pairs) above nodes at fault
+      → IsRefusedFrom wave (pairing_of wave capacity []) shares nodes 0 fault
   way_refused _ _ _ _ fault at_root refused = refused
   way_refused pairs _ total next fault (in_first {path} {notes} {pair} {above} {at} note way here split side same _) refused =
       way_refused path notes above at fault way
-      (together_refused wave (pairing_of (length wave.orders) capacity path) above pair.first pair.second note.total at split.given nodes
+      (together_refused wave (pairing_of wave capacity path) above pair.first pair.second note.total at split.given nodes
       (here ∙ ap (λ (n : Node). Some n) split.is) split.right fault
-      (subst (λ (ps : List OrderPair). IsRefusedFrom wave (pairing_of (length wave.orders) capacity ps) total nodes next fault)
+      (subst (λ (ps : List OrderPair). IsRefusedFrom wave (pairing_of wave capacity ps) total nodes next fault)
       (same ∙ ap (λ (p : OrderPair). path ++ p ∷ []) (same_pair pair true side)) refused))
   way_refused pairs _ total next fault (in_second {path} {notes} {pair} {above} {at} note way here split side right same _) refused =
       way_refused path notes above at fault way
-      (apart_refused wave (pairing_of (length wave.orders) capacity path) above pair.first pair.second note.total at split.given nodes
+      (apart_refused wave (pairing_of wave capacity path) above pair.first pair.second note.total at split.given nodes
       (here ∙ ap (λ (n : Node). Some n) split.is) split.right next note.first fault right
-      (subst (λ (ps : List OrderPair). IsRefusedFrom wave (pairing_of (length wave.orders) capacity ps) total nodes next fault)
+      (subst (λ (ps : List OrderPair). IsRefusedFrom wave (pairing_of wave capacity ps) total nodes next fault)
       (same ∙ ap (λ (p : OrderPair). path ++ p ∷ []) (same_pair pair false side)) refused))
 
   module _ (path : List OrderPair) (others : List Note) (pair : OrderPair) (note : Note) (next : ℕ) (bound : Option ℕ) where
@@ -63,7 +63,7 @@ module _ (wave : WavePicks) (capacity : ℕ) (nodes : List Node) (shares : ℕ) 
     pub second_due : (pairs : List OrderPair) (notes : List Note) (above at : ℕ) (onward : List OrderPair) (kept : List Note) → pairs ≡ path ++ pair ∷ []
         → notes ≡ others ++ note ∷ [] → pair.together ≡ true → onward ≡ path ++ paired pair false ∷ []
         → kept ≡ others ++ record { total = note.total; first = bound } ∷ [] → IsWay wave capacity nodes shares pairs notes above at
-        → IsRight wave (pairing_of (length wave.orders) capacity pairs) above (drop at nodes) (drop next nodes) bound
+        → IsRight wave (pairing_of wave capacity pairs) above (drop at nodes) (drop next nodes) bound
         → IsWay wave capacity nodes shares onward kept note.total next
     second_due _ _ _ _ onward kept ends noted is turned told at_root right = absurd (omega (arith, ap (λ (ps : List OrderPair). length ps) ends, length_push path pair))
     second_due _ _ above at onward kept ends noted is turned told
@@ -74,7 +74,7 @@ module _ (wave : WavePicks) (capacity : ℕ) (nodes : List Node) (shares : ℕ) 
         subst (λ (t : ℕ). IsWay wave capacity nodes shares onward kept t next) total
         (in_second {pair = paired last false} (record { total = said.total; first = bound }) way here
         (record { given = split.given; is = split.is; right = split.right }) refl
-        (subst (λ (ps : List OrderPair). IsRight wave (pairing_of (length wave.orders) capacity ps) above (drop at nodes) (drop next nodes) bound)
+        (subst (λ (ps : List OrderPair). IsRight wave (pairing_of wave capacity ps) above (drop at nodes) (drop next nodes) bound)
         (same ∙ ap (λ (q : OrderPair). before ++ q ∷ []) (same_pair last true side)) right)
         (turned ∙ (ap (λ (ps : List OrderPair). ps ++ paired pair false ∷ []) (sym p.0) ∙ ap (λ (q : OrderPair). before ++ paired q false ∷ []) (sym p.1)))
         (told ∙ (ap (λ (ms : List Note). ms ++ record { total = note.total; first = bound } ∷ []) (sym n.0)
@@ -85,7 +85,7 @@ module _ (wave : WavePicks) (capacity : ℕ) (nodes : List Node) (shares : ℕ) 
     -- where the second one is, the split is right
     pub split_done : (pairs : List OrderPair) (notes : List Note) (above at : ℕ) (lower : Option ℕ) → pairs ≡ path ++ pair ∷ [] → notes ≡ others ++ note ∷ []
         → pair.together ≡ false → lower ≡ lower_of note.first bound → IsWay wave capacity nodes shares pairs notes above at
-        → IsRight wave (pairing_of (length wave.orders) capacity pairs) above (drop at nodes) (drop next nodes) bound
+        → IsRight wave (pairing_of wave capacity pairs) above (drop at nodes) (drop next nodes) bound
         → IsDone wave capacity nodes shares path others next lower
     split_done _ _ _ _ lower ends noted is least at_root right = absurd (omega (arith, ap (λ (ps : List OrderPair). length ps) ends, length_push path pair))
     split_done _ _ _ _ lower ends noted is least (in_first {path = before} {pair = last} said way here split side same also) right =
@@ -94,8 +94,8 @@ module _ (wave : WavePicks) (capacity : ℕ) (nodes : List Node) (shares : ℕ) 
         (in_second {path = before} {notes = told_before} {pair = last} {above = over} {at = there} said way here split side left same also) right =
         let p = same_from_push before path last pair (sym same ∙ ends) in
         let n = same_from_push told_before others said note (sym also ∙ noted) in
-        let pairing = pairing_of (length wave.orders) capacity before in
-        let second = subst (λ (ps : List OrderPair). IsRight wave (pairing_of (length wave.orders) capacity ps) above (drop at nodes) (drop next nodes) bound)
+        let pairing = pairing_of wave capacity before in
+        let second = subst (λ (ps : List OrderPair). IsRight wave (pairing_of wave capacity ps) above (drop at nodes) (drop next nodes) bound)
         (same ∙ ap (λ (q : OrderPair). before ++ q ∷ []) (same_pair last false side)) right in
         let whole = split_right wave pairing over last.first last.second said.total there split.given nodes (here ∙ ap (λ (m : Node). Some m) split.is)
         split.right at next said.first bound lower left second
@@ -104,15 +104,15 @@ module _ (wave : WavePicks) (capacity : ℕ) (nodes : List Node) (shares : ℕ) 
           at = there;
           way = subst (λ (ms : List Note). IsWay wave capacity nodes shares path ms over there) n.0
               (subst (λ (ps : List OrderPair). IsWay wave capacity nodes shares ps told_before over there) p.0 way);
-          right = subst (λ (ps : List OrderPair). IsRight wave (pairing_of (length wave.orders) capacity ps) over (drop there nodes) (drop next nodes) lower) p.0
+          right = subst (λ (ps : List OrderPair). IsRight wave (pairing_of wave capacity ps) over (drop there nodes) (drop next nodes) lower) p.0
               whole;
         }
 
   -- without a split on the way, the tree at the root is right
   pub root_done : (pairs : List OrderPair) (notes : List Note) (above at next : ℕ) (bound : Option ℕ) → pairs ≡ []
       → IsWay wave capacity nodes shares pairs notes above at
-      → IsRight wave (pairing_of (length wave.orders) capacity pairs) above (drop at nodes) (drop next nodes) bound
-      → IsRight wave (pairing_of (length wave.orders) capacity []) shares nodes (drop next nodes) bound
+      → IsRight wave (pairing_of wave capacity pairs) above (drop at nodes) (drop next nodes) bound
+      → IsRight wave (pairing_of wave capacity []) shares nodes (drop next nodes) bound
   root_done _ _ _ _ next bound none at_root right = right
   root_done _ _ _ _ next bound none (in_first {path} {pair} note way here split side same also) right =
       absurd (omega (arith, ap (λ (ps : List OrderPair). length ps) (sym same ∙ none), length_push path pair))

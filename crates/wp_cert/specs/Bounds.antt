@@ -9,11 +9,11 @@ use Rattle.wp_cert.specs.declared.tree.CertFault.{CertFault}
 use Rattle.wp_cert.specs.Refusals.{IsFirstBroken}
 use Rattle.wp_cert.specs.Trees.{IsBoundOf}
 use Rattle.wp_cert.specs.Visited.{HasEachLength}
-use Rattle.wp_cert.specs.Walks.{ArePutIntoBatches, NoWalksAreShorter, order_points}
+use Rattle.wp_cert.specs.Walks.{ArePutIntoBatches, NoWalksAreShorter}
 
 -- no batching of the wave within the capacity costs less than this
 abbrev pub NoBatchingCostsLess : WavePicks → ℕ → ℕ → Type 0
-NoBatchingCostsLess wave capacity bound = (batches : List (List ℕ)) (cost : ℕ) → IsBatching (length wave.orders) capacity batches → IsCost wave batches cost
+NoBatchingCostsLess wave capacity bound = (batches : List (List ℕ)) (cost : ℕ) → IsBatching wave capacity batches → IsCost wave batches cost
     → bound ≤ cost
 
 -- the bound of a right tree is such a number
@@ -23,17 +23,17 @@ BoundsHold = (wave : WavePicks) (capacity : ℕ) (nodes : List Node) (bound : �
 
 -- orders that are put into batches, each in ascending order, are a batching
 abbrev pub PutBatchesAreBatchings : Type 0
-PutBatchesAreBatchings = (orders capacity : ℕ) (batches : List (List ℕ)) → ArePutIntoBatches orders capacity batches → All IsStrictlyIncreasing batches
-    → IsBatching orders capacity batches
+PutBatchesAreBatchings = (wave : WavePicks) (capacity : ℕ) (batches : List (List ℕ)) → ArePutIntoBatches wave capacity batches
+    → All IsStrictlyIncreasing batches → IsBatching wave capacity batches
 
 -- carts walk no less than the bound of a right tree
 abbrev pub WalksAreNoShorter : Type 0
 WalksAreNoShorter = (wave : WavePicks) (capacity : ℕ) (nodes : List Node) (bound : ℕ) → 1 ≤ capacity → IsBoundOf wave capacity nodes bound
-    → NoWalksAreShorter wave.layout (order_points wave) capacity bound
+    → NoWalksAreShorter wave capacity bound
 
 -- where carts walk no less than a number, no batching costs less
 abbrev pub CostsAreWalked : Type 0
-CostsAreWalked = (wave : WavePicks) (capacity bound : ℕ) → NoWalksAreShorter wave.layout (order_points wave) capacity bound
+CostsAreWalked = (wave : WavePicks) (capacity bound : ℕ) → NoWalksAreShorter wave capacity bound
     → NoBatchingCostsLess wave capacity bound
 
 -- a tree that is right has no broken rule

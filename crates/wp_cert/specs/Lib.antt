@@ -8,3 +8,4 @@ pub mod Text
 pub mod TextData
 pub mod FaultTexts
 pub mod Visited
+pub mod Levels

@@ -11,14 +11,14 @@ use Rattle.wp_cert.specs.declared.tree.Own.{Own}
 use Rattle.wp_cert.specs.Trees.{IsRightOwn}
 use Rattle.wp_cert.specs.Refusals.{IsBroken}
 
--- so many orders, such a capacity, and these pairs
-abbrev pub pairing_of : ℕ → ℕ → List OrderPair → Pairing
-pairing_of orders capacity pairs = record { orders = orders; capacity = capacity; pairs = pairs }
+-- the orders of a wave, its cart, such a capacity, and these pairs
+abbrev pub pairing_of : WavePicks → ℕ → List OrderPair → Pairing
+pairing_of wave capacity pairs = record { orders = length wave.orders; capacity = capacity; cart = wave.cart; pairs = pairs }
 
 -- each pair of a path was undecided by those before it
-pub record IsPath (orders capacity : ℕ) (pairs : List OrderPair) : Type 0 where
+pub record IsPath (wave : WavePicks) (capacity : ℕ) (pairs : List OrderPair) : Type 0 where
   pub each : (k : ℕ) (d : OrderPair) → k < length pairs
-      → AreUndecided (pairing_of orders capacity (take k pairs)) (slice_index_or pairs k d).first (slice_index_or pairs k d).second
+      → AreUndecided (pairing_of wave capacity (take k pairs)) (slice_index_or pairs k d).first (slice_index_or pairs k d).second
 
 -- a split has duals of its own, which are right and come to this, and is on an undecided pair
 pub record IsRightSplit (wave : WavePicks) (pairing : Pairing) (above first second : ℕ) (given : Option Own) (total : ℕ) : Type 0 where

@@ -71,8 +71,8 @@ pub data IsBroken (wave : WavePicks) : Pairing → ℕ → List Node → List No
 -- cut, the number of its nodes.
 pub data IsFirstBroken (wave : WavePicks) (capacity : ℕ) (nodes : List Node) (fault : CertFault) : Type 0 where
   in_tree : {shares : ℕ} {left : List Node} → IsSumOfShares wave capacity shares
-      → IsBroken wave (no_pairs (length wave.orders) capacity) shares nodes left fault.why → fault.node + length left ≡ length nodes
+      → IsBroken wave (no_pairs wave capacity) shares nodes left fault.why → fault.node + length left ≡ length nodes
       → IsFirstBroken wave capacity nodes fault
   nodes_left : {shares : ℕ} {left : List Node} {bound : Option ℕ} → IsSumOfShares wave capacity shares
-      → IsRight wave (no_pairs (length wave.orders) capacity) shares nodes left bound → 0 < length left → fault.node + length left ≡ length nodes
+      → IsRight wave (no_pairs wave capacity) shares nodes left bound → 0 < length left → fault.node + length left ≡ length nodes
       → fault.why ≡ why.Cut → IsFirstBroken wave capacity nodes fault

@@ -11,8 +11,10 @@ use Rattle.serde_json.specs.Find.{as_array, as_number, as_object, as_str, as_u64
 use Rattle.serde_json.specs.Read.{read}
 use Rattle.wp_model.specs.declared.point.Point.{Point}
 use Rattle.wp_model.specs.Outcomes.{and_then}
+use Rattle.wp_model.specs.Limits.{most_cart_units}
 use Rattle.wp_model.specs.Warehouse.{Layout}
 use Rattle.wp_graph.specs.PickSets.{PickSet}
+use Rattle.wp_pairs.specs.Carts.{LoadedCart}
 use Rattle.wp_batch.specs.Waves.{HaveSamePicks, WavePicks}
 use Rattle.wp_batch.specs.Duals.{greatest_dual}
 use Rattle.wp_cert.specs.declared.tree.CertWhy.{CertWhy}
@@ -21,6 +23,7 @@ use Rattle.wp_cert.specs.declared.tree.Node.{Node}
 use Rattle.wp_cert.specs.declared.tree.Node.TheVariants as node
 use Rattle.wp_cert.specs.declared.tree.Own.{Own}
 use Rattle.wp_cert.specs.declared.text.form.Form.{Form}
+use Rattle.wp_cert.specs.declared.text.form.WrittenCart.{WrittenCart}
 use Rattle.wp_cert.specs.declared.text.form.WrittenSlot.{WrittenSlot}
 use Rattle.wp_cert.specs.declared.text.form.Unread.{Unread}
 use Rattle.wp_cert.specs.declared.text.form.Unread.TheVariants as unread
@@ -131,19 +134,31 @@ node_of_kind value kind =
 abbrev pub node_said : Data → Option Node
 node_said value = option_and_then (node_of_kind value) (said_at as_str (codes "kind") value)
 
--- the four parts of a certificate
-abbrev pub parts_said : Data → Option Form
-parts_said value =
+-- the units of a cart, and what each order loads
+abbrev pub cart_said : Data → Option WrittenCart
+cart_said value =
+    option_and_then (λ units. option_map (λ loads. record { units = units; loads = loads })
+    (said_at (list_said number_said) (codes "loads") value))
+    (said_at number_said (codes "units") value)
+
+-- the cart of a certificate: none where it has no more keys than its four parts, and one where it has two keys more
+abbrev pub any_cart_said : Data → Option (Option WrittenCart)
+any_cart_said value =
+    if has_keys 4 value then Some None else (if has_keys 6 value then option_map (λ cart. Some cart) (cart_said value) else None)
+
+-- the four parts of a certificate that has this cart or none
+abbrev pub parts_said : Option WrittenCart → Data → Option Form
+parts_said cart value =
     option_and_then (λ version. option_and_then (λ capacity. option_and_then (λ orders. option_map
-    (λ nodes. record { version = version; capacity = capacity; orders = orders; nodes = nodes })
+    (λ nodes. record { version = version; capacity = capacity; cart = cart; orders = orders; nodes = nodes })
     (said_at (list_said node_said) (codes "nodes") value))
     (said_at (list_said (list_said place_said)) (codes "orders") value))
     (said_at number_said (codes "capacity") value))
     (said_at number_said (codes "version") value)
 
--- the form of a certificate: an object with its four parts and no other key
+-- the form of a certificate: an object with its four parts, with both keys of a cart or with neither, and with no other key
 abbrev pub form_said : Data → Option Form
-form_said value = if has_keys 4 value then parts_said value else None
+form_said value = option_and_then (λ cart. parts_said cart value) (any_cart_said value)
 
 -- ---- ranges
 
@@ -170,11 +185,26 @@ is_node_within (node.Leaf own) = are_duals_within own
 is_node_within (node.Split first second own) = are_duals_within own
 is_node_within (node.Dead order) = true
 
--- whether version, capacity, orders and duals are in their ranges
+-- the version of a certificate without a cart, and that of one with a cart
+abbrev pub version_of : Option WrittenCart → ℕ
+version_of None = 1
+version_of (Some cart) = 2
+
+-- whether the units are those of a cart, each of so many orders has a load, and none loads more than the cart holds
+abbrev pub is_cart_for : ℕ → WrittenCart → Bool
+is_cart_for orders cart =
+    is_up_to most_cart_units cart.units && ((length cart.loads == orders) && list_all (λ load. nat_le load cart.units) cart.loads)
+
+-- whether the cart, where there is one, is a cart for so many orders
+abbrev pub is_any_cart_for : ℕ → Option WrittenCart → Bool
+is_any_cart_for orders None = true
+is_any_cart_for orders (Some cart) = is_cart_for orders cart
+
+-- whether version, capacity, orders, duals and cart are in their ranges
 abbrev pub is_within : Layout → Form → Bool
 is_within layout form =
-    (form.version == 1) && (is_up_to 8 form.capacity && (is_up_to 64 (length form.orders)
-    && (list_all (is_order_of layout) form.orders && list_all is_node_within form.nodes)))
+    (form.version == version_of form.cart) && (is_up_to 8 form.capacity && (is_up_to 64 (length form.orders)
+    && (list_all (is_order_of layout) form.orders && (list_all is_node_within form.nodes && is_any_cart_for (length form.orders) form.cart))))
 
 -- ---- the whole text
 
@@ -208,18 +238,24 @@ PicksAt picks places = (p : Point) → Contains picks.points p ↔ Contains plac
 abbrev pub PickAt : List PickSet → List (List WrittenSlot) → Type 0
 PickAt orders places = AllZip PicksAt orders places
 
--- the bytes of a certificate tell this wave of the layout, this capacity, and a tree of these nodes
+-- the cart that the text has
+abbrev pub loaded_cart : WrittenCart → LoadedCart
+loaded_cart cart = record { units = cart.units; loads = cart.loads }
+
+-- the bytes of a certificate tell this wave of the layout, with its cart, if it has one, this capacity, and a tree of these nodes
 pub record Tells (layout : Layout) (bytes : List ℕ) (wave : WavePicks) (capacity : ℕ) (nodes : List Node) : Type 0 where
   pub form : Form
   pub said : certificate_said layout bytes ≡ Ok form
   pub layout_is : wave.layout ≡ layout
   pub orders_pick : PickAt wave.orders form.orders
+  pub cart_is : wave.cart ≡ option_map loaded_cart form.cart
   pub capacity_is : form.capacity ≡ capacity
   pub nodes_are : form.nodes ≡ nodes
 
--- what is read is this wave, this capacity and this tree: each order picks at the same slots
+-- what is read is this wave, this capacity and this tree: each order picks at the same slots, and the cart is the same
 pub record IsSame (wave other : WavePicks) (capacity other_capacity : ℕ) (nodes other_nodes : List Node) : Type 0 where
   pub layout : wave.layout ≡ other.layout
   pub orders : HaveSamePicks wave.orders other.orders
+  pub cart : wave.cart ≡ other.cart
   pub capacity_is : capacity ≡ other_capacity
   pub nodes_are : nodes ≡ other_nodes

@@ -10,6 +10,7 @@ use Rattle.wp_graph.specs.PickSets.{AreSlots, PickSet, points_in, points_where, 
 use Rattle.wp_graph.specs.Required.{has_point}
 use Rattle.wp_batch.specs.Waves.{WavePicks}
 use Rattle.wp_pairs.specs.Batches.{IsBatch}
+use Rattle.wp_pairs.specs.Carts.{LoadedCart}
 use Rattle.wp_cert.specs.declared.tree.Node.{Node}
 use Rattle.wp_cert.specs.declared.tree.Node.TheVariants as node
 use Rattle.wp_cert.specs.declared.tree.Own.{Own}
@@ -74,17 +75,32 @@ node_data (node.Leaf own) = leaf_data own
 node_data (node.Split first second own) = split_data first second own
 node_data (node.Dead order) = dead_data order
 
--- a certificate; its keys stand in the order of their bytes
-abbrev pub certificate_data : List (List WrittenSlot) → ℕ → List Node → Data
-certificate_data orders capacity nodes = object
+-- a certificate without a cart; its keys stand in the order of their bytes
+abbrev pub plain_data : List (List WrittenSlot) → ℕ → List Node → Data
+plain_data orders capacity nodes = object
     (member (codes "capacity") (number_data capacity)
     (member (codes "nodes") (list_data node_data nodes)
     (member (codes "orders") (list_data (list_data place_data) orders)
     (member (codes "version") (number_data 1) no_members))))
 
+-- a certificate with a cart; its keys stand in the order of their bytes
+abbrev pub loaded_data : List (List WrittenSlot) → LoadedCart → ℕ → List Node → Data
+loaded_data orders cart capacity nodes = object
+    (member (codes "capacity") (number_data capacity)
+    (member (codes "loads") (list_data number_data cart.loads)
+    (member (codes "nodes") (list_data node_data nodes)
+    (member (codes "orders") (list_data (list_data place_data) orders)
+    (member (codes "units") (number_data cart.units)
+    (member (codes "version") (number_data 2) no_members))))))
+
+-- a certificate, with a cart where there is one
+abbrev pub certificate_data : List (List WrittenSlot) → Option LoadedCart → ℕ → List Node → Data
+certificate_data orders None capacity nodes = plain_data orders capacity nodes
+certificate_data orders (Some cart) capacity nodes = loaded_data orders cart capacity nodes
+
 -- the text of a certificate, with nothing between its parts
-unfoldable pub certificate_text : List (List WrittenSlot) → ℕ → List Node → List ℕ
-certificate_text orders capacity nodes = compact_text (certificate_data orders capacity nodes)
+unfoldable pub certificate_text : List (List WrittenSlot) → Option LoadedCart → ℕ → List Node → List ℕ
+certificate_text orders cart capacity nodes = compact_text (certificate_data orders cart capacity nodes)
 
 -- the slots of a set, in the order of their aisles and then of their slots, each once
 abbrev pub order_places : Layout → List Point → List WrittenSlot

@@ -15,6 +15,7 @@ abbrev pub with_pair : Pairing → ℕ → ℕ → Bool → Pairing
 with_pair pairing first second together = record {
   orders = pairing.orders;
   capacity = pairing.capacity;
+  cart = pairing.cart;
   pairs = pairing.pairs ++ record { first = first; second = second; together = together } ∷ [];
 }
 
@@ -58,4 +59,4 @@ pub data IsRight (wave : WavePicks) : Pairing → ℕ → List Node → List Nod
 -- the nodes are a right tree, none is left, and this is its bound; above the root stand the share duals
 abbrev pub IsBoundOf : WavePicks → ℕ → List Node → ℕ → Type 0
 IsBoundOf wave capacity nodes bound =
-    (shares : ℕ) × IsSumOfShares wave capacity shares × IsRight wave (no_pairs (length wave.orders) capacity) shares nodes [] (Some bound)
+    (shares : ℕ) × IsSumOfShares wave capacity shares × IsRight wave (no_pairs wave capacity) shares nodes [] (Some bound)

@@ -1,5 +1,5 @@
 -- Ways from the root of a tree to the node that is due: a check goes along them from node to node.
-use Rattle.std.specs.Prelude.{◌≡◌, ℕ, ◌+◌, true, false, List, [], ◌∷◌, ◌++◌, Option, Some, length, drop, slice_get}
+use Rattle.std.specs.Prelude.{◌≡◌, ℕ, ◌+◌, true, false, List, [], ◌∷◌, ◌++◌, Option, Some, drop, slice_get}
 use Rattle.wp_pairs.specs.declared.pair.OrderPair.{OrderPair}
 use Rattle.wp_pairs.specs.Permitted.{Pairing}
 use Rattle.wp_batch.specs.Waves.{WavePicks}
@@ -27,12 +27,12 @@ pub data IsWay (wave : WavePicks) (capacity : ℕ) (nodes : List Node) (shares :
   at_root : IsWay wave capacity nodes shares [] [] shares 0
   in_first : {path pairs : List OrderPair} {notes others : List Note} {pair : OrderPair} {here : Node} {above at : ℕ} (note : Note)
       → IsWay wave capacity nodes shares path notes above at → slice_get nodes at ≡ Some here
-      → IsSplit wave (pairing_of (length wave.orders) capacity path) above here pair note.total → pair.together ≡ true
+      → IsSplit wave (pairing_of wave capacity path) above here pair note.total → pair.together ≡ true
       → pairs ≡ path ++ pair ∷ [] → others ≡ notes ++ note ∷ [] → IsWay wave capacity nodes shares pairs others note.total (at + 1)
   in_second : {path pairs : List OrderPair} {notes others : List Note} {pair : OrderPair} {here : Node} {above at between : ℕ} (note : Note)
       → IsWay wave capacity nodes shares path notes above at → slice_get nodes at ≡ Some here
-      → IsSplit wave (pairing_of (length wave.orders) capacity path) above here pair note.total → pair.together ≡ false
-      → IsRight wave (with_pair (pairing_of (length wave.orders) capacity path) pair.first pair.second true) note.total (drop (at + 1) nodes)
+      → IsSplit wave (pairing_of wave capacity path) above here pair note.total → pair.together ≡ false
+      → IsRight wave (with_pair (pairing_of wave capacity path) pair.first pair.second true) note.total (drop (at + 1) nodes)
       (drop between nodes) note.first
       → pairs ≡ path ++ pair ∷ [] → others ≡ notes ++ note ∷ [] → IsWay wave capacity nodes shares pairs others note.total between
 
@@ -42,7 +42,7 @@ pub record IsDone (wave : WavePicks) (capacity : ℕ) (nodes : List Node) (share
   pub above : ℕ
   pub at : ℕ
   pub way : IsWay wave capacity nodes shares pairs notes above at
-  pub right : IsRight wave (pairing_of (length wave.orders) capacity pairs) above (drop at nodes) (drop next nodes) bound
+  pub right : IsRight wave (pairing_of wave capacity pairs) above (drop at nodes) (drop next nodes) bound
 
 -- a node leads to its first subtree, or out of its own, whatever nodes follow
 abbrev pub IsStep : WavePicks → Pairing → ℕ → Node → NodeStep → Type 0
@@ -53,17 +53,17 @@ IsStep wave pairing above here (step.Out bound) = (rest : List Node) → IsRight
 abbrev pub IsMet : WavePicks → ℕ → List Node → ℕ → ℕ → Way → Met → Type 0
 IsMet wave capacity nodes shares next way met.Onward = IsWay wave capacity nodes shares way.path.items way.notes.items way.above next
 IsMet wave capacity nodes shares next way (met.Whole bound) =
-    IsRight wave (pairing_of (length wave.orders) capacity []) shares nodes (drop next nodes) bound
+    IsRight wave (pairing_of wave capacity []) shares nodes (drop next nodes) bound
 
 -- leaving the subtree at the end of a way, which has this bound, leads on from one way to another
 abbrev pub LeavesTo : Way → Option ℕ → Way → Met → Type 0
 LeavesTo way shown then met = (wave : WavePicks) (capacity shares at next : ℕ) (nodes : List Node)
     → IsWay wave capacity nodes shares way.path.items way.notes.items way.above at
-    → IsRight wave (pairing_of (length wave.orders) capacity way.path.items) way.above (drop at nodes) (drop next nodes) shown
+    → IsRight wave (pairing_of wave capacity way.path.items) way.above (drop at nodes) (drop next nodes) shown
     → IsMet wave capacity nodes shares next then met
 
 -- what a node leads to, which is the node at the end of a way, leads on from one way to another
 abbrev pub GoesTo : Way → NodeStep → Way → Met → Type 0
 GoesTo way step then met = (wave : WavePicks) (capacity shares at : ℕ) (nodes : List Node) (here : Node)
     → IsWay wave capacity nodes shares way.path.items way.notes.items way.above at → slice_get nodes at ≡ Some here
-    → IsStep wave (pairing_of (length wave.orders) capacity way.path.items) way.above here step → IsMet wave capacity nodes shares (at + 1) then met
+    → IsStep wave (pairing_of wave capacity way.path.items) way.above here step → IsMet wave capacity nodes shares (at + 1) then met

@@ -33,9 +33,9 @@ fn fault_at(at: u32, why: CertWhy) -> CertFault
 
 // Tests a node, whose subtrees aren't looked at, and tells what it leads to.
 fn test_node(wave: &Wave, capacity: Capacity, way: &Way, node: &Node) -> Result<NodeStep, CertWhy>
-    requires { IsPath (length wave.now.orders) capacity.most way.now.path.items }
-    ensures ok { IfOk result (IsStep wave.now (pairing_of (length wave.now.orders) capacity.most way.now.path.items) way.now.above node.now) }
-    ensures err { IfErr result (IsBrokenHere wave.now (pairing_of (length wave.now.orders) capacity.most way.now.path.items) way.now.above node.now) }
+    requires { IsPath wave.now capacity.most way.now.path.items }
+    ensures ok { IfOk result (IsStep wave.now (pairing_of wave.now capacity.most way.now.path.items) way.now.above node.now) }
+    ensures err { IfErr result (IsBrokenHere wave.now (pairing_of wave.now capacity.most way.now.path.items) way.now.above node.now) }
 {
     match node {
         Node::Leaf(own) => {
@@ -67,11 +67,11 @@ fn check_node(
     at: u32,
 ) -> Result<Met, CertFault>
     requires at { at < length nodes.now }
-    requires path { IsPath (length wave.now.orders) capacity.most way.old.path.items }
+    requires path { IsPath wave.now capacity.most way.old.path.items }
     requires even { length way.old.path.items ≡ length way.old.notes.items }
     ensures ok { IfOk result (λ met. (shares : ℕ) → IsWay wave.now capacity.most nodes.now shares way.old.path.items way.old.notes.items way.old.above at
         → IsMet wave.now capacity.most nodes.now shares (at + 1) way.new met) }
-    ensures err { IfErr result (IsRefusedFrom wave.now (pairing_of (length wave.now.orders) capacity.most way.old.path.items) way.old.above nodes.now at) }
+    ensures err { IfErr result (IsRefusedFrom wave.now (pairing_of wave.now capacity.most way.old.path.items) way.old.above nodes.now at) }
 {
     let gone = match test_node(wave, capacity, way, nodes.at(at)) {
         Ok(step) => way.go_on(step),
@@ -91,9 +91,9 @@ fn check_root(
     nodes: &Nodes,
     above: u128,
 ) -> Result<Shown, CertFault>
-    ensures ok { IfOk result (λ shown. IsRight wave.now (pairing_of (length wave.now.orders) capacity.most []) above nodes.now
+    ensures ok { IfOk result (λ shown. IsRight wave.now (pairing_of wave.now capacity.most []) above nodes.now
         (drop shown.next nodes.now) shown.bound) }
-    ensures err { IfErr result (IsRefusedFrom wave.now (pairing_of (length wave.now.orders) capacity.most []) above nodes.now 0) }
+    ensures err { IfErr result (IsRefusedFrom wave.now (pairing_of wave.now capacity.most []) above nodes.now 0) }
 {
     let mut way = Way::to_root(alloc, above);
     for at in 0..nodes.len() {
@@ -119,6 +119,7 @@ pub fn check(alloc: Global, wave: &Wave, capacity: u32, tree: &Tree) -> Result<u
     ensures bound { IfOk result (NoBatchingCostsLess wave.now capacity) }
     ensures refused { IfErr result (λ fault. (fault.why ≡ why.Memory → ⊥) → IsFirstBroken wave.now capacity tree.now.nodes fault) }
 {
+    let _orders = wave.orders();
     let capacity = Capacity { most: capacity };
     let above = shares_of(wave, capacity);
     let shown = check_root(alloc, wave, capacity, &tree.nodes, above)?;

@@ -5,6 +5,7 @@
 mod checking;
 mod fault;
 mod laws;
+mod levels;
 mod node;
 mod own;
 mod path;

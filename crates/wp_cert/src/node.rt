@@ -19,15 +19,15 @@ pub fn test_leaf(
     above: u128,
     own: &Option<Own>,
 ) -> Result<u128, CertWhy>
-    requires { IsPath (length wave.now.orders) capacity.most path.now.items }
+    requires { IsPath wave.now capacity.most path.now.items }
     ensures ok { IfOk result (λ bound. (rest : List NodeData)
-        → IsRight wave.now (pairing_of (length wave.now.orders) capacity.most path.now.items) above (node.Leaf own.now ∷ rest) rest (Some bound)) }
-    ensures err { IfErr result (IsBrokenHere wave.now (pairing_of (length wave.now.orders) capacity.most path.now.items) above (node.Leaf own.now)) }
+        → IsRight wave.now (pairing_of wave.now capacity.most path.now.items) above (node.Leaf own.now ∷ rest) rest (Some bound)) }
+    ensures err { IfErr result (IsBrokenHere wave.now (pairing_of wave.now capacity.most path.now.items) above (node.Leaf own.now)) }
 {
     match own {
         None => Ok(units_of(above)),
         Some(own) => {
-            let pairs = pairs_of(wave.orders(), capacity, path);
+            let pairs = pairs_of(wave, capacity, path);
             let total = test_own(wave, &pairs, own, above)?;
             Ok(units_of(total))
         }
@@ -42,12 +42,12 @@ pub fn test_dead(
     above: u128,
     order: u32,
 ) -> Result<(), CertWhy>
-    requires { IsPath (length wave.now.orders) capacity.most path.now.items }
+    requires { IsPath wave.now capacity.most path.now.items }
     ensures ok { OnOk result ((rest : List NodeData)
-        → IsRight wave.now (pairing_of (length wave.now.orders) capacity.most path.now.items) above (node.Dead order ∷ rest) rest None) }
-    ensures err { IfErr result (IsBrokenHere wave.now (pairing_of (length wave.now.orders) capacity.most path.now.items) above (node.Dead order)) }
+        → IsRight wave.now (pairing_of wave.now capacity.most path.now.items) above (node.Dead order ∷ rest) rest None) }
+    ensures err { IfErr result (IsBrokenHere wave.now (pairing_of wave.now capacity.most path.now.items) above (node.Dead order)) }
 {
-    let pairs = pairs_of(wave.orders(), capacity, path);
+    let pairs = pairs_of(wave, capacity, path);
     if !is_dead(&pairs, order) {
         return Err(CertWhy::NotDead(order));
     }
@@ -64,15 +64,15 @@ pub fn test_split(
     second: u32,
     own: &Option<Own>,
 ) -> Result<u128, CertWhy>
-    requires { IsPath (length wave.now.orders) capacity.most path.now.items }
+    requires { IsPath wave.now capacity.most path.now.items }
     ensures few { OnOk result (length wave.now.orders ≤ 64) }
-    ensures ok { IfOk result (IsRightSplit wave.now (pairing_of (length wave.now.orders) capacity.most path.now.items) above first second own.now) }
-    ensures err { IfErr result (IsBrokenHere wave.now (pairing_of (length wave.now.orders) capacity.most path.now.items) above (node.Split first second own.now)) }
+    ensures ok { IfOk result (IsRightSplit wave.now (pairing_of wave.now capacity.most path.now.items) above first second own.now) }
+    ensures err { IfErr result (IsBrokenHere wave.now (pairing_of wave.now capacity.most path.now.items) above (node.Split first second own.now)) }
 {
     match own {
         None => Err(CertWhy::SplitKept),
         Some(own) => {
-            let pairs = pairs_of(wave.orders(), capacity, path);
+            let pairs = pairs_of(wave, capacity, path);
             let total = test_own(wave, &pairs, own, above)?;
             if !is_open(&pairs, first, second) {
                 return Err(CertWhy::BadPair);

@@ -5,6 +5,7 @@ ghost use Rattle.wp_cert.specs.Trees.{HasAll, IsRightOwn, IsTightAt};
 ghost use Rattle.wp_cert.specs.Visited.{HasEachLength};
 ghost use Rattle.wp_batch.specs.Visits.{IsVisitOfAll, Passed};
 
+use crate::levels::{Levels, Reached};
 use crate::tree::{CertWhy, Own};
 use crate::visit::visit;
 use wp_batch::{SIXTIETHS, Wave, sum_of, total_of};
@@ -42,7 +43,8 @@ fn test_marks(tested: &TestedOwn<'_>) -> Result<(), CertWhy>
     ensures err { IfErr result (AreRefused tested.now.wave.now tested.now.pairs.now tested.now.own.now) }
 {
     each_batch_has_a_length(tested.wave);
-    let end = visit(tested, Batch::empty(), 0, 0, 0)?;
+    let mut levels = Levels::none(tested.wave);
+    let end = visit(tested, &mut levels, &Reached::first(), 0)?;
     if end < tested.own.marks.len() {
         return Err(CertWhy::BadMarks);
     }

@@ -1,17 +1,16 @@
-ghost use Rattle.std.specs.Prelude.{◌≡◌, ◌<◌, ◌≤◌, ◌↔◌, ℕ, IsTrue};
+ghost use Rattle.std.specs.Prelude.{◌≡◌, ◌<◌, ◌↔◌, ℕ, IsTrue};
 ghost use Rattle.wp_pairs.specs.Permitted.{AreUndecided, IsDead};
 ghost use Rattle.wp_cert.specs.Paths.{IsPath, pairing_of};
 
+use wp_batch::Wave;
 use wp_pairs::{Batch, Capacity, OrderPair, Pairs};
 
-/// The pairs of a path, added one after the other.
-pub fn pairs_of(orders: u32, capacity: Capacity, path: &Vec<OrderPair>) -> Pairs
-    requires some_orders { 1 ≤ orders }
-    requires most_orders { orders ≤ 64 }
-    requires path { IsPath orders capacity.most path.now.items }
-    ensures { result ≡ pairing_of orders capacity.most path.now.items }
+/// The pairs of a path, added one after the other to those of a wave.
+pub fn pairs_of(wave: &Wave, capacity: Capacity, path: &Vec<OrderPair>) -> Pairs
+    requires { IsPath wave.now capacity.most path.now.items }
+    ensures { result ≡ pairing_of wave.now capacity.most path.now.items }
 {
-    let mut pairs = Pairs::new(orders, capacity.most);
+    let mut pairs = wave.pairs(capacity.most);
     for k in 0..path.len() {
         let pair = path[k];
         pairs.add(u32::from(pair.first), u32::from(pair.second), pair.together);

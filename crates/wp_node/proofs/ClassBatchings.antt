@@ -9,9 +9,10 @@ use Rattle.std.proofs.lemmas.List.{get_or_append_left, get_or_push, take_all}
 use Rattle.std.proofs.lemmas.List.Elements.{All-contains, Contains-get_or}
 use Rattle.std.proofs.lemmas.Option.{get_or_from_slice_get}
 use Rattle.wp_pairs.specs.Batches.{IsBatch}
+use Rattle.wp_pairs.specs.Carts.{FitsAnyCart, LoadedCart}
 use Rattle.wp_pairs.specs.Permitted.{AllDecided, AreJoined, IsPermitted, Pairing, itself}
 use Rattle.wp_pairs.proofs.Chains.{joined_back, joined_on, joined_same, parted_back}
-use Rattle.wp_pairs.proofs.Classes.{joined_in, no_longer, permitted_keeps}
+use Rattle.wp_pairs.proofs.Classes.{joined_in, no_longer, part_fits, permitted_keeps}
 use Rattle.wp_batch.specs.Batchings.{IsBatching, IsCost, IsListedByLeast, batch_at, no_pairs}
 use Rattle.wp_batch.specs.Lengths.{IsLengthOf, batch_picks}
 use Rattle.wp_batch.specs.Waves.{WavePicks}
@@ -126,7 +127,8 @@ module _ (pairing : Pairing) (batches : List (List ℕ)) (count : ℕ) (class : 
 
 -- ---- the classes as a batching
 
-module _ (wave : WavePicks) (pairing : Pairing) (duals : List ℕ) (decided : AllDecided pairing) (tight : AreTight wave pairing duals) where
+module _ (wave : WavePicks) (pairing : Pairing) (duals : List ℕ) (as_many : pairing.orders ≡ length wave.orders) (same_cart : pairing.cart ≡ wave.cart)
+    (decided : AllDecided pairing) (tight : AreTight wave pairing duals) where
   -- all orders of a permitted batch are joined
   all_joined : (batch : List ℕ) (order other : ℕ) → IsPermitted pairing batch → Contains batch order → Contains batch other
       → AreJoined pairing.pairs order other
@@ -143,7 +145,7 @@ module _ (wave : WavePicks) (pairing : Pairing) (duals : List ℕ) (decided : Al
 
   -- a batch that is permitted where there is no pair has in duals exactly sixty times its length
   record IsExact (batch : List ℕ) : Type 0 where
-    alone : IsPermitted (no_pairs pairing.orders pairing.capacity) batch
+    alone : IsPermitted (no_pairs wave pairing.capacity) batch
     total : ℕ
     long : IsLengthOf wave batch total
     equal : duals_of duals batch ≡ 60 * total
@@ -158,8 +160,10 @@ module _ (wave : WavePicks) (pairing : Pairing) (duals : List ℕ) (decided : Al
       let back = λ (x : ℕ) (has : Contains batch x). (is.joined x).1 (all_joined batch order x permitted found.1.holds has) in
       let has : Contains class order = (is.joined order).1 itself in
       let few = no_longer class batch is.is.ascending permitted.ascending into in record {
-        alone = permitted_alone pairing.orders pairing.capacity class is.is (omega (arith, has.1)) (omega (arith, few, permitted.fits))
-            (λ x h. All-contains (λ (o : ℕ). o < pairing.orders) batch x permitted.known (into x h));
+        alone = permitted_alone wave pairing.capacity class is.is (omega (arith, has.1)) (omega (arith, few, permitted.fits))
+            (subst (λ (cart : Option LoadedCart). FitsAnyCart cart class) same_cart
+            (part_fits pairing.cart class batch is.is.ascending permitted.ascending into permitted.light))
+            (λ x h. subst (λ (n : ℕ). x < n) as_many (All-contains (λ (o : ℕ). o < pairing.orders) batch x permitted.known (into x h)));
         total = found.1.total;
         long = same_shortest wave.layout (batch_picks wave batch) (batch_picks wave class) found.1.total
             (λ p. (picked_by_more wave batch class back p, picked_by_more wave class batch into p)) found.1.long;
@@ -168,13 +172,13 @@ module _ (wave : WavePicks) (pairing : Pairing) (duals : List ℕ) (decided : Al
 
   -- what such batches cost
   exact_cost : (batches : List (List ℕ)) → ((place : ℕ) → place < length batches → IsExact (batch_at batches place))
-      → (cost : ℕ) × IsCost wave batches cost × (total_under (slice_index duals) pairing.orders batches ≡ 60 * cost)
+      → (cost : ℕ) × IsCost wave batches cost × (total_under (slice_index duals) (length wave.orders) batches ≡ 60 * cost)
   exact_cost [] each = (0, refl, refl)
   exact_cost (batch ∷ batches) each =
       let first = each zero (omega arith) in
       let rest = exact_cost batches (λ place within. each (suc place) (omega arith)) in
-      let all = under_all (slice_index duals) pairing.orders batch
-      (λ x has. All-contains (λ (o : ℕ). o < pairing.orders) batch x first.alone.known has) in (
+      let all = under_all (slice_index duals) (length wave.orders) batch
+      (λ x has. All-contains (λ (o : ℕ). o < length wave.orders) batch x first.alone.known has) in (
         first.total + rest.0,
         (first.total, rest.0, first.long, rest.1, refl),
         omega (arith, all, first.equal, rest.2),
@@ -196,10 +200,10 @@ module _ (wave : WavePicks) (pairing : Pairing) (duals : List ℕ) (decided : Al
     exact_at place within = class_exact _ (batch_at batches place) (are.below place within) (are.each place within)
 
     -- the classes are a batching
-    pub classes_are_batching : IsBatching pairing.orders pairing.capacity batches
+    pub classes_are_batching : IsBatching wave pairing.capacity batches
     classes_are_batching = record {
       each = λ place within. (exact_at place within).alone;
-      covered = are.covered;
+      covered = λ order low. are.covered order (subst (λ (n : ℕ). order < n) (sym as_many) low);
       once = λ order left right l r has has_too. ⊎_elim (λ (lt : left < right). absurd (never_both order left right lt r has has_too))
           (λ (ge : right ≤ left). ⊎_elim (λ (lt : right < left). absurd (never_both order right left lt l has_too has)) (λ (le : left ≤ right). omega arith)
           (cases_lt right left))
@@ -207,11 +211,11 @@ module _ (wave : WavePicks) (pairing : Pairing) (duals : List ℕ) (decided : Al
     }
 
     -- and cost what the duals come to
-    pub classes_cost : length duals ≡ pairing.orders → IsCost wave batches (units_of (sum duals))
+    pub classes_cost : length duals ≡ length wave.orders → IsCost wave batches (units_of (sum duals))
     classes_cost count =
         let costs = exact_cost batches exact_at in
-        let total = first_values pairing.orders pairing.capacity batches duals classes_are_batching count pairing.orders (omega arith) in
-        let all : sum (take pairing.orders duals) ≡ sum duals = ap (λ (xs : List ℕ). sum xs) (take_all pairing.orders duals (omega (arith, count))) in
+        let total = first_values wave pairing.capacity batches duals classes_are_batching count (length wave.orders) (omega arith) in
+        let all : sum (take (length wave.orders) duals) ≡ sum duals = ap (λ (xs : List ℕ). sum xs) (take_all (length wave.orders) duals (omega (arith, count))) in
         let whole : sum duals ≡ 60 * costs.0 = sym all ∙ (sym total ∙ costs.2) in
         let rest : (sum duals + 59) % 60 < 60 = mod-lt (sum duals + 59) (omega arith) in
         let units : costs.0 ≡ units_of (sum duals) = omega (arith, div-add-mod (sum duals + 59) 60, rest, whole) in

@@ -4,6 +4,7 @@ use Rattle.std.specs.Prelude.{slice_index, sum}
 use Rattle.std.specs.List.Sorted.{IsStrictlyIncreasing}
 use Rattle.std.proofs.lemmas.List.Sums.{sum_by_more}
 use Rattle.wp_batch.specs.Batchings.{IsBatching, batch_at}
+use Rattle.wp_batch.specs.Waves.{WavePicks}
 use Rattle.wp_pairs.proofs.SumsUnder.{sum_under, under_none, under_with, under_without}
 
 -- the sum over the orders of all batches that are below an end
@@ -44,14 +45,14 @@ under_once f end (suc place) (batch ∷ batches) up within has alone = omega (
 )
 
 -- of a batching it is the sum of the first values
-pub first_values : (orders capacity : ℕ) (batches : List (List ℕ)) (values : List ℕ) → IsBatching orders capacity batches → length values ≡ orders → (end : ℕ)
-    → end ≤ orders → total_under (slice_index values) end batches ≡ sum (take end values)
-first_values orders capacity batches values is count zero within = nothing_under (slice_index values) batches
-first_values orders capacity batches values is count (suc end) within =
+pub first_values : (wave : WavePicks) (capacity : ℕ) (batches : List (List ℕ)) (values : List ℕ) → IsBatching wave capacity batches
+    → length values ≡ length wave.orders → (end : ℕ) → end ≤ length wave.orders → total_under (slice_index values) end batches ≡ sum (take end values)
+first_values wave capacity batches values is count zero within = nothing_under (slice_index values) batches
+first_values wave capacity batches values is count (suc end) within =
     let at = is.covered end (omega arith) in
     let more = under_once (slice_index values) end at.0 batches (λ k low. (is.each k low).ascending) at.1 at.2
     (λ k low has. is.once end k at.0 low at.1 has at.2) in
     let taken = sum_by_more (λ (x : ℕ). x) values end 0 (omega (arith, within, count)) in
-    let before = first_values orders capacity batches values is count end (omega (arith, within)) in
+    let before = first_values wave capacity batches values is count end (omega (arith, within)) in
     let e : end + 1 ≡ suc end = omega arith in
     subst (λ (k : ℕ). total_under (slice_index values) k batches ≡ sum (take k values)) e (omega (arith, more, taken, before))

@@ -16,9 +16,9 @@ pub record IsStart (wave : WavePicks) (pairing : Pairing) (duals : List ℕ) : T
   pub held : AreHeldBelow pairing pairing.orders
   pub above : AreFeasibleDuals wave pairing duals
 
--- the orders of a wave and a capacity, with no pair added
+-- the orders of a wave, its cart and a capacity, with no pair added
 abbrev pub root_of : WavePicks → ℕ → Pairing
-root_of wave capacity = no_pairs (length wave.orders) capacity
+root_of wave capacity = no_pairs wave capacity
 
 -- what a batch may have more in duals: with it they come to sixty times its length
 pub record IsRoom (wave : WavePicks) (duals batch : List ℕ) (room : ℕ) : Type 0 where

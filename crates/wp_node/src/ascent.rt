@@ -1,3 +1,5 @@
+ghost use Rattle.std.specs.Prelude.{◌≤◌};
+
 use crate::items::total_in;
 use wp_batch::{SIXTIETHS, total_of};
 use wp_master::Column;
@@ -10,14 +12,30 @@ fn raise_each(duals: &mut [u64], step: u64) {
     }
 }
 
+// Takes at most so much off the dual of an order, and tells what it took.
+fn take_from(duals: &mut [u64], order: u32, most: u64) -> u64
+    ensures { result ≤ most }
+{
+    let place = order as usize;
+    if place >= duals.len() {
+        return 0;
+    }
+    let part = duals[place].min(most);
+    duals[place] -= part;
+    part
+}
+
 // Takes an excess off the duals of a batch's orders, at most so much off each, and tells what is left of it.
 fn take_off(duals: &mut [u64], batch: Batch, each: u64, excess: u64) -> u64 {
     let mut left = excess;
-    for order in 0..duals.len().min(64) {
-        if batch.has(order as u32) {
-            let part = duals[order].min(each).min(left);
-            duals[order] -= part;
-            left -= part;
+    let mut rest = batch;
+    for _ in 0..batch.len() {
+        let Some(order) = rest.least() else {
+            return left;
+        };
+        left -= take_from(duals, order, each.min(left));
+        if order < 64 {
+            rest = rest.without(order);
         }
     }
     left

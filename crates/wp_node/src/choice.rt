@@ -12,10 +12,16 @@ use wp_model::Memory;
 use wp_pairs::{Batch, Pairs};
 
 /// How many pairs are tried at most.
-const MOST_TRIED: usize = 12;
+const MOST_TRIED: usize = 24;
 
 /// How many turns an ascent has by which a pair is tried.
 const TRY_TURNS: u64 = 24;
+
+/// How many pairs are tried again at most.
+const MOST_TRIED_AGAIN: usize = 4;
+
+/// How many turns an ascent has by which a pair is tried again.
+const TURNS_AGAIN: u64 = 100;
 
 /// What a child gains at least in the comparison of pairs: a tenth of a unit of length.
 const LEAST_GAIN: u64 = 6;
@@ -25,6 +31,28 @@ const LEAST_GAIN: u64 = 6;
 struct Two {
     first: u32,
     second: u32,
+}
+
+/// A node of which pairs are tried: what it has, what its duals come to, and what those of a child come to more at least where the
+/// child needs no split, since its bound is what the best batching costs.
+#[derive(Clone, Copy)]
+struct Trial<'a> {
+    worked: &'a Worked,
+    total: u64,
+    closing: u64,
+}
+
+// The node with this work, where the best batching costs so much.
+fn trial_of<'a>(worked: &'a Worked, cost: u64) -> Trial<'a> {
+    let total = sum_all(worked.own.duals.as_slice());
+    let closed = SIXTIETHS
+        .saturating_mul(cost.saturating_sub(1))
+        .saturating_add(1);
+    Trial {
+        worked,
+        total,
+        closing: closed.saturating_sub(total).max(LEAST_GAIN),
+    }
 }
 
 // How many columns, by their weights, have both orders.
@@ -65,18 +93,26 @@ fn add_shared(
     Ok(())
 }
 
-// The undecided pairs that are shared in part, those nearest to one half first.
+// The undecided pairs that are shared in part, those nearest to one half first, up to so many.
 fn shared_pairs(
     alloc: Global,
     pairs: &Pairs,
     weighted: &[Weighted],
-) -> Result<Vec<(u64, u32, u32)>, Memory> {
+    most: usize,
+) -> Result<Vec<Two>, Memory> {
     let mut shared = Vec::new(alloc);
     for first in 0..pairs.orders() {
         add_shared(pairs, weighted, first, &mut shared)?;
     }
     shared.sort()?;
-    Ok(shared)
+    let mut nearest = Vec::new(alloc);
+    for (_, first, second) in shared.iter().take(most) {
+        nearest.push(Two {
+            first: *first,
+            second: *second,
+        })?;
+    }
+    Ok(nearest)
 }
 
 // Whether a batch has both orders or none of two that go together, and not both of two that go apart.
@@ -135,47 +171,73 @@ fn raise_dual(duals: &mut [u64], order: usize, room: u64) {
     }
 }
 
-// What the duals of a child come to more, by an ascent within the columns.
-fn gain_of(alloc: Global, worked: &Worked, two: Two, together: bool) -> Result<u64, Memory> {
-    let columns = respecting(alloc, worked.weighted.as_slice(), two, together)?;
-    let mut duals = Vec::from_slice(alloc, worked.own.duals.as_slice())?;
-    let before = sum_all(duals.as_slice());
-    ascend_within(duals.as_mut_slice(), columns.as_slice(), TRY_TURNS);
+// What the duals of a child come to more, by an ascent of so many turns within the columns: no more than closes it.
+fn gain_of(
+    alloc: Global,
+    trial: &Trial<'_>,
+    two: Two,
+    together: bool,
+    turns: u64,
+) -> Result<u64, Memory> {
+    let columns = respecting(alloc, trial.worked.weighted.as_slice(), two, together)?;
+    let mut duals = Vec::from_slice(alloc, trial.worked.own.duals.as_slice())?;
+    ascend_within(duals.as_mut_slice(), columns.as_slice(), turns);
     raise_within(duals.as_mut_slice(), columns.as_slice());
-    Ok(
-        sum_all(duals.as_slice())
-            .saturating_sub(before)
-            .max(LEAST_GAIN),
-    )
+    let gain = sum_all(duals.as_slice()).saturating_sub(trial.total);
+    Ok(gain.max(LEAST_GAIN).min(trial.closing))
 }
 
 // What a pair gains: the product of what its children gain.
-fn score_of(alloc: Global, worked: &Worked, two: Two) -> Result<u64, Memory> {
-    let together = gain_of(alloc, worked, two, true)?;
-    let apart = gain_of(alloc, worked, two, false)?;
+fn score_of(alloc: Global, trial: &Trial<'_>, two: Two, turns: u64) -> Result<u64, Memory> {
+    let together = gain_of(alloc, trial, two, true, turns)?;
+    let apart = gain_of(alloc, trial, two, false, turns)?;
     Ok(together.saturating_mul(apart))
 }
 
-// Of the pairs that are tried the one that gains most, the first among equals.
-fn best_tried(
+// The places of pairs by what they gain, those that gain most first; of equal ones the earlier. After one that closes both
+// children no further one is tried.
+fn by_gain(
     alloc: Global,
-    worked: &Worked,
-    shared: &[(u64, u32, u32)],
-) -> Result<Option<Two>, Memory> {
-    let mut best = None;
-    let mut most = 0;
-    for (_, first, second) in shared.iter().take(MOST_TRIED) {
-        let two = Two {
-            first: *first,
-            second: *second,
-        };
-        let score = score_of(alloc, worked, two)?;
-        if score > most {
-            most = score;
-            best = Some(two);
+    trial: &Trial<'_>,
+    pairs: &[Two],
+    turns: u64,
+) -> Result<Vec<(u64, usize)>, Memory> {
+    let most = trial.closing.saturating_mul(trial.closing);
+    let mut ranks = Vec::new(alloc);
+    for (place, two) in pairs.iter().enumerate() {
+        let score = score_of(alloc, trial, *two, turns)?;
+        ranks.push((u64::MAX - score, place))?;
+        if score == most {
+            break;
+        }
+    }
+    ranks.sort()?;
+    Ok(ranks)
+}
+
+// The pairs that gain most, up to so many, those that gain most first.
+fn best_pairs(
+    alloc: Global,
+    trial: &Trial<'_>,
+    pairs: &[Two],
+    turns: u64,
+    most: usize,
+) -> Result<Vec<Two>, Memory> {
+    let ranks = by_gain(alloc, trial, pairs, turns)?;
+    let mut best = Vec::new(alloc);
+    for (_, place) in ranks.iter().take(most) {
+        if let Some(two) = pairs.get(*place) {
+            best.push(*two)?;
         }
     }
     Ok(best)
+}
+
+// Of the pairs that are tried the one that gains most, if any is tried: those that gain most in a short ascent are tried again.
+fn best_tried(alloc: Global, trial: &Trial<'_>, shared: &[Two]) -> Result<Option<Two>, Memory> {
+    let again = best_pairs(alloc, trial, shared, TRY_TURNS, MOST_TRIED_AGAIN)?;
+    let best = best_pairs(alloc, trial, again.as_slice(), TURNS_AGAIN, 1)?;
+    Ok(best.get(0).copied())
 }
 
 // Two orders, where they are undecided.
@@ -191,19 +253,22 @@ fn undecided_two(pairs: &Pairs, two: Two) -> Option<(u32, u32)>
     None
 }
 
-/// The pair of orders on which a node is split: of the undecided pairs that the columns of the node's linear program share most
-/// nearly by one half, the one whose two children gain most in a short ascent. Where no pair is shared in part it is the least
-/// undecided pair. None comes exactly where all pairs are decided.
+/// The pair of orders on which a node is split, where the best batching costs so much: of the undecided pairs that the columns of
+/// the node's linear program share most nearly by one half, the one whose two children gain most in an ascent, as far as a gain
+/// brings them to that cost. Where no pair is shared in part it is the least undecided pair. None comes exactly where all pairs are
+/// decided.
 pub fn choose_pair(
     alloc: Global,
     pairs: &Pairs,
     worked: &Worked,
+    cost: u64,
 ) -> Result<Option<(u32, u32)>, Memory>
     ensures some { IfOk result (λ found. IfSome found (λ pair. AreUndecided pairs.now pair.0 pair.1)) }
     ensures none { IfOk result (λ found. IfNone found (AllDecided pairs.now)) }
 {
-    let shared = shared_pairs(alloc, pairs, worked.weighted.as_slice())?;
-    if let Some(two) = best_tried(alloc, worked, shared.as_slice())? {
+    let shared = shared_pairs(alloc, pairs, worked.weighted.as_slice(), MOST_TRIED)?;
+    let trial = trial_of(worked, cost);
+    if let Some(two) = best_tried(alloc, &trial, shared.as_slice())? {
         if let Some(pair) = undecided_two(pairs, two) {
             return Ok(Some(pair));
         }

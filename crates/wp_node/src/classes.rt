@@ -12,7 +12,7 @@ use wp_model::Memory;
 pub fn class_batching(alloc: Global, given: &DualWave<'_>) -> Result<Batching, Memory>
     requires decided { AllDecided given.now.pairs.now }
     requires tight { AreTight given.now.wave.now given.now.pairs.now given.now.duals.now }
-    ensures batching { IfOk result (IsBatching (length given.now.wave.now.orders) given.now.pairs.now.capacity) }
+    ensures batching { IfOk result (IsBatching given.now.wave.now given.now.pairs.now.capacity) }
     ensures listed { IfOk result IsListedByLeast }
     ensures cost { IfOk result (λ batching. IsCost given.now.wave.now batching (units_of (sum given.now.duals.now))) }
 {

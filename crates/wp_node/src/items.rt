@@ -5,22 +5,24 @@ use std::alloc::Global;
 use wp_model::Memory;
 use wp_pairs::{Batch, Pairs};
 
-/// An item of a visit: orders that are to go together, the least of them, how many they are, what they have in duals, and the
-/// orders that are parted from them.
+/// An item of a visit: orders that are to go together, the least of them, how many they are, what they have in duals and load in a
+/// cart, and the orders that are parted from them.
 #[derive(Clone, Copy)]
 pub struct Item {
     pub class: Batch,
     pub least: u32,
     pub size: u32,
     pub sum: u64,
+    pub load: u64,
     pub parted: Batch,
 }
 
-/// A place of a visit: a batch, what its orders have in duals, and the orders that are parted from them.
+/// A place of a visit: a batch, what its orders have in duals and load in a cart, and the orders that are parted from them.
 #[derive(Clone, Copy)]
 pub struct VisitPlace {
     pub batch: Batch,
     pub sum: u64,
+    pub load: u64,
     pub parted: Batch,
 }
 
@@ -56,6 +58,7 @@ fn item_of(pairs: &Pairs, duals: &[u64], order: u32) -> Option<Item>
         least: order,
         size: class.len(),
         sum: total_in(duals, class),
+        load: pairs.load_of(class),
         parted: pairs.parted_from(order),
     })
 }
@@ -80,6 +83,7 @@ pub fn no_place() -> VisitPlace
     VisitPlace {
         batch: Batch::empty(),
         sum: 0,
+        load: 0,
         parted: Batch::empty(),
     }
 }
@@ -96,6 +100,7 @@ pub fn widened(place: &VisitPlace, item: &Item, room: u32) -> Option<VisitPlace>
     Some(VisitPlace {
         batch: place.batch.union(item.class),
         sum: place.sum.saturating_add(item.sum),
+        load: place.load.saturating_add(item.load),
         parted: place.parted.union(item.parted),
     })
 }

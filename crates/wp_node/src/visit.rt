@@ -11,7 +11,7 @@ use std::thread::Threads;
 use wp_batch::{PairedWave, SIXTIETHS, Wave};
 use wp_model::Memory;
 use wp_outside::Gate;
-use wp_pairs::Batch;
+use wp_pairs::{Batch, Pairs};
 use wp_price::{RAISE, Workers, comes_first, deal};
 
 /// How many parts a sixtieth of a unit of length has in a visit.
@@ -31,15 +31,14 @@ pub struct Find {
 /// How many batches are kept for each order.
 pub const FEW: usize = 3;
 
-/// A visit of a wave's permitted batches: its items under duals, the most that later orders add, how many orders a batch may have,
-/// and the limit below which a slack is worth a find. A batch is left out where its slack less what later orders add isn't below
+/// A visit of a wave's permitted batches: its pairs, its items under duals, the most that later orders add, and the limit below which a slack is worth a find. A batch is left out where its slack less what later orders add isn't below
 /// the limit, and so are those that have it: none of theirs is.
 #[derive(Drop)]
 struct BatchVisit<'a> {
     wave: &'a Wave,
+    pairs: &'a Pairs,
     items: Vec<Item>,
     reaches: Reaches,
-    capacity: u32,
     limit: u64,
 }
 
@@ -149,9 +148,9 @@ impl<'a> BatchVisit<'a> {
         let items = items_of(alloc, paired.pairs, duals)?;
         Ok(BatchVisit {
             wave: paired.wave,
+            pairs: paired.pairs,
             items,
             reaches,
-            capacity: paired.pairs.capacity(),
             limit,
         })
     }
@@ -196,6 +195,9 @@ impl BatchVisit<'_> {
         let Some(wider) = widened(place, &item, room) else {
             return;
         };
+        if !self.pairs.carries(wider.load) {
+            return;
+        }
         let left = room.saturating_sub(item.size.max(1));
         let slack = self.keep_place(&wider, kept);
         if left > 0 && self.leads_on(slack, item.least, left) {
@@ -212,7 +214,7 @@ impl BatchVisit<'_> {
         let mut kept = no_finds(alloc, self.wave, self.limit)?;
         for index in 0..self.items.len() {
             if share.has(self.items[index].least) {
-                self.visit_item(&no_place(), index, self.capacity, &mut kept);
+                self.visit_item(&no_place(), index, self.pairs.capacity(), &mut kept);
             }
         }
         Ok(kept)
@@ -277,7 +279,7 @@ fn shares_of<R, G>(
     visit: &BatchVisit<'_>,
 ) -> Result<Vec<Batch>, Memory> {
     let firsts = visit.firsts();
-    let taking_part = workers.worth(firsts.len(), visit.capacity);
+    let taking_part = workers.worth(firsts.len(), visit.pairs.capacity());
     deal(workers.alloc, visit.wave.orders(), firsts, taking_part)
 }
 

@@ -23,6 +23,9 @@ use wp_price::Workers;
 /// How many columns for each order a node hands on.
 const HANDED_ON: usize = 3;
 
+/// With how many columns for each order its pairs are tried at most.
+const WEIGHTED: usize = 6;
+
 /// With fewer columns than this for each order a node looks for more of its own.
 const FEW_COLUMNS: usize = 2;
 
@@ -45,8 +48,9 @@ pub struct Weighted {
     pub weight: u64,
 }
 
-/// What a node of the search has of its own; the columns that its children begin with, and their weights in its linear program;
-/// and the batches to which its solution is rounded, which are tested before they are taken for a batching.
+/// What a node of the search has of its own; the batches that its children begin with; columns of its linear program with their
+/// weights, those of least slack first; and the batches to which its solution is rounded, which are tested before they are taken for
+/// a batching.
 #[derive(Drop)]
 pub struct Worked {
     pub own: NodeOwn,
@@ -294,22 +298,22 @@ fn unweighted(alloc: Global, columns: &[Column]) -> Result<Vec<Weighted>, Memory
     Ok(weighted)
 }
 
-// The columns that are handed on, with their weights.
-fn handed_on(alloc: Global, orders: u32, priced: &PricedColumns) -> Result<Vec<Weighted>, Memory>
+// The columns by which pairs are tried, with their weights.
+fn weighted_of(alloc: Global, orders: u32, priced: &PricedColumns) -> Result<Vec<Weighted>, Memory>
     ensures { IfSome priced.now.solved (λ solved. IfOk result (λ weighted.
         All (IsWeighted priced.now.columns.items solved.weights.items) weighted.items)) }
 {
     let columns = priced.columns.as_slice();
     match &priced.solved {
-        Some(solved) => nearest_weighted(alloc, columns, solved, HANDED_ON * orders as usize),
+        Some(solved) => nearest_weighted(alloc, columns, solved, WEIGHTED * orders as usize),
         None => unweighted(alloc, columns),
     }
 }
 
-// The batches of columns.
-fn batches_of(alloc: Global, weighted: &[Weighted]) -> Result<Vec<Batch>, Memory> {
+// The batches of the first columns, so many for each order.
+fn handed_on(alloc: Global, orders: u32, weighted: &[Weighted]) -> Result<Vec<Batch>, Memory> {
     let mut batches = Vec::new(alloc);
-    for each in weighted {
+    for each in weighted.iter().take(HANDED_ON * orders as usize) {
         batches.push(each.column.batch)?;
     }
     Ok(batches)
@@ -324,7 +328,7 @@ fn worked_of(
 ) -> Result<Worked, Memory>
     ensures { IfOk result (λ worked. worked.own ≡ own) }
 {
-    let columns = batches_of(alloc, weighted.as_slice())?;
+    let columns = handed_on(alloc, orders, weighted.as_slice())?;
     let whole = rounded(alloc, orders, weighted.as_slice())?;
     Ok(Worked {
         own,
@@ -353,7 +357,7 @@ pub fn work_node<R: Threads + Sync, G: Gate>(
     let first = first_columns(workers, paired, above, columns)?;
     let priced = price_columns(workers, paired, first)?;
     let tried = tried_duals(workers, paired, above, &priced)?;
-    let weighted = handed_on(alloc, orders, &priced)?;
+    let weighted = weighted_of(alloc, orders, &priced)?;
     let own = own_of(workers, paired, above, tried)?;
     worked_of(alloc, orders, own, weighted)
 }

@@ -1,10 +1,13 @@
 -- Which batches are permitted, by what is joined to each of their orders and what is parted from it; and the class of an order as a batch.
 use Rattle.std.proofs.Common.{◌≡◌, ℕ, suc, ◌+◌, ◌<◌, ◌≤◌, Bool, true, false, List, [], ◌∷◌, length, get_or, arith, refl, sym, subst, inl, inr}
-use Rattle.std.proofs.Common.{⊎_elim, Contains}
+use Rattle.std.proofs.Common.{⊎_elim, Contains, Option, None, Some, ap}
+use Rattle.std.specs.Prelude.{slice_index, sum_by}
 use Rattle.std.specs.List.Sorted.{IsStrictlyIncreasing}
 use Rattle.std.proofs.lemmas.Bool.{cases_eq}
 use Rattle.std.proofs.lemmas.List.Elements.{All-contains, Contains-get_or}
+use Rattle.std.proofs.lemmas.List.Sums.{sum_by-cons}
 use Rattle.wp_pairs.specs.Batches.{IsBatch}
+use Rattle.wp_pairs.specs.Carts.{FitsAnyCart, LoadedCart}
 use Rattle.wp_pairs.specs.Kept.{FitsCapacity, IsKept, IsPairing, KeepsOrder, listed_for}
 use Rattle.wp_pairs.specs.Permitted.{AreJoined, ArePair, IsDead, IsHeld, IsPermitted, Pairing, itself, onward}
 use Rattle.wp_pairs.proofs.Chains.{joined_back, joined_on}
@@ -23,23 +26,41 @@ head_below x (z ∷ zs) h y has =
     let next : x < z = h 0 (omega arith) in
     ⊎_elim (λ (e : z ≡ y). omega arith) (λ later. let more = head_below z zs (tail_ascends x (z ∷ zs) h) y later in omega arith) (contains_cases z y zs has)
 
--- an ascending list that has no more than another ascending one is no longer
-pub no_longer : (xs ys : List ℕ) → IsStrictlyIncreasing xs → IsStrictlyIncreasing ys → ((x : ℕ) → Contains xs x → Contains ys x) → length xs ≤ length ys
-no_longer [] ys up down all = omega arith
-no_longer (x ∷ xs) [] up down all = absurd (contains_none x (all x (contains_first x xs)))
-no_longer (x ∷ xs) (y ∷ ys) up down all =
+-- an ascending list that has no more than another ascending one weighs no more, whatever each order weighs
+pub no_heavier : (f : ℕ → ℕ) (xs ys : List ℕ) → IsStrictlyIncreasing xs → IsStrictlyIncreasing ys → ((x : ℕ) → Contains xs x → Contains ys x)
+    → sum_by f xs ≤ sum_by f ys
+no_heavier f [] ys up down all = omega arith
+no_heavier f (x ∷ xs) [] up down all = absurd (contains_none x (all x (contains_first x xs)))
+no_heavier f (x ∷ xs) (y ∷ ys) up down all =
     ⊎_elim
-    (λ (e : y ≡ x). let rest = no_longer xs ys (tail_ascends x xs up) (tail_ascends y ys down)
+    (λ (e : y ≡ x). let rest = no_heavier f xs ys (tail_ascends x xs up) (tail_ascends y ys down)
     (λ z has. ⊎_elim (λ (same : y ≡ z). let above = head_below x xs up z has in absurd (omega arith)) (λ later. later)
-    (contains_cases y z ys (all z (contains_later x z xs has)))) in omega arith)
-    (λ ne. let rest = no_longer (x ∷ xs) ys up (tail_ascends y ys down)
+    (contains_cases y z ys (all z (contains_later x z xs has)))) in
+    omega (arith, rest, ap f e, sum_by-cons f x xs, sum_by-cons f y ys))
+    (λ ne. let rest = no_heavier f (x ∷ xs) ys up (tail_ascends y ys down)
     (λ z has. ⊎_elim (λ (same : y ≡ z).
     let first = ⊎_elim (λ (e : y ≡ x). absurd (ne e)) (λ (later : Contains ys x). head_below y ys down x later)
     (contains_cases y x ys (all x (contains_first x xs))) in
     absurd (⊎_elim (λ (e : x ≡ z). omega arith) (λ (later : Contains xs z). let above = head_below x xs up z later in omega arith)
     (contains_cases x z xs has))) (λ later. later)
-    (contains_cases y z ys (all z has))) in omega arith)
+    (contains_cases y z ys (all z has))) in
+    omega (arith, rest, sum_by-cons f y ys))
     (cases_eq y x)
+
+-- where each order weighs 1, a list weighs as much as it is long
+pub ones : (xs : List ℕ) → sum_by (λ (x : ℕ). 1) xs ≡ length xs
+ones [] = refl
+ones (x ∷ xs) = omega (arith, sum_by-cons (λ (y : ℕ). 1) x xs, ones xs)
+
+-- an ascending list that has no more than another ascending one is no longer
+pub no_longer : (xs ys : List ℕ) → IsStrictlyIncreasing xs → IsStrictlyIncreasing ys → ((x : ℕ) → Contains xs x → Contains ys x) → length xs ≤ length ys
+no_longer xs ys up down all = omega (arith, no_heavier (λ (x : ℕ). 1) xs ys up down all, ones xs, ones ys)
+
+-- a part of a batch that fits a cart fits it
+pub part_fits : (cart : Option LoadedCart) (part batch : List ℕ) → IsStrictlyIncreasing part → IsStrictlyIncreasing batch
+    → ((order : ℕ) → Contains part order → Contains batch order) → FitsAnyCart cart batch → FitsAnyCart cart part
+part_fits None part batch up down all light = tt
+part_fits (Some held) part batch up down all light = omega (arith, no_heavier (slice_index held.loads) part batch up down all, light)
 
 -- ---- permitted batches
 
@@ -85,18 +106,19 @@ permitted_keeps pairing batch permitted order has = record {
       (joined_in pairing batch other p.far permitted (joined_back p.joins) there);
 }
 
--- a permitted batch has an order, and no more than the capacity
+-- a permitted batch has an order, no more than the capacity, and fits the cart
 pub permitted_fits : (pairing : Pairing) (batch : List ℕ) → IsPermitted pairing batch → FitsCapacity pairing batch
-permitted_fits pairing batch permitted = record { filled = omega (arith, permitted.filled); fits = permitted.fits }
+permitted_fits pairing batch permitted = record { filled = omega (arith, permitted.filled); fits = permitted.fits; light = permitted.light }
 
 -- a batch of which each order has all that are joined to it and none that is parted from it is permitted, if it is filled and fits
-pub keeping_permitted : (pairing : Pairing) (batch : List ℕ) → IsBatch batch → 1 ≤ length batch → length batch ≤ pairing.capacity
+pub keeping_permitted : (pairing : Pairing) (batch : List ℕ) → IsBatch batch → FitsCapacity pairing batch
     → ((order : ℕ) → Contains batch order → KeepsOrder pairing batch order) → IsPermitted pairing batch
-keeping_permitted pairing batch is filled fits keeps = record {
+keeping_permitted pairing batch is within keeps = record {
   ascending = is.ascending;
-  filled = omega arith;
-  fits = fits;
-  known = λ k d within. (keeps (get_or batch k d) (Contains-get_or batch k d within)).known;
+  filled = omega (arith, within.filled);
+  fits = within.fits;
+  light = within.light;
+  known = λ k d low. (keeps (get_or batch k d) (Contains-get_or batch k d low)).known;
   together = λ pair added kind. (
     λ has. (keeps pair.first has).joined pair.second (onward (record { pair = pair; added = added; kind = kind; both = inl (refl, refl) }) itself),
     λ has. (keeps pair.second has).joined pair.first (onward (record { pair = pair; added = added; kind = kind; both = inr (refl, refl) }) itself),
@@ -110,15 +132,15 @@ keeping_permitted pairing batch is filled fits keeps = record {
   }) both.1;
 }
 
--- the orders that are joined to one are a permitted batch, if they are few enough
+-- the orders that are joined to one are a permitted batch, if they are few enough and fit the cart
 pub class_held : (pairing : Pairing) (joined parted : List (List ℕ)) (order : ℕ) → IsKept pairing joined parted → order < pairing.orders
-    → IsBatch (listed_for joined order) → length (listed_for joined order) ≤ pairing.capacity → IsHeld pairing order
-class_held pairing joined parted order kept known is fits =
+    → IsBatch (listed_for joined order) → FitsCapacity pairing (listed_for joined order) → IsHeld pairing order
+class_held pairing joined parted order kept known is within =
     let class = listed_for joined order in
     let joins = λ (x : ℕ). kept.joins order x known in
     let has : Contains class order = (joins order).1 itself in (
       class,
-      keeping_permitted pairing class is (omega (arith, has.1)) fits
+      keeping_permitted pairing class is within
           (λ x there. let j = (joins x).0 there in record {
             known = joined_known pairing order x kept.valid known j;
             joined = λ other k. (joins other).1 (joined_on j k);
@@ -127,15 +149,21 @@ class_held pairing joined parted order kept known is fits =
       has,
     )
 
--- an order to which too many are joined is in no permitted batch
+-- an order to which too many are joined, or too heavy ones, is in no permitted batch
 pub class_dead : (pairing : Pairing) (joined parted : List (List ℕ)) (order : ℕ) → IsKept pairing joined parted → order < pairing.orders
-    → IsBatch (listed_for joined order) → pairing.capacity < length (listed_for joined order) → IsDead pairing order
+    → IsBatch (listed_for joined order) → (FitsCapacity pairing (listed_for joined order) → ⊥) → IsDead pairing order
 class_dead pairing joined parted order kept known is over = record {
   known = known;
   unheld = λ batch permitted has.
-      let most = no_longer (listed_for joined order) batch is.ascending permitted.ascending
-      (λ x there. joined_in pairing batch order x permitted ((kept.joins order x known).0 there) has) in
-      let fits = permitted.fits in omega arith;
+      let class = listed_for joined order in
+      let part = λ (x : ℕ) (there : Contains (listed_for joined order) x). joined_in pairing batch order x permitted ((kept.joins order x known).0 there) has in
+      let most = no_longer class batch is.ascending permitted.ascending part in
+      let itself_there : Contains class order = (kept.joins order order known).1 itself in
+      over (record {
+        filled = omega (arith, itself_there.1);
+        fits = omega (arith, most, permitted.fits);
+        light = part_fits pairing.cart class batch is.ascending permitted.ascending part permitted.light;
+      });
 }
 
 -- an order of the wave is kept where all that are joined to it are in the batch, and none that is parted from it

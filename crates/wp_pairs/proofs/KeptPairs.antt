@@ -1,11 +1,12 @@
 -- What is kept stays right: no pair at first, one more together pair, one more apart pair.
 use Rattle.std.proofs.Common.{◌≡◌, ℕ, ◌<◌, ◌≤◌, ◌↔◌, true, false, List, [], ◌∷◌, ◌++◌, replicate, arith, refl, sym, subst, inl, inr}
-use Rattle.std.proofs.Common.{◌⊎◌, ⊎_elim, Contains}
+use Rattle.std.proofs.Common.{◌⊎◌, ⊎_elim, Contains, Option}
 use Rattle.std.specs.List.{IsDistinct}
 use Rattle.std.proofs.lemmas.Bool.{cases_eq, cases_lt}
 use Rattle.std.proofs.lemmas.List.{get_or-replicate, get_or_past, length-replicate}
 use Rattle.std.proofs.lemmas.List.Elements.{Contains-push_cases}
 use Rattle.wp_pairs.specs.declared.pair.OrderPair.{OrderPair}
+use Rattle.wp_pairs.specs.Carts.{IsCartFor, LoadedCart}
 use Rattle.wp_pairs.specs.Kept.{IsKept, IsListedForEither, IsPairing, JoinsClasses, PartsClasses, listed_for}
 use Rattle.wp_pairs.specs.Permitted.{AreDecided, AreJoined, AreParted, AreUndecided, Pairing, itself, onward}
 use Rattle.wp_pairs.proofs.Chains.{joined_back, joined_before, joined_more, joined_on, joined_same, parted_back, parted_more}
@@ -28,7 +29,12 @@ none_listed n order =
 
 -- a pairing with one more pair
 abbrev pub with_pair : Pairing → OrderPair → Pairing
-with_pair pairing new = record { orders = pairing.orders; capacity = pairing.capacity; pairs = pairing.pairs ++ new ∷ [] }
+with_pair pairing new = record {
+  orders = pairing.orders;
+  capacity = pairing.capacity;
+  cart = pairing.cart;
+  pairs = pairing.pairs ++ new ∷ [];
+}
 
 -- a further pair of orders of the wave, of which the kept rows tell nothing
 pub record AddsPair (pairing : Pairing) (joined parted : List (List ℕ)) (new : OrderPair) : Type 0 where
@@ -48,6 +54,7 @@ still_valid {pairing} {joined} {parted} {new} h = record {
   most_orders = h.before.valid.most_orders;
   some_capacity = h.before.valid.some_capacity;
   most_capacity = h.before.valid.most_capacity;
+  cart = h.before.valid.cart;
   order = λ pair has. ⊎_elim (λ old. h.before.valid.order pair old) (λ (e : new ≡ pair). subst (λ (p : OrderPair). p.first < p.second) e h.order)
       (Contains-push_cases pairing.pairs new pair has);
   known = λ pair has. ⊎_elim (λ old. h.before.valid.known pair old) (λ (e : new ≡ pair). subst (λ (p : OrderPair). p.second < pairing.orders) e h.known)
@@ -202,16 +209,17 @@ only_itself a _ itself = refl
 only_itself a b (onward t p) = absurd (omega (arith, t.added.1))
 
 -- with no pair, each order is joined to itself alone, and none is parted
-pub nothing_kept : (orders capacity : ℕ) (joined : List (List ℕ)) → 1 ≤ orders → orders ≤ 64 → 1 ≤ capacity → capacity ≤ 8
-    → ((order other : ℕ) → order < 64 → (Contains (listed_for joined order) other ↔ (other ≡ order)))
-    → IsKept (record { orders = orders; capacity = capacity; pairs = [] }) joined (replicate 64 [])
+pub nothing_kept : (orders capacity : ℕ) (cart : Option LoadedCart) (joined : List (List ℕ)) → 1 ≤ orders → orders ≤ 64 → 1 ≤ capacity → capacity ≤ 8
+    → IsCartFor cart orders → ((order other : ℕ) → order < 64 → (Contains (listed_for joined order) other ↔ (other ≡ order)))
+    → IsKept (record { orders = orders; capacity = capacity; cart = cart; pairs = [] }) joined (replicate 64 [])
 unfolding IsDistinct
-nothing_kept orders capacity joined some most some_capacity most_capacity singles = record {
+nothing_kept orders capacity cart joined some most some_capacity most_capacity loaded singles = record {
   valid = record {
     some_orders = some;
     most_orders = most;
     some_capacity = some_capacity;
     most_capacity = most_capacity;
+    cart = loaded;
     order = λ pair has. absurd (omega (arith, has.1));
     known = λ pair has. absurd (omega (arith, has.1));
   };

@@ -9,3 +9,4 @@ pub mod RowChanges
 pub mod Adding
 pub mod SumsUnder
 pub mod LoadWords
+pub mod Carrying

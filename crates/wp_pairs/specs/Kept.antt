@@ -2,21 +2,24 @@
 use Rattle.std.specs.Prelude.{◌≡◌, ℕ, zero, suc, ◌+◌, ◌<◌, ◌≤◌, ◌↔◌, ◌⊎◌, List, [], Contains, length, map, slice_index_or, nat_eq}
 use Rattle.std.specs.List.{IsDistinct}
 use Rattle.wp_pairs.specs.declared.pair.OrderPair.{OrderPair}
+use Rattle.wp_pairs.specs.Carts.{FitsAnyCart, IsCartFor}
 use Rattle.wp_pairs.specs.Permitted.{AreJoined, AreParted, Pairing}
 
--- 1 to 64 orders, a capacity of 1 to 8, and pairs of orders of the wave, the lower first
+-- 1 to 64 orders, a capacity of 1 to 8, a cart for as many orders, if there is one, and pairs of orders of the wave, the lower first
 pub record IsPairing (pairing : Pairing) : Type 0 where
   pub some_orders : 1 ≤ pairing.orders
   pub most_orders : pairing.orders ≤ 64
   pub some_capacity : 1 ≤ pairing.capacity
   pub most_capacity : pairing.capacity ≤ 8
+  pub cart : IsCartFor pairing.cart pairing.orders
   pub order : (pair : OrderPair) → Contains pairing.pairs pair → pair.first < pair.second
   pub known : (pair : OrderPair) → Contains pairing.pairs pair → pair.second < pairing.orders
 
--- a batch has an order, and no more orders than the capacity
+-- a batch has an order, no more orders than the capacity, and fits the cart, if there is one
 pub record FitsCapacity (pairing : Pairing) (batch : List ℕ) : Type 0 where
   pub filled : 1 ≤ length batch
   pub fits : length batch ≤ pairing.capacity
+  pub light : FitsAnyCart pairing.cart batch
 
 -- an order of the wave of a batch that has all orders joined to it and none that is parted from it
 pub record KeepsOrder (pairing : Pairing) (batch : List ℕ) (order : ℕ) : Type 0 where

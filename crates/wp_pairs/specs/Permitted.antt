@@ -1,19 +1,24 @@
 -- Orders that are to go together or apart, and the batches that this permits (Ryan and Foster, 1981).
-use Rattle.std.specs.Prelude.{◌≡◌, ℕ, ◌<◌, ◌≤◌, Bool, true, false, ◌⊎◌, ◌↔◌, List, All, Contains, length}
+use Rattle.std.specs.Prelude.{◌≡◌, ℕ, ◌<◌, ◌≤◌, Bool, true, false, ◌⊎◌, ◌↔◌, List, All, Contains, Option, length}
 use Rattle.std.specs.List.Sorted.{IsStrictlyIncreasing}
 use Rattle.wp_pairs.specs.declared.pair.OrderPair.{OrderPair}
+use Rattle.wp_pairs.specs.Carts.{FitsAnyCart, LoadedCart}
 
--- the number of orders of a wave, how many of them a batch may have, and the pairs that were added, in the order of adding
+-- the number of orders of a wave, how many of them a batch may have, the cart with their loads, if there is one, and the pairs that were added, in the
+-- order of adding
 pub record Pairing : Type 0 where
   pub orders : ℕ
   pub capacity : ℕ
+  pub cart : Option LoadedCart
   pub pairs : List OrderPair
 
--- a batch has some orders of the wave, no more than the capacity, both or none of each together pair, and not both of any apart pair
+-- a batch has some orders of the wave, no more than the capacity, which load no more than a cart holds, both or none of each together pair, and not
+-- both of any apart pair
 pub record IsPermitted (pairing : Pairing) (batch : List ℕ) : Type 0 where
   pub ascending : IsStrictlyIncreasing batch
   pub filled : 0 < length batch
   pub fits : length batch ≤ pairing.capacity
+  pub light : FitsAnyCart pairing.cart batch
   pub known : All (λ order. order < pairing.orders) batch
   pub together : (pair : OrderPair) → Contains pairing.pairs pair → pair.together ≡ true → (Contains batch pair.first ↔ Contains batch pair.second)
   pub apart : (pair : OrderPair) → Contains pairing.pairs pair → pair.together ≡ false → (Contains batch pair.first × Contains batch pair.second) → ⊥

@@ -1,4 +1,4 @@
-ghost use Rattle.std.specs.Prelude.{◌≡◌, ◌<◌, ◌≤◌, ◌↔◌, All, IfSome, IsSome, IsTrue, Some, length, slice_get};
+ghost use Rattle.std.specs.Prelude.{◌≡◌, ◌<◌, ◌≤◌, ◌↔◌, ◌^◌, ◌++◌, All, IfSome, IsSome, IsTrue, Some, length, slice_get};
 ghost use Rattle.wp_pairs.specs.Carts.{FitsCart, IsLoadedCart, load_of};
 
 use crate::batch::Batch;
@@ -141,9 +141,10 @@ impl Cart {
         self.loads.at(i)
     }
 
-    // What the orders of a batch load, all together. An order that the cart has no load for loads nothing.
-    fn load_of(&self, batch: Batch) -> u64
-        ensures { result ≡ load_of self.now.loads batch }
+    /// What the orders of a batch load, all together, in units. An order that the cart has no load for loads nothing.
+    pub fn load_of(&self, batch: Batch) -> u64
+        ensures is { result ≡ load_of self.now.loads batch }
+        ensures small { result ≤ 2 ^ 38 }
     {
         let mut total: u64 = 0;
         for order in 0..self.loads.len() {
@@ -160,5 +161,12 @@ impl Cart {
         ensures { IsTrue result ↔ FitsCart self.now batch }
     {
         self.load_of(batch) <= u64::from(self.units)
+    }
+
+    /// Whether the cart holds what the orders of two batches load together.
+    pub fn holds_both(&self, left: Batch, right: Batch) -> bool
+        ensures { IsTrue result ↔ FitsCart self.now (left ++ right) }
+    {
+        self.load_of(left) + self.load_of(right) <= u64::from(self.units)
     }
 }

@@ -1,11 +1,13 @@
-ghost use Rattle.std.specs.Prelude.{◌≡◌, ◌≤◌, ◌<◌, ◌+◌, ◌↔◌, ℕ, [], ◌∷◌, ◌++◌, IsTrue, IfNone, IfSome, Contains, length, take, true, false};
+ghost use Rattle.std.specs.Prelude.{◌≡◌, ◌≤◌, ◌<◌, ◌+◌, ◌^◌, ◌↔◌, ℕ, [], ◌∷◌, ◌++◌, IsTrue, IfNone, IfSome, Contains, None, Some, length, take, true, false};
 ghost use Rattle.wp_pairs.specs.declared.pair.OrderPair.{OrderPair as PairData};
 ghost use Rattle.wp_pairs.specs.Batches.{IsBatch};
+ghost use Rattle.wp_pairs.specs.Carts.{Carries, FitsAnyCart, IsCartFor, any_load};
 ghost use Rattle.wp_pairs.specs.Permitted.{Pairing, IsPermitted, AreJoined, AreParted, AreDecided, AreUndecided, AreDecidedBefore, AllDecided, IsHeld, IsDead};
 ghost use Rattle.wp_pairs.specs.Permitted.{AreHeldBelow};
 ghost use Rattle.wp_pairs.specs.Kept.{FitsCapacity, IsPairing, KeepsOrder};
 
 use crate::batch::Batch;
+use crate::cart::Cart;
 use crate::pair::OrderPair;
 use crate::rows::{empty_rows, orders_for, settle, single_rows};
 use std::marker::Model;
@@ -13,12 +15,13 @@ use std::marker::Model;
 /// How many pairs 64 orders have.
 const MOST_PAIRS: usize = 2016;
 
-/// The pairs of a wave's orders that are to go together or apart, and how many orders a batch may have. Contracts see the
-/// number of orders, the capacity and the pairs in the order of adding.
+/// The pairs of a wave's orders that are to go together or apart, how many orders a batch may have, and the cart that it is to
+/// fit, if there is one. Contracts see the number of orders, the capacity, the cart and the pairs in the order of adding.
 #[derive(Drop)]
 pub struct Pairs {
     orders: u32,
     capacity: u32,
+    cart: Option<Cart>,
     count: usize,
     added: [OrderPair; 2016],
     joined: [Batch; 64],
@@ -32,11 +35,12 @@ impl Model for Pairs {
 
     ghost Value = { Pairing };
 
-    ghost view = { λ p. record { orders = p.orders; capacity = p.capacity; pairs = take p.count p.added } };
+    ghost view = { λ p. record { orders = p.orders; capacity = p.capacity; cart = p.cart; pairs = take p.count p.added } };
 
     ghost invariant = { λ p. (length (take p.count p.added) ≡ p.count) × IsKept (record {
       orders = p.orders;
       capacity = p.capacity;
+      cart = p.cart;
       pairs = take p.count p.added;
     }) p.joined p.parted };
 }
@@ -68,11 +72,36 @@ impl Pairs {
         requires most_orders { orders ≤ 64 }
         requires some_capacity { 1 ≤ capacity }
         requires most_capacity { capacity ≤ 8 }
-        ensures { result ≡ record { orders = orders; capacity = capacity; pairs = [] } }
+        ensures { result ≡ record { orders = orders; capacity = capacity; cart = None; pairs = [] } }
+    {
+        Pairs::begun(orders, capacity, None)
+    }
+
+    /// No pair, for a wave of so many orders and batches of so many that fit a cart with what each of these orders loads.
+    pub fn with_cart(orders: u32, capacity: u32, cart: Cart) -> Pairs
+        requires loads { orders ≡ length cart.loads }
+        requires some_capacity { 1 ≤ capacity }
+        requires most_capacity { capacity ≤ 8 }
+        ensures { result ≡ record { orders = orders; capacity = capacity; cart = Some cart; pairs = [] } }
+    {
+        let of_wave = cart.orders() == orders;
+        prove!(of_wave);
+        Pairs::begun(orders, capacity, Some(cart))
+    }
+
+    // No pair, with a cart for these orders or with none.
+    fn begun(orders: u32, capacity: u32, cart: Option<Cart>) -> Pairs
+        requires some_orders { 1 ≤ orders }
+        requires most_orders { orders ≤ 64 }
+        requires some_capacity { 1 ≤ capacity }
+        requires most_capacity { capacity ≤ 8 }
+        requires cart { IsCartFor cart orders }
+        ensures { result ≡ record { orders = orders; capacity = capacity; cart = cart; pairs = [] } }
     {
         Pairs {
             orders,
             capacity,
+            cart,
             count: 0,
             added: blank_pairs(),
             joined: single_rows(),
@@ -96,12 +125,42 @@ impl Pairs {
         self.capacity
     }
 
+    /// The cart that batches are to fit, with a load for each order of the wave. None comes exactly where there is no cart.
+    pub fn cart(&self) -> Option<Cart>
+        ensures value { result ≡ self.now.cart }
+        ensures valid { IsPairing self.now }
+    {
+        self.cart
+    }
+
+    /// What the orders of a batch load, all together, in units: 0 where there is no cart.
+    pub fn load_of(&self, batch: Batch) -> u64
+        ensures is { result ≡ any_load self.now.cart batch }
+        ensures small { result ≤ 2 ^ 38 }
+    {
+        match &self.cart {
+            None => 0,
+            Some(cart) => cart.load_of(batch),
+        }
+    }
+
+    /// Whether the cart holds so many units, or there is none.
+    pub fn carries(&self, load: u64) -> bool
+        ensures { IsTrue result ↔ Carries self.now.cart load }
+    {
+        match &self.cart {
+            None => true,
+            Some(cart) => load <= u64::from(cart.units()),
+        }
+    }
+
     /// Adds two orders that are to go together, or else to go apart.
     pub fn add(&mut self, first: u32, second: u32, together: bool)
         requires { AreUndecided self.old first second }
         ensures { self.new ≡ record {
           orders = self.old.orders;
           capacity = self.old.capacity;
+          cart = self.old.cart;
           pairs = self.old.pairs ++ record { first = first; second = second; together = together } ∷ [];
         } }
     {
@@ -141,8 +200,8 @@ impl Pairs {
         orders_for(&self.parted, order)
     }
 
-    /// Whether a batch is permitted: it has some orders of the wave and at most as many as the capacity, both or none of
-    /// each together pair, and not both of any apart pair.
+    /// Whether a batch is permitted: it has some orders of the wave and at most as many as the capacity, which load no more than
+    /// the cart holds, if there is one, both or none of each together pair, and not both of any apart pair.
     pub fn permits(&self, batch: Batch) -> bool
         ensures { IsTrue result ↔ IsPermitted self.now batch }
     {
@@ -180,13 +239,26 @@ impl Pairs {
 }
 
 impl Pairs {
-    // Whether a batch has an order, and no more than the capacity.
+    // Whether a batch fits the cart, if there is one.
+    fn fits_cart(&self, batch: Batch) -> bool
+        ensures { IsTrue result ↔ FitsAnyCart self.now.cart batch }
+    {
+        match &self.cart {
+            None => true,
+            Some(cart) => cart.holds(batch),
+        }
+    }
+
+    // Whether a batch has an order, no more than the capacity, and fits the cart, if there is one.
     fn fits(&self, batch: Batch) -> bool
         ensures exact { IsTrue result ↔ FitsCapacity self.now batch }
         ensures valid { IsBatch batch }
     {
         let orders = batch.len();
-        1 <= orders && orders <= self.capacity
+        if orders < 1 || self.capacity < orders {
+            return false;
+        }
+        self.fits_cart(batch)
     }
 
     // Whether an order is one of the wave, all that are joined to it are in the batch, and none that is parted from it.
@@ -228,12 +300,13 @@ impl Pairs {
         None
     }
 
-    // Whether some permitted batch has an order: the orders that are joined to it are such a batch, if they are few enough.
+    // Whether some permitted batch has an order: the orders that are joined to it are such a batch, if they are few enough and
+    // fit the cart.
     fn is_held(&self, order: u32) -> bool
         requires { order < self.now.orders }
         ensures held { result ≡ true → IsHeld self.now order }
         ensures dead { result ≡ false → IsDead self.now order }
     {
-        orders_for(&self.joined, order).len() <= self.capacity
+        self.fits(orders_for(&self.joined, order))
     }
 }

@@ -1,6 +1,6 @@
 -- The picks of orders grow hold by hold.
 use Rattle.std.proofs.Common.{◌≡◌, ◌≢◌, ◌∙◌, refl, sym, ap, subst, ℕ, ◌+◌, ◌<◌, ◌↔◌, ◌⊎◌, inl, inr, ⊎_elim, List, [], ◌∷◌, ◌++◌, Some, All, Contains, length}
-use Rattle.std.proofs.Common.{Err, IfOk, Ok, Result}
+use Rattle.std.proofs.Common.{Err, IfOk, None, Ok, Result}
 use Rattle.std.proofs.Common.{add-one, arith, take, get_or, get_or-set_other, get_or-set_same, length-append, length-set, slice_get, slice_set}
 use Rattle.std.proofs.lemmas.Bool.{cases_eq}
 use Rattle.std.proofs.lemmas.List.Elements.{All-contains, All-nil, All-push, All-set}
@@ -178,10 +178,11 @@ both_ok (Err e) P Q R then' p q = tt
 
 -- a wave with the same picks is the wave of those holds
 wave_with : (layout : Layout) (stock : Stock) (released : WaveHolds) (picks : List PickSet) (wave : WavePicks) → wave.layout ≡ layout
-    → ArePicksOf layout stock.rows released.holds (length released.orders) picks → HaveSamePicks wave.orders picks → IsWaveOf layout stock released wave
-wave_with layout stock released picks wave of_layout are same = record {
+    → ArePicksOf layout stock.rows released.holds (length released.orders) picks → HaveSamePicks wave.orders picks → wave.cart ≡ None → IsWaveOf layout stock released wave
+wave_with layout stock released picks wave of_layout are same no_cart = record {
   layout_is = of_layout;
   orders = same.count ∙ are.count;
+  no_cart = no_cart;
   picks = λ order point below.
       let d : PickSet = record { layout = wave.layout; points = [] } in
       let to = same.each order d (omega (arith, below, same.count, are.count)) point in
@@ -192,7 +193,9 @@ wave_with layout stock released picks wave of_layout are same = record {
 -- so is one that is made, where memory lasts
 pub wave_made : {E : Type 0} (layout : Layout) (stock : Stock) (released : WaveHolds) (picks : List PickSet) (made : Result WavePicks E)
     → ArePicksOf layout stock.rows released.holds (length released.orders) picks → IfOk made (λ wave. wave.layout ≡ layout)
-    → IfOk made (λ wave. HaveSamePicks wave.orders picks) → IfOk made (IsWaveOf layout stock released)
-wave_made layout stock released picks made are =
-    both_ok made (λ wave. wave.layout ≡ layout) (λ wave. HaveSamePicks wave.orders picks) (IsWaveOf layout stock released)
-    (λ wave of_layout same. wave_with layout stock released picks wave of_layout are same)
+    → IfOk made (λ wave. HaveSamePicks wave.orders picks) → IfOk made (λ wave. wave.cart ≡ None) → IfOk made (IsWaveOf layout stock released)
+wave_made layout stock released picks made are of_layout same no_cart =
+    both_ok made (λ wave. (wave.layout ≡ layout) × HaveSamePicks wave.orders picks) (λ wave. wave.cart ≡ None) (IsWaveOf layout stock released)
+    (λ wave both none. wave_with layout stock released picks wave both.0 are both.1 none)
+    (both_ok made (λ wave. wave.layout ≡ layout) (λ wave. HaveSamePicks wave.orders picks)
+    (λ wave. (wave.layout ≡ layout) × HaveSamePicks wave.orders picks) (λ wave l h. (l, h)) of_layout same) no_cart

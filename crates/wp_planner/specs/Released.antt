@@ -1,5 +1,5 @@
 -- Waves that went out, and where their orders pick.
-use Rattle.std.specs.Prelude.{◌≡◌, ℕ, ◌<◌, ◌≤◌, ◌↔◌, List, All, Contains, length}
+use Rattle.std.specs.Prelude.{◌≡◌, ℕ, ◌<◌, ◌≤◌, ◌↔◌, List, All, Contains, None, length}
 use Rattle.wp_model.specs.HoldLists.{IsHoldWithin, Rises}
 use Rattle.wp_model.specs.Limits.{most_wave_orders}
 use Rattle.wp_model.specs.Opening.{Stock}
@@ -27,9 +27,10 @@ pub record IsReleased (stock : Stock) (released : WaveHolds) : Type 0 where
 abbrev pub LiesIn : Layout → Stock → Type 0
 LiesIn layout stock = All (λ row. IsSlot layout (slot_at row.location)) stock.rows
 
--- the wave of a layout whose orders pick where those of a wave that went out hold units
+-- the wave of a layout whose orders pick where those of a wave that went out hold units; no cart limits its batches
 pub record IsWaveOf (layout : Layout) (stock : Stock) (released : WaveHolds) (wave : WavePicks) : Type 0 where
   pub layout_is : wave.layout ≡ layout
   pub orders : length wave.orders ≡ length released.orders
+  pub no_cart : wave.cart ≡ None
   pub picks : (order : ℕ) (point : Point) → order < length released.orders
       → (Contains (picks_of wave order) point ↔ HoldsAt stock.rows released.holds order point)

@@ -46,7 +46,7 @@ plan_line released capacity planned cancelled_later =
 
 -- the line of a plan's certificate
 abbrev pub certificate_line : WavePicks → ℕ → Planned → List ℕ
-certificate_line wave capacity planned = line (codes "certificate " ++ certificate_text (wave_places wave) capacity planned.tree.nodes)
+certificate_line wave capacity planned = line (codes "certificate " ++ certificate_text (wave_places wave) wave.cart capacity planned.tree.nodes)
 
 -- the sheet of a wave that went out and its plan: a first line, the parts of its batches, numbered from 1, its certificate, and a last line
 pub record IsSheet (stock : Stock) (released : WaveHolds) (terms : Terms) (plan : WavePlan) (cancelled_later : Bool) (sheet : List ℕ) : Type 0 where

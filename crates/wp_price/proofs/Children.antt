@@ -1,20 +1,22 @@
 -- Places and their children: when a place and an item make a permitted batch, what it has, and what it blocks.
-use Rattle.std.proofs.Common.{◌≡◌, ◌≢◌, ◌++◌, ◌∙◌, get_or, ℕ, ◌+◌, ◌*◌, ◌<◌, ◌≤◌, ◌↔◌, List, [], ◌∷◌, length, arith}
+use Rattle.std.proofs.Common.{◌≡◌, ◌≢◌, ◌++◌, ◌∙◌, get_or, ℕ, ◌+◌, ◌<◌, ◌≤◌, ◌↔◌, List, [], ◌∷◌, length, arith}
 use Rattle.std.proofs.Common.{ap, sym, subst, inl, inr, ◌⊎◌, ⊎_elim, Contains, All}
 use Rattle.std.specs.Prelude.{None, false, slice_get, Some, sum_by, slice_index, slice_index_or}
 use Rattle.std.specs.List.Sorted.{IsStrictlyIncreasing}
 use Rattle.std.proofs.lemmas.Bool.{cases_eq}
-use Rattle.std.proofs.lemmas.List.Elements.{All-contains, All-nil}
+use Rattle.std.proofs.lemmas.List.Elements.{All-nil}
 use Rattle.std.proofs.lemmas.List.{get_or_append_left, get_or_push}
 use Rattle.std.proofs.lemmas.Option.{get_or_from_slice_get, slice_get_within}
 use Rattle.wp_pairs.specs.Batches.{IsBatch}
+use Rattle.wp_pairs.specs.Carts.{Carries, FitsAnyCart, any_load}
 use Rattle.wp_pairs.specs.Kept.{IsPairing, KeepsOrder}
 use Rattle.wp_pairs.specs.Permitted.{AreJoined, AreParted, IsPermitted, Pairing, itself}
+use Rattle.wp_pairs.proofs.Carrying.{fits_carried, loads_together, none_loads}
 use Rattle.wp_pairs.proofs.Chains.{joined_back, joined_on, joined_parted, parted_back, parted_joined}
 use Rattle.wp_pairs.proofs.Classes.{joined_in, joined_known, keeping_permitted, permitted_keeps}
 use Rattle.wp_pairs.proofs.Members.{contains_none}
 use Rattle.wp_batch.proofs.Joining.{first_least}
-use Rattle.wp_batch.specs.Duals.{duals_of, greatest_dual}
+use Rattle.wp_batch.specs.Duals.{duals_of}
 use Rattle.wp_batch.specs.Visits.{AddsItem, IsItem}
 use Rattle.wp_batch.proofs.Ascending.{split_off}
 use Rattle.wp_batch.proofs.Further.{none_first}
@@ -50,10 +52,10 @@ reached_known pairing place end reached e =
 -- a place and the class of an order that isn't blocked make a permitted batch, if they fit
 pub child_permitted : (pairing : Pairing) (place class union : List ℕ) (order : ℕ) → IsReached pairing place → IsPermitted pairing class
     → ((other : ℕ) → Contains class other ↔ AreJoined pairing.pairs order other) → IsBatch union → AddsItem pairing place order union
-    → length union ≤ pairing.capacity → (IsBlocked pairing place order → ⊥) → IsPermitted pairing union
-child_permitted pairing place class union order reached permitted is batch adds fits free =
+    → length union ≤ pairing.capacity → FitsAnyCart pairing.cart union → (IsBlocked pairing place order → ⊥) → IsPermitted pairing union
+child_permitted pairing place class union order reached permitted is batch adds fits light free =
     let has : Contains union order = (adds.orders order).1 (inr itself) in
-    keeping_permitted pairing union batch (omega (arith, has.1)) fits (λ x there. ⊎_elim
+    keeping_permitted pairing union batch (record { filled = omega (arith, has.1); fits = fits; light = light }) (λ x there. ⊎_elim
     (λ (old : Contains place x). let k = reached_keeps pairing place reached x old in record {
       known = k.known;
       joined = λ o j. (adds.orders o).1 (inl (k.joined o j));
@@ -170,21 +172,55 @@ unused_adds_none pairing duals place union order item is unusable adds = inr (�
     (λ never. inr (union, adds, λ permitted. never (class_permitted pairing place item.class union order is.ascending is.class adds permitted)))
     (is.unused unusable))
 
+-- a place and an item load what both load
+pub child_loads : (task : Task) (place : Place) (union : List ℕ) (order : ℕ) (item : Item) → IsAt task place
+    → IsItemOf task.pairing task.duals order item → IsUsable task.pairing task.duals order item → (Contains place.batch order → ⊥)
+    → AddsItem task.pairing place.batch order union → any_load task.pairing.cart union ≡ place.load + item.load
+child_loads task place union order item at is used new adds =
+    let closed = reached_place task.pairing place.batch at.reached in
+    let both = loads_together task.pairing.cart place.batch item.class union
+    (λ f. (together f task.pairing place.batch item.class union order closed is.ascending is.class adds new).sums) in
+    omega (arith, both, at.load, used.load)
+
+-- they fit a cart exactly where it holds what both load
+pub child_carried : (task : Task) (place : Place) (union : List ℕ) (order : ℕ) (item : Item) → IsAt task place
+    → IsItemOf task.pairing task.duals order item → IsUsable task.pairing task.duals order item → (Contains place.batch order → ⊥)
+    → AddsItem task.pairing place.batch order union → FitsAnyCart task.pairing.cart union ↔ Carries task.pairing.cart (place.load + item.load)
+child_carried task place union order item at is used new adds =
+    subst (λ (load : ℕ). FitsAnyCart task.pairing.cart union ↔ Carries task.pairing.cart load) (child_loads task place union order item at is used new adds)
+    (fits_carried task.pairing.cart union)
+
 -- with a usable item that isn't blocked the place is known, if it fits
 pub child_at : (task : Task) (place child : Place) (order : ℕ) (item : Item) → IsAt task place → IsItemOf task.pairing task.duals order item
     → IsUsable task.pairing task.duals order item → (Contains place.batch order → ⊥) → AddsItem task.pairing place.batch order child.batch
-    → IsPermitted task.pairing child.batch → child.size ≡ place.size + item.size → child.sum ≡ place.sum + item.sum → child.size ≤ task.pairing.capacity
+    → IsPermitted task.pairing child.batch → child.size ≡ place.size + item.size → child.load ≡ place.load + item.load
+    → child.sum ≡ place.sum + item.sum → child.size ≤ task.pairing.capacity
     → ((x : ℕ) → Contains child.blocked x ↔ (Contains place.blocked x ⊎ Contains item.parted x)) → IsAt task child
-child_at task place child order item at is used new adds permitted size sum fits blocks =
+child_at task place child order item at is used new adds permitted size load sum fits blocks =
     let both = together (slice_index task.duals) task.pairing place.batch item.class child.batch order (reached_place task.pairing place.batch at.reached)
     is.ascending is.class adds new in record {
       reached = inr permitted;
       size = omega (arith, both.counts, at.size, used.size, size);
       fits = fits;
+      load = omega (arith, child_loads task place child.batch order item at is used new adds, load);
+      light = omega (arith, at.light, used.light, used.size, used.permitted.filled, size, load);
       sum = omega (arith, both.sums, at.sum, used.sum, sum);
       small = omega (arith, at.small, used.small, size, sum);
       blocked = blocks_more task.pairing place.batch child.batch place.blocked item.parted child.blocked order adds at.blocked is.parted blocks;
     }
+
+-- the place of no order is known
+pub root_at : (task : Task) (place : Place) → place.batch ≡ [] → place.blocked ≡ [] → place.size ≡ 0 → place.load ≡ 0 → place.sum ≡ 0 → IsAt task place
+root_at task place empty free size load sum = record {
+  reached = inl empty;
+  size = omega (arith, size, ap (λ (xs : List ℕ). length xs) empty);
+  fits = omega (arith, size);
+  load = load ∙ sym (ap (any_load task.pairing.cart) empty ∙ none_loads task.pairing.cart);
+  light = omega (arith, load);
+  sum = sum ∙ sym (ap (duals_of task.duals) empty);
+  small = omega (arith, sum);
+  blocked = λ order. (λ has. absurd (nothing place.blocked order free has), λ b. absurd (nothing place.batch b.by empty b.has));
+}
 
 -- a place and an item have as many orders as both
 pub child_counts : (task : Task) (place : Place) (union : List ℕ) (order : ℕ) (item : Item) → IsAt task place

@@ -1,10 +1,9 @@
 -- Lists of orders: which comes before which, ascending lists of the same orders, and sums of bounded numbers.
-use Rattle.std.proofs.Common.{◌≡◌, ℕ, ◌*◌, ◌<◌, ◌≤◌, ltb, true, false, List, [], ◌∷◌, length, arith, refl, ap, sym, ◌∙◌, inl, inr, ◌⊎◌, ◌↔◌, ◌≢◌}
+use Rattle.std.proofs.Common.{◌≡◌, ℕ, ◌<◌, ◌≤◌, ltb, true, false, List, [], ◌∷◌, length, arith, refl, ap, sym, ◌∙◌, inl, inr, ◌⊎◌, ◌↔◌, ◌≢◌}
 use Rattle.std.proofs.Common.{⊎_elim, Contains}
-use Rattle.std.specs.Prelude.{Some, None, slice_get, sum_by}
+use Rattle.std.specs.Prelude.{Some, None, slice_get}
 use Rattle.std.specs.List.Sorted.{IsStrictlyIncreasing}
 use Rattle.std.proofs.lemmas.Bool.{cases_eq, cases_lt, cond-false, cond-true, le-ltb, lt-ltb}
-use Rattle.std.proofs.lemmas.List.Sums.{sum_by-cons}
 use Rattle.wp_pairs.proofs.Classes.{head_below, tail_ascends}
 use Rattle.wp_pairs.proofs.Members.{contains_cases, contains_first, contains_later, contains_none}
 use Rattle.wp_price.specs.Slacks.{comes_before}

@@ -1,6 +1,7 @@
 -- What an order brings to a place while the batches are visited.
-use Rattle.std.specs.Prelude.{◌≡◌, ℕ, ◌+◌, ◌*◌, ◌<◌, ◌≤◌, ◌⊎◌, ◌↔◌, true, false, List, Contains, length, slice_index, slice_index_or}
+use Rattle.std.specs.Prelude.{◌≡◌, ℕ, ◌+◌, ◌*◌, ◌^◌, ◌<◌, ◌≤◌, ◌⊎◌, ◌↔◌, true, false, List, Contains, length, slice_index, slice_index_or}
 use Rattle.std.specs.List.Sorted.{IsStrictlyIncreasing}
+use Rattle.wp_pairs.specs.Carts.{any_load}
 use Rattle.wp_pairs.specs.Permitted.{AreJoined, AreParted, IsPermitted, Pairing}
 use Rattle.wp_batch.specs.Duals.{duals_of, greatest_dual}
 use Rattle.wp_batch.specs.Reaches.{HaveMost}
@@ -15,11 +16,13 @@ IsMost pairing duals from room most = (taken : List ℕ) × HaveMost pairing dua
 abbrev pub AreReachesBelow : Pairing → List ℕ → ℕ → ℕ → List ℕ → Type 0
 AreReachesBelow pairing duals from end reaches = (room : ℕ) → room < end → IsMost pairing duals from room (slice_index reaches room)
 
--- an order that names an item which is a permitted batch, and what that has in duals
+-- an order that names an item which is a permitted batch, and what that loads and has in duals
 pub record IsUsable (pairing : Pairing) (duals : List ℕ) (order : ℕ) (item : Item) : Type 0 where
   pub names : IsItem pairing order
   pub permitted : IsPermitted pairing item.class
   pub size : item.size ≡ length item.class
+  pub load : item.load ≡ any_load pairing.cart item.class
+  pub light : item.load ≤ 2 ^ 38
   pub sum : item.sum ≡ duals_of duals item.class
   pub small : item.sum ≤ greatest_dual * item.size
 

@@ -1,5 +1,6 @@
 -- The search: the places that it comes to, and what it has found when it has visited all batches that extend a place.
-use Rattle.std.specs.Prelude.{◌≡◌, ℕ, ◌+◌, ◌*◌, ◌<◌, ◌≤◌, ◌⊎◌, ◌↔◌, List, [], All, Option, Some, None, IfSome, Contains, length, slice_index_or}
+use Rattle.std.specs.Prelude.{◌≡◌, ℕ, ◌+◌, ◌*◌, ◌^◌, ◌<◌, ◌≤◌, ◌⊎◌, ◌↔◌, List, [], Option, Some, None, IfSome, Contains, length, slice_index_or}
+use Rattle.wp_pairs.specs.Carts.{any_load}
 use Rattle.wp_pairs.specs.Kept.{IsPairing}
 use Rattle.wp_pairs.specs.Permitted.{AreParted, IsPermitted, Pairing}
 use Rattle.wp_batch.specs.Lengths.{IsLengthOf}
@@ -20,9 +21,10 @@ pub record Task : Type 0 where
   pub pairing : Pairing
   pub duals : List ℕ
 
--- as many orders in the pairs as in the wave, a dual for each, and what each brings
+-- as many orders in the pairs as in the wave and the same cart, a dual for each order, and what each brings
 pub record IsTask (task : Task) (items : List Item) : Type 0 where
   pub orders : task.pairing.orders ≡ length task.wave.orders
+  pub cart : task.pairing.cart ≡ task.wave.cart
   pub count : length task.duals ≡ task.pairing.orders
   pub duals : AreDuals task.duals
   pub valid : IsPairing task.pairing
@@ -49,11 +51,13 @@ pub record IsBlocked (pairing : Pairing) (batch : List ℕ) (order : ℕ) : Type
   pub has : Contains batch by
   pub parted : AreParted pairing.pairs by order
 
--- a place says of its batch what it has in orders and duals, and what it blocks
+-- a place says of its batch what it has in orders, units and duals, and what it blocks
 pub record IsAt (task : Task) (place : Place) : Type 0 where
   pub reached : IsReached task.pairing place.batch
   pub size : place.size ≡ length place.batch
   pub fits : place.size ≤ task.pairing.capacity
+  pub load : place.load ≡ any_load task.pairing.cart place.batch
+  pub light : place.load ≤ 2 ^ 38 * place.size
   pub sum : place.sum ≡ duals_of task.duals place.batch
   pub small : place.sum ≤ greatest_dual * place.size
   pub blocked : (order : ℕ) → Contains place.blocked order ↔ IsBlocked task.pairing place.batch order

@@ -1,5 +1,5 @@
 -- The slack of a batch, and the batch of least slack among those that are permitted.
-use Rattle.std.specs.Prelude.{◌≡◌, ℕ, ◌*◌, Bool, true, false, List, [], ◌∷◌, Option, Some, None, Contains, if◌then◌else◌, nat_lt, ℤ, pos, ◌+ℤ◌, ◌≤ℤ◌}
+use Rattle.std.specs.Prelude.{◌≡◌, ℕ, Bool, true, false, List, [], ◌∷◌, Option, Some, None, Contains, if◌then◌else◌, nat_lt, ℤ, pos, ◌+ℤ◌, ◌≤ℤ◌}
 use Rattle.wp_pairs.specs.Permitted.{IsPermitted, Pairing}
 use Rattle.wp_batch.specs.Lengths.{IsLengthOf}
 use Rattle.wp_batch.specs.Waves.{WavePicks}

@@ -6,14 +6,16 @@ use wp_batch::{DualWave, is_later, take_best};
 use wp_pairs::Batch;
 
 /// What an order brings to a place: the orders that are joined to it and those that are parted from it. It is usable where
-/// it names an item that is a permitted batch; then it has the number of its orders and what they have in duals. By the
-/// number of further orders, up to the capacity, it has the most that orders of later items have in duals.
+/// it names an item that is a permitted batch; then it has the number of its orders, how many units they load, and what they
+/// have in duals. Where there is no cart, they load nothing. By the number of further orders, up to the capacity, it has the most
+/// that orders of later items have in duals.
 #[derive(Clone, Copy)]
 pub struct Item {
     pub usable: bool,
     pub class: Batch,
     pub parted: Batch,
     pub size: u32,
+    pub load: u64,
     pub sum: u64,
     pub reach: [u64; 9],
 }
@@ -56,6 +58,7 @@ pub fn item_of(given: &DualWave<'_>, order: u32) -> Item
             class,
             parted,
             size,
+            load: 0,
             sum: 0,
             reach,
         };
@@ -65,6 +68,7 @@ pub fn item_of(given: &DualWave<'_>, order: u32) -> Item
         class,
         parted,
         size,
+        load: pairs.load_of(class),
         sum: given.duals.sum_of(class),
         reach,
     }

@@ -113,7 +113,7 @@ pub fn short_marks<R: Threads + Sync, G: Gate>(
     SlackSearch::of(workers.alloc, given)?.all_marks(workers)
 }
 
-/// The same for a wave, its pairs and workers that are handed in one by one: up to so many workers, 1 to 16.
+/// The same for a wave, pairs for its orders and its cart, and workers that are handed in one by one: up to so many workers, 1 to 16.
 pub fn least_slack<R: Threads + Sync, G: Gate>(
     rt: &R,
     alloc: Global,
@@ -125,6 +125,7 @@ pub fn least_slack<R: Threads + Sync, G: Gate>(
     gate: &G,
 ) -> Result<Option<Priced>, Memory>
     requires orders { pairs.now.orders ≡ length wave.now.orders }
+    requires same_cart { pairs.now.cart ≡ wave.now.cart }
     requires count { length duals.now.items ≡ length wave.now.orders }
     requires duals { All (λ dual. dual ≤ greatest_dual) duals.now.items }
     requires through { IfSome through (λ order. order < length wave.now.orders) }

@@ -101,9 +101,14 @@ impl SlackSearch<'_> {
         if capacity < size {
             return None;
         }
+        let load = place.load + item.load;
+        if !self.pairs.carries(load) {
+            return None;
+        }
         Some(Place {
             batch,
             size,
+            load,
             sum: place.sum + item.sum,
             blocked: place.blocked.union(item.parted),
         })
@@ -118,6 +123,7 @@ impl SlackSearch<'_> {
         Place {
             batch: Batch::empty(),
             size: 0,
+            load: 0,
             sum: 0,
             blocked: Batch::empty(),
         }

@@ -11,6 +11,6 @@ mod waves;
 pub use batches::{are_exactly, batch_below, batch_of, has_exactly};
 pub use draws::{Draws, next_state};
 pub use layouts::{Numbers, crossed_layout, layout_of, small_layout};
-pub use pairing::{PairRow, pairs_of};
+pub use pairing::{PairRow, pairs_for, pairs_of};
 pub use picking::{At, add_slot, all_picked, picked, slot_of};
-pub use waves::{Slots, made_wave, order_of, orders_of, wave_in, wave_of};
+pub use waves::{Slots, cart_wave_of, made_wave, order_of, orders_of, wave_in, wave_of, wave_with};

@@ -6,6 +6,7 @@ use crate::picking::{picked, slot_of};
 use std::alloc::Global;
 use wp_batch::Wave;
 use wp_graph::{Layout, Picks};
+use wp_pairs::Cart;
 
 /// Where an order picks: aisles and slots.
 pub type Slots = &'static [(u32, u32)];
@@ -54,6 +55,26 @@ pub fn wave_of(alloc: Global, orders: &[Slots], times: u32) -> Option<Wave> {
     let layout = small_layout(1)?;
     let picks = orders_of(alloc, &layout, orders, times)?;
     wave_in(alloc, layout, &picks)
+}
+
+/// The wave of these orders in the small layout with its depot at the first aisle, and a cart of so many units with what each
+/// order loads.
+pub fn cart_wave_of(alloc: Global, orders: &[Slots], units: u32, loads: &[u32]) -> Option<Wave> {
+    let layout = small_layout(1)?;
+    let picks = orders_of(alloc, &layout, orders, 1)?;
+    let cart = Cart::new(units, loads)?;
+    wave_with(alloc, layout, &picks, cart)
+}
+
+/// The wave of orders that pick in a layout, with a cart that has a load for each of them.
+pub fn wave_with(alloc: Global, layout: Layout, orders: &Vec<Picks>, cart: Cart) -> Option<Wave>
+    requires layout { All (λ picks. picks.layout ≡ layout) orders.now.items }
+    requires filled { All (λ picks. 0 < length picks.points) orders.now.items }
+{
+    if cart.orders() as usize != orders.len() {
+        return None;
+    }
+    Wave::with_cart(alloc, layout, orders, cart).ok()
 }
 
 // The next order: one to three lines.

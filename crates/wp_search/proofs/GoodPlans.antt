@@ -60,15 +60,15 @@ module _ (wave : WavePicks) (capacity : ℕ) (shares : List ℕ) (search : TreeS
       let right : IsBoundOf wave capacity planned.tree.nodes planned.bound = rw (nodes, bounds) tree_right in
       let least = bounds_hold wave capacity planned.tree.nodes planned.bound some right in record {
         sound = record {
-          batching = rw batching (batching_is_put (length wave.orders) capacity search.best.batching is.best.proper.batching);
+          batching = rw batching (batching_is_put wave capacity search.best.batching is.best.proper.batching);
           ascending = rw batching (all_places IsStrictlyIncreasing search.best.batching (λ place low. (is.best.proper.batching.each place low).ascending));
           listed = rw batching is.best.proper.listed;
           cost = rw (batching, costs) is.best.cost;
           bound = right;
           least = no_walks_are_shorter wave capacity planned.bound least;
           below = rw (costs) (least search.best.batching search.best.cost is.best.proper.batching is.best.cost);
-          duals = rw nodes (duals_listed wave (no_pairs (length wave.orders) capacity) (sum shares) search.tree is.right);
-          short = rw nodes (search_short wave (no_pairs (length wave.orders) capacity) (sum shares) search.tree is.right);
+          duals = rw nodes (duals_listed wave (no_pairs wave capacity) (sum shares) search.tree is.right);
+          short = rw nodes (search_short wave (no_pairs wave capacity) (sum shares) search.tree is.right);
         };
         worth = record {
           state = rw (bounds, costs) state;

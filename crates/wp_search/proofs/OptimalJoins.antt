@@ -1,11 +1,13 @@
 -- In a batching that costs least no two batches gain by joining: joined they would cost less.
-use Rattle.std.proofs.Common.{◌≡◌, ℕ, zero, suc, ◌+◌, ◌<◌, ◌≤◌, ◌⊎◌, List, [], ◌∷◌, ◌++◌, length, get_or, arith, refl, ap, sym, subst, inl, inr, ⊎_elim, Contains}
-use Rattle.std.proofs.lemmas.List.Elements.{All-contains, Contains-append_cases, Contains-append_left, Contains-append_right, Contains-get_or}
+use Rattle.std.proofs.Common.{◌≡◌, ℕ, zero, suc, ◌+◌, ◌<◌, ◌⊎◌, List, [], ◌∷◌, ◌++◌, length, arith, refl, ap, sym, subst, inl, inr, ⊎_elim, Contains}
+use Rattle.std.proofs.lemmas.List.Elements.{All-contains, Contains-append_cases, Contains-append_left, Contains-append_right}
+use Rattle.wp_pairs.specs.Batches.{IsBatch}
 use Rattle.wp_pairs.specs.Permitted.{IsPermitted}
 use Rattle.wp_pairs.proofs.Members.{contains_none}
 use Rattle.wp_batch.specs.Batchings.{IsBatching, IsCost, NoJoinGains, batch_at, no_pairs}
 use Rattle.wp_batch.specs.Lengths.{IsLengthOf, batch_picks}
-use Rattle.wp_batch.specs.Waves.{WavePicks}
+use Rattle.wp_batch.specs.Waves.{IsWave, WavePicks}
+use Rattle.wp_batch.proofs.Joining.{permitted_as_one}
 use Rattle.wp_batch.proofs.Unions.{all_from_contained, same_shortest}
 use Rattle.wp_batch.proofs.FewerOrders.{picked_by_more, same_length}
 use Rattle.wp_batch.proofs.OrderSums.{all_of, in_all}
@@ -15,11 +17,11 @@ use Rattle.wp_cert.proofs.AscendingUnions.{IsUnion, union_of}
 -- ---- batches of which no two meet
 
 -- batches that are permitted where there is no pair, and of which no two have an order in common
-abbrev ArePacked : ℕ → ℕ → List (List ℕ) → Type 0
-ArePacked orders capacity [] = Unit {0}
-ArePacked orders capacity (batch ∷ batches) =
-    IsPermitted (no_pairs orders capacity) batch × ((order : ℕ) → Contains batch order → Contains (all_of batches) order → ⊥)
-    × ArePacked orders capacity batches
+abbrev ArePacked : WavePicks → ℕ → List (List ℕ) → Type 0
+ArePacked wave capacity [] = Unit {0}
+ArePacked wave capacity (batch ∷ batches) =
+    IsPermitted (no_pairs wave capacity) batch × ((order : ℕ) → Contains batch order → Contains (all_of batches) order → ⊥)
+    × ArePacked wave capacity batches
 
 -- an order among those of all batches is in one of them
 in_some : (batches : List (List ℕ)) (order : ℕ) → Contains (all_of batches) order
@@ -29,42 +31,42 @@ in_some (batch ∷ batches) order has = ⊎_elim (λ l. (0, omega arith, l))
     (λ r. let at = in_some batches order r in (suc at.0, omega (arith, at.1), at.2)) (Contains-append_cases batch (all_of batches) order has)
 
 -- those of a batching are so
-packed_from : (orders capacity : ℕ) (batches : List (List ℕ)) → ((place : ℕ) → place < length batches → IsPermitted (no_pairs orders capacity)
+packed_from : (wave : WavePicks) (capacity : ℕ) (batches : List (List ℕ)) → ((place : ℕ) → place < length batches → IsPermitted (no_pairs wave capacity)
     (batch_at batches place))
     → ((order left right : ℕ) → left < length batches → right < length batches → Contains (batch_at batches left) order
-    → Contains (batch_at batches right) order → left ≡ right) → ArePacked orders capacity batches
-packed_from orders capacity [] each once = tt
-packed_from orders capacity (batch ∷ batches) each once = (
+    → Contains (batch_at batches right) order → left ≡ right) → ArePacked wave capacity batches
+packed_from wave capacity [] each once = tt
+packed_from wave capacity (batch ∷ batches) each once = (
   each zero (omega arith),
   λ order has later. let at = in_some batches order later in
       let e : zero ≡ suc at.0 = once order zero (suc at.0) (omega arith) (omega (arith, at.1)) has at.2 in omega (arith, e),
-  packed_from orders capacity batches (λ place within. each (suc place) (omega arith))
+  packed_from wave capacity batches (λ place within. each (suc place) (omega arith))
       (λ order left right l r has has_too. let e : suc left ≡ suc right = once order (suc left) (suc right) (omega arith) (omega arith) has has_too in
       omega (arith, e)),
 )
 
-each_packed : (orders capacity : ℕ) (batches : List (List ℕ)) → ArePacked orders capacity batches → (place : ℕ) → place < length batches
-    → IsPermitted (no_pairs orders capacity) (batch_at batches place)
-each_packed orders capacity [] packed place within = absurd (omega arith)
-each_packed orders capacity (batch ∷ batches) packed zero within = packed.0
-each_packed orders capacity (batch ∷ batches) packed (suc place) within = each_packed orders capacity batches packed.2 place (omega arith)
+each_packed : (wave : WavePicks) (capacity : ℕ) (batches : List (List ℕ)) → ArePacked wave capacity batches → (place : ℕ) → place < length batches
+    → IsPermitted (no_pairs wave capacity) (batch_at batches place)
+each_packed wave capacity [] packed place within = absurd (omega arith)
+each_packed wave capacity (batch ∷ batches) packed zero within = packed.0
+each_packed wave capacity (batch ∷ batches) packed (suc place) within = each_packed wave capacity batches packed.2 place (omega arith)
 
-once_packed : (orders capacity : ℕ) (batches : List (List ℕ)) → ArePacked orders capacity batches → (order left right : ℕ) → left < length batches
+once_packed : (wave : WavePicks) (capacity : ℕ) (batches : List (List ℕ)) → ArePacked wave capacity batches → (order left right : ℕ) → left < length batches
     → right < length batches → Contains (batch_at batches left) order → Contains (batch_at batches right) order → left ≡ right
-once_packed orders capacity [] packed order left right l r has has_too = absurd (omega arith)
-once_packed orders capacity (batch ∷ batches) packed order zero zero l r has has_too = refl
-once_packed orders capacity (batch ∷ batches) packed order zero (suc right) l r has has_too =
+once_packed wave capacity [] packed order left right l r has has_too = absurd (omega arith)
+once_packed wave capacity (batch ∷ batches) packed order zero zero l r has has_too = refl
+once_packed wave capacity (batch ∷ batches) packed order zero (suc right) l r has has_too =
     absurd (packed.1 order has (in_all batches right order (omega arith) has_too))
-once_packed orders capacity (batch ∷ batches) packed order (suc left) zero l r has has_too =
+once_packed wave capacity (batch ∷ batches) packed order (suc left) zero l r has has_too =
     absurd (packed.1 order has_too (in_all batches left order (omega arith) has))
-once_packed orders capacity (batch ∷ batches) packed order (suc left) (suc right) l r has has_too =
-    ap suc (once_packed orders capacity batches packed.2 order left right (omega arith) (omega arith) has has_too)
+once_packed wave capacity (batch ∷ batches) packed order (suc left) (suc right) l r has has_too =
+    ap suc (once_packed wave capacity batches packed.2 order left right (omega arith) (omega arith) has has_too)
 
 -- ---- a batch taken out
 
 -- batches without the one at a place
-record IsTakenOut (wave : WavePicks) (orders capacity : ℕ) (batches : List (List ℕ)) (place : ℕ) (rest : List (List ℕ)) : Type 0 where
-  packed : ArePacked orders capacity rest
+record IsTakenOut (wave : WavePicks) (capacity : ℕ) (batches : List (List ℕ)) (place : ℕ) (rest : List (List ℕ)) : Type 0 where
+  packed : ArePacked wave capacity rest
   apart : (order : ℕ) → Contains (batch_at batches place) order → Contains (all_of rest) order → ⊥
   covers : (order : ℕ) → Contains (all_of batches) order → Contains (batch_at batches place) order ⊎ Contains (all_of rest) order
   within : (order : ℕ) → Contains (all_of rest) order → Contains (all_of batches) order
@@ -72,10 +74,10 @@ record IsTakenOut (wave : WavePicks) (orders capacity : ℕ) (batches : List (Li
   costs : (cost : ℕ) → IsCost wave batches cost
       → (first : ℕ) × (others : ℕ) × IsLengthOf wave (batch_at batches place) first × IsCost wave rest others × (cost ≡ first + others)
 
-take_out : (wave : WavePicks) (orders capacity : ℕ) (batches : List (List ℕ)) (place : ℕ) → place < length batches → ArePacked orders capacity batches
-    → (rest : List (List ℕ)) × IsTakenOut wave orders capacity batches place rest
-take_out wave orders capacity [] place low packed = absurd (omega arith)
-take_out wave orders capacity (batch ∷ batches) zero low packed = (
+take_out : (wave : WavePicks) (capacity : ℕ) (batches : List (List ℕ)) (place : ℕ) → place < length batches → ArePacked wave capacity batches
+    → (rest : List (List ℕ)) × IsTakenOut wave capacity batches place rest
+take_out wave capacity [] place low packed = absurd (omega arith)
+take_out wave capacity (batch ∷ batches) zero low packed = (
   batches,
   record {
     packed = packed.2;
@@ -86,8 +88,8 @@ take_out wave orders capacity (batch ∷ batches) zero low packed = (
     costs = λ cost is. (is.0, is.1, is.2, is.3, is.4);
   },
 )
-take_out wave orders capacity (batch ∷ batches) (suc place) low packed =
-    let out = take_out wave orders capacity batches place (omega arith) packed.2 in
+take_out wave capacity (batch ∷ batches) (suc place) low packed =
+    let out = take_out wave capacity batches place (omega arith) packed.2 in
     let rest = out.0 in
     let t = out.1 in (
       batch ∷ rest,
@@ -113,22 +115,6 @@ take_out wave orders capacity (batch ∷ batches) (suc place) low packed =
 
 -- ---- the batching with two batches joined
 
--- a batch of the orders of two batches that fit into one is permitted
-union_permitted : (orders capacity : ℕ) (left right union : List ℕ) → IsPermitted (no_pairs orders capacity) left
-    → IsPermitted (no_pairs orders capacity) right → IsUnion left right union → length left + length right ≤ capacity
-    → IsPermitted (no_pairs orders capacity) union
-union_permitted orders capacity left right union one other is fits =
-    let first = (is.both (get_or left 0 0)).1 (inl (Contains-get_or left 0 0 one.filled)) in record {
-      ascending = is.ascending;
-      filled = omega (arith, first.1);
-      fits = omega (arith, is.count, fits);
-      known = all_from_contained (λ (order : ℕ). order < orders) union (λ order has. ⊎_elim
-          (λ l. All-contains (λ (o : ℕ). o < orders) left order one.known l)
-          (λ r. All-contains (λ (o : ℕ). o < orders) right order other.known r) ((is.both order).0 has));
-      together = λ pair added kind. absurd (omega (arith, added.1));
-      apart = λ pair added kind both. omega (arith, added.1);
-    }
-
 -- a union is as long as both batches one after the other
 union_length : (wave : WavePicks) (left right union : List ℕ) (total : ℕ) → IsUnion left right union → IsLengthOf wave (left ++ right) total
     → IsLengthOf wave union total
@@ -141,17 +127,16 @@ union_length wave left right union total is long =
     )) long
 
 -- in a batching that costs least no two batches gain by joining
-pub optimal_joins : (wave : WavePicks) (capacity : ℕ) (batches : List (List ℕ)) (cost : ℕ) → IsBatching (length wave.orders) capacity batches
+pub optimal_joins : (wave : WavePicks) (capacity : ℕ) (batches : List (List ℕ)) (cost : ℕ) → IsWave wave → IsBatching wave capacity batches
     → IsCost wave batches cost → NoBatchingCostsLess wave capacity cost → NoJoinGains wave capacity batches
-optimal_joins wave capacity batches cost is costs least = λ i j lt within fits one other both long_left long_right long_both.
-    let orders = length wave.orders in
+optimal_joins wave capacity batches cost valid is costs least = λ i j lt within fits one other both long_left long_right long_both.
     let left = batch_at batches i in
     let right = batch_at batches j in
     let early : i < length batches = omega (arith, lt, within) in
-    let out = take_out wave orders capacity batches j within (packed_from orders capacity batches is.each is.once) in
+    let out = take_out wave capacity batches j within (packed_from wave capacity batches is.each is.once) in
     let o = out.1 in
     let kept = o.kept i lt in
-    let twice = take_out wave orders capacity out.0 i kept.0 o.packed in
+    let twice = take_out wave capacity out.0 i kept.0 o.packed in
     let t = twice.1 in
     let rest = twice.0 in
     let in_left = λ (order : ℕ) (has : Contains (batch_at out.0 i) order). subst (λ (xs : List ℕ). Contains xs order) kept.1 has in
@@ -159,19 +144,26 @@ optimal_joins wave capacity batches cost is costs least = λ i j lt within fits 
     let joined = union_of left right (is.each i early).ascending (is.each j within).ascending in
     let union = joined.0 in
     let u = joined.1 in
-    let packed : ArePacked orders capacity (union ∷ rest) = (
-      union_permitted orders capacity left right union (is.each i early) (is.each j within) u fits,
+    let is_batch : IsBatch union = record {
+      ascending = u.ascending;
+      below = all_from_contained (λ (order : ℕ). order < 64) union (λ order has. let low = ⊎_elim
+          (λ l. All-contains (λ (o : ℕ). o < length wave.orders) left order (is.each i early).known l)
+          (λ r. All-contains (λ (o : ℕ). o < length wave.orders) right order (is.each j within).known r) ((u.both order).0 has) in
+          omega (arith, low, valid.most));
+    } in
+    let packed : ArePacked wave capacity (union ∷ rest) = (
+      (permitted_as_one wave capacity batches i j union is lt within is_batch u.both).0 fits,
       λ order has later. ⊎_elim (λ l. t.apart order (of_left order l) later) (λ r. o.apart order r (t.within order later)) ((u.both order).0 has),
       t.packed,
     ) in
-    let covers = λ (order : ℕ) (low : order < orders). let at = is.covered order low in
+    let covers = λ (order : ℕ) (low : order < length wave.orders). let at = is.covered order low in
     in_some (union ∷ rest) order (⊎_elim (λ r. Contains-append_left union (all_of rest) order ((u.both order).1 (inr r)))
     (λ others. ⊎_elim (λ l. Contains-append_left union (all_of rest) order ((u.both order).1 (inl (in_left order l))))
     (λ later. Contains-append_right union (all_of rest) order later) (t.covers order others)) (o.covers order (in_all batches at.0 order at.1 at.2))) in
-    let batching : IsBatching orders capacity (union ∷ rest) = record {
-      each = each_packed orders capacity (union ∷ rest) packed;
+    let batching : IsBatching wave capacity (union ∷ rest) = record {
+      each = each_packed wave capacity (union ∷ rest) packed;
       covered = covers;
-      once = once_packed orders capacity (union ∷ rest) packed;
+      once = once_packed wave capacity (union ∷ rest) packed;
     } in
     let first = o.costs cost costs in
     let second = t.costs first.1 first.3 in

@@ -1,5 +1,5 @@
 -- How many nodes of a right tree have duals of their own: fewer than a power of two, and so a budget that is large enough pays for all of them.
-use Rattle.std.proofs.Common.{◌≡◌, ℕ, zero, suc, ◌+◌, ◌-◌, ◌*◌, ◌/◌, ◌^◌, ◌<◌, ◌≤◌, Bool, true, false, cond, List, [], ◌∷◌, ◌++◌, length, arith, ap}
+use Rattle.std.proofs.Common.{◌≡◌, ℕ, zero, suc, ◌+◌, ◌-◌, ◌*◌, ◌/◌, ◌^◌, ◌<◌, ◌≤◌, Bool, true, false, cond, List, [], ◌∷◌, ◌++◌, length, arith, ap, refl, subst}
 use Rattle.std.proofs.Common.{length-append, mul-le-mul_right}
 use Rattle.std.specs.Prelude.{Option, Some, None}
 use Rattle.std.proofs.Math.Nat.{two-pow-succ}
@@ -9,7 +9,7 @@ use Rattle.wp_pairs.specs.declared.pair.OrderPair.{OrderPair}
 use Rattle.wp_pairs.specs.Permitted.{AreUndecided, Pairing}
 use Rattle.wp_batch.specs.Batchings.{no_pairs}
 use Rattle.wp_batch.specs.Waves.{WavePicks}
-use Rattle.wp_cert.specs.Paths.{IsPath}
+use Rattle.wp_cert.specs.Paths.{IsPath, pairing_of}
 use Rattle.wp_cert.specs.Trees.{IsBoundOf, IsRight, dead, kept, leaf, split, with_pair}
 use Rattle.wp_cert.specs.declared.tree.Node.{Node}
 use Rattle.wp_cert.specs.declared.tree.Node.TheVariants as node
@@ -26,32 +26,43 @@ own_first here rest = sum_by-cons (λ (n : Node). cond (has_own n) 1 0) here res
 pub own_both : (before behind : List Node) → own_nodes (before ++ behind) ≡ own_nodes before + own_nodes behind
 own_both before behind = sum_by-append (λ (n : Node). cond (has_own n) 1 0) before behind
 
--- so many pairs can still be added to a path
-pub record HasLeft (pairing : Pairing) (left : ℕ) : Type 0 where
-  pub path : IsPath pairing.orders pairing.capacity pairing.pairs
-  pub all : length pairing.pairs + left ≡ pairing.orders * (pairing.orders - 1) / 2
+-- the pairs of a wave with those of a path, to which so many can still be added
+pub record HasLeft (wave : WavePicks) (pairing : Pairing) (left : ℕ) : Type 0 where
+  pub capacity : ℕ
+  pub is : pairing ≡ pairing_of wave capacity pairing.pairs
+  pub path : IsPath wave capacity pairing.pairs
+  pub all : length pairing.pairs + left ≡ length wave.orders * (length wave.orders - 1) / 2
 
 -- at the root no pair was added
-pub root_left : (orders capacity : ℕ) → HasLeft (no_pairs orders capacity) (orders * (orders - 1) / 2)
-root_left orders capacity = record { path = empty_path orders capacity; all = omega arith }
+pub root_left : (wave : WavePicks) (capacity : ℕ) → HasLeft wave (no_pairs wave capacity) (length wave.orders * (length wave.orders - 1) / 2)
+root_left wave capacity = record { capacity = capacity; is = refl; path = empty_path wave capacity; all = omega arith }
+
+-- an undecided pair makes the path longer
+longer : (wave : WavePicks) (pairing : Pairing) (first second left : ℕ) (together : Bool) (has : HasLeft wave pairing left)
+    → AreUndecided pairing first second → IsPath wave has.capacity (with_pair pairing first second together).pairs
+longer wave pairing first second left together has undecided =
+    longer_path wave has.capacity pairing.pairs first second together has.path
+    (subst (λ (p : Pairing). AreUndecided p first second) has.is undecided)
 
 -- a path to which an undecided pair is added has one left before
-none_left : (pairing : Pairing) (first second : ℕ) → HasLeft pairing 0 → AreUndecided pairing first second → ⊥
-none_left pairing first second has undecided =
+none_left : (wave : WavePicks) (pairing : Pairing) (first second : ℕ) → HasLeft wave pairing 0 → AreUndecided pairing first second → ⊥
+none_left wave pairing first second has undecided =
     let new : OrderPair = record { first = first; second = second; together = true } in
-    let longer = paths_are_short pairing.orders pairing.capacity (pairing.pairs ++ new ∷ []) (longer_path pairing first second true has.path undecided) in
-    omega (arith, longer, has.all, length-append pairing.pairs (new ∷ []))
+    let short = paths_are_short wave has.capacity (pairing.pairs ++ new ∷ []) (longer wave pairing first second 0 true has undecided) in
+    omega (arith, short, has.all, length-append pairing.pairs (new ∷ []))
 
-one_less : (pairing : Pairing) (first second left : ℕ) (together : Bool) → HasLeft pairing (suc left) → AreUndecided pairing first second
-    → HasLeft (with_pair pairing first second together) left
-one_less pairing first second left together has undecided =
+one_less : (wave : WavePicks) (pairing : Pairing) (first second left : ℕ) (together : Bool) → HasLeft wave pairing (suc left)
+    → AreUndecided pairing first second → HasLeft wave (with_pair pairing first second together) left
+one_less wave pairing first second left together has undecided =
     let new : OrderPair = record { first = first; second = second; together = together } in record {
-      path = longer_path pairing first second together has.path undecided;
+      capacity = has.capacity;
+      is = ap (λ (p : Pairing). with_pair p first second together) has.is;
+      path = longer wave pairing first second (suc left) together has undecided;
       all = omega (arith, has.all, length-append pairing.pairs (new ∷ []));
     }
 
 -- a right tree has fewer nodes with duals of their own than this power of two
-pub few_own : (wave : WavePicks) (pairing : Pairing) (above left : ℕ) (nodes rest : List Node) (bound : Option ℕ) → HasLeft pairing left
+pub few_own : (wave : WavePicks) (pairing : Pairing) (above left : ℕ) (nodes rest : List Node) (bound : Option ℕ) → HasLeft wave pairing left
     → IsRight wave pairing above nodes rest bound → own_nodes nodes + 1 ≤ own_nodes rest + 2 ^ (left + 1)
 few_own wave pairing above left _ rest _ has kept = omega (arith, own_first (node.Leaf None) rest, pow_pos (left + 1))
 few_own wave pairing above left _ rest _ has (leaf {own} right) =
@@ -59,10 +70,10 @@ few_own wave pairing above left _ rest _ has (leaf {own} right) =
     omega (arith, own_first (node.Leaf (Some own)) rest, ap (λ (k : ℕ). 2 ^ k) e, two-pow-succ left, pow_pos left)
 few_own wave pairing above left _ rest _ has (dead {order} is_dead) = omega (arith, own_first (node.Dead order) rest, pow_pos (left + 1))
 few_own wave pairing above zero _ rest _ has (split {first} {second} {own} {nodes} {between} {left} {right} own_right parted l r) =
-    absurd (none_left pairing first second has parted)
+    absurd (none_left wave pairing first second has parted)
 few_own wave pairing above (suc less) _ rest _ has (split {first} {second} {own} {nodes} {between} {left} {right} own_right parted l r) =
-    let one = few_own wave (with_pair pairing first second true) _ less nodes between left (one_less pairing first second less true has parted) l in
-    let other = few_own wave (with_pair pairing first second false) _ less between rest right (one_less pairing first second less false has parted) r in
+    let one = few_own wave (with_pair pairing first second true) _ less nodes between left (one_less wave pairing first second less true has parted) l in
+    let other = few_own wave (with_pair pairing first second false) _ less between rest right (one_less wave pairing first second less false has parted) r in
     let e : suc less + 1 ≡ suc (less + 1) = omega arith in
     omega (
       arith,
@@ -78,7 +89,7 @@ pub few_own_in_all : (wave : WavePicks) (capacity : ℕ) (nodes : List Node) (bo
     → own_nodes nodes + 1 ≤ 2 ^ (length wave.orders * (length wave.orders - 1) / 2 + 1)
 few_own_in_all wave capacity nodes bound right =
     let orders = length wave.orders in
-    let few = few_own wave (no_pairs orders capacity) right.0 (orders * (orders - 1) / 2) nodes [] (Some bound) (root_left orders capacity) right.2 in
+    let few = few_own wave (no_pairs wave capacity) right.0 (orders * (orders - 1) / 2) nodes [] (Some bound) (root_left wave capacity) right.2 in
     omega (arith, few)
 
 -- a full budget isn't spent: where less than the price of a node is left after a right tree, the budget isn't full

@@ -12,6 +12,7 @@ use Rattle.wp_pairs.specs.declared.pair.OrderPair.{OrderPair}
 use Rattle.wp_pairs.specs.Kept.{number_of, pairs_of}
 use Rattle.wp_pairs.specs.Permitted.{AreDecided}
 use Rattle.wp_pairs.proofs.PairNumbers.{added_decided}
+use Rattle.wp_batch.specs.Waves.{WavePicks}
 use Rattle.wp_cert.specs.Paths.{IsPath}
 
 -- the pairs with a lower second order come before
@@ -46,7 +47,7 @@ pairs_are (suc n) =
     let twice : 2 * pairs_of (suc n) ≡ suc n * n = omega (arith, twice_pairs (suc n)) in
     sym (mul-div_cancel_left (pairs_of (suc n)) (omega arith)) ∙ ap (λ (k : ℕ). k / 2) (twice ∙ ap (λ (k : ℕ). suc n * k) back)
 
-module _ (orders capacity : ℕ) (pairs : List OrderPair) (path : IsPath orders capacity pairs) where
+module _ (wave : WavePicks) (capacity : ℕ) (pairs : List OrderPair) (path : IsPath wave capacity pairs) where
   -- no two pairs of a path have one number
   numbers_differ : (i j : ℕ) (d : OrderPair) → i < j → j < length pairs → number_of (get_or pairs i d) ≡ number_of (get_or pairs j d) → ⊥
   numbers_differ i j d lt within e =
@@ -71,17 +72,17 @@ module _ (orders capacity : ℕ) (pairs : List OrderPair) (path : IsPath orders 
       let right = get_or-map number_of pairs j blank d (omega (arith, within, count)) in
       ne_eqb _ _ (λ e. numbers_differ i j blank lt (omega (arith, within, count)) (sym left ∙ (e ∙ right))))
 
-  number_below : (n : ℕ) → Contains (map number_of pairs) n → n < pairs_of orders
+  number_below : (n : ℕ) → Contains (map number_of pairs) n → n < pairs_of (length wave.orders)
   number_below n has =
       let blank : OrderPair = record { first = 0; second = 0; together = true } in
       let count = length-map pairs number_of in
       let is = path.each has.0 blank (omega (arith, has.1, count)) in
       let named = get_or-map number_of pairs has.0 blank n (omega (arith, has.1, count)) in
-      omega (arith, pairs_below (get_or pairs has.0 blank).second orders is.known, is.order, named, has.2)
+      omega (arith, pairs_below (get_or pairs has.0 blank).second (length wave.orders) is.known, is.order, named, has.2)
 
   -- a path is no longer than that
-  pub paths_are_short : length pairs ≤ orders * (orders - 1) / 2
+  pub paths_are_short : length pairs ≤ length wave.orders * (length wave.orders - 1) / 2
   paths_are_short =
-      let most = length-le_from_distinct_below (map number_of pairs) (pairs_of orders) distinct
+      let most = length-le_from_distinct_below (map number_of pairs) (pairs_of (length wave.orders)) distinct
       (λ q found. number_below q (Contains-from_any {eq = eqb} (λ x y same. eqb-true x y same) q (map number_of pairs) found)) in
-      omega (arith, most, length-map pairs number_of, pairs_are orders)
+      omega (arith, most, length-map pairs number_of, pairs_are (length wave.orders))

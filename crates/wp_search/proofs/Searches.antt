@@ -9,7 +9,7 @@ use Rattle.std.specs.Prelude.{◌&&◌, All, IsTrue, Option, Some, None, IsSome,
 use Rattle.wp_model.proofs.Sums.{term-le-sum}
 use Rattle.wp_pairs.specs.Permitted.{Pairing}
 use Rattle.wp_batch.specs.Batchings.{no_pairs}
-use Rattle.wp_batch.specs.Waves.{WavePicks}
+use Rattle.wp_batch.specs.Waves.{IsWave, WavePicks}
 use Rattle.wp_cert.specs.Text.{is_node_within}
 use Rattle.wp_cert.specs.TextData.{HaveDualsWithin}
 use Rattle.wp_cert.specs.Trees.{IsBoundOf, IsRight, dead, kept, leaf, lower_of, split, with_pair}
@@ -144,22 +144,22 @@ price_above orders capacity = omega (
 
 -- the tree of a search is right, and has this bound
 pub search_bound : (wave : WavePicks) (capacity bound : ℕ) (shares : List ℕ) (branch : Branch) → AreShares wave capacity shares
-    → IsBranch wave (no_pairs (length wave.orders) capacity) (sum shares) branch → bound_of (units_of (sum shares)) branch ≡ Some bound
+    → IsBranch wave (no_pairs wave capacity) (sum shares) branch → bound_of (units_of (sum shares)) branch ≡ Some bound
     → IsBoundOf wave capacity (nodes_of branch) bound
 search_bound wave capacity bound shares branch are is at = (
   sum shares,
   (shares, are, refl),
-  subst (λ (b : Option ℕ). IsRight wave (no_pairs (length wave.orders) capacity) (sum shares) (nodes_of branch) [] b) at
-      (subst (λ (nodes : List Node). IsRight wave (no_pairs (length wave.orders) capacity) (sum shares) nodes [] (bound_of (units_of (sum shares)) branch))
-      (append-nil (nodes_of branch)) (right_nodes wave (no_pairs (length wave.orders) capacity) (sum shares) branch is [])),
+  subst (λ (b : Option ℕ). IsRight wave (no_pairs wave capacity) (sum shares) (nodes_of branch) [] b) at
+      (subst (λ (nodes : List Node). IsRight wave (no_pairs wave capacity) (sum shares) nodes [] (bound_of (units_of (sum shares)) branch))
+      (append-nil (nodes_of branch)) (right_nodes wave (no_pairs wave capacity) (sum shares) branch is [])),
 )
 
 -- so it has a bound
-pub search_has_bound : (wave : WavePicks) (capacity shares : ℕ) (branch : Branch) → 1 ≤ capacity
-    → IsBranch wave (no_pairs (length wave.orders) capacity) shares branch → IsSome (bound_of (units_of shares) branch)
-search_has_bound wave capacity shares branch some is =
-    is_some (bound_of (units_of shares) branch) (right_has_bound wave (length wave.orders) capacity shares (nodes_of branch ++ []) []
-    (bound_of (units_of shares) branch) some (right_nodes wave (no_pairs (length wave.orders) capacity) shares branch is []))
+pub search_has_bound : (wave : WavePicks) (capacity shares : ℕ) (branch : Branch) → IsWave wave → 1 ≤ capacity
+    → IsBranch wave (no_pairs wave capacity) shares branch → IsSome (bound_of (units_of shares) branch)
+search_has_bound wave capacity shares branch valid some is =
+    is_some (bound_of (units_of shares) branch) (right_has_bound wave capacity shares (nodes_of branch ++ []) []
+    (bound_of (units_of shares) branch) valid some (right_nodes wave (no_pairs wave capacity) shares branch is []))
   where
     is_some : (bound : Option ℕ) → IsThere bound → IsSome bound
     is_some None there = absurd there
@@ -191,7 +191,7 @@ cost_reached wave capacity bound shares search some are is at low =
 
 module _ (wave : WavePicks) (capacity shares bound : ℕ) (pays : Bool) (before : TreeSearch) (tree : Branch) (turn : LeafTurn) (is : IsSearch wave capacity shares before)
     (at : bound_of (units_of shares) before.tree ≡ Some bound)
-    (turned : IsTurned wave (no_pairs (length wave.orders) capacity) shares pays bound before.tree tree turn) where
+    (turned : IsTurned wave (no_pairs wave capacity) shares pays bound before.tree tree turn) where
   cuts_after : (new : ℕ) → bound_of (units_of shares) tree ≡ Some new → AreCutsWithin new tree
   cuts_after new is_new =
       let up : bound ≤ new = rw (at, is_new) at turned.risen in
@@ -278,13 +278,13 @@ module _ (wave : WavePicks) (capacity shares bound : ℕ) (pays : Bool) (before 
       }
 
 -- a batching that costs the bound of a search's tree gains by no join
-pub settled_proper : (wave : WavePicks) (capacity bound : ℕ) (shares : List ℕ) (tree : Branch) (batching : List (List ℕ)) → 1 ≤ capacity
-    → AreShares wave capacity shares → IsBranch wave (no_pairs (length wave.orders) capacity) (sum shares) tree
+pub settled_proper : (wave : WavePicks) (capacity bound : ℕ) (shares : List ℕ) (tree : Branch) (batching : List (List ℕ)) → IsWave wave → 1 ≤ capacity
+    → AreShares wave capacity shares → IsBranch wave (no_pairs wave capacity) (sum shares) tree
     → bound_of (units_of (sum shares)) tree ≡ Some bound → IsSettled wave capacity bound batching → IsProper wave capacity batching
-settled_proper wave capacity bound shares tree batching some are is at settled = record {
+settled_proper wave capacity bound shares tree batching valid some are is at settled = record {
   batching = settled.batching;
   listed = settled.listed;
-  joined = optimal_joins wave capacity batching bound settled.batching settled.cost
+  joined = optimal_joins wave capacity batching bound valid settled.batching settled.cost
       (bounds_hold wave capacity (nodes_of tree) bound some (search_bound wave capacity bound shares tree are is at));
 }
 

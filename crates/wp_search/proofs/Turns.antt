@@ -24,11 +24,12 @@ use Rattle.wp_node.proofs.Owns.{right_below}
 
 -- what is permitted with a further pair is permitted without it
 pub permitted_before : (pairing : Pairing) (new : OrderPair) (batch : List ℕ)
-    → IsPermitted (record { orders = pairing.orders; capacity = pairing.capacity; pairs = pairing.pairs ++ new ∷ [] }) batch → IsPermitted pairing batch
+    → IsPermitted (record { orders = pairing.orders; capacity = pairing.capacity; cart = pairing.cart; pairs = pairing.pairs ++ new ∷ [] }) batch → IsPermitted pairing batch
 permitted_before pairing new batch p = record {
   ascending = p.ascending;
   filled = p.filled;
   fits = p.fits;
+  light = p.light;
   known = p.known;
   together = λ pair has. p.together pair (Contains-append_left pairing.pairs (new ∷ []) pair has);
   apart = λ pair has. p.apart pair (Contains-append_left pairing.pairs (new ∷ []) pair has);
@@ -36,13 +37,13 @@ permitted_before pairing new batch p = record {
 
 -- so duals that are feasible without it are feasible with it
 pub feasible_below : (wave : WavePicks) (pairing : Pairing) (new : OrderPair) (duals : List ℕ) → AreFeasible wave pairing duals
-    → AreFeasible wave (record { orders = pairing.orders; capacity = pairing.capacity; pairs = pairing.pairs ++ new ∷ [] }) duals
+    → AreFeasible wave (record { orders = pairing.orders; capacity = pairing.capacity; cart = pairing.cart; pairs = pairing.pairs ++ new ∷ [] }) duals
 feasible_below wave pairing new duals feasible = λ batch total permitted long. feasible batch total (permitted_before pairing new batch permitted) long
 
 -- and so they may stand above a node below it
 pub feasible_duals_below : (wave : WavePicks) (pairing : Pairing) (new : OrderPair) (duals : List ℕ) → length duals ≡ length wave.orders
     → AreFeasible wave pairing duals
-    → AreFeasibleDuals wave (record { orders = pairing.orders; capacity = pairing.capacity; pairs = pairing.pairs ++ new ∷ [] }) duals
+    → AreFeasibleDuals wave (record { orders = pairing.orders; capacity = pairing.capacity; cart = pairing.cart; pairs = pairing.pairs ++ new ∷ [] }) duals
 feasible_duals_below wave pairing new duals count feasible = record { count = count; feasible = feasible_below wave pairing new duals feasible }
 
 -- what a node has of its own is right below less

@@ -1,5 +1,5 @@
 -- Subtrees of the search: their nodes, their bounds, and what holds of them.
-use Rattle.std.specs.Prelude.{◌≡◌, ℕ, ◌+◌, ◌≤◌, ⊤, true, false, List, [], ◌∷◌, ◌++◌, Option, Some, None, length, reverse, sum}
+use Rattle.std.specs.Prelude.{◌≡◌, ℕ, ◌+◌, ◌≤◌, ⊤, true, false, List, [], ◌∷◌, ◌++◌, Option, Some, None, reverse, sum}
 use Rattle.std.specs.List.{flat_map}
 use Rattle.wp_pairs.specs.Permitted.{AreUndecided, IsDead, Pairing}
 use Rattle.wp_batch.specs.Waves.{WavePicks}

@@ -6,7 +6,7 @@ use Rattle.wp_batch.specs.Batchings.{IsCost, IsListedByLeast, NoJoinGains, no_pa
 use Rattle.wp_batch.specs.Waves.{WavePicks}
 use Rattle.wp_cert.specs.TextData.{HaveDualsWithin}
 use Rattle.wp_cert.specs.Trees.{IsBoundOf, with_pair}
-use Rattle.wp_cert.specs.Walks.{ArePutIntoBatches, NoWalksAreShorter, order_points}
+use Rattle.wp_cert.specs.Walks.{ArePutIntoBatches, NoWalksAreShorter}
 use Rattle.wp_cert.specs.declared.tree.Node.{Node}
 use Rattle.wp_cert.specs.declared.tree.Node.TheVariants as node
 use Rattle.wp_cert.specs.declared.tree.Own.{Own}
@@ -37,18 +37,18 @@ pub data HasShortMarks (wave : WavePicks) : Pairing → List Node → List Node 
 -- What a plan of a wave for a capacity shows.
 pub record IsSoundPlan (wave : WavePicks) (capacity : ℕ) (planned : Planned) : Type 0 where
   -- the wave's orders are put into batches within the capacity; each batch has its orders in ascending order, and the batches are listed by their least orders
-  pub batching : ArePutIntoBatches (length wave.orders) capacity planned.batching
+  pub batching : ArePutIntoBatches wave capacity planned.batching
   pub ascending : All IsStrictlyIncreasing planned.batching
   pub listed : IsListedByLeast planned.batching
   -- it costs so much
   pub cost : IsCost wave planned.batching planned.cost
   -- the tree is right and has this bound, so however the wave is put into batches within the capacity, carts walk no less, nor does this batching cost less
   pub bound : IsBoundOf wave capacity planned.tree.nodes planned.bound
-  pub least : NoWalksAreShorter wave.layout (order_points wave) capacity planned.bound
+  pub least : NoWalksAreShorter wave capacity planned.bound
   pub below : planned.bound ≤ planned.cost
   -- its duals are within their range, and its marks are the short ones
   pub duals : HaveDualsWithin planned.tree.nodes
-  pub short : HasShortMarks wave (no_pairs (length wave.orders) capacity) planned.tree.nodes []
+  pub short : HasShortMarks wave (no_pairs wave capacity) planned.tree.nodes []
 
 -- What a budget buys for a plan.
 pub record IsWorthItsBudget (wave : WavePicks) (capacity budget : ℕ) (planned : Planned) : Type 0 where

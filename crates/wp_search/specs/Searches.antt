@@ -22,7 +22,7 @@ KeepsBest before after = (after ≡ before) ⊎ (after.cost < before.cost)
 -- its own, and no more than its budget; and each node that is split has a bound that the tree's isn't below.
 pub record IsSearch (wave : WavePicks) (capacity shares : ℕ) (search : TreeSearch) : Type 0 where
   pub best : IsBest wave capacity search.best
-  pub right : IsBranch wave (no_pairs (length wave.orders) capacity) shares search.tree
+  pub right : IsBranch wave (no_pairs wave capacity) shares search.tree
   pub paid : search.spent ≡ own_count search.tree * price (length wave.orders) capacity
   pub within : search.spent ≤ search.budget
   pub cuts : (bound : ℕ) → bound_of (units_of shares) search.tree ≡ Some bound → AreCutsWithin bound search.tree

@@ -1,5 +1,5 @@
 -- Turns of the search: what one does to a subtree, and to the tree.
-use Rattle.std.specs.Prelude.{◌≡◌, ℕ, ◌+◌, ◌≤◌, ⊤, Bool, true, false, List, Option, Some, None, length}
+use Rattle.std.specs.Prelude.{◌≡◌, ℕ, ◌+◌, ◌≤◌, ⊤, Bool, true, false, List, Option, Some, None}
 use Rattle.wp_pairs.specs.Permitted.{Pairing}
 use Rattle.wp_batch.specs.Batchings.{IsBatching, IsCost, IsListedByLeast, NoJoinGains}
 use Rattle.wp_batch.specs.Waves.{WavePicks}
@@ -18,7 +18,7 @@ IsNoLower (Some before) (Some after) = before ≤ after
 
 -- a batching of the wave within the capacity, listed by the least orders, in which no two batches gain by joining
 pub record IsProper (wave : WavePicks) (capacity : ℕ) (batches : List (List ℕ)) : Type 0 where
-  pub batching : IsBatching (length wave.orders) capacity batches
+  pub batching : IsBatching wave capacity batches
   pub listed : IsListedByLeast batches
   pub joined : NoJoinGains wave capacity batches
 
@@ -29,7 +29,7 @@ IsFound wave capacity (Some batches) = IsProper wave capacity batches
 
 -- a batching whose cost is this
 pub record IsSettled (wave : WavePicks) (capacity total : ℕ) (batches : List (List ℕ)) : Type 0 where
-  pub batching : IsBatching (length wave.orders) capacity batches
+  pub batching : IsBatching wave capacity batches
   pub listed : IsListedByLeast batches
   pub cost : IsCost wave batches total
 

@@ -5,7 +5,7 @@ use wp_batch::{Batching, Wave};
 
 /// What a batching of a wave within a capacity costs: the sum of the lengths of its batches, below 2 ^ 60 units.
 pub fn cost_of(wave: &Wave, capacity: u32, batching: &Batching) -> u64
-    requires { IsBatching (length wave.now.orders) capacity batching.now }
+    requires { IsBatching wave.now capacity batching.now }
     ensures { IsCost wave.now batching.now result }
 {
     let mut cost: u64 = 0;

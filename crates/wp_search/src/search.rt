@@ -48,9 +48,9 @@ fn turn_at_root<R: Threads + Sync, G: Gate>(
     search: &mut TreeSearch,
 ) -> Result<LeafTurn, Memory>
     requires shares { AreShares turner.now.wave.now turner.now.capacity.most shares.now }
-    requires tree { IsBranch turner.now.wave.now (no_pairs (length turner.now.wave.now.orders) turner.now.capacity.most) (sum shares.now) search.old.tree }
+    requires tree { IsBranch turner.now.wave.now (no_pairs turner.now.wave.now turner.now.capacity.most) (sum shares.now) search.old.tree }
     requires bound { least_of (units_of (sum shares.now)) search.old.tree ≡ Some turner.now.least }
-    ensures turned { IfOk result (IsTurned turner.now.wave.now (no_pairs (length turner.now.wave.now.orders) turner.now.capacity.most) (sum shares.now)
+    ensures turned { IfOk result (IsTurned turner.now.wave.now (no_pairs turner.now.wave.now turner.now.capacity.most) (sum shares.now)
         turner.now.pays turner.now.least search.old.tree search.new.tree) }
     ensures best { OnOk result (search.new.best ≡ search.old.best) }
     ensures budget { OnOk result (search.new.budget ≡ search.old.budget) }
@@ -123,6 +123,7 @@ fn take_step<R: Threads + Sync, G: Gate>(
         wave,
         capacity,
         least: bound,
+        cost: search.best.cost,
         pays,
     };
     let turn = turn_at_root(&turner, shares, &mut search)?;
@@ -160,6 +161,7 @@ pub fn search_on<R: Threads + Sync, G: Gate>(
     ensures ended { IfOk result (HasEnded root.now.wave.now root.now.capacity.most (sum root.now.shares.now)) }
     ensures kept { IfOk result (λ search. KeepsBest start.best search.best) }
 {
+    let _orders = root.wave.orders();
     let above = root.shares.bound();
     let mut search = start;
     loop {

@@ -21,13 +21,14 @@ use wp_pairs::{Batch, Capacity, OrderPair};
 use wp_price::Workers;
 
 /// What stays the same in a turn: the workers, the wave and the capacity; the bound of the leaf that takes it, which is the
-/// least; and whether the budget pays for a node.
+/// least; what the best batching costs; and whether the budget pays for a node.
 #[derive(Clone, Copy)]
 pub struct Turner<'a, R, G> {
     pub workers: &'a Workers<'a, R, G>,
     pub wave: &'a Wave,
     pub capacity: Capacity,
     pub least: u64,
+    pub cost: u64,
     pub pays: bool,
 }
 
@@ -112,7 +113,7 @@ fn turn_worked<R: Threads + Sync, G: Gate>(
     ensures { IfOk result (λ turned. (above : ℕ) → above ≤ sum worked.own.duals
         → IsTurned paired.now.wave.now paired.now.pairs.now above turner.now.pays (own_bound worked) (branches.Leaf (Some worked)) turned.branch turned.turn) }
 {
-    match choose_pair(turner.workers.alloc, paired.pairs, &worked)? {
+    match choose_pair(turner.workers.alloc, paired.pairs, &worked, turner.cost)? {
         Some((first, second)) => Ok(TurnedBranch {
             branch: split_on(turner.workers.alloc, first, second, worked)?,
             turn: LeafTurn::Onward,
@@ -140,15 +141,15 @@ fn turn_leaf<R: Threads + Sync, G: Gate>(
     columns: &[Batch],
     leaf: Option<Worked>,
 ) -> Result<TurnedBranch, Memory>
-    requires path { IsPath (length turner.now.wave.now.orders) turner.now.capacity.most path.now.items }
-    requires above { AreFeasibleDuals turner.now.wave.now (pairing_of (length turner.now.wave.now.orders) turner.now.capacity.most path.now.items) above.now }
-    requires leaf { IsBranch turner.now.wave.now (pairing_of (length turner.now.wave.now.orders) turner.now.capacity.most path.now.items) (sum above.now)
+    requires path { IsPath turner.now.wave.now turner.now.capacity.most path.now.items }
+    requires above { AreFeasibleDuals turner.now.wave.now (pairing_of turner.now.wave.now turner.now.capacity.most path.now.items) above.now }
+    requires leaf { IsBranch turner.now.wave.now (pairing_of turner.now.wave.now turner.now.capacity.most path.now.items) (sum above.now)
         (branches.Leaf leaf) }
     ensures { IfOk result (λ turned. (least : ℕ) → least_of (units_of (sum above.now)) (branches.Leaf leaf) ≡ Some least
-        → IsTurned turner.now.wave.now (pairing_of (length turner.now.wave.now.orders) turner.now.capacity.most path.now.items) (sum above.now)
+        → IsTurned turner.now.wave.now (pairing_of turner.now.wave.now turner.now.capacity.most path.now.items) (sum above.now)
         turner.now.pays least (branches.Leaf leaf) turned.branch turned.turn) }
 {
-    let pairs = pairs_of(turner.wave.orders(), turner.capacity, path);
+    let pairs = pairs_of(turner.wave, turner.capacity, path);
     let paired = PairedWave {
         wave: turner.wave,
         pairs: &pairs,
@@ -169,13 +170,13 @@ fn turn_in_place<R: Threads + Sync, G: Gate>(
     columns: &[Batch],
     branch: &mut Branch,
 ) -> Result<LeafTurn, Memory>
-    requires path { IsPath (length turner.now.wave.now.orders) turner.now.capacity.most path.now.items }
-    requires above { AreFeasibleDuals turner.now.wave.now (pairing_of (length turner.now.wave.now.orders) turner.now.capacity.most path.now.items) above.now }
+    requires path { IsPath turner.now.wave.now turner.now.capacity.most path.now.items }
+    requires above { AreFeasibleDuals turner.now.wave.now (pairing_of turner.now.wave.now turner.now.capacity.most path.now.items) above.now }
     requires leaf { IsLeaf branch.old }
-    requires branch { IsBranch turner.now.wave.now (pairing_of (length turner.now.wave.now.orders) turner.now.capacity.most path.now.items) (sum above.now)
+    requires branch { IsBranch turner.now.wave.now (pairing_of turner.now.wave.now turner.now.capacity.most path.now.items) (sum above.now)
         branch.old }
     requires least { least_of (units_of (sum above.now)) branch.old ≡ Some turner.now.least }
-    ensures { IfOk result (IsTurned turner.now.wave.now (pairing_of (length turner.now.wave.now.orders) turner.now.capacity.most path.now.items)
+    ensures { IfOk result (IsTurned turner.now.wave.now (pairing_of turner.now.wave.now turner.now.capacity.most path.now.items)
         (sum above.now) turner.now.pays turner.now.least branch.old branch.new) }
 {
     match branch {
@@ -236,12 +237,12 @@ pub fn take_turn<R: Threads + Sync, G: Gate>(
     columns: &[Batch],
     branch: &mut Branch,
 ) -> Result<LeafTurn, Memory>
-    requires path { IsPath (length turner.now.wave.now.orders) turner.now.capacity.most path.old.items }
-    requires above { AreFeasibleDuals turner.now.wave.now (pairing_of (length turner.now.wave.now.orders) turner.now.capacity.most path.old.items) above.now }
-    requires branch { IsBranch turner.now.wave.now (pairing_of (length turner.now.wave.now.orders) turner.now.capacity.most path.old.items) (sum above.now)
+    requires path { IsPath turner.now.wave.now turner.now.capacity.most path.old.items }
+    requires above { AreFeasibleDuals turner.now.wave.now (pairing_of turner.now.wave.now turner.now.capacity.most path.old.items) above.now }
+    requires branch { IsBranch turner.now.wave.now (pairing_of turner.now.wave.now turner.now.capacity.most path.old.items) (sum above.now)
         branch.old }
     requires least { least_of (units_of (sum above.now)) branch.old ≡ Some turner.now.least }
-    ensures turned { IfOk result (IsTurned turner.now.wave.now (pairing_of (length turner.now.wave.now.orders) turner.now.capacity.most path.old.items)
+    ensures turned { IfOk result (IsTurned turner.now.wave.now (pairing_of turner.now.wave.now turner.now.capacity.most path.old.items)
         (sum above.now) turner.now.pays turner.now.least branch.old branch.new) }
     ensures path { OnOk result (path.new.items ≡ path.old.items) }
 {
@@ -272,14 +273,14 @@ fn take_turn_below<R: Threads + Sync, G: Gate>(
     worked: &Worked,
     branch: &mut Branch,
 ) -> Result<LeafTurn, Memory>
-    requires path { IsPath (length turner.now.wave.now.orders) turner.now.capacity.most path.old.items }
-    requires pair { AreUndecided (pairing_of (length turner.now.wave.now.orders) turner.now.capacity.most path.old.items) pair.first pair.second }
-    requires worked { IsWorked turner.now.wave.now (pairing_of (length turner.now.wave.now.orders) turner.now.capacity.most path.old.items) 0 worked.now }
+    requires path { IsPath turner.now.wave.now turner.now.capacity.most path.old.items }
+    requires pair { AreUndecided (pairing_of turner.now.wave.now turner.now.capacity.most path.old.items) pair.first pair.second }
+    requires worked { IsWorked turner.now.wave.now (pairing_of turner.now.wave.now turner.now.capacity.most path.old.items) 0 worked.now }
     requires branch { IsBranch turner.now.wave.now
-        (pairing_of (length turner.now.wave.now.orders) turner.now.capacity.most (path.old.items ++ pair ∷ [])) (sum worked.now.own.duals) branch.old }
+        (pairing_of turner.now.wave.now turner.now.capacity.most (path.old.items ++ pair ∷ [])) (sum worked.now.own.duals) branch.old }
     requires least { least_of (own_bound worked.now) branch.old ≡ Some turner.now.least }
     ensures turned { IfOk result (IsTurned turner.now.wave.now
-        (pairing_of (length turner.now.wave.now.orders) turner.now.capacity.most (path.old.items ++ pair ∷ [])) (sum worked.now.own.duals)
+        (pairing_of turner.now.wave.now turner.now.capacity.most (path.old.items ++ pair ∷ [])) (sum worked.now.own.duals)
         turner.now.pays turner.now.least branch.old branch.new) }
     ensures path { OnOk result (path.new.items ≡ path.old.items) }
 {

@@ -5,7 +5,7 @@ ghost use Rattle.wp_search.specs.Turns.{IsFound};
 use std::alloc::Global;
 use wp_batch::{Batching, Wave, improved};
 use wp_model::Memory;
-use wp_pairs::{Batch, Capacity, Pairs};
+use wp_pairs::{Batch, Capacity};
 
 // Whether a batch has all orders below a number.
 fn has_all(orders: u32, batch: Batch) -> bool
@@ -19,12 +19,12 @@ fn has_all(orders: u32, batch: Batch) -> bool
     true
 }
 
-/// Whether batches are a batching of a wave within a capacity: each is permitted, no two meet, and each order is in one.
+/// Whether batches are a batching of a wave within a capacity: each is permitted and fits the cart, if the wave has one, no two
+/// meet, and each order is in one.
 pub fn is_batching(wave: &Wave, capacity: Capacity, batches: &[Batch]) -> bool
-    ensures { IsTrue result → IsBatching (length wave.now.orders) capacity.most batches.now }
+    ensures { IsTrue result → IsBatching wave.now capacity.most batches.now }
 {
-    let orders = wave.orders();
-    let pairs = Pairs::new(orders, capacity.most);
+    let pairs = wave.pairs(capacity.most);
     let mut covered = Batch::empty();
     for batch in batches {
         if !pairs.permits(*batch) || covered.meets(*batch) {
@@ -32,7 +32,7 @@ pub fn is_batching(wave: &Wave, capacity: Capacity, batches: &[Batch]) -> bool
         }
         covered = covered.union(*batch);
     }
-    has_all(orders, covered)
+    has_all(wave.orders(), covered)
 }
 
 /// The batching that batches are, improved by moves and joins that save. None comes where they are no batching of the wave within

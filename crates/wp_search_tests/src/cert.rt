@@ -1,5 +1,5 @@
 use std::alloc::Global;
-use wp_batch::{Batching, Marks};
+use wp_batch::{Batching, Marks, Wave};
 use wp_cert::{CertFault, CertWhy, Duals, Node, Nodes, Own, Tree, check};
 use wp_samples::{Slots, batch_of, wave_of};
 
@@ -7,16 +7,16 @@ use wp_samples::{Slots, batch_of, wave_of};
 const ALONE: &[Slots] = &[&[(1, 4)], &[(2, 4)], &[(3, 1)]];
 
 /// Three orders at one slot.
-const SAME: &[Slots] = &[&[(3, 4)], &[(3, 4)], &[(3, 4)]];
+pub const SAME: &[Slots] = &[&[(3, 4)], &[(3, 4)], &[(3, 4)]];
 
 /// One order.
 const ONE: &[Slots] = &[&[(2, 2)]];
 
 /// Duals, marks and tight batches.
-type Shown = (&'static [u64], &'static [u8], &'static [&'static [u32]]);
+pub type Shown = (&'static [u64], &'static [u8], &'static [&'static [u32]]);
 
 /// A node, as a table has it.
-enum Row {
+pub enum Row {
     Kept,
     Leaf(Shown),
     Bare(u32, u32),
@@ -25,13 +25,13 @@ enum Row {
 }
 
 /// What the check of a tree says: a bound, or a node and why it is refused.
-enum Says {
+pub enum Says {
     Bound(u64),
     Fault(u64, Why),
 }
 
 /// Why a tree is refused.
-enum Why {
+pub enum Why {
     Cut,
     SplitKept,
     DualsLength,
@@ -44,13 +44,13 @@ enum Why {
 }
 
 /// The root of the three orders at one slot, with batches of two.
-const ROOT: Shown = (&[1020, 1020, 1020], b"1000", &[&[0, 1], &[0, 1], &[0, 2]]);
+pub const ROOT: Shown = (&[1020, 1020, 1020], b"1000", &[&[0, 1], &[0, 1], &[0, 2]]);
 
 /// Its child with the first two orders together.
-const TOGETHER: Shown = (&[1020, 1020, 2040], b"100", &[&[0, 1], &[0, 1], &[2]]);
+pub const TOGETHER: Shown = (&[1020, 1020, 2040], b"100", &[&[0, 1], &[0, 1], &[2]]);
 
 /// Its child with them apart.
-const APART: Shown = (&[2040, 2040, 0], b"11000", &[&[0], &[1], &[0, 2]]);
+pub const APART: Shown = (&[2040, 2040, 0], b"11000", &[&[0], &[1], &[0, 2]]);
 
 /// Duals of 64 equal orders, two to a batch: no single order is entered, since one more order makes it just tight.
 const SIXTY_FOUR: Shown = (
@@ -462,14 +462,25 @@ fn is_said(answer: Result<u64, CertFault>, says: &Says) -> bool {
     }
 }
 
-fn says_so(alloc: Global, checked: &Checked) -> Option<bool> {
-    let (orders, times, capacity, rows, says) = checked;
-    if *capacity < 1 || 8 < *capacity {
+/// Whether this is what the check of a wave's tree says.
+pub fn says_of(
+    alloc: Global,
+    wave: &Wave,
+    capacity: u32,
+    rows: &[Row],
+    says: &Says,
+) -> Option<bool> {
+    if capacity < 1 || 8 < capacity {
         return None;
     }
-    let wave = wave_of(alloc, orders, *times)?;
     let tree = tree_of(alloc, rows)?;
-    Some(is_said(check(alloc, &wave, *capacity, &tree), says))
+    Some(is_said(check(alloc, wave, capacity, &tree), says))
+}
+
+fn says_so(alloc: Global, checked: &Checked) -> Option<bool> {
+    let (orders, times, capacity, rows, says) = checked;
+    let wave = wave_of(alloc, orders, *times)?;
+    says_of(alloc, &wave, *capacity, rows, says)
 }
 
 fn wrong_check(alloc: Global) -> Option<usize> {

@@ -1,7 +1,13 @@
 //! Tests of the crates of certificates, pricing and plans: which trees are right and how others are refused, the batch of least slack
-//! and its marks, found by any number of workers, and the plans of waves with their costs and bounds.
+//! and its marks, found by any number of workers, and the plans of waves with their costs and bounds, all this of waves with carts too.
 #![tactic(auto)]
 
+#[cfg(test)]
+mod cart_plans;
+#[cfg(test)]
+mod cart_pricing;
+#[cfg(test)]
+mod cart_trees;
 #[cfg(test)]
 mod cert;
 #[cfg(test)]

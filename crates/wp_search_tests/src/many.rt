@@ -7,10 +7,10 @@ use std::thread::Threads;
 use wp_batch::{Marks, Wave};
 use wp_outside::OpenGate;
 use wp_price::Priced;
-use wp_samples::{Slots, pairs_of, wave_of};
+use wp_samples::{Slots, pairs_for, wave_of};
 
 /// Twenty-four orders with one slot or two.
-const ORDERS: &[Slots] = &[
+pub const ORDERS: &[Slots] = &[
     &[(3, 1), (3, 3)],
     &[(1, 1), (2, 4)],
     &[(2, 1)],
@@ -86,7 +86,7 @@ fn found<R: Threads + Sync>(
 ) -> Option<Priced> {
     let mut wave = wave_of(alloc, ORDERS, 1)?;
     wave.keep_lengths(alloc, MANY.capacity).ok()?;
-    let pairs = pairs_of(wave.orders(), MANY.capacity, MANY.pairs)?;
+    let pairs = pairs_for(&wave, MANY.capacity, MANY.pairs)?;
     let duals = duals_of(alloc, &parts_of(&wave, hundredths))?;
     let question = Question {
         wave: &wave,

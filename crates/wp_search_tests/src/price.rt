@@ -1,4 +1,4 @@
-ghost use Rattle.std.specs.Prelude.{◌≤◌, All, IfSome};
+ghost use Rattle.std.specs.Prelude.{◌≡◌, ◌≤◌, All, IfSome};
 ghost use Rattle.wp_batch.specs.Duals.{greatest_dual};
 
 use std::alloc::Global;
@@ -7,7 +7,7 @@ use wp_batch::{GREATEST_DUAL, Marks, Wave};
 use wp_outside::{Gate, OpenGate};
 use wp_pairs::Pairs;
 use wp_price::{Priced, least_slack};
-use wp_samples::{PairRow, Slots, has_exactly, pairs_of, wave_of};
+use wp_samples::{PairRow, Slots, has_exactly, pairs_for, wave_of};
 
 /// What is priced: the orders of a wave, how many go into a batch, their pairs and their duals.
 #[derive(Clone, Copy)]
@@ -153,6 +153,7 @@ pub struct Question<'a> {
     pub duals: &'a Vec<u64>,
     pub through: Option<u32>,
     pub workers: u32,
+    pub ghost same_cart: { pairs.now.cart ≡ wave.now.cart },
 }
 
 /// What workers find who pass this gate, where it can be asked for.
@@ -233,7 +234,7 @@ fn found<R: Threads + Sync>(
     if kept {
         wave.keep_lengths(alloc, given.capacity).ok()?;
     }
-    let pairs = pairs_of(wave.orders(), given.capacity, given.pairs)?;
+    let pairs = pairs_for(&wave, given.capacity, given.pairs)?;
     let duals = duals_of(alloc, given.duals)?;
     let question = Question {
         wave: &wave,

@@ -10,13 +10,13 @@ use wp_search::{Planned, State, plan_wave};
 pub const APART: &[Slots] = &[&[(1, 4)], &[(2, 4)], &[(3, 1)]];
 
 /// Three orders at one slot.
-const SAME: &[Slots] = &[&[(3, 4)], &[(3, 4)], &[(3, 4)]];
+pub const SAME: &[Slots] = &[&[(3, 4)], &[(3, 4)], &[(3, 4)]];
 
 /// One order.
 const ONE: &[Slots] = &[&[(2, 2)]];
 
 /// Orders that share slots.
-const SHARED: &[Slots] = &[
+pub const SHARED: &[Slots] = &[
     &[(1, 4), (2, 1)],
     &[(2, 1), (3, 1)],
     &[(1, 1), (1, 4), (3, 4)],
@@ -184,7 +184,7 @@ fn has_own(node: &Node) -> bool {
 }
 
 /// How many nodes of a tree have duals of their own.
-fn own_nodes(tree: &Tree) -> usize {
+pub fn own_nodes(tree: &Tree) -> usize {
     tree.nodes
         .as_slice()
         .iter()

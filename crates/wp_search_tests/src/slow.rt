@@ -7,10 +7,10 @@ use wp_batch::{Wave, sum_of};
 use wp_outside::OpenGate;
 use wp_pairs::{Batch, Pairs};
 use wp_price::Priced;
-use wp_samples::{PairRow, Slots, pairs_of, wave_of};
+use wp_samples::{PairRow, Slots, pairs_for, wave_of};
 
 /// Six orders with several slots, two of them equal.
-const ORDERS: &[Slots] = &[
+pub const ORDERS: &[Slots] = &[
     &[(1, 4), (2, 1)],
     &[(2, 4), (3, 1)],
     &[(1, 1), (1, 4), (3, 4)],
@@ -28,7 +28,7 @@ pub const SIX: Given = Given {
 };
 
 /// Duals of six orders, and pairs.
-const GIVEN: &[(&[u64], &[PairRow])] = &[
+pub const GIVEN: &[(&[u64], &[PairRow])] = &[
     (&[0, 0, 0, 0, 0, 0], &[]),
     (&[900, 1100, 1500, 1100, 300, 1000], &[]),
     (&[900, 1100, 1500, 1100, 300, 1000], &[(0, 5, true)]),
@@ -145,54 +145,69 @@ fn are_same(priced: Option<Priced>, best: Option<(Batch, i128)>) -> bool {
     }
 }
 
-/// Whether so many workers find what going through the list of all batches finds.
+/// Through which order a batch is to go, if through one, and how many workers look for it.
+type Way = (Option<u32>, u32);
+
+/// Whether what is given for a wave leads to what going through the list of all its batches finds.
 fn is_same<R: Threads + Sync>(
     rt: &R,
     alloc: Global,
+    wave: &Wave,
     given: Given,
-    through: Option<u32>,
-    workers: u32,
+    way: Way,
 ) -> Option<bool> {
-    let wave = wave_of(alloc, given.orders, 1)?;
-    let pairs = pairs_of(wave.orders(), given.capacity, given.pairs)?;
+    let (through, workers) = way;
+    let pairs = pairs_for(wave, given.capacity, given.pairs)?;
     let duals = duals_of(alloc, given.duals)?;
     if duals.len() != wave.orders() as usize {
         return None;
     }
     let question = Question {
-        wave: &wave,
+        wave,
         pairs: &pairs,
         duals: &duals,
         through,
         workers,
     };
     let found = asked(rt, alloc, &question, &OpenGate)?;
-    Some(are_same(found, best_of_all(&wave, &pairs, &duals, through)))
+    Some(are_same(found, best_of_all(wave, &pairs, &duals, through)))
 }
 
 /// Whether any number of workers finds it.
 fn are_same_by_any<R: Threads + Sync>(
     rt: &R,
     alloc: Global,
+    wave: &Wave,
     given: Given,
     through: Option<u32>,
 ) -> bool {
     for workers in [1, 3, 16] {
-        if is_same(rt, alloc, given, through, workers) != Some(true) {
+        if is_same(rt, alloc, wave, given, (through, workers)) != Some(true) {
             return false;
         }
     }
     true
 }
 
-/// Whether it is the same through each order and through none.
-fn are_same_through_all<R: Threads + Sync>(rt: &R, alloc: Global, given: Given) -> bool {
+/// Whether it is the same in a wave of six orders through each of them and through none.
+pub fn are_same_through_all<R: Threads + Sync>(
+    rt: &R,
+    alloc: Global,
+    wave: &Wave,
+    given: Given,
+) -> bool {
     for order in 0..6 {
-        if !are_same_by_any(rt, alloc, given, Some(order)) {
+        if !are_same_by_any(rt, alloc, wave, given, Some(order)) {
             return false;
         }
     }
-    are_same_by_any(rt, alloc, given, None)
+    are_same_by_any(rt, alloc, wave, given, None)
+}
+
+/// Whether it is the same in the wave of what is given, which has no cart.
+fn are_same_without_cart<R: Threads + Sync>(rt: &R, alloc: Global, given: Given) -> Option<bool> {
+    let wave = wave_of(alloc, given.orders, 1)?;
+    Some(are_same_through_all(rt, alloc, &wave, given))
 }
 
 fn wrong_row<R: Threads + Sync>(rt: &R, alloc: Global) -> Option<(usize, u32)> {
@@ -204,7 +219,7 @@ fn wrong_row<R: Threads + Sync>(rt: &R, alloc: Global) -> Option<(usize, u32)> {
                 pairs: *pairs,
                 duals: *duals,
             };
-            if !are_same_through_all(rt, alloc, given) {
+            if are_same_without_cart(rt, alloc, given) != Some(true) {
                 return Some((place, capacity));
             }
         }

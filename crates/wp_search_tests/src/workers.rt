@@ -7,7 +7,7 @@ use crate::slow::SIX;
 use std::alloc::Global;
 use std::thread::Threads;
 use wp_outside::Gate;
-use wp_samples::{pairs_of, wave_of};
+use wp_samples::{pairs_for, wave_of};
 
 /// What is priced, through which order, and by how many workers.
 type Work = (Given, Option<u32>, u32);
@@ -40,7 +40,7 @@ fn is_priced<R: Threads + Sync, G: Gate>(
 ) -> Option<bool> {
     let (given, through, workers) = work;
     let wave = wave_of(alloc, given.orders, 1)?;
-    let pairs = pairs_of(wave.orders(), given.capacity, given.pairs)?;
+    let pairs = pairs_for(&wave, given.capacity, given.pairs)?;
     let duals = duals_of(alloc, given.duals)?;
     let question = Question {
         wave: &wave,

@@ -5,7 +5,7 @@ use Rattle.wp_batch.specs.Waves.{WavePicks}
 use Rattle.wp_cert.specs.Refusals.{IsFirstBroken}
 use Rattle.wp_cert.specs.Text.{Tells, certificate_said}
 use Rattle.wp_cert.specs.Trees.{IsBoundOf}
-use Rattle.wp_cert.specs.Walks.{NoWalksAreShorter, order_points}
+use Rattle.wp_cert.specs.Walks.{NoWalksAreShorter}
 use Rattle.wp_cert.specs.declared.tree.CertFault.{CertFault}
 use Rattle.wp_cert.specs.declared.tree.Node.{Node}
 use Rattle.wp_journal.specs.Journals.{IsJournalOf, Shows}
@@ -91,7 +91,7 @@ pub record TellsBound (layout : Layout) (text : List ℕ) (bound : ℕ) : Type 0
 -- and however that wave is put into batches within the capacity, carts walk no less
 pub record ShowsBound (layout : Layout) (text : List ℕ) (bound : ℕ) : Type 0 where
   pub tree : TellsBound layout text bound
-  pub least : NoWalksAreShorter tree.wave.layout (order_points tree.wave) tree.capacity bound
+  pub least : NoWalksAreShorter tree.wave tree.capacity bound
 
 -- it tells a wave of the layout, a capacity and a tree whose first broken rule is this fault
 pub record TellsBroken (layout : Layout) (text : List ℕ) (fault : CertFault) : Type 0 where

@@ -8,11 +8,19 @@ pub(crate) struct WrittenSlot {
     pub(crate) slot: u64,
 }
 
+/// A cart as it stands in the text: how many units it holds, and what each order loads.
+#[derive(Drop)]
+pub(crate) struct WrittenCart {
+    pub(crate) units: u64,
+    pub(crate) loads: Listing<u64>,
+}
+
 /// What a text of the right form has, whether or not its numbers are in their ranges.
 #[derive(Drop)]
 pub(crate) struct Form {
     pub(crate) version: u64,
     pub(crate) capacity: u64,
+    pub(crate) cart: Option<WrittenCart>,
     pub(crate) orders: Listing<Listing<WrittenSlot>>,
     pub(crate) nodes: Nodes,
 }

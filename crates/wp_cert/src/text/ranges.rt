@@ -1,12 +1,12 @@
-ghost use Rattle.std.specs.Prelude.{◌≡◌, nat_le};
+ghost use Rattle.std.specs.Prelude.{◌≡◌, length, nat_le};
 ghost use Rattle.std.specs.List.{list_all};
 ghost use Rattle.wp_batch.specs.Duals.{greatest_dual};
-ghost use Rattle.wp_cert.specs.Text.{are_duals_within, is_node_within, is_order_of, is_slot_of, is_up_to, is_within};
+ghost use Rattle.wp_cert.specs.Text.{are_duals_within, is_any_cart_for, is_cart_for, is_node_within, is_order_of, is_slot_of, is_up_to, is_within, version_of};
 
-use crate::text::form::{Form, WrittenSlot};
+use crate::text::form::{Form, WrittenCart, WrittenSlot};
 use crate::{Node, Own};
 use wp_graph::Layout;
-use wp_model::Listing;
+use wp_model::{Listing, MOST_CART_UNITS};
 
 /// The greatest dual of a certificate, in sixtieths of a unit of length.
 const GREATEST_DUAL: u64 = 1_000_000_000_000;
@@ -101,13 +101,55 @@ fn are_nodes_within(nodes: &[Node]) -> bool
     true
 }
 
-/// Whether version, capacity, orders and duals are in their ranges.
+// Whether no load is above the units.
+fn are_light(units: u64, loads: &[u64]) -> bool
+    ensures { result ≡ list_all (λ load. nat_le load units) loads.now }
+{
+    for load in loads {
+        if *load > units {
+            return false;
+        }
+    }
+    true
+}
+
+// Whether the units are those of a cart, each of so many orders has a load, and none loads more than the cart holds.
+fn is_cart_for(orders: u32, cart: &WrittenCart) -> bool
+    ensures { result ≡ is_cart_for orders cart.now }
+{
+    is_up_to(cart.units, MOST_CART_UNITS)
+        && cart.loads.len() == orders
+        && are_light(cart.units, cart.loads.as_slice())
+}
+
+// Whether the cart, where there is one, is a cart for so many orders.
+fn is_any_cart_for(orders: u32, cart: &Option<WrittenCart>) -> bool
+    ensures { result ≡ is_any_cart_for orders cart.now }
+{
+    match cart {
+        None => true,
+        Some(cart) => is_cart_for(orders, cart),
+    }
+}
+
+// The version of a certificate without a cart, and that of one with a cart.
+fn version_of(cart: &Option<WrittenCart>) -> u64
+    ensures { result ≡ version_of cart.now }
+{
+    match cart {
+        None => 1,
+        Some(_) => 2,
+    }
+}
+
+/// Whether version, capacity, orders, duals and cart are in their ranges.
 pub(crate) fn is_within(form: &Form, layout: &Layout) -> bool
     ensures { result ≡ is_within layout.now form.now }
 {
-    form.version == 1
+    form.version == version_of(&form.cart)
         && is_up_to(form.capacity, 8)
         && is_up_to(u64::from(form.orders.len()), 64)
         && are_orders(layout, form.orders.as_slice())
         && are_nodes_within(form.nodes.as_slice())
+        && is_any_cart_for(form.orders.len(), &form.cart)
 }

@@ -1,14 +1,15 @@
-ghost use Rattle.std.specs.Prelude.{ℕ, List, ◌≡◌, ◌≢◌, IfOk, IfErr, None, Err, Ok, Some, true};
+ghost use Rattle.std.specs.Prelude.{ℕ, List, ◌≡◌, ◌≢◌, IfOk, IfErr, None, Err, Ok, Some, option_map, true};
 ghost use Rattle.serde_json.specs.View.{view};
 ghost use Rattle.wp_batch.specs.Waves.{WavePicks};
 ghost use Rattle.wp_cert.specs.declared.tree.Node.{Node};
-ghost use Rattle.wp_cert.specs.Text.{IsSame, PickAt, Tells, certificate_said, form_said, is_within, parts_said, value_read, value_says, why_unread};
+ghost use Rattle.wp_cert.specs.Text.{IsSame, PickAt, Tells, any_cart_said, cart_said, certificate_said, form_said, is_within, loaded_cart};
+ghost use Rattle.wp_cert.specs.Text.{parts_said, value_read, value_says, why_unread};
 ghost use Rattle.wp_model.specs.Warehouse.{IsUpTo};
 ghost use Rattle.wp_cert.specs.TextData.{HaveDualsWithin};
 ghost use Rattle.wp_cert.specs.declared.text.form.Unread.TheVariants as unread;
 ghost use Rattle.wp_cert.specs.declared.tree.CertWhy.TheVariants as why;
 
-use crate::text::form::{Form, Unread};
+use crate::text::form::{Form, Unread, WrittenCart};
 use crate::text::node::has_keys;
 use crate::text::part::{list_at, read_at};
 use crate::text::ranges::is_within;
@@ -36,10 +37,34 @@ fn read_value(alloc: Global, text: &Vec<u8>) -> Result<Value, CertWhy>
     }
 }
 
-// The four parts of a certificate.
-fn read_parts(alloc: Global, value: &Value) -> Result<Form, Unread>
-    ensures ok { IfOk result (λ form. parts_said (view value.now) ≡ Some form) }
-    ensures bad { IfErr result (λ fault. fault ≡ unread.BadShape → parts_said (view value.now) ≡ None) }
+// The units of a cart, and what each order loads.
+fn read_cart(alloc: Global, value: &Value) -> Result<WrittenCart, Unread>
+    ensures ok { IfOk result (λ cart. cart_said (view value.now) ≡ Some cart) }
+    ensures bad { IfErr result (λ fault. fault ≡ unread.BadShape → cart_said (view value.now) ≡ None) }
+{
+    let units = read_at(alloc, value, "units")?;
+    let loads = list_at(alloc, value, "loads")?;
+    Ok(WrittenCart { units, loads })
+}
+
+// The cart of a certificate: none where it has no more keys than its four parts, and one where it has two keys more.
+fn read_any_cart(alloc: Global, value: &Value) -> Result<Option<WrittenCart>, Unread>
+    ensures ok { IfOk result (λ cart. any_cart_said (view value.now) ≡ Some cart) }
+    ensures bad { IfErr result (λ fault. fault ≡ unread.BadShape → any_cart_said (view value.now) ≡ None) }
+{
+    if has_keys(value, 4) {
+        Ok(None)
+    } else if has_keys(value, 6) {
+        Ok(Some(read_cart(alloc, value)?))
+    } else {
+        Err(Unread::BadShape)
+    }
+}
+
+// The four parts of a certificate that has this cart or none.
+fn read_parts(alloc: Global, value: &Value, cart: Option<WrittenCart>) -> Result<Form, Unread>
+    ensures ok { IfOk result (λ form. parts_said cart (view value.now) ≡ Some form) }
+    ensures bad { IfErr result (λ fault. fault ≡ unread.BadShape → parts_said cart (view value.now) ≡ None) }
 {
     let version = read_at(alloc, value, "version")?;
     let capacity = read_at(alloc, value, "capacity")?;
@@ -48,6 +73,7 @@ fn read_parts(alloc: Global, value: &Value) -> Result<Form, Unread>
     Ok(Form {
         version,
         capacity,
+        cart,
         orders,
         nodes,
     })
@@ -58,11 +84,8 @@ fn read_form(alloc: Global, value: &Value) -> Result<Form, Unread>
     ensures ok { IfOk result (λ form. form_said (view value.now) ≡ Some form) }
     ensures bad { IfErr result (λ fault. fault ≡ unread.BadShape → form_said (view value.now) ≡ None) }
 {
-    if has_keys(value, 4) {
-        read_parts(alloc, value)
-    } else {
-        Err(Unread::BadShape)
-    }
+    let cart = read_any_cart(alloc, value)?;
+    read_parts(alloc, value, cart)
 }
 
 impl From<Unread> for CertWhy {
@@ -105,13 +128,14 @@ fn certificate_of(alloc: Global, layout: &Layout, form: Form) -> Result<Certific
     requires within { is_within layout.now form ≡ true }
     ensures layout { IfOk result (λ certificate. certificate.wave.layout ≡ layout.now) }
     ensures orders { IfOk result (λ certificate. PickAt certificate.wave.orders form.orders) }
+    ensures cart { IfOk result (λ certificate. certificate.wave.cart ≡ option_map loaded_cart form.cart) }
     ensures capacity { IfOk result (λ certificate. certificate.capacity ≡ form.capacity) }
     ensures nodes { IfOk result (λ certificate. certificate.tree.nodes ≡ form.nodes) }
     ensures range { IfOk result (λ certificate. IsUpTo 8 certificate.capacity) }
     ensures duals { IfOk result (λ certificate. HaveDualsWithin certificate.tree.nodes) }
 {
     let capacity = form.capacity as u32;
-    let wave = wave_of(alloc, layout, &form.orders)?;
+    let wave = wave_of(alloc, layout, &form)?;
     let tree = Tree { nodes: form.nodes };
     Ok(Certificate {
         wave,
@@ -134,12 +158,14 @@ fn read_told(alloc: Global, text: &Vec<u8>, layout: &Layout) -> Result<Certifica
     }
 }
 
-/// The certificate that a text says for a layout: its wave has that layout, and its orders pick just at the slots of the
-/// text. A certificate is refused at node 0, in this order, as `NotJson` where the bytes aren't UTF-8 or `serde_json` reads
-/// no value in them, `BadShape` where the value isn't of a certificate's form, and `OutOfRange` where the version isn't 1,
-/// the capacity isn't 1 to 8, there aren't 1 to 64 orders, an order has no slot or one that the layout hasn't, or a dual is
-/// above 1,000,000,000,000 sixtieths. Of two members of one key the last counts. `Memory` comes where memory ran out. Of
-/// what is printed of a wave, a capacity and a tree it gives them back.
+/// The certificate that a text says for a layout: its wave has that layout, its orders pick just at the slots of the text,
+/// and it has the text's cart, if there is one. A certificate is refused at node 0, in this order, as `NotJson` where the
+/// bytes aren't UTF-8 or `serde_json` reads no value in them, `BadShape` where the value isn't of a certificate's form, and
+/// `OutOfRange` where the version isn't 1 without a cart and 2 with one, the capacity isn't 1 to 8, there aren't 1 to 64
+/// orders, an order has no slot or one that the layout hasn't, a dual is above 1,000,000,000,000 sixtieths, the cart doesn't
+/// hold 1 to 40,000,000 units, there isn't one load for each order, or a load is above the units. Of two members of one key
+/// the last counts. `Memory` comes where memory ran out. Of what is printed of a wave, a capacity and a tree it gives them
+/// back.
 pub fn read_certificate(
     alloc: Global,
     text: &Vec<u8>,

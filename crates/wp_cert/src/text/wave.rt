@@ -1,14 +1,16 @@
-ghost use Rattle.std.specs.Prelude.{◌≡◌, ◌<◌, ◌↔◌, All, Contains, IfOk, length, true};
+ghost use Rattle.std.specs.Prelude.{◌≡◌, ◌<◌, ◌↔◌, ◌^◌, All, Contains, IfOk, IfSome, Some, length, option_map, true};
 ghost use Rattle.std.specs.List.{list_all};
 ghost use Rattle.wp_model.specs.declared.point.Point.{Point as PointData};
 ghost use Rattle.wp_model.specs.Warehouse.{IsSlot};
-ghost use Rattle.wp_cert.specs.Text.{PickAt, PicksAt, is_order_of, is_slot_of, is_up_to, place_of};
+ghost use Rattle.wp_pairs.specs.Carts.{IsLoadedCart};
+ghost use Rattle.wp_cert.specs.Text.{PickAt, PicksAt, is_order_of, is_slot_of, is_within, loaded_cart, place_of};
 
-use crate::text::form::WrittenSlot;
+use crate::text::form::{Form, WrittenCart, WrittenSlot};
 use std::alloc::Global;
 use wp_batch::Wave;
 use wp_graph::{Layout, Picks};
 use wp_model::{Listing, Memory, Point};
+use wp_pairs::Cart;
 
 // The slot of a place.
 fn point_of(layout: &Layout, place: WrittenSlot) -> Point
@@ -56,17 +58,48 @@ fn all_picks(
     Ok(all)
 }
 
-/// The wave of a layout whose orders pick at these places.
-pub(crate) fn wave_of(
-    alloc: Global,
-    layout: &Layout,
-    orders: &Listing<Listing<WrittenSlot>>,
-) -> Result<Wave, Memory>
-    requires count { is_up_to 64 (length orders.now) ≡ true }
-    requires within { list_all (is_order_of layout.now) orders.now ≡ true }
-    ensures layout { IfOk result (λ wave. wave.layout ≡ layout.now) }
-    ensures orders { IfOk result (λ wave. PickAt wave.orders orders.now) }
+// The loads as numbers of 32 bits.
+fn loads_of(alloc: Global, loads: &[u64]) -> Result<Vec<u32>, Memory>
+    requires { All (λ load. load < 2 ^ 32) loads.now }
+    ensures { IfOk result (λ kept. kept.items ≡ loads.now) }
 {
-    let all = all_picks(alloc, layout, orders.as_slice())?;
-    Wave::of(alloc, *layout, &all)
+    let mut kept = Vec::new(alloc);
+    for load in loads {
+        kept.push(*load as u32)?;
+    }
+    Ok(kept)
+}
+
+// The cart that holds these units, with these loads.
+fn cart_of(alloc: Global, cart: &WrittenCart) -> Result<Option<Cart>, Memory>
+    requires { IsLoadedCart (loaded_cart cart.now) }
+    ensures { IfOk result (λ made. made ≡ Some (loaded_cart cart.now)) }
+{
+    let loads = loads_of(alloc, cart.loads.as_slice())?;
+    Ok(Cart::new(cart.units as u32, &loads))
+}
+
+// The cart of a text that has one, and none of one that has none.
+fn any_cart_of(alloc: Global, cart: &Option<WrittenCart>) -> Result<Option<Cart>, Memory>
+    requires { IfSome cart.now (λ written. IsLoadedCart (loaded_cart written)) }
+    ensures { IfOk result (λ made. made ≡ option_map loaded_cart cart.now) }
+{
+    match cart {
+        None => Ok(None),
+        Some(cart) => cart_of(alloc, cart),
+    }
+}
+
+/// The wave of a layout whose orders pick at the places of a text, with the text's cart, if there is one.
+pub(crate) fn wave_of(alloc: Global, layout: &Layout, form: &Form) -> Result<Wave, Memory>
+    requires { is_within layout.now form.now ≡ true }
+    ensures layout { IfOk result (λ wave. wave.layout ≡ layout.now) }
+    ensures orders { IfOk result (λ wave. PickAt wave.orders form.now.orders) }
+    ensures cart { IfOk result (λ wave. wave.cart ≡ option_map loaded_cart form.now.cart) }
+{
+    let all = all_picks(alloc, layout, form.orders.as_slice())?;
+    match any_cart_of(alloc, &form.cart)? {
+        None => Wave::of(alloc, *layout, &all),
+        Some(cart) => Wave::with_cart(alloc, *layout, &all, cart),
+    }
 }

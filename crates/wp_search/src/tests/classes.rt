@@ -144,9 +144,10 @@ fn are_exactly(batching: &Batching, batches: &[&[u32]]) -> bool {
 fn decided_pairs(wave: &Wave, capacity: Capacity, together: &[bool]) -> Option<Pairs>
     ensures orders { IfSome result (λ pairs. pairs.orders ≡ length wave.now.orders) }
     ensures capacity { IfSome result (λ pairs. pairs.capacity ≡ capacity.most) }
+    ensures cart { IfSome result (λ pairs. pairs.cart ≡ wave.now.cart) }
     ensures decided { IfSome result AllDecided }
 {
-    let mut pairs = Pairs::new(wave.orders(), capacity.most);
+    let mut pairs = wave.pairs(capacity.most);
     for choice in together {
         if let Some((first, second)) = pairs.undecided() {
             pairs.add(first, second, *choice);
@@ -186,7 +187,7 @@ fn are_classes_tight(given: &DualWave<'_>) -> bool
 
 /// The classes of a case, as a batching of its wave.
 fn classes_of(alloc: Global, wave: &Wave, capacity: Capacity, case: &Classes) -> Option<Batching>
-    ensures { IfSome result (IsBatching (length wave.now.orders) capacity.most) }
+    ensures { IfSome result (IsBatching wave.now capacity.most) }
 {
     let pairs = decided_pairs(wave, capacity, case.together)?;
     let duals = OrderDuals::limited(alloc, wave.orders(), case.duals).ok()?;

@@ -5,7 +5,7 @@ use Rattle.wp_batch.proofs.improve.improve_with.Given as goal
 
 abbrev pub invariant-loop-left : goal.invariant-loop-left
 invariant-loop-left l = record {
-  batching : IsBatching (length l.instance.wave.now.orders) l.instance.capacity l.batches.items;
+  batching : IsBatching l.instance.wave.now l.instance.capacity l.batches.items;
   count : length l.batches.items ≡ length l.initial.batches.items;
   no_dearer : CostNoMore l.instance.wave.now l.initial.batches.items l.batches.items;
 }

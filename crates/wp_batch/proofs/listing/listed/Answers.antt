@@ -1,4 +1,4 @@
-use Rattle.std.proofs.Common.{◌≡◌, ℕ, arith, subst}
+use Rattle.std.proofs.Common.{◌≡◌, ℕ, arith, length, subst}
 use Rattle.wp_batch.proofs.Costs.{listed_costs_no_more}
 use Rattle.wp_batch.proofs.Listings.{AreListedBelow, all_listed, among, listed_is_batching, none_listed, nothing_listed, one_more_listed}
 use Rattle.wp_batch.proofs.listing.listed.Goals as goal
@@ -16,12 +16,15 @@ loop-order-preserved c = elim c.match-place_of.branch [
 
 pub returns-clause-batching : goal.returns-clause-batching
 returns-clause-batching c =
-    let all : c.loop-order.order ≡ c.args.orders = omega arith in
+    let all : c.loop-order.order ≡ length c.args.instance.now.wave.now.orders = omega (arith, c.orders-order-end.ensures.value) in
     listed_is_batching _ _ _ c.requires.batching _
     (subst (λ (n : ℕ). AreListedBelow c.args.batches.now c.loop-order.listed.items n) all c.loop-order.invariant)
 
 pub returns-clause-no_dearer : goal.returns-clause-no_dearer
 returns-clause-no_dearer c =
-    let all : c.loop-order.order ≡ c.args.orders = omega arith in
+    let all : c.loop-order.order ≡ length c.args.instance.now.wave.now.orders = omega (arith, c.orders-order-end.ensures.value) in
     let end = subst (λ (n : ℕ). AreListedBelow c.args.batches.now c.loop-order.listed.items n) all c.loop-order.invariant in
-    λ wave. listed_costs_no_more wave _ _ (among _ _ _ c.requires.batching _ _ end) (all_listed _ _ _ c.requires.batching _ end) end.ascend
+    listed_costs_no_more c.args.instance.now.wave.now _ _ (among _ _ _ c.requires.batching _ _ end) (all_listed _ _ _ c.requires.batching _ end) end.ascend
+
+pub returns-clause-few : goal.returns-clause-few
+returns-clause-few c = omega (arith, c.loop-order.invariant.few, c.orders-order-end.ensures.value, c.orders-order-end.ensures.valid.most)

@@ -21,9 +21,9 @@ loop-join-preserved c =
       listed = c.join_batches.ensures.listed;
       fewer = omega (arith, c.loop-join.invariant.fewer, c.join_batches.ensures.count);
       merged = onward c.loop-join.invariant.merged c.in-Some.join greatest c.join_batches.ensures.joined;
-      no_dearer = no_more_through _ _ _ _ c.loop-join.invariant.no_dearer c.join_batches.ensures.no_dearer;
+      no_dearer = no_more_through c.args.instance.now.wave.now _ _ _ c.loop-join.invariant.no_dearer c.join_batches.ensures.no_dearer;
     }
 
 pub returns-clause-joined : goal.returns-clause-joined
 returns-clause-joined c =
-    subst (λ (batches : List (List ℕ)). NoJoinGains c.args.wave.now c.args.capacity batches) c.as_slice.ensures.value c.in_default.ensures.none
+    subst (λ (batches : List (List ℕ)). NoJoinGains c.args.instance.now.wave.now c.args.instance.now.capacity batches) c.as_slice.ensures.value c.in_default.ensures.none

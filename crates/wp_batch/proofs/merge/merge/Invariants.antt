@@ -6,11 +6,11 @@ use Rattle.wp_batch.proofs.merge.merge.Given as goal
 
 abbrev pub invariant-loop-join : goal.invariant-loop-join
 invariant-loop-join l = record {
-  batching : IsBatching l.orders l.capacity l.batches.items;
+  batching : IsBatching l.instance.wave.now l.instance.capacity l.batches.items;
   listed : IsListedByLeast l.batches.items;
   fewer : vec_len l.batches ≤ vec_len l.initial.batches;
-  merged : AreMerged l.wave l.capacity l.initial.batches.items l.batches.items;
-  no_dearer : CostNoMore l.wave l.initial.batches.items l.batches.items;
+  merged : AreMerged l.instance.wave.now l.instance.capacity l.initial.batches.items l.batches.items;
+  no_dearer : CostNoMore l.instance.wave.now l.initial.batches.items l.batches.items;
 }
 
 abbrev pub decreases-loop-join : goal.decreases-loop-join

@@ -5,4 +5,4 @@ pub returns-clause-no_dearer : goal.returns-clause-no_dearer
 returns-clause-no_dearer c =
     let best = rw c.as_slice.ensures.value at c.in_ok-best.ensures.no_dearer in
     let start = rw c.as_slice-2.ensures.value at c.in_ok-start.ensures.no_dearer in
-    (c.in_ok-batches.batches.items, c.in_ok-batches.ensures.savings, no_more_through _ _ _ _ best start)
+    (c.in_ok-batches.batches.items, c.in_ok-batches.ensures.savings, no_more_through c.args.wave.now _ _ _ best start)

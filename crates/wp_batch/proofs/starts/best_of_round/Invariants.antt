@@ -1,9 +1,8 @@
-use Rattle.std.proofs.Common.{length}
 use Rattle.wp_batch.specs.Batchings.{IsBatching}
 use Rattle.wp_batch.proofs.starts.best_of_round.Given as goal
 
 abbrev pub invariant-loop-stage : goal.invariant-loop-stage
 invariant-loop-stage l = record {
-  best : IsBatching (length l.instance.wave.now.orders) l.instance.capacity l.best.items;
-  at : IsBatching (length l.instance.wave.now.orders) l.instance.capacity l.at.items;
+  best : IsBatching l.instance.wave.now l.instance.capacity l.best.items;
+  at : IsBatching l.instance.wave.now l.instance.capacity l.at.items;
 }

@@ -1,11 +1,11 @@
-use Rattle.std.proofs.Common.{◌≡◌, ◌⊎◌, length}
+use Rattle.std.proofs.Common.{◌≡◌, ◌⊎◌}
 use Rattle.wp_batch.specs.Batchings.{IsBatching}
 use Rattle.wp_batch.specs.Joins.{CostLess, TellsCost}
 use Rattle.wp_batch.proofs.starts.best_of_walks.Given as goal
 
 abbrev pub invariant-loop : goal.invariant-loop
 invariant-loop l = record {
-  batching : IsBatching (length l.instance.wave.now.orders) l.instance.capacity l.best.items;
+  batching : IsBatching l.instance.wave.now l.instance.capacity l.best.items;
   told : TellsCost l.instance.wave.now l.best.items l.least;
   kept : (l.best.items ≡ l.batches) ⊎ CostLess l.instance.wave.now l.batches l.best.items;
 }

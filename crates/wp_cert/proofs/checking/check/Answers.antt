@@ -20,7 +20,7 @@ returns-then-shown-len-clause-refused c = λ named.
 pub unwrap-requires : goal.unwrap-requires
 unwrap-requires c =
     root_bound c.args.wave.now c.args.capacity c.shares_of-above.result c.args.tree.now.nodes
-    c.shares_of-above.ensures _ c.in_ok-shown.shown.bound c.requires.some c.in_ok-shown.ensures.ok
+    c.shares_of-above.ensures _ c.in_ok-shown.shown.bound c.orders-orders.ensures.valid c.requires.some c.in_ok-shown.ensures.ok
 
 pub returns-in-Ok-clause-right : goal.returns-in-Ok-clause-right
 returns-in-Ok-clause-right c =

@@ -3,4 +3,4 @@ use Rattle.wp_cert.specs.Paths.{pairing_of}
 use Rattle.wp_cert.proofs.path.pairs_of.Given as goal
 
 abbrev pub invariant-loop-k : goal.invariant-loop-k
-invariant-loop-k l = l.pairs ≡ pairing_of l.fn.orders l.fn.capacity.most (take l.k l.path.items)
+invariant-loop-k l = l.pairs ≡ pairing_of l.wave l.fn.capacity.most (take l.k l.path.items)

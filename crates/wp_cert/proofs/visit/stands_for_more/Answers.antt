@@ -3,7 +3,7 @@ use Rattle.wp_cert.proofs.visit.stands_for_more.Goals as goal
 
 pub returns-clause-yes : goal.returns-clause-yes
 returns-clause-yes c = λ yes.
-    let own = c.requires.lengths c.args.place c.requires.orders in record {
+    let own = c.requires.lengths c.args.reached.now.batch c.requires.orders in record {
       total = own.0;
       reach = c.reach_of-reach.result;
       long = own.1;

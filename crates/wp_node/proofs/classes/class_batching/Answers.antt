@@ -1,5 +1,4 @@
 use Rattle.std.proofs.Common.{◌≡◌, ℕ, arith, subst, sym, ◌∙◌}
-use Rattle.wp_batch.specs.Batchings.{IsBatching}
 use Rattle.wp_node.proofs.ClassBatchings.{AreClassesBelow, IsClass, class_listed, class_passed, classes_are_batching, classes_cost, found_first, other_first}
 use Rattle.wp_node.proofs.classes.class_batching.Goals as goal
 use Rattle.wp_node.proofs.classes.class_batching.Goals.{then-eq+in_ok-push, else-eq}
@@ -31,8 +30,8 @@ returns c =
     let all : c.loop-order.order ≡ pairing.orders = omega (arith, c.loop-order-test.false, c.loop-order.auto.order-end, c.orders-order-end.ensures.value) in
     let are = subst (λ (count : ℕ). AreClassesBelow pairing batches count) all c.loop-order.invariant in
     rw c.of.ensures (record {
-      batching = subst (λ (orders : ℕ). IsBatching orders pairing.capacity batches) c.args.given.now.as_many
-          (classes_are_batching wave pairing duals c.requires.decided c.requires.tight batches are);
+      batching = classes_are_batching wave pairing duals c.args.given.now.as_many c.args.given.now.same_cart c.requires.decided c.requires.tight batches are;
       listed = are.listed;
-      cost = classes_cost wave pairing duals c.requires.decided c.requires.tight batches are (c.args.given.now.count ∙ sym c.args.given.now.as_many);
+      cost = classes_cost wave pairing duals c.args.given.now.as_many c.args.given.now.same_cart c.requires.decided c.requires.tight batches are
+          c.args.given.now.count;
     })

@@ -9,4 +9,4 @@ of-requires-clause-filled c =
 pub returns : goal.returns
 returns c =
     let are = rw (c.as_rows-rows.ensures.rows, c.as_slice-holds.ensures, c.len.ensures) at c.in_ok-picks.ensures in
-    wave_made _ _ _ _ c.of.result are c.of.ensures.layout c.of.ensures.orders
+    wave_made _ _ _ _ c.of.result are c.of.ensures.layout c.of.ensures.orders c.of.ensures.cart

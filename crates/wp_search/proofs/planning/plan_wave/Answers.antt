@@ -10,7 +10,7 @@ search_on-requires-clause-start g c κs within =
 pub unwrap-bound-requires : goal.unwrap-bound-requires
 unwrap-bound-requires g c =
     rw (c.bound.ensures, c.bound-above.ensures) (search_has_bound c.args.wave.now c.args.capacity (sum c.in_ok-shares.shares) c.in_ok-search.search.tree
-    c.requires.some c.in_ok-search.ensures.search.right)
+    c.orders.ensures.valid c.requires.some c.in_ok-search.ensures.search.right)
 
 pub returns : goal.returns
 returns g c =

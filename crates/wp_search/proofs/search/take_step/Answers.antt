@@ -6,7 +6,8 @@ use Rattle.wp_search.proofs.search.take_step.Goals.{in-Worked, in-Onward, in-Spe
 
 pub settled-requires : goal.settled-requires
 settled-requires g c =
-    settled_proper c.args.root.now.wave.now c.args.root.now.capacity.most c.args.bound c.args.root.now.shares.now c.args.search.tree c.in-Settled.batching c.args.root.now.capacity.some
+    settled_proper c.args.root.now.wave.now c.args.root.now.capacity.most c.args.bound c.args.root.now.shares.now c.args.search.tree c.in-Settled.batching c.orders.ensures.valid
+    c.args.root.now.capacity.some
     c.requires.shares c.requires.search.right c.requires.bound (rw c.in-Settled.is at c.in_ok-turn.ensures.turned.reason)
 
 pub returns-clause-onward : goal.returns-clause-onward

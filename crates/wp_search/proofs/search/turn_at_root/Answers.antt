@@ -1,4 +1,4 @@
-use Rattle.std.proofs.Common.{List, length, sym, subst}
+use Rattle.std.proofs.Common.{List, sym, subst}
 use Rattle.wp_pairs.specs.declared.pair.OrderPair.{OrderPair}
 use Rattle.wp_cert.specs.Paths.{pairing_of}
 use Rattle.wp_cert.proofs.BoundsHold.{shares_feasible}
@@ -11,6 +11,6 @@ take_turn-requires-clause-above g c κs within =
     let wave = turner.wave.now in
     record {
       count = c.requires.shares.count;
-      feasible = subst (λ (pairs : List OrderPair). AreFeasible wave (pairing_of (length wave.orders) turner.capacity.most pairs) c.args.shares.now)
+      feasible = subst (λ (pairs : List OrderPair). AreFeasible wave (pairing_of wave turner.capacity.most pairs) c.args.shares.now)
           (sym c.new-path.ensures.items) (shares_feasible wave turner.capacity.most c.args.shares.now turner.capacity.some c.requires.shares);
     }

@@ -1,4 +1,4 @@
-use Rattle.std.proofs.Common.{length, refl, sum, subst, sym, ◌∙◌}
+use Rattle.std.proofs.Common.{refl, sum, subst, sym, ◌∙◌}
 use Rattle.std.proofs.lemmas.Bool.{false≢true}
 use Rattle.wp_cert.specs.Paths.{pairing_of}
 use Rattle.wp_search.specs.Branches.{IsBranch}
@@ -10,7 +10,7 @@ pub take_turn-returns-then-is_together-clause-turned : goal.take_turn-returns-th
 take_turn-returns-then-is_together-clause-turned g t c =
     let turner = c.args.turner.now in
     let wave = turner.wave.now in
-    let pairing = pairing_of (length wave.orders) turner.capacity.most c.args.path.now.items in
+    let pairing = pairing_of wave turner.capacity.most c.args.path.now.items in
     rw c.in-Split.is (turned_together wave pairing (sum c.args.above.now) turner.pays turner.least c.in-Split.cut c.keep_least.new.cut
     c.in-Split.together.value c.in-Split.apart.value c.take_turn_below.new.branch c.in_ok-turn-in-Split.turn
     (subst (λ (b : Branch). IsBranch wave pairing (sum c.args.above.now) b) c.in-Split.is c.requires.branch)
@@ -22,7 +22,7 @@ pub take_turn-returns-in_ok-turn-in-Split-2-clause-turned : goal.take_turn-retur
 take_turn-returns-in_ok-turn-in-Split-2-clause-turned g t c =
     let turner = c.args.turner.now in
     let wave = turner.wave.now in
-    let pairing = pairing_of (length wave.orders) turner.capacity.most c.args.path.now.items in
+    let pairing = pairing_of wave turner.capacity.most c.args.path.now.items in
     rw c.in-Split.is (turned_apart wave pairing (sum c.args.above.now) turner.pays turner.least c.in-Split.cut c.keep_least-in-Split.new.cut
     c.in-Split.together.value c.in-Split.apart.value c.take_turn_below-in-Split.new.branch c.in_ok-turn-in-Split-2.turn
     (subst (λ (b : Branch). IsBranch wave pairing (sum c.args.above.now) b) c.in-Split.is c.requires.branch)
@@ -34,6 +34,6 @@ pub take_turn_below-take_turn-requires-clause-above : goal.take_turn_below-take_
 take_turn_below-take_turn-requires-clause-above g t c κs within =
     let turner = c.args.turner.now in
     let wave = turner.wave.now in
-    let pairing = pairing_of (length wave.orders) turner.capacity.most c.args.path.now.items in
+    let pairing = pairing_of wave turner.capacity.most c.args.path.now.items in
     rw c.in_ok-push.ensures.items (feasible_duals_below wave pairing c.args.pair c.args.worked.now.own.duals
     (c.requires.worked.right.all.duals ∙ refl) c.requires.worked.right.feasible)

@@ -1,4 +1,4 @@
-use Rattle.std.proofs.Common.{◌≡◌, ℕ, length, sum, ap, sym, ◌∙◌, subst, arith}
+use Rattle.std.proofs.Common.{◌≡◌, sum, sym, subst, arith}
 use Rattle.std.specs.Prelude.{Option}
 use Rattle.wp_pairs.specs.Permitted.{Pairing}
 use Rattle.wp_cert.specs.Paths.{pairing_of}
@@ -13,18 +13,16 @@ pub turn_kept-requires-clause-above : goal.turn_kept-requires-clause-above
 turn_kept-requires-clause-above g c κs within =
     let turner = c.args.turner.now in
     let wave = turner.wave.now in
-    let pairing = pairing_of (length wave.orders) turner.capacity.most c.args.path.now.items in
-    let same : c.pairs_of-pairs.result ≡ pairing = c.pairs_of-pairs.ensures
-    ∙ ap (λ (n : ℕ). pairing_of n turner.capacity.most c.args.path.now.items) c.orders.ensures.value in
+    let pairing = pairing_of wave turner.capacity.most c.args.path.now.items in
+    let same : c.pairs_of-pairs.result ≡ pairing = c.pairs_of-pairs.ensures in
     subst (λ (p : Pairing). AreFeasibleDuals wave p c.args.above.now) (sym same) c.requires.above
 
 pub turn_worked-requires-clause-worked : goal.turn_worked-requires-clause-worked
 turn_worked-requires-clause-worked g c κs within =
     let turner = c.args.turner.now in
     let wave = turner.wave.now in
-    let pairing = pairing_of (length wave.orders) turner.capacity.most c.args.path.now.items in
-    let same : c.pairs_of-pairs.result ≡ pairing = c.pairs_of-pairs.ensures
-    ∙ ap (λ (n : ℕ). pairing_of n turner.capacity.most c.args.path.now.items) c.orders.ensures.value in
+    let pairing = pairing_of wave turner.capacity.most c.args.path.now.items in
+    let same : c.pairs_of-pairs.result ≡ pairing = c.pairs_of-pairs.ensures in
     subst (λ (p : Pairing). IsWorked wave p 0 c.in-Some.worked) (sym same)
     (worked_below wave _ 0 (sum c.args.above.now) c.in-Some.worked (omega arith)
     (subst (λ (l : Option Worked). IsBranch wave pairing
@@ -34,9 +32,8 @@ pub returns-in-Some : goal.returns-in-Some
 returns-in-Some g c =
     let turner = c.args.turner.now in
     let wave = turner.wave.now in
-    let pairing = pairing_of (length wave.orders) turner.capacity.most c.args.path.now.items in
-    let same : c.pairs_of-pairs.result ≡ pairing = c.pairs_of-pairs.ensures
-    ∙ ap (λ (n : ℕ). pairing_of n turner.capacity.most c.args.path.now.items) c.orders.ensures.value in
+    let pairing = pairing_of wave turner.capacity.most c.args.path.now.items in
+    let same : c.pairs_of-pairs.result ≡ pairing = c.pairs_of-pairs.ensures in
     let is : IsWorked wave pairing (sum c.args.above.now) c.in-Some.worked =
     subst (λ (l : Option Worked). IsBranch wave pairing
     (sum c.args.above.now) (Leaf l)) c.in-Some.is c.requires.leaf in

@@ -8,7 +8,7 @@ keep_all-requires t c = (
   (
     record {
       layout = c.union_with.ensures.layout;
-      points = wider_union _ c.args.picked.now.batch _ _ _ _ c.with.ensures.orders c.requires.picked.points c.union_with.ensures.points;
+      points = wider_union c.args.self.now c.args.picked.now.batch _ _ _ _ c.with.ensures.orders c.requires.picked.points c.union_with.ensures.points;
     },
     c.loop-order.invariant,
   ),

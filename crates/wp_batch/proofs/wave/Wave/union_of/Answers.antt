@@ -8,7 +8,7 @@ use Rattle.wp_batch.proofs.wave.Wave.union_of.Goals.{then-has, else-has}
 
 pub loop-place-preserved : goal.loop-place-preserved
 loop-place-preserved c =
-    let wave : WavePicks = record { layout = c.self.inside.layout; orders = c.self.inside.orders.items } in
+    let wave : WavePicks = record { layout = c.self.inside.layout; orders = c.self.inside.orders.items; cart = c.self.inside.cart } in
     let is = read_of c.args.self.now wave c.deref-picks-items.result.now c.loop-place.place c.picks-item.result c.self.view_is
     c.deref-picks-items.ensures.value c.loop-place-test.true c.picks-item.is in
     elim c.if-has.branch [

@@ -14,6 +14,6 @@ invariant-loop-pair l = record {
   even : length l.self.path.items ≡ length l.self.notes.items;
   done : (wave : WavePicks) (capacity shares at next : ℕ) (nodes : List Node)
       → IsWay wave capacity nodes shares l.fn.self.path.items l.fn.self.notes.items l.fn.self.above at
-      → IsRight wave (pairing_of (length wave.orders) capacity l.fn.self.path.items) l.fn.self.above (drop at nodes) (drop next nodes) l.fn.shown
+      → IsRight wave (pairing_of wave capacity l.fn.self.path.items) l.fn.self.above (drop at nodes) (drop next nodes) l.fn.shown
       → IsDone wave capacity nodes shares l.self.path.items l.self.notes.items next l.bound;
 }

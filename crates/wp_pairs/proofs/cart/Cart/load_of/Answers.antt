@@ -1,4 +1,4 @@
-use Rattle.std.proofs.Common.{ℕ, ap, arith, sym, ◌∙◌, ◌<◌, length}
+use Rattle.std.proofs.Common.{ap, arith, sym, ◌∙◌, length}
 use Rattle.std.specs.Prelude.{slice_index}
 use Rattle.std.proofs.lemmas.Bool.{both_ways}
 use Rattle.std.proofs.lemmas.Option.{get_or_from_slice_get}
@@ -29,9 +29,12 @@ loop-order-preserved c = elim c.if-has.branch [
   })
 ]
 
-pub returns : goal.returns
-returns c =
+pub returns-clause-is : goal.returns-clause-is
+returns-clause-is c =
     let loads = ap (λ (cart : LoadedCart). length cart.loads) c.self.view_is in
     c.loop-order.invariant.under
     ∙ under_rest (slice_index c.args.self.now.loads) c.loop-order.order c.args.batch
     (λ order high. no_load c.args.self.now.loads order (omega (arith, high, loads, c.loop-order-test.false, c.len-order-end.ensures.count)))
+
+pub returns-clause-small : goal.returns-clause-small
+returns-clause-small c = omega (arith, c.loop-order.invariant.small, c.len-order-end.ensures.few)

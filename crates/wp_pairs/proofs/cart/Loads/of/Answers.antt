@@ -1,4 +1,4 @@
-use Rattle.std.proofs.Common.{ℕ, List, arith, ap, take, length-set, ◌∙◌}
+use Rattle.std.proofs.Common.{arith, ap, length-set, ◌∙◌}
 use Rattle.std.proofs.lemmas.List.{take_all}
 use Rattle.wp_pairs.specs.Carts.{padded}
 use Rattle.wp_pairs.proofs.LoadWords.{keeps_loads, one_more_load}

@@ -3,11 +3,10 @@ use Rattle.wp_pairs.proofs.Classes.{keeping_permitted, permitted_fits, permitted
 use Rattle.wp_pairs.proofs.pairs.Pairs.permits.Goals as goal
 
 pub returns-then-fits : goal.returns-then-fits
-returns-then-fits c =
-    let fits = c.fits.ensures.exact.0 c.if-fits.true in (
-      λ yes. keeping_permitted _ _ c.fits.ensures.valid fits.filled fits.fits (c.keeps_all.ensures.exact.0 yes),
-      λ permitted. c.keeps_all.ensures.exact.1 (permitted_keeps _ _ permitted),
-    )
+returns-then-fits c = (
+  λ yes. keeping_permitted _ _ c.fits.ensures.valid (c.fits.ensures.exact.0 c.if-fits.true) (c.keeps_all.ensures.exact.0 yes),
+  λ permitted. c.keeps_all.ensures.exact.1 (permitted_keeps _ _ permitted),
+)
 
 pub returns-else-fits : goal.returns-else-fits
 returns-else-fits c = (

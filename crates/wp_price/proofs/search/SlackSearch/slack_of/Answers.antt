@@ -1,6 +1,5 @@
-use Rattle.std.proofs.Common.{arith, ap, subst, List, ℕ, to_z-of_z, SFits, w64, rules}
+use Rattle.std.proofs.Common.{arith, subst, to_z-of_z, SFits, w64, rules}
 use Rattle.std.proofs.lemmas.Int.{ints}
-use Rattle.wp_batch.specs.Duals.{duals_of}
 use Rattle.wp_price.specs.Searches.{Task}
 use Rattle.wp_price.specs.Slacks.{IsSlack}
 use Rattle.wp_price.proofs.Children.{permitted_few, permitted_small}

@@ -1,0 +1,22 @@
+-- What is kept of the places on the way of a visit, to measure those after them.
+use Rattle.std.specs.Prelude.{◌≡◌, ℕ, ◌↔◌, ◌⊎◌, All, Contains, Option}
+use Rattle.std.specs.Option.{ForSome}
+use Rattle.wp_model.specs.declared.point.Point.{Point}
+use Rattle.wp_batch.specs.Lengths.{batch_picks}
+use Rattle.wp_batch.specs.Waves.{WavePicks}
+use Rattle.wp_cert.specs.declared.levels.Level.{Level}
+use Rattle.wp_cert.specs.declared.levels.Levels.{Levels}
+use Rattle.wp_cert.specs.declared.levels.Reached.{Reached}
+
+-- a level keeps the slots at which the orders of its batch pick
+pub record IsLevel (wave : WavePicks) (level : Level) : Type 0 where
+  pub layout : level.kept.layout ≡ wave.layout
+  pub points : (p : Point) → Contains level.kept.points p ↔ Contains (batch_picks wave level.batch) p
+
+-- so does each
+abbrev pub AreLevels : WavePicks → Levels → Type 0
+AreLevels wave levels = All (λ (kept : Option Level). ForSome kept (IsLevel wave)) levels.kept
+
+-- a place has the orders of the place before it and those of the item that was added
+abbrev pub IsBoth : Reached → Type 0
+IsBoth reached = (order : ℕ) → Contains reached.batch order ↔ (Contains reached.before order ⊎ Contains reached.added order)
