@@ -1,0 +1,11 @@
+pub mod Wholes
+pub mod Law
+pub mod Holds
+pub mod Trims
+pub mod Pools
+pub mod RoundedDown
+pub mod Starts
+pub mod Sides
+pub mod Bounds
+pub mod ShareDuals
+pub mod FewRounds

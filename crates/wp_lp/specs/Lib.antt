@@ -1,0 +1,5 @@
+pub mod Covers
+pub mod Runs
+pub mod Roots
+pub mod Parts
+pub mod Rounds

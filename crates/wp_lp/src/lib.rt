@@ -1,0 +1,20 @@
+//! A bracket of a wave's linear bound: feasible duals and a fractional cover over one denominator, from the batches that are priced
+//! under the duals of a linear program in whole numbers.
+#![tactic(auto)]
+
+mod bracket;
+mod halt;
+mod open_wave;
+mod part;
+mod root;
+mod round;
+mod sixtieths;
+mod start;
+mod trim;
+mod whole;
+
+pub use bracket::root_pair;
+pub use root::{Root, RootState};
+
+#[cfg(test)]
+mod tests;
