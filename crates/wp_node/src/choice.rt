@@ -1,5 +1,6 @@
-ghost use Rattle.std.specs.Prelude.{IfNone, IfOk, IfSome};
+ghost use Rattle.std.specs.Prelude.{◌≡◌, ◌↔◌, All, IfNone, IfOk, IfSome, IsTrue};
 ghost use Rattle.wp_pairs.specs.Permitted.{AllDecided, AreUndecided};
+ghost use Rattle.wp_node.specs.Weights.{HaveOneLength};
 
 use crate::ascent::{ascend_within, sum_all};
 use crate::bound::WHOLE;
@@ -240,6 +241,23 @@ fn best_tried(alloc: Global, trial: &Trial<'_>, shared: &[Two]) -> Result<Option
     Ok(best.get(0).copied())
 }
 
+// Whether each column has that length.
+fn have_length(weighted: &[Weighted], length: u64) -> bool
+    ensures { IsTrue result ↔ All (λ each. each.column.length ≡ length) weighted.now }
+{
+    weighted.iter().all(|each| each.column.length == length)
+}
+
+// Whether all columns have one length.
+fn has_one_length(weighted: &[Weighted]) -> bool
+    ensures { IsTrue result ↔ HaveOneLength weighted.now }
+{
+    match weighted.first() {
+        Some(first) => have_length(weighted, first.column.length),
+        None => true,
+    }
+}
+
 // Two orders, where they are undecided.
 fn undecided_two(pairs: &Pairs, two: Two) -> Option<(u32, u32)>
     ensures { IfSome result (λ pair. AreUndecided pairs.now pair.0 pair.1) }
@@ -253,10 +271,47 @@ fn undecided_two(pairs: &Pairs, two: Two) -> Option<(u32, u32)>
     None
 }
 
+// The least of the earlier orders with which an order is an undecided pair that is shared in part, if there is any.
+fn shared_before(pairs: &Pairs, weighted: &[Weighted], second: u32) -> Option<u32> {
+    for first in 0..second {
+        let two = Two { first, second };
+        if undecided_two(pairs, two).is_some() && distance_of(share_of(weighted, two)).is_some() {
+            return Some(first);
+        }
+    }
+    None
+}
+
+// Of the undecided pairs that are shared in part the one whose later order is the least, if there is any.
+fn least_shared(pairs: &Pairs, weighted: &[Weighted]) -> Option<Two> {
+    for second in 0..pairs.orders() {
+        if let Some(first) = shared_before(pairs, weighted, second) {
+            return Some(Two { first, second });
+        }
+    }
+    None
+}
+
+// The pair that the columns of a node suggest, if they share any in part: where all have one length the one whose later order is the
+// least, with no trial, since no pair gains anything there; else the one that gains most.
+fn suggested(
+    alloc: Global,
+    pairs: &Pairs,
+    worked: &Worked,
+    cost: u64,
+) -> Result<Option<Two>, Memory> {
+    let weighted = worked.weighted.as_slice();
+    if has_one_length(weighted) {
+        return Ok(least_shared(pairs, weighted));
+    }
+    let shared = shared_pairs(alloc, pairs, weighted, MOST_TRIED)?;
+    best_tried(alloc, &trial_of(worked, cost), shared.as_slice())
+}
+
 /// The pair of orders on which a node is split, where the best batching costs so much: of the undecided pairs that the columns of
 /// the node's linear program share most nearly by one half, the one whose two children gain most in an ascent, as far as a gain
-/// brings them to that cost. Where no pair is shared in part it is the least undecided pair. None comes exactly where all pairs are
-/// decided.
+/// brings them to that cost. Where these columns all have one length it is, of those that they share in part, the pair whose later
+/// order is the least. Where no pair is shared in part it is the least undecided pair. None comes exactly where all pairs are decided.
 pub fn choose_pair(
     alloc: Global,
     pairs: &Pairs,
@@ -266,9 +321,7 @@ pub fn choose_pair(
     ensures some { IfOk result (λ found. IfSome found (λ pair. AreUndecided pairs.now pair.0 pair.1)) }
     ensures none { IfOk result (λ found. IfNone found (AllDecided pairs.now)) }
 {
-    let shared = shared_pairs(alloc, pairs, worked.weighted.as_slice(), MOST_TRIED)?;
-    let trial = trial_of(worked, cost);
-    if let Some(two) = best_tried(alloc, &trial, shared.as_slice())? {
+    if let Some(two) = suggested(alloc, pairs, worked, cost)? {
         if let Some(pair) = undecided_two(pairs, two) {
             return Ok(Some(pair));
         }
