@@ -1,4 +1,4 @@
-//! Tests of what stands lowest: names and texts, devices, the turn and made days.
+//! Tests of what stands lowest: names and texts, devices, the writing of sections, the turn and made days.
 //!
 //! What a whole run shows of them is shown by the cases of `wp_cases`.
 #![tactic(auto)]
@@ -13,3 +13,5 @@ mod making;
 mod names;
 #[cfg(test)]
 mod turns;
+#[cfg(test)]
+mod writing;
