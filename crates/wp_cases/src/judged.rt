@@ -4,7 +4,7 @@ use crate::fault::CaseFault;
 use crate::gates::CaseGate;
 use crate::given::{bytes_of, files_of, text_of};
 use crate::host::Host;
-use crate::judging::{audit_writes, is_among};
+use crate::judging::{audit_words, audit_writes, is_among};
 use crate::lines::{has_line, line_of, rest_of, words_of};
 use crate::print_end;
 use crate::sheets::is_certified;
@@ -40,7 +40,7 @@ fn run_once<R: Threads + Wait + Sync>(
     ended_so(host.alloc, status, &out)
 }
 
-/// Whether the audit of an output writes what a line `audit` says, where there is one.
+/// Whether the audit of an output writes what a line `audit` says, where there is one. It is given the units of the words.
 fn is_audited(
     alloc: Global,
     lines: &str,
@@ -50,8 +50,9 @@ fn is_audited(
     let Some(entries) = rest_of(lines, "audit ") else {
         return Ok(true);
     };
+    let words = audit_words(alloc, lines)?;
     let text = line_of(alloc, "audit", entries)?;
-    audit_writes(alloc, files, output, text.as_str())
+    audit_writes(alloc, words.as_str(), files, output, text.as_str())
 }
 
 /// Whether a run ended well, and its output is as the lines of the case say.

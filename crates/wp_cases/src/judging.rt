@@ -2,8 +2,9 @@
 
 use crate::fault::CaseFault;
 use crate::given::files_with;
-use crate::lines::words_of;
+use crate::lines::{rest_of, words_of};
 use std::alloc::Global;
+use wp_model::Memory;
 use wp_outside::{Files, MemFiles, MemSink, Sink};
 use wp_top::{run_audit, run_check};
 use wp_words::{Job, read_words};
@@ -48,15 +49,37 @@ fn writes<F: Files>(
     Ok(status == 0 && out.taken() == text.as_bytes())
 }
 
-/// Whether an audit of an output writes this text, over the files of a case.
+/// The units that words give, where they give any.
+fn units_in<'a>(words: &'a str) -> Option<&'a str> {
+    let mut is_next = false;
+    for word in words.split(' ') {
+        if is_next {
+            return Some(word);
+        }
+        is_next = word == "--units";
+    }
+    None
+}
+
+/// The words of the audit of an output, with the units that the words of the case give.
+pub fn audit_words(alloc: Global, lines: &str) -> Result<String, Memory> {
+    let words = match rest_of(lines, "words ").and_then(units_in) {
+        Some(units) => format!(in alloc; "{AUDIT} --units {units}")?,
+        None => String::from_str(alloc, AUDIT)?,
+    };
+    Ok(words)
+}
+
+/// Whether an audit of an output by these words writes this text, over the files of a case.
 pub fn audit_writes(
     alloc: Global,
+    words: &str,
     files: &mut MemFiles,
     output: &str,
     text: &str,
 ) -> Result<bool, CaseFault> {
     let mut files = files_with(alloc, files, AUDITED, ("output.txt", output))?;
-    writes(alloc, AUDIT, &mut files, text)
+    writes(alloc, words, &mut files, text)
 }
 
 /// Whether a check of a certificate writes this text, over the layout of a case.

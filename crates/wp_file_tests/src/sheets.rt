@@ -36,12 +36,13 @@ fn wave_of_nothing(alloc: Global) -> Result<WaveHolds, Memory>
     })
 }
 
-fn heading_text(alloc: Global) -> Result<Vec<u8>, Memory> {
+fn heading_text(alloc: Global, units: Option<u32>) -> Result<Vec<u8>, Memory> {
     let wave = wave_of_nothing(alloc)?;
     print_heading(
         alloc,
         &wave,
         4_294_967_295,
+        units,
         18_446_744_073_709_551_615,
         18_446_744_073_709_551_614,
         true,
@@ -51,10 +52,20 @@ fn heading_text(alloc: Global) -> Result<Vec<u8>, Memory> {
 
 #[test]
 fn a_heading_has_the_greatest_numbers(rt: HostRuntime) -> Result<(), Fail> {
-    let text = heading_text(rt.alloc())?;
+    let text = heading_text(rt.alloc(), None)?;
     assert!(rt;
         text.as_slice()
             == "wave W entry 18446744073709551615 orders 1 capacity 4294967295 cost 18446744073709551615 bound 18446744073709551614 open\n".as_bytes()
+    );
+    Ok(())
+}
+
+#[test]
+fn a_heading_has_the_greatest_number_of_units(rt: HostRuntime) -> Result<(), Fail> {
+    let text = heading_text(rt.alloc(), Some(4_294_967_294))?;
+    assert!(rt;
+        text.as_slice()
+            == "wave W entry 18446744073709551615 orders 1 capacity 4294967295 units 4294967294 cost 18446744073709551615 bound 18446744073709551614 open\n".as_bytes()
     );
     Ok(())
 }

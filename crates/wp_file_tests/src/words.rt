@@ -11,6 +11,14 @@ fn words_of(alloc: Global, line: &str) -> Result<Vec<String>, AllocError> {
     Ok(words)
 }
 
+/// A text, and behind it the units that a cart holds, where they are given.
+fn with_units(alloc: Global, text: String, units: Option<u32>) -> Result<String, AllocError> {
+    match units {
+        None => Ok(text),
+        Some(units) => format!(in alloc; "{text}, {units} units"),
+    }
+}
+
 fn plan_text(alloc: Global, words: &PlanWords) -> Result<String, AllocError> {
     let PlanWords {
         layout,
@@ -18,10 +26,14 @@ fn plan_text(alloc: Global, words: &PlanWords) -> Result<String, AllocError> {
         orders,
         desks,
         capacity,
+        units,
         budget,
         workers,
     } = words;
-    format!(in alloc; "plan {layout}, {stock}, {orders}, {desks}, {capacity}, {budget}, {workers}")
+    let text = format!(in alloc;
+        "plan {layout}, {stock}, {orders}, {desks}, {capacity}, {budget}, {workers}"
+    )?;
+    with_units(alloc, text, *units)
 }
 
 fn check_text(alloc: Global, words: &CheckWords) -> Result<String, AllocError> {
@@ -38,8 +50,10 @@ fn audit_text(alloc: Global, words: &AuditWords) -> Result<String, AllocError> {
         stock,
         orders,
         journal,
+        units,
     } = words;
-    format!(in alloc; "audit {layout}, {stock}, {orders}, {journal}")
+    let text = format!(in alloc; "audit {layout}, {stock}, {orders}, {journal}")?;
+    with_units(alloc, text, *units)
 }
 
 fn make_text(alloc: Global, words: &MakeWords) -> Result<String, AllocError> {
@@ -159,6 +173,18 @@ const JOBS: &[(&str, &str)] = &[
         "audit l, s, o, j",
     ),
     (
+        "audit --layout l --stock s --orders o --journal j --units 1",
+        "audit l, s, o, j, 1 units",
+    ),
+    (
+        "audit --units=40000000 --journal j --orders=o --layout l --stock=s",
+        "audit l, s, o, j, 40000000 units",
+    ),
+    (
+        "audit --layout l --units +05 --stock s --orders o --journal=--units",
+        "audit l, s, o, --units, 5 units",
+    ),
+    (
         "make --number 1 --aisles 60 --orders 200 --desks 4 --wave 20 --capacity 3 --budget 120000 --workers 16",
         "make 1, 60, 200, 4, 20, 3, 120000, 16",
     ),
@@ -222,6 +248,19 @@ const NUMBERS: &[(&str, &str)] = &[
     (" --capacity 2 --workers=+02", "2, 2000000, 2"),
     (" --workers=4 --budget=5 --capacity=6", "6, 5, 4"),
     (" --capacity 6 --budget 5 --workers 4 --", "6, 5, 4"),
+    (" --capacity 2 --units 1", "2, 2000000, 1, 1 units"),
+    (
+        " --units=40000000 --capacity 2",
+        "2, 2000000, 1, 40000000 units",
+    ),
+    (
+        " --capacity 2 --units +0000000000000000000000012",
+        "2, 2000000, 1, 12 units",
+    ),
+    (
+        " --workers=4 --units=7 --budget=5 --capacity=6",
+        "6, 5, 4, 7 units",
+    ),
 ];
 
 fn are_read(alloc: Global, words: &str, numbers: &str) -> Result<bool, AllocError> {
@@ -243,4 +282,77 @@ fn misread_numbers(alloc: Global) -> Result<Option<&'static str>, AllocError> {
 #[test]
 fn numbers_of_plan_are_read(rt: HostRuntime) {
     assert_eq!(rt; misread_numbers(rt.alloc()), Ok(None));
+}
+
+/// Commands with all that they want, and units that they don't take.
+const REFUSED_UNITS: &[(&str, &[&str])] = &[
+    (
+        "plan --layout l --stock s --orders o --desks d --capacity 2",
+        BAD_UNITS,
+    ),
+    (
+        "audit --layout l --stock s --orders o --journal j",
+        BAD_UNITS,
+    ),
+    ("check --layout l --certificate c", GOOD_UNITS),
+    (
+        "make --number 1 --aisles 1 --orders 1 --desks 1 --wave 1 --capacity 1",
+        GOOD_UNITS,
+    ),
+];
+
+/// Units that no cart holds, that aren't whole numbers, or that aren't given once.
+const BAD_UNITS: &[&str] = &[
+    "--units 0",
+    "--units=0",
+    "--units 40000001",
+    "--units 4294967297",
+    "--units 18446744073709551617",
+    "--units -1",
+    "--units=-1",
+    "--units 1.5",
+    "--units 1e3",
+    "--units 40,000",
+    "--units x",
+    "--units=",
+    "--units",
+    "--units 5 --units 5",
+    "--units=5 --units 6",
+    "--unit 5",
+    "-units 5",
+    "5",
+];
+
+/// Units that a plan and an audit take.
+const GOOD_UNITS: &[&str] = &["--units 1", "--units=5", "--units 40000000"];
+
+/// The first units that a command takes.
+fn taken_among(
+    alloc: Global,
+    command: &str,
+    units: &[&'static str],
+) -> Result<Option<&'static str>, AllocError> {
+    for words in units {
+        let line = format!(in alloc; "{command} {words}")?;
+        if !is_read(alloc, line.as_str(), "bad-words")? {
+            return Ok(Some(*words));
+        }
+    }
+    Ok(None)
+}
+
+/// The first bad units that are taken.
+fn taken_units(alloc: Global) -> Result<Option<&'static str>, AllocError> {
+    for (command, units) in REFUSED_UNITS {
+        let taken = taken_among(alloc, command, units)?;
+        if taken.is_some() {
+            return Ok(taken);
+        }
+    }
+    Ok(None)
+}
+
+#[test]
+fn bad_units_are_refused(rt: HostRuntime) {
+    assert_eq!(rt; taken_units(rt.alloc()), Ok(None));
 }

@@ -9,18 +9,80 @@ use std::test::Fail;
 use std::thread::{Threads, join};
 use wp_desk::Planner;
 use wp_graph::Layout;
-use wp_machine::WaveHolds;
-use wp_model::{Hold, Holds, Name, Names, StockRow};
+use wp_machine::{Opening, WaveHolds};
+use wp_model::{Hold, Holds, MOST_CART_UNITS, Name, Names, StockRow};
 use wp_outside::OpenGate;
 use wp_planner::{DayPlanner, Planning, PlansWaves, Terms, plan_for};
-use wp_tables::{Stock, read_stock};
+use wp_tables::{read_orders, read_stock};
 
-const STOCK: &str = "location,article,on_hand
+const STOCK: &[u8] = b"location,article,on_hand
 1-1-L,A,5
+2-1-L,A,5
 ";
 
-fn stock_of(alloc: Global, layout: &Layout) -> Result<Stock, Fail> {
-    Ok(read_stock(alloc, &STOCK.as_bytes().to_vec(alloc)?, layout)?)
+const ORDERS: &[u8] = b"order,article,quantity
+O1,A,2
+";
+
+/// A wave of one order, as a planner is asked for its plan.
+struct Case {
+    /// How many units a cart holds, or none for any number.
+    units: Option<u32>,
+    /// How many units are held for the order in the first row, in the second one, and so on.
+    held: &'static [u32],
+    /// Whether there is a plan.
+    planned: bool,
+}
+
+const CASES: &[Case] = &[
+    Case {
+        units: None,
+        held: &[2],
+        planned: true,
+    },
+    Case {
+        units: None,
+        held: &[],
+        planned: false,
+    },
+    Case {
+        units: Some(2),
+        held: &[2],
+        planned: true,
+    },
+    Case {
+        units: Some(1),
+        held: &[2],
+        planned: false,
+    },
+    Case {
+        units: Some(5),
+        held: &[2, 3],
+        planned: true,
+    },
+    Case {
+        units: Some(4),
+        held: &[2, 3],
+        planned: false,
+    },
+    Case {
+        units: Some(40_000_000),
+        held: &[4_294_967_295, 2],
+        planned: false,
+    },
+];
+
+/// The opening of one order, with carts of these units.
+fn opening_of(alloc: Global, layout: &Layout, units: Option<u32>) -> Result<Opening, Fail> {
+    let stock = read_stock(alloc, &STOCK.to_vec(alloc)?, layout)?;
+    let orders = read_orders(alloc, &ORDERS.to_vec(alloc)?, &stock)?;
+    match units {
+        None => Ok(Opening::of(stock, orders)),
+        Some(units) if 1 <= units && units <= MOST_CART_UNITS => {
+            Ok(Opening::with_cart(stock, orders, units))
+        }
+        Some(_) => Err("no cart".into()),
+    }
 }
 
 fn lies(layout: &Layout, row: &StockRow) -> bool
@@ -43,26 +105,29 @@ fn names_of(alloc: Global, name: Name) -> Result<Names, Fail> {
     Ok(Names::of(names))
 }
 
-fn holds_of(alloc: Global, hold: Hold) -> Result<Holds, Fail> {
+/// Holds for the first order, of so many units in the first row, in the second one, and so on.
+fn holds_of(alloc: Global, held: &[u32]) -> Result<Holds, Fail> {
     let mut holds = Vec::new(alloc);
-    holds.push(hold)?;
+    for row in 0..held.len() {
+        holds.push(Hold {
+            order: 0,
+            row: row as u32,
+            quantity: held[row],
+        })?;
+    }
     Ok(Holds::of(holds))
 }
 
-/// A wave of one order, for which two units are held in the first row.
-fn smallest(alloc: Global) -> Result<WaveHolds, Fail> {
+/// A wave of one order, for which this is held.
+fn wave_with(alloc: Global, held: &[u32]) -> Result<WaveHolds, Fail> {
     let wave = Name::new(b"W1").ok_or("no name")?;
     let order = Name::new(b"O1").ok_or("no name")?;
-    let hold = Hold {
-        order: 0,
-        row: 0,
-        quantity: 2,
-    };
+    let orders = names_of(alloc, order)?;
     Ok(WaveHolds {
         number: 1,
         wave,
-        orders: names_of(alloc, order)?,
-        holds: holds_of(alloc, hold)?,
+        orders,
+        holds: holds_of(alloc, held)?,
     })
 }
 
@@ -104,25 +169,25 @@ fn have_plans_by<R: Threads + Sync, C: PlansWaves>(
     have_plans(rt, alloc, &DayPlanner::by(plans), wave)
 }
 
-/// Whether two threads that share the planner of a day, in a layout, have plans of a wave.
+/// Whether two threads that share the planner of a day, in a layout and from an opening, have plans of a wave.
 fn have_day_plans<R: Threads + Sync>(
     rt: &R,
     alloc: Global,
     layout: &Layout,
+    opening: &Opening,
     wave: &WaveHolds,
 ) -> Result<(bool, bool), Fail> {
-    let stock = stock_of(alloc, layout)?;
-    if !lie_in(layout, stock.as_rows()) {
+    if !lie_in(layout, opening.stock().as_rows()) {
         return Err("no stock".into());
     }
     let terms = Terms::of(1, 100_000_000, 1);
     let plan = |alloc: Global, wave: &WaveHolds|
-        requires { LiesIn layout.now stock }
+        requires { LiesIn layout.now opening.now.stock }
     {
         let planning = Planning {
             rt,
             layout,
-            stock: &stock,
+            opening,
             terms: &terms,
             gate: &OpenGate,
         };
@@ -131,11 +196,28 @@ fn have_day_plans<R: Threads + Sync>(
     have_plans_by(rt, alloc, plan, wave)
 }
 
+/// Whether the planner has a plan of a case's wave exactly where it is to have one.
+fn is_planned<R: Threads + Sync>(rt: &R, alloc: Global, case: &Case) -> Result<bool, Fail> {
+    let layout = Layout::new(3, 4, 2, 1, 5, 1).ok_or("no layout")?;
+    let opening = opening_of(alloc, &layout, case.units)?;
+    let wave = wave_with(alloc, case.held)?;
+    let have = have_day_plans(rt, alloc, &layout, &opening, &wave)?;
+    Ok(have == (case.planned, case.planned))
+}
+
 #[test]
 fn a_wave_has_a_plan_exactly_where_it_goes_out(rt: HostRuntime) -> Result<(), Fail> {
+    for case in CASES {
+        assert!(rt; is_planned(&rt, rt.alloc(), case)?);
+    }
+    Ok(())
+}
+
+#[test]
+fn a_wave_without_orders_has_no_plan(rt: HostRuntime) -> Result<(), Fail> {
     let alloc = rt.alloc();
     let layout = Layout::new(3, 4, 2, 1, 5, 1).ok_or("no layout")?;
-    assert!(rt; have_day_plans(&rt, alloc, &layout, &smallest(alloc)?)? == (true, true));
-    assert!(rt; have_day_plans(&rt, alloc, &layout, &empty(alloc)?)? == (false, false));
+    let opening = opening_of(alloc, &layout, None)?;
+    assert!(rt; have_day_plans(&rt, alloc, &layout, &opening, &empty(alloc)?)? == (false, false));
     Ok(())
 }

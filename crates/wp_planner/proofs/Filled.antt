@@ -13,10 +13,9 @@ use Rattle.wp_model.proofs.Found.{option_map_or-both, wave_found}
 use Rattle.wp_model.proofs.Held.{orders_in-at}
 use Rattle.wp_model.proofs.Waves.{stock_of, wave_at}
 use Rattle.wp_floor.proofs.Floors.{wave_by}
-use Rattle.wp_model.specs.Change.{hold}
 use Rattle.wp_model.specs.Demand.{demand_at, order_demand, short_article}
 use Rattle.wp_model.specs.Opening.{IsOpening, Opening, is_known_order}
-use Rattle.wp_model.specs.Sound.{HoldsAs, IsSound, units_of}
+use Rattle.wp_model.specs.Sound.{HoldsAs, HoldsItsDemand, IsSound, units_of}
 use Rattle.wp_model.specs.State.{State, Wave}
 use Rattle.wp_model.specs.Step.{Stepped, hold_for, refuse_short, release, step, wave_from}
 use Rattle.wp_model.specs.Sums.{sum_below}
@@ -46,8 +45,8 @@ units_of_some rows article units k =
     (λ none some. absurd (omega arith))
 
 -- a wave that holds what its known orders want holds units for each of them
-wanted_is_held : (opening : Opening) (state : State) (number : ℕ) (w : Wave) → IsOpening opening
-    → All (λ order. IsTrue (is_known_order opening.orders order)) w.orders → HoldsAs wave.Allotted opening state number w
+pub wanted_is_held : (opening : Opening) (state : State) (number : ℕ) (w : Wave) → IsOpening opening
+    → All (λ order. IsTrue (is_known_order opening.orders order)) w.orders → HoldsItsDemand opening state number w
     → HoldsForEach state number (length w.orders)
 wanted_is_held opening state number w is known holds order within =
     let name = within_some w.orders order within in
@@ -56,14 +55,14 @@ wanted_is_held opening state number w is known holds order within =
     let row = sum_some (length state.rows) (units_of state.rows wants.0 (state.held number order)) (omega (arith, demand, wants.1, holds order wants.0)) in
     (row.0, units_of_some state.rows wants.0 (state.held number order) row.0 row.1)
 
--- a wave has gone out: it is released, and holds units for each of its orders
-pub record HasGoneOut (after : State) (number : ℕ) (w : Wave) : Type 0 where
+-- a wave has gone out: it is released, and holds just what its orders want
+pub record HasGoneOut (opening : Opening) (after : State) (number : ℕ) (w : Wave) : Type 0 where
   pub there : slice_get after.waves number ≡ Some (record w { state = wave.Released })
-  pub holds : HoldsForEach after number (length w.orders)
+  pub holds : HoldsItsDemand opening after number w
 
 -- where the reply says so, the wave has gone out
-abbrev IsOutIfSaid : ℕ → Wave → Stepped → Type 0
-IsOutIfSaid number w stepped = stepped.reply ≡ reply.Released → HasGoneOut stepped.state number w
+abbrev IsOutIfSaid : Opening → ℕ → Wave → Stepped → Type 0
+IsOutIfSaid opening number w stepped = stepped.reply ≡ reply.Released → HasGoneOut opening stepped.state number w
 
 put_there : (state : State) (number : ℕ) (w : Wave) → slice_get state.waves number ≡ Some w
     → slice_get (slice_set state.waves number (record w { state = wave.Released })) number ≡ Some (record w { state = wave.Released })
@@ -71,7 +70,7 @@ put_there state number w there = slice_get-set_same state.waves number (record w
 
 submitted_goes_out : (opening : Opening) (state : State) (number : ℕ) (w : Wave) → IsOpening opening → IsSound opening state
     → slice_get state.waves number ≡ Some w → w.state ≡ wave.Submitted
-    → IsOutIfSaid number w (hold_for opening state wave.Released reply.Released number w)
+    → IsOutIfSaid opening number w (hold_for opening state wave.Released reply.Released number w)
 submitted_goes_out opening state number w is sound there submitted =
     let demand = demand_at opening w.orders in
     let orders = length w.orders in
@@ -79,22 +78,20 @@ submitted_goes_out opening state number w is sound there submitted =
     let was = wave_at opening state number w sound there in
     let none = nothing_held state number orders stock (orders_in-at state number w there)
     (subst (λ s. HoldsAs s opening state number w) submitted was.holds) in
-    option_map_or-both (IsOutIfSaid number w) (refuse_short opening state w) (short_article opening state.rows w.orders None) _
+    option_map_or-both (IsOutIfSaid opening number w) (refuse_short opening state w) (short_article opening state.rows w.orders None) _
     (λ article short out. absurd (cc out))
     (λ covered out. record {
       there = put_there state number w there;
-      holds = wanted_is_held opening (hold demand None number orders state) number w is was.known
-          (λ place article. holds_demand demand number orders state place article none
-          (covered_from_none opening state.rows w.orders None is covered article) (demand_at-some opening w.orders article place));
+      holds = λ place article. holds_demand demand number orders state place article none
+          (covered_from_none opening state.rows w.orders None is covered article) (demand_at-some opening w.orders article place);
     })
 
 wave_goes_out : (opening : Opening) (state : State) (number : ℕ) (w : Wave) (s : WaveState) → IsOpening opening → IsSound opening state
-    → slice_get state.waves number ≡ Some w → w.state ≡ s → IsOutIfSaid number w (release opening state number w s)
+    → slice_get state.waves number ≡ Some w → w.state ≡ s → IsOutIfSaid opening number w (release opening state number w s)
 wave_goes_out opening state number w wave.Submitted is sound there e = submitted_goes_out opening state number w is sound there e
 wave_goes_out opening state number w wave.Allotted is sound there e = λ out. record {
   there = put_there state number w there;
-  holds = let was = wave_at opening state number w sound there in
-      wanted_is_held opening state number w is was.known (subst (λ s. HoldsAs s opening state number w) e was.holds);
+  holds = subst (λ s. HoldsAs s opening state number w) e (wave_at opening state number w sound there).holds;
 }
 wave_goes_out opening state number w wave.Released is sound there e = λ out. absurd (cc out)
 wave_goes_out opening state number w wave.Cancelled is sound there e = λ out. absurd (cc out)
@@ -113,16 +110,16 @@ found_named number (w ∷ waves) name found is =
         ap (λ (f : ℕ × Wave). f.1.name) own ∙ named refl
     by rest false named later = rest later
 
--- the wave of a name after a step, where there is one, holds units for each of its orders
-abbrev WaveHoldsForEach : Opening → List ℕ → Stepped → Type 0
-WaveHoldsForEach opening name stepped = stepped.reply ≡ reply.Released → IsSound opening stepped.state → (found : ℕ × Wave)
-    → wave_from 0 stepped.state.waves name ≡ Some found → HoldsForEach stepped.state found.0 (length found.1.orders)
+-- the wave of a name after a step, where there is one, holds just what its orders want
+abbrev WaveHoldsItsDemand : Opening → List ℕ → Stepped → Type 0
+WaveHoldsItsDemand opening name stepped = stepped.reply ≡ reply.Released → IsSound opening stepped.state → (found : ℕ × Wave)
+    → wave_from 0 stepped.state.waves name ≡ Some found → HoldsItsDemand opening stepped.state found.0 found.1
 
--- where a release sends a wave out, the wave of the name holds units for each of its orders
+-- where a release sends a wave out, the wave of the name holds just what its orders want
 pub release_fills : (opening : Opening) (state : State) (name : List ℕ) → IsOpening opening → IsSound opening state
-    → WaveHoldsForEach opening name (step opening state (command.Release name))
+    → WaveHoldsItsDemand opening name (step opening state (command.Release name))
 release_fills opening state name is sound =
-    option_map_or-both (WaveHoldsForEach opening name) (λ (f : ℕ × Wave). release opening state f.0 f.1 f.1.state) (wave_from 0 state.waves name) _
+    option_map_or-both (WaveHoldsItsDemand opening name) (λ (f : ℕ × Wave). release opening state f.0 f.1 f.1.state) (wave_from 0 state.waves name) _
     (λ f at said after found has.
     let there = wave_found state.waves name f at in
     let out = wave_goes_out opening state f.0 f.1 f.1.state is sound there refl said in
@@ -132,6 +129,6 @@ release_fills opening state name is sound =
     let new = (release opening state f.0 f.1 f.1.state).state in
     let is_put : Some (0 + f.0, put) ≡ Some found = sym (wave_by new.waves name 0 f.0 put out.there named after.names) ∙ has in
     let same : (0 + f.0, put) ≡ found = same_Some (0 + f.0, put) found is_put in
-    subst (λ (g : ℕ × Wave). HoldsForEach new g.0 (length g.1.orders)) same
-    (subst (λ (n : ℕ). HoldsForEach new n (length f.1.orders)) (sym number) out.holds))
+    subst (λ (g : ℕ × Wave). HoldsItsDemand opening new g.0 g.1) same
+    (subst (λ (n : ℕ). HoldsItsDemand opening new n put) (sym number) out.holds))
     (λ none said. absurd (cc said))

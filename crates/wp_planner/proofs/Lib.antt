@@ -5,3 +5,6 @@ pub mod Outgoing
 pub mod Rising
 pub mod BatchTours
 pub mod SheetParts
+pub mod OrderLoads
+pub mod Served
+pub mod AnySheet

@@ -1,6 +1,6 @@
 -- The picks of orders grow hold by hold.
 use Rattle.std.proofs.Common.{◌≡◌, ◌≢◌, ◌∙◌, refl, sym, ap, subst, ℕ, ◌+◌, ◌<◌, ◌↔◌, ◌⊎◌, inl, inr, ⊎_elim, List, [], ◌∷◌, ◌++◌, Some, All, Contains, length}
-use Rattle.std.proofs.Common.{Err, IfOk, None, Ok, Result}
+use Rattle.std.proofs.Common.{Err, IfOk, Ok, Option, Result}
 use Rattle.std.proofs.Common.{add-one, arith, take, get_or, get_or-set_other, get_or-set_same, length-append, length-set, slice_get, slice_set}
 use Rattle.std.proofs.lemmas.Bool.{cases_eq}
 use Rattle.std.proofs.lemmas.List.Elements.{All-contains, All-nil, All-push, All-set}
@@ -12,12 +12,14 @@ use Rattle.wp_batch.specs.Waves.{HaveSamePicks, WavePicks}
 use Rattle.wp_graph.specs.PickSets.{PickSet}
 use Rattle.wp_model.proofs.Elements.{within_some}
 use Rattle.wp_model.specs.HoldLists.{IsHoldWithin}
-use Rattle.wp_model.specs.Opening.{Stock}
+use Rattle.wp_model.specs.Opening.{Opening}
 use Rattle.wp_model.specs.Warehouse.{Layout}
 use Rattle.wp_model.specs.declared.point.Point.{Point}
 use Rattle.wp_model.specs.declared.row.Hold.{Hold}
 use Rattle.wp_model.specs.declared.row.StockRow.{StockRow}
 use Rattle.wp_machine.specs.declared.outcome.WaveHolds.{WaveHolds}
+use Rattle.wp_pairs.specs.Carts.{LoadedCart}
+use Rattle.wp_planner.specs.Loads.{IsCartOf}
 use Rattle.wp_planner.specs.Released.{IsWaveOf}
 use Rattle.wp_planner.specs.Slots.{ArePicksOf, HoldsAt, slot_at}
 
@@ -176,26 +178,28 @@ both_ok : {T E : Type 0} (result : Result T E) (P Q R : T → Type 0) → ((v : 
 both_ok (Ok v) P Q R then' p q = then' v p q
 both_ok (Err e) P Q R then' p q = tt
 
--- a wave with the same picks is the wave of those holds
-wave_with : (layout : Layout) (stock : Stock) (released : WaveHolds) (picks : List PickSet) (wave : WavePicks) → wave.layout ≡ layout
-    → ArePicksOf layout stock.rows released.holds (length released.orders) picks → HaveSamePicks wave.orders picks → wave.cart ≡ None → IsWaveOf layout stock released wave
-wave_with layout stock released picks wave of_layout are same no_cart = record {
+-- a wave with the same picks and with their cart is the wave of those holds
+wave_with : (layout : Layout) (opening : Opening) (released : WaveHolds) (picks : List PickSet) (wave : WavePicks) → wave.layout ≡ layout
+    → ArePicksOf layout opening.stock.rows released.holds (length released.orders) picks → HaveSamePicks wave.orders picks
+    → IsCartOf opening.units released wave.cart → IsWaveOf layout opening released wave
+wave_with layout opening released picks wave of_layout are same cart = record {
   layout_is = of_layout;
   orders = same.count ∙ are.count;
-  no_cart = no_cart;
   picks = λ order point below.
       let d : PickSet = record { layout = wave.layout; points = [] } in
       let to = same.each order d (omega (arith, below, same.count, are.count)) point in
       let on = are.each order d point below in
       (λ has. on.0 (to.0 has), λ holds. to.1 (on.1 holds));
+  cart = cart;
 }
 
 -- so is one that is made, where memory lasts
-pub wave_made : {E : Type 0} (layout : Layout) (stock : Stock) (released : WaveHolds) (picks : List PickSet) (made : Result WavePicks E)
-    → ArePicksOf layout stock.rows released.holds (length released.orders) picks → IfOk made (λ wave. wave.layout ≡ layout)
-    → IfOk made (λ wave. HaveSamePicks wave.orders picks) → IfOk made (λ wave. wave.cart ≡ None) → IfOk made (IsWaveOf layout stock released)
-wave_made layout stock released picks made are of_layout same no_cart =
-    both_ok made (λ wave. (wave.layout ≡ layout) × HaveSamePicks wave.orders picks) (λ wave. wave.cart ≡ None) (IsWaveOf layout stock released)
-    (λ wave both none. wave_with layout stock released picks wave both.0 are both.1 none)
+pub wave_made : {E : Type 0} (layout : Layout) (opening : Opening) (released : WaveHolds) (picks : List PickSet) (cart : Option LoadedCart)
+    (made : Result WavePicks E) → ArePicksOf layout opening.stock.rows released.holds (length released.orders) picks
+    → IsCartOf opening.units released cart → IfOk made (λ wave. wave.layout ≡ layout)
+    → IfOk made (λ wave. HaveSamePicks wave.orders picks) → IfOk made (λ wave. wave.cart ≡ cart) → IfOk made (IsWaveOf layout opening released)
+wave_made layout opening released picks cart made are loaded of_layout same carts =
+    both_ok made (λ wave. (wave.layout ≡ layout) × HaveSamePicks wave.orders picks) (λ wave. wave.cart ≡ cart) (IsWaveOf layout opening released)
+    (λ wave both is. wave_with layout opening released picks wave both.0 are both.1 (subst (IsCartOf opening.units released) (sym is) loaded))
     (both_ok made (λ wave. wave.layout ≡ layout) (λ wave. HaveSamePicks wave.orders picks)
-    (λ wave. (wave.layout ≡ layout) × HaveSamePicks wave.orders picks) (λ wave l h. (l, h)) of_layout same) no_cart
+    (λ wave. (wave.layout ≡ layout) × HaveSamePicks wave.orders picks) (λ wave l h. (l, h)) of_layout same) carts

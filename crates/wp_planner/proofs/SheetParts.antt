@@ -54,3 +54,13 @@ one_more_batch batches place batch there =
       ap (λ (n : ℕ). take n batches) (add-one place) ∙ (next ∙ ap (λ (b : List ℕ). take place batches ++ b ∷ []) is),
       omega (arith, count),
     )
+
+-- a first line, parts, what is shown, and a last line, one behind the other
+pub sheet_grown : (old first parts shown last a b c d : List ℕ) → a ≡ old ++ first → b ≡ a ++ parts → c ≡ b ++ shown → d ≡ c ++ last
+    → d ≡ old ++ ((((first ++ parts) ++ shown) ++ []) ++ last)
+sheet_grown old first parts shown last a b c d one two three four =
+    let so_far : c ≡ old ++ ((first ++ parts) ++ shown) =
+    three ∙ (ap (λ (t : List ℕ). t ++ shown) (two ∙ (ap (λ (t : List ℕ). t ++ parts) one ∙ append_assoc old first parts))
+    ∙ append_assoc old (first ++ parts) shown) in
+    four ∙ (ap (λ (t : List ℕ). t ++ last) so_far ∙ (append_assoc old ((first ++ parts) ++ shown) last
+    ∙ ap (λ (t : List ℕ). old ++ (t ++ last)) (sym (append-nil ((first ++ parts) ++ shown)))))

@@ -11,16 +11,21 @@ use Rattle.wp_floor.specs.Floor.{AreSameRows}
 use Rattle.wp_machine.specs.Outcome.{outcome_of, outcomes_from}
 use Rattle.wp_machine.specs.declared.outcome.Outcome.TheVariants as outcome
 use Rattle.wp_machine.specs.declared.outcome.WaveHolds.{WaveHolds}
-use Rattle.wp_planner.specs.Released.{IsReleased}
+use Rattle.wp_planner.specs.Released.{IsReleased, IsServed}
 
--- a release that sends a wave out, in a sound state of an opening that was read, tells a wave whose orders all hold units
+-- a wave goes out filled: it is one that can have gone out, and each of its orders holds what its lines want together
+pub record GoesOutFilled (opening : Opening) (out : WaveHolds) : Type 0 where
+  pub released : IsReleased opening out
+  pub served : IsServed opening out
+
+-- a release that sends a wave out, in a sound state of an opening that was read, tells a wave that goes out filled
 abbrev pub EachReleaseFills : Type 0
 EachReleaseFills = (opening : Opening) (number : ℕ) (state : State) (name : List ℕ) (out : WaveHolds) → IsReadOpening opening → IsSound opening state
     → AreSameRows opening state.rows
-    → outcome_of number state (command.Release name) (step opening state (command.Release name)) ≡ outcome.Released out → IsReleased opening.stock out
+    → outcome_of number state (command.Release name) (step opening state (command.Release name)) ≡ outcome.Released out → GoesOutFilled opening out
 
--- every wave that goes out in a history of an opening that was read holds units for each of its orders
+-- every wave that goes out in a history of an opening that was read goes out filled
 abbrev pub EachWaveOutIsFilled : Type 0
 EachWaveOutIsFilled = (history : History) (out : WaveHolds) → IsReadOpening history.opening
     → Contains (outcomes_from history.opening 0 (opening_state history.opening) history.entries) (outcome.Released out)
-    → IsReleased history.opening.stock out
+    → GoesOutFilled history.opening out

@@ -1,6 +1,6 @@
 -- Plans of waves that went out.
 use Rattle.std.specs.Prelude.{◌↔◌, Option, IfSome, IsSome}
-use Rattle.wp_model.specs.Opening.{Stock}
+use Rattle.wp_model.specs.Opening.{Opening}
 use Rattle.wp_model.specs.Warehouse.{Layout}
 use Rattle.wp_machine.specs.declared.outcome.WaveHolds.{WaveHolds}
 use Rattle.wp_search.specs.Plans.{IsGoodPlan}
@@ -9,11 +9,11 @@ use Rattle.wp_planner.specs.Terms.{Terms}
 use Rattle.wp_planner.specs.declared.planner.WavePlan.{WavePlan}
 
 -- a good plan of the wave that picks where the one that went out holds units
-pub record IsPlanOf (layout : Layout) (stock : Stock) (released : WaveHolds) (terms : Terms) (plan : WavePlan) : Type 0 where
-  pub wave : IsWaveOf layout stock released plan.wave
+pub record IsPlanOf (layout : Layout) (opening : Opening) (released : WaveHolds) (terms : Terms) (plan : WavePlan) : Type 0 where
+  pub wave : IsWaveOf layout opening released plan.wave
   pub good : IsGoodPlan plan.wave terms.capacity terms.budget plan.planned
 
 -- there is a plan of a wave exactly where it is one that goes out, and it is a good one
-pub record IsPlanFor (layout : Layout) (stock : Stock) (terms : Terms) (wave : WaveHolds) (plan : Option WavePlan) : Type 0 where
-  pub there : IsSome plan ↔ IsReleased stock wave
-  pub good : IfSome plan (IsPlanOf layout stock wave terms)
+pub record IsPlanFor (layout : Layout) (opening : Opening) (terms : Terms) (wave : WaveHolds) (plan : Option WavePlan) : Type 0 where
+  pub there : IsSome plan ↔ IsReleased opening wave
+  pub good : IfSome plan (IsPlanOf layout opening wave terms)

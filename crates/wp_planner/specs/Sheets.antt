@@ -1,7 +1,7 @@
 -- The sheet of a wave that went out.
-use Rattle.std.specs.Prelude.{◌≡◌, ℕ, ◌+◌, Bool, true, false, List, [], ◌∷◌, ◌++◌, codes}
+use Rattle.std.specs.Prelude.{◌≡◌, ℕ, ◌+◌, Bool, true, false, List, [], ◌∷◌, ◌++◌, Option, codes}
 use Rattle.wp_model.specs.Journal.{line}
-use Rattle.wp_model.specs.Opening.{Stock}
+use Rattle.wp_model.specs.Opening.{Opening, Stock}
 use Rattle.wp_model.specs.Tours.{IsTour}
 use Rattle.wp_model.specs.declared.point.Point.{Point}
 use Rattle.wp_machine.specs.declared.outcome.WaveHolds.{WaveHolds}
@@ -20,12 +20,22 @@ pub record IsShortestTour (wave : WavePicks) (batch : List ℕ) (walk : List Poi
   pub shortest : IsLengthOf wave batch total
   pub tour : IsTour wave.layout (batch_picks wave batch) walk total
 
--- the part of a batch on a wave's sheet: its number, the length of its tour, its orders, a shortest tour, and its picks by row
+-- what follows the picks of a batch on its wave's sheet: nothing
+abbrev pub after_picks : WavePicks → List ℕ → List ℕ
+after_picks wave batch = []
+
+-- what follows a wave's certificate on its sheet: nothing
+abbrev pub after_certificate : WavePicks → Terms → List ℕ
+after_certificate wave terms = []
+
+-- the part of a batch on a wave's sheet: its number, the length of its tour, its orders, a shortest tour, its picks by row, and what follows them
 pub record IsPart (stock : Stock) (released : WaveHolds) (wave : WavePicks) (number : ℕ) (batch part : List ℕ) : Type 0 where
   pub total : ℕ
   pub walk : List Point
   pub tours : IsShortestTour wave batch walk total
-  pub is : IsBatchText number released stock batch total walk part
+  pub lines : List ℕ
+  pub are : IsBatchText number released stock batch total walk lines
+  pub is : part ≡ lines ++ after_picks wave batch
 
 -- the parts of batches, one after the other, where the first has this number
 abbrev pub AreParts : Stock → WaveHolds → WavePicks → ℕ → List (List ℕ) → List ℕ → Type 0
@@ -40,19 +50,21 @@ is_open state.Proven = false
 is_open state.Open = true
 
 -- the first line of a plan's sheet
-abbrev pub plan_line : WaveHolds → ℕ → Planned → Bool → List ℕ
-plan_line released capacity planned cancelled_later =
-    heading_line released capacity planned.cost planned.bound (is_open planned.state) cancelled_later
+abbrev pub plan_line : Option ℕ → WaveHolds → ℕ → Planned → Bool → List ℕ
+plan_line units released capacity planned cancelled_later =
+    heading_line released capacity units planned.cost planned.bound (is_open planned.state) cancelled_later
 
 -- the line of a plan's certificate
 abbrev pub certificate_line : WavePicks → ℕ → Planned → List ℕ
 certificate_line wave capacity planned = line (codes "certificate " ++ certificate_text (wave_places wave) wave.cart capacity planned.tree.nodes)
 
--- the sheet of a wave that went out and its plan: a first line, the parts of its batches, numbered from 1, its certificate, and a last line
-pub record IsSheet (stock : Stock) (released : WaveHolds) (terms : Terms) (plan : WavePlan) (cancelled_later : Bool) (sheet : List ℕ) : Type 0 where
+-- the sheet of a wave that went out and its plan: a first line, the parts of its batches, numbered from 1, its certificate, what follows it, and a last
+-- line
+pub record IsSheet (opening : Opening) (released : WaveHolds) (terms : Terms) (plan : WavePlan) (cancelled_later : Bool) (sheet : List ℕ) : Type 0 where
   pub parts : List ℕ
-  pub are : AreParts stock released plan.wave 1 plan.planned.batching parts
-  pub is : sheet ≡ plan_line released terms.capacity plan.planned cancelled_later ++ parts ++ certificate_line plan.wave terms.capacity plan.planned ++ end_line
+  pub are : AreParts opening.stock released plan.wave 1 plan.planned.batching parts
+  pub is : sheet ≡ plan_line opening.units released terms.capacity plan.planned cancelled_later ++ parts
+      ++ certificate_line plan.wave terms.capacity plan.planned ++ after_certificate plan.wave terms ++ end_line
 
 -- a text has grown by a part
 abbrev pub GrowsBy : (List ℕ → Type 0) → List ℕ → List ℕ → Type 0

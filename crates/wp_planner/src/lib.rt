@@ -3,6 +3,7 @@
 
 mod day_planner;
 mod laws;
+mod loads;
 mod planner;
 mod released;
 mod sheet;

@@ -9,27 +9,26 @@ use std::alloc::Global;
 use std::thread::Threads;
 use wp_batch::Wave;
 use wp_graph::Layout;
-use wp_machine::WaveHolds;
+use wp_machine::{Opening, WaveHolds};
 use wp_model::Memory;
 use wp_node::pays;
 use wp_outside::Gate;
 use wp_pairs::Capacity;
 use wp_search::{Planned, plan_wave};
-use wp_tables::Stock;
 
 /// How many lengths are kept at most where the budget doesn't pay for duals of a node's own.
 const MOST_KEPT: u64 = 50_000;
 
-/// What the waves of a day are planned with: the layout and the stock that lies in it, the terms, and the threads and the gate of
-/// the workers that price them.
+/// What the waves of a day are planned with: the layout, the opening whose stock lies in it, the terms, and the threads and the
+/// gate of the workers that price them.
 #[derive(Drop)]
 pub struct Planning<'a, R, G> {
     pub rt: &'a R,
     pub layout: &'a Layout,
-    pub stock: &'a Stock,
+    pub opening: &'a Opening,
     pub terms: &'a Terms,
     pub gate: &'a G,
-    pub ghost lies: { LiesIn layout.now stock.now },
+    pub ghost lies: { LiesIn layout.now opening.now.stock },
 }
 
 /// A wave and its plan.
@@ -68,16 +67,17 @@ fn kept_orders(wave: &Wave, capacity: Capacity, budget: u64) -> u32
 }
 
 /// The plan of a wave that went out: a good plan, for the terms' capacity and budget, of the wave whose orders pick at the slots
-/// of the layout at which they hold units. The workers that price it pass the gate.
+/// of the layout at which they hold units, and whose batches fit a cart of the opening's units, if it has them. The workers that
+/// price it pass the gate.
 pub fn plan_of<R: Threads + Sync, G: Gate>(
     planning: &Planning<'_, R, G>,
     alloc: Global,
     released: &WaveHolds,
 ) -> Result<WavePlan, Memory>
-    requires { IsReleased planning.now.stock.now released.now }
-    ensures { IfOk result (IsPlanOf planning.now.layout.now planning.now.stock.now released.now planning.now.terms.now) }
+    requires { IsReleased planning.now.opening.now released.now }
+    ensures { IfOk result (IsPlanOf planning.now.layout.now planning.now.opening.now released.now planning.now.terms.now) }
 {
-    let mut wave = wave_of(alloc, planning.layout, planning.stock, released)?;
+    let mut wave = wave_of(alloc, planning.layout, planning.opening, released)?;
     let capacity = planning.terms.capacity();
     let budget = planning.terms.budget();
     let workers = planning.terms.workers();
@@ -102,9 +102,9 @@ pub fn plan_for<R: Threads + Sync, G: Gate>(
     alloc: Global,
     wave: &WaveHolds,
 ) -> Result<Option<WavePlan>, Memory>
-    ensures { IfOk result (IsPlanFor planning.now.layout.now planning.now.stock.now planning.now.terms.now wave.now) }
+    ensures { IfOk result (IsPlanFor planning.now.layout.now planning.now.opening.now planning.now.terms.now wave.now) }
 {
-    if !is_released(planning.stock, wave) {
+    if !is_released(planning.opening, wave) {
         return Ok(None);
     }
     let plan = plan_of(planning, alloc, wave)?;

@@ -3,9 +3,9 @@ ghost use Rattle.wp_model.specs.HoldLists.{IsBefore, IsHoldWithin, Rises};
 ghost use Rattle.wp_model.specs.Limits.{most_wave_orders};
 ghost use Rattle.wp_planner.specs.Released.{HasHold, IsReleased};
 
-use wp_machine::WaveHolds;
+use crate::loads::are_light;
+use wp_machine::{Opening, WaveHolds};
 use wp_model::{Hold, MOST_WAVE_ORDERS};
-use wp_tables::Stock;
 
 // Whether a wave may have so many orders.
 fn is_wave_size(orders: u32) -> bool
@@ -66,15 +66,22 @@ fn are_filled(holds: &[Hold], orders: u32) -> bool
     true
 }
 
+// Whether all holds are for one of so many orders in one of so many rows, are listed by order and then by row, and each order has one.
+fn are_listed(holds: &[Hold], orders: u32, rows: u32) -> bool
+    ensures { IsTrue result ↔ (All (IsHoldWithin orders rows) holds.now × Rises holds.now
+        × ((order : ℕ) → order < orders → HasHold holds.now order)) }
+{
+    are_within(holds, orders, rows) && are_rising(holds) && are_filled(holds, orders)
+}
+
 /// Whether a wave is one that can have gone out: it has 1 to 64 orders, each of which holds units, and all that it holds is
-/// held for one of them in a row of the stock, and is listed by order and then by row.
-pub fn is_released(stock: &Stock, wave: &WaveHolds) -> bool
-    ensures { IsTrue result ↔ IsReleased stock.now wave.now }
+/// held for one of them in a row of the stock, and is listed by order and then by row; and where carts hold so many units, no
+/// order loads more.
+pub fn is_released(opening: &Opening, wave: &WaveHolds) -> bool
+    ensures { IsTrue result ↔ IsReleased opening.now wave.now }
 {
     let orders = wave.orders.len();
     let holds = wave.holds.as_slice();
-    is_wave_size(orders)
-        && are_within(holds, orders, stock.rows())
-        && are_rising(holds)
-        && are_filled(holds, orders)
+    let rows = opening.stock().rows();
+    is_wave_size(orders) && are_listed(holds, orders, rows) && are_light(opening.units(), holds)
 }

@@ -12,18 +12,17 @@ use crate::tours::tour_of;
 use std::alloc::Global;
 use wp_batch::Wave;
 use wp_cert::print_certificate;
-use wp_machine::WaveHolds;
+use wp_machine::{Opening, WaveHolds};
 use wp_model::Memory;
 use wp_pairs::Batch;
 use wp_search::{Planned, State};
 use wp_sheets::{BatchSheet, print_batch, print_heading};
-use wp_tables::Stock;
 
-/// A wave that went out, as its sheet tells of it: the stock in which it holds units, the terms of its plan, the plan, and whether
+/// A wave that went out, as its sheet tells of it: the opening in whose stock it holds units, the terms of its plan, the plan, and whether
 /// a later entry cancels the wave.
 #[derive(Clone, Copy)]
 pub struct SentWave<'a> {
-    pub stock: &'a Stock,
+    pub opening: &'a Opening,
     pub released: &'a WaveHolds,
     pub terms: &'a Terms,
     pub plan: &'a WavePlan,
@@ -53,12 +52,12 @@ fn print_part(
 ) -> Result<(), Memory>
     requires orders { length sent.now.plan.now.wave.orders ≡ length sent.now.released.now.orders }
     requires places { All (λ order. order < length sent.now.released.now.orders) batch }
-    requires rows { All (λ hold. hold.row < length sent.now.stock.now.rows) sent.now.released.now.holds }
+    requires rows { All (λ hold. hold.row < length sent.now.opening.now.stock.rows) sent.now.released.now.holds }
     requires single { AreSingle sent.now.released.now.holds }
-    ensures { IfOk result (λ _. GrowsBy (IsPart sent.now.stock.now sent.now.released.now sent.now.plan.now.wave number batch) text.old.items text.new.items) }
+    ensures { IfOk result (λ _. GrowsBy (IsPart sent.now.opening.now.stock sent.now.released.now sent.now.plan.now.wave number batch) text.old.items text.new.items) }
 {
     let sheet = sheet_of(alloc, &sent.plan.wave, batch)?;
-    let part = print_batch(alloc, number, sent.released, sent.stock, &sheet)?;
+    let part = print_batch(alloc, number, sent.released, sent.opening.stock(), &sheet)?;
     text.extend_from_slice(&part)?;
     Ok(())
 }
@@ -67,10 +66,10 @@ fn print_part(
 fn print_parts(alloc: Global, text: &mut Vec<u8>, sent: &SentWave<'_>) -> Result<(), Memory>
     requires orders { length sent.now.plan.now.wave.orders ≡ length sent.now.released.now.orders }
     requires places { All (All (λ order. order < length sent.now.released.now.orders)) sent.now.plan.now.planned.batching }
-    requires rows { All (λ hold. hold.row < length sent.now.stock.now.rows) sent.now.released.now.holds }
+    requires rows { All (λ hold. hold.row < length sent.now.opening.now.stock.rows) sent.now.released.now.holds }
     requires single { AreSingle sent.now.released.now.holds }
     ensures { IfOk result (λ _. GrowsBy
-        (AreParts sent.now.stock.now sent.now.released.now sent.now.plan.now.wave 1 sent.now.plan.now.planned.batching) text.old.items text.new.items) }
+        (AreParts sent.now.opening.now.stock sent.now.released.now sent.now.plan.now.wave 1 sent.now.plan.now.planned.batching) text.old.items text.new.items) }
 {
     let batches = &sent.plan.planned.batching;
     for place in 0..batches.len() {
@@ -93,13 +92,14 @@ fn is_open(planned: &Planned) -> bool
 // Adds the first line.
 fn print_plan(alloc: Global, text: &mut Vec<u8>, sent: &SentWave<'_>) -> Result<(), Memory>
     ensures { IfOk result (λ _. text.new.items ≡ text.old.items
-        ++ plan_line sent.now.released.now sent.now.terms.now.capacity sent.now.plan.now.planned sent.now.cancelled_later) }
+        ++ plan_line sent.now.opening.now.units sent.now.released.now sent.now.terms.now.capacity sent.now.plan.now.planned sent.now.cancelled_later) }
 {
     let planned = &sent.plan.planned;
     let heading = print_heading(
         alloc,
         sent.released,
         sent.terms.capacity().most,
+        sent.opening.units(),
         planned.cost,
         planned.bound,
         is_open(planned),
@@ -129,10 +129,10 @@ fn print_shown(alloc: Global, text: &mut Vec<u8>, sent: &SentWave<'_>) -> Result
 /// says `cancelled later` where a later entry cancels the wave. Tours are made one batch at a time. An `Err` comes from a want of memory
 /// alone, and the text may then have some of the sheet.
 pub fn print_sheet(alloc: Global, text: &mut Vec<u8>, sent: &SentWave<'_>) -> Result<(), Memory>
-    requires released { IsReleased sent.now.stock.now sent.now.released.now }
-    requires plan { (layout : Block) × IsPlanOf layout sent.now.stock.now sent.now.released.now sent.now.terms.now sent.now.plan.now }
+    requires released { IsReleased sent.now.opening.now sent.now.released.now }
+    requires plan { (layout : Block) × IsPlanOf layout sent.now.opening.now sent.now.released.now sent.now.terms.now sent.now.plan.now }
     ensures { IfOk result (λ _. GrowsBy
-        (IsSheet sent.now.stock.now sent.now.released.now sent.now.terms.now sent.now.plan.now sent.now.cancelled_later) text.old.items text.new.items) }
+        (IsSheet sent.now.opening.now sent.now.released.now sent.now.terms.now sent.now.plan.now sent.now.cancelled_later) text.old.items text.new.items) }
 {
     print_plan(alloc, text, sent)?;
     print_parts(alloc, text, sent)?;

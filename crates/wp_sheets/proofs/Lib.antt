@@ -1,3 +1,4 @@
 pub mod PicksByRow
 pub mod OnePicking
 pub mod OrdersAhead
+pub mod AnyPicks

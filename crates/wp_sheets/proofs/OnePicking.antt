@@ -6,19 +6,19 @@ use Rattle.wp_model.specs.declared.row.Hold.{Hold}
 use Rattle.wp_sheets.specs.Picks.{AreByRow, ComesBefore}
 
 -- each pick comes before those that stand after it
-abbrev Ascend : List Hold → Type 0
+abbrev pub Ascend : List Hold → Type 0
 Ascend picks = (i j : ℕ) (g h : Hold) → i < j → slice_get picks i ≡ Some g → slice_get picks j ≡ Some h → ComesBefore g h
 
-first_in : (h : Hold) (hs : List Hold) → Contains (h ∷ hs) h
+pub first_in : (h : Hold) (hs : List Hold) → Contains (h ∷ hs) h
 first_in h hs = Contains-append_left (h ∷ []) hs h (Contains-push [] h)
 
-later_in : (h : Hold) (hs : List Hold) (g : Hold) → Contains hs g → Contains (h ∷ hs) g
+pub later_in : (h : Hold) (hs : List Hold) (g : Hold) → Contains hs g → Contains (h ∷ hs) g
 later_in h hs g has = Contains-append_right (h ∷ []) hs g has
 
-none_in : (g : Hold) → Contains [] g → ⊥
+pub none_in : (g : Hold) → Contains [] g → ⊥
 none_in g has = omega (arith, has.1)
 
-in_cases : (h : Hold) (hs : List Hold) (g : Hold) → Contains (h ∷ hs) g → (h ≡ g) ⊎ Contains hs g
+pub in_cases : (h : Hold) (hs : List Hold) (g : Hold) → Contains (h ∷ hs) g → (h ≡ g) ⊎ Contains hs g
 in_cases h hs g has = ⊎_elim
     (λ (one : Contains (h ∷ []) g). ⊎_elim (λ (none : Contains [] g). absurd (none_in g none)) (λ (same : h ≡ g). inl same) (Contains-push_cases [] h g one))
     (λ (later : Contains hs g). inr later) (Contains-append_cases (h ∷ []) hs g has)
@@ -30,10 +30,10 @@ never_both g h one other = ⊎_elim
     (λ (tie : (h.row ≡ g.row) × (h.order < g.order)). omega (arith, tie.1, same.1)) other)
     one
 
-before_later : (h : Hold) (hs : List Hold) (g : Hold) → Ascend (h ∷ hs) → Contains hs g → ComesBefore h g
+pub before_later : (h : Hold) (hs : List Hold) (g : Hold) → Ascend (h ∷ hs) → Contains hs g → ComesBefore h g
 before_later h hs g up has = up 0 (suc has.0) h g (omega arith) refl (slice_get-get_or hs has.0 g has.1 ∙ ap Some has.2)
 
-rest_ascends : (h : Hold) (hs : List Hold) → Ascend (h ∷ hs) → Ascend hs
+pub rest_ascends : (h : Hold) (hs : List Hold) → Ascend (h ∷ hs) → Ascend hs
 rest_ascends h hs up = λ i j g k before at there. up (suc i) (suc j) g k (omega arith) at there
 
 same_first : (h : Hold) (hs : List Hold) (k : Hold) (ks : List Hold) → Ascend (h ∷ hs) → Ascend (k ∷ ks) → Contains (k ∷ ks) h → Contains (h ∷ hs) k → h ≡ k

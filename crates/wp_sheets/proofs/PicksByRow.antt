@@ -15,14 +15,14 @@ use Rattle.wp_book.proofs.SortedPairs.{IsSortedByPair, no_later}
 use Rattle.wp_sheets.specs.Picks.{AreByRow, AreHeldFor, AreSingle, ComesBefore, is_for}
 
 -- what a hold counts for, where those are counted that pass a test
-abbrev counted : (Hold → Bool) → Hold → ℕ
+abbrev pub counted : (Hold → Bool) → Hold → ℕ
 counted p hold = if p hold then 1 else 0
 
-counted-yes : (p : Hold → Bool) (h : Hold) → p h ≡ true → counted p h ≡ 1
+pub counted-yes : (p : Hold → Bool) (h : Hold) → p h ≡ true → counted p h ≡ 1
 counted-yes p h is = cond-true {A = ℕ} (p h) 1 0 is
 
 -- a hold of a list that passes a test is counted
-found : (p : Hold → Bool) (hs : List Hold) (j : ℕ) (h : Hold) → slice_get hs j ≡ Some h → p h ≡ true → 1 ≤ count_by p hs
+pub found : (p : Hold → Bool) (hs : List Hold) (j : ℕ) (h : Hold) → slice_get hs j ≡ Some h → p h ≡ true → 1 ≤ count_by p hs
 found p hs j h there is =
     let within = get_or-le-sum_by (counted p) hs j h (slice_get_within hs j h there) in
     omega (arith, within, ap (counted p) (get_or_from_slice_get hs j h h there), counted-yes p h is)
@@ -37,7 +37,7 @@ found_twice p (x ∷ xs) zero (suc j) g h before at there first second =
 found_twice p (x ∷ xs) (suc i) (suc j) g h before at there first second =
     omega (arith, sum_by-cons (counted p) x xs, found_twice p xs i j g h (omega arith) at there first second)
 
-is_for-own : (order row : ℕ) (hold : Hold) → hold.order ≡ order → hold.row ≡ row → is_for order row hold ≡ true
+pub is_for-own : (order row : ℕ) (hold : Hold) → hold.order ≡ order → hold.row ≡ row → is_for order row hold ≡ true
 is_for-own order row hold o r = and_from _ _ (eq-eqb hold.order order o) (eq-eqb hold.row row r)
 
 not_tie : {a b : ℕ} → a ≤ b → a ≢ b → a < b

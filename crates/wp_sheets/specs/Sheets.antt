@@ -1,5 +1,5 @@
 -- The sheet of a wave: a heading, a part for each batch, the certificate, and a last line.
-use Rattle.std.specs.Prelude.{◌≡◌, ℕ, Bool, true, false, List, [], ◌∷◌, ◌++◌, codes, length, slice_get, slice_index_or}
+use Rattle.std.specs.Prelude.{◌≡◌, ℕ, Bool, true, false, List, [], ◌∷◌, ◌++◌, Option, None, Some, codes, length, slice_get, slice_index_or}
 use Rattle.std.specs.Fmt.{decimal}
 use Rattle.std.specs.List.{flat_map}
 use Rattle.std.specs.Option.{option_map_or}
@@ -27,15 +27,20 @@ wave_words wave capacity =
     codes "wave" ++ after_space wave.wave ++ codes " entry" ++ number_after_space wave.number ++ codes " orders" ++ number_after_space (length wave.orders)
     ++ codes " capacity" ++ number_after_space capacity
 
+-- what it adds where carts hold a number of units
+abbrev pub units_words : Option ℕ → List ℕ
+units_words None = []
+units_words (Some units) = codes " units" ++ number_after_space units
+
 -- what it says of the search: the cost of the batching, a bound that no batching costs less than, and the state
 abbrev pub search_words : ℕ → ℕ → Bool → List ℕ
 search_words cost bound state_open =
     codes " cost" ++ number_after_space cost ++ codes " bound" ++ number_after_space bound ++ after_space (state_text state_open)
 
 -- the first line of a wave's sheet
-abbrev pub heading_line : WaveHolds → ℕ → ℕ → ℕ → Bool → Bool → List ℕ
-heading_line wave capacity cost bound state_open cancelled_later =
-    line (wave_words wave capacity ++ search_words cost bound state_open ++ later_text cancelled_later)
+abbrev pub heading_line : WaveHolds → ℕ → Option ℕ → ℕ → ℕ → Bool → Bool → List ℕ
+heading_line wave capacity units cost bound state_open cancelled_later =
+    line (wave_words wave capacity ++ units_words units ++ search_words cost bound state_open ++ later_text cancelled_later)
 
 -- the name of the order at a place of a wave
 abbrev pub name_of_order : WaveHolds → ℕ → List ℕ

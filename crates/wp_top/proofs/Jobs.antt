@@ -1,28 +1,32 @@
 -- What the jobs come to.
-use Rattle.std.proofs.Common.{◌≡◌, refl, sym, subst, ℕ, inl, inr, List, [], ◌∷◌, ◌++◌, Option, Result, Ok, Err, arith}
+use Rattle.std.proofs.Common.{◌≡◌, refl, sym, ap, subst, ℕ, ◌+◌, inl, inr, List, [], ◌∷◌, ◌++◌, None, Option, Result, Ok, Err, arith}
 use Rattle.std.specs.Prelude.{IfOk, OnOk}
 use Rattle.wp_desk.specs.declared.day_run.DayRun.{DayRun}
-use Rattle.wp_journal.specs.Journals.{IsJournalOf}
+use Rattle.wp_journal.specs.Journals.{IsJournalOf, Shows}
 use Rattle.wp_machine.specs.declared.outcome.WaveHolds.{WaveHolds}
+use Rattle.wp_model.specs.History.{Script}
 use Rattle.wp_model.specs.Opening.{Opening}
 use Rattle.wp_model.specs.Warehouse.{Layout}
 use Rattle.wp_outside.specs.Outside.{FilesTold, NoneFalls, SameBytes}
 use Rattle.wp_planner.specs.declared.planner.WavePlan.{WavePlan}
 use Rattle.wp_top.proofs.FilesRead.{HaveRead, WasRead, nothing_said_yet, read_next, say_next, stops_among_more, stops_there}
 use Rattle.wp_top.proofs.MadeDays.{good_plans}
-use Rattle.wp_top.specs.Ends.{HasRead, IsOutput, among, of_run}
+use Rattle.wp_top.specs.Ends.{Asked, HasRead, IsOutput, among, of_run}
 use Rattle.wp_top.specs.Planned.{IsToldOf}
 use Rattle.wp_top.specs.Runs.{IsHistoryOf, IsSummary, IsWrong, audit_line}
 use Rattle.wp_top.specs.Sheets.{terms_of}
-use Rattle.wp_top.specs.Stops.{HasRightText, IsDay, IsMadeDay, IsRead, StopsAt, StopsFor, of_file, of_journal, opening_files, opening_said}
+use Rattle.wp_top.specs.Stops.{HasRightText, IsDayOf, IsMadeDay, IsRead, IsSaid, StopsAt, StopsFor, day_said, of_file, of_journal, opening_files, stop_at_words, tables_said}
 use Rattle.wp_top.specs.Summaries.{AreGoodPlans, made_terms, plans_of, summary_of}
-use Rattle.wp_top.specs.Texts.{File, Said, file_of, files_of, nothing_said, said_with, scripts_in, text_in}
+use Rattle.wp_top.specs.Texts.{File, HaveSaid, IsHeld, Said, file_of, files_of, nothing_said, opening_with, said_with, scripts_in, text_in}
 use Rattle.wp_top.specs.declared.complaint.Complaint.TheVariants as complaint
 use Rattle.wp_top.specs.declared.complaint.Stop.{Stop}
 use Rattle.wp_top.specs.declared.complaint.Stop.TheVariants as stop
 use Rattle.wp_top.specs.declared.input.Input.{Input}
 use Rattle.wp_top.specs.declared.input.Input.TheVariants as input
 use Rattle.wp_top.specs.declared.input.Refusal.{Refusal}
+use Rattle.wp_words.specs.Reading.{IsFaultOf}
+use Rattle.wp_words.specs.declared.fault.WordsFault.{WordsFault}
+use Rattle.wp_words.specs.declared.fault.WordsFault.TheVariants as fault
 use Rattle.wp_words.specs.Words.{AuditNames, JobNames, MakeNumbers, PlanNames, audit, make, plan}
 
 -- a stop among a job's files is one of the job
@@ -32,6 +36,14 @@ stop_of old new job (stop.Complaint (complaint.Refused kind why)) stops = (job, 
 stop_of old new job (stop.Complaint (complaint.Fault kind)) stops = (job, refl, stops)
 stop_of old new job (stop.Complaint (complaint.Wrong found)) stops = absurd stops
 stop_of old new job stop.Memory stops = tt
+
+-- words that ask for no job stop a run before it reads
+pub words_stop : (asked : Asked) (told : FilesTold) (why : WordsFault) → IsFaultOf asked why → StopsFor (of_run asked told told) (stop_at_words why)
+words_stop asked told fault.NoMode is = (is refl, refl)
+words_stop asked told fault.UnknownMode is = (is refl, refl)
+words_stop asked told fault.BadWords is = (is refl, refl)
+words_stop asked told (fault.TooManyWaves waves) is = (is refl, refl)
+words_stop asked told fault.Memory is = tt
 
 -- a stop among the first files
 pub stop_at_opening : (old new : FilesTold) (job : JobNames) (files : List File) (last : File) (s : Stop)
@@ -53,63 +65,81 @@ pub has_read : (old new : FilesTold) (job : JobNames) (said : Said) (Comes : Job
     → Comes job said → HasRead (Ok job) old new Comes
 has_read old new job said Comes read comes = record { job = job; asked_for = refl; said = said; accepted = read.accepted; reads = read.reads; comes = comes }
 
+-- an opening with its own units is the same
+pub with_units : (opening : Opening) (units : Option ℕ) → opening.units ≡ units → opening_with opening units ≡ opening
+with_units opening units is = ap (opening_with opening) (sym is)
+
 -- what the files of an audit say
 abbrev with_journal : Layout → Opening → List ℕ → Said
-with_journal layout opening text = record (opening_said layout opening) { journal = text }
+with_journal layout opening text = record (tables_said layout opening) { journal = text }
 
 audit_files : (old mid new : FilesTold) (names : AuditNames) (layout : Layout) (opening : Opening) (text : List ℕ)
-    → HaveRead old mid (opening_files names.layout names.stock names.orders) (opening_said layout opening) → WasRead mid new
+    → HaveRead old mid (opening_files names.layout names.stock names.orders) (tables_said layout opening) → WasRead mid new
     → IsRead mid.holds names.journal text → HaveRead old new (files_of (audit names)) (with_journal layout opening text)
 audit_files old mid new names layout opening text so_far was read =
-    read_next old mid new (opening_files names.layout names.stock names.orders) (opening_said layout opening)
+    read_next old mid new (opening_files names.layout names.stock names.orders) (tables_said layout opening)
     (with_journal layout opening text) input.Journal names.journal text so_far was read.held (rw read.short refl)
 
 -- the journal isn't right
 stop_at_fault : (old mid new : FilesTold) (names : AuditNames) (layout : Layout) (opening : Opening) (text : List ℕ) (s : Stop)
-    → HaveRead old mid (opening_files names.layout names.stock names.orders) (opening_said layout opening) → WasRead mid new
+    → opening.units ≡ names.units
+    → HaveRead old mid (opening_files names.layout names.stock names.orders) (tables_said layout opening) → WasRead mid new
     → IsRead mid.holds names.journal text → StopsFor (of_journal opening text) s → StopsFor (of_run (Ok (audit names)) old new) s
-stop_at_fault old mid new names layout opening text (stop.Complaint (complaint.Words why)) so_far was read wrong = absurd wrong
-stop_at_fault old mid new names layout opening text (stop.Complaint (complaint.Refused f why)) so_far was read wrong = absurd wrong
-stop_at_fault old mid new names layout opening text (stop.Complaint (complaint.Fault f)) so_far was read wrong = absurd wrong
-stop_at_fault old mid new names layout opening text (stop.Complaint (complaint.Wrong found)) so_far was read (fault, is, shows) =
+stop_at_fault old mid new names layout opening text (stop.Complaint (complaint.Words why)) units so_far was read wrong = absurd wrong
+stop_at_fault old mid new names layout opening text (stop.Complaint (complaint.Refused f why)) units so_far was read wrong = absurd wrong
+stop_at_fault old mid new names layout opening text (stop.Complaint (complaint.Fault f)) units so_far was read wrong = absurd wrong
+stop_at_fault old mid new names layout opening text (stop.Complaint (complaint.Wrong found)) units so_far was read (fault, is, shows) =
     has_read old new (audit names) (with_journal layout opening text) _ (audit_files old mid new names layout opening text so_far was read)
-    (subst (IsWrong (audit names) (with_journal layout opening text)) (sym is) shows)
-stop_at_fault old mid new names layout opening text stop.Memory so_far was read wrong = tt
+    (subst (IsWrong (audit names) (with_journal layout opening text)) (sym is)
+    (subst (λ (o : Opening). Shows o text (Err fault)) (sym (with_units opening names.units units)) shows))
+stop_at_fault old mid new names layout opening text stop.Memory units so_far was read wrong = tt
 
 -- the audit finds nothing
-pub stop_at_finding : (old mid new : FilesTold) (names : AuditNames) (layout : Layout) (opening : Opening) (s : Stop)
-    → HaveRead old mid (opening_files names.layout names.stock names.orders) (opening_said layout opening)
+pub stop_at_finding : (old mid new : FilesTold) (names : AuditNames) (layout : Layout) (opening : Opening) (s : Stop) → opening.units ≡ names.units
+    → HaveRead old mid (opening_files names.layout names.stock names.orders) (tables_said layout opening)
     → SameBytes mid.holds new.holds → NoneFalls mid.faults new.faults
     → StopsAt (of_journal opening) mid new names.journal input.Journal s → StopsFor (of_run (Ok (audit names)) old new) s
-stop_at_finding old mid new names layout opening s so_far same counts (inl nothing) =
-    stop_at_last text_in old mid new (audit names) (opening_files names.layout names.stock names.orders) (opening_said layout opening) input.Journal
+stop_at_finding old mid new names layout opening s units so_far same counts (inl nothing) =
+    stop_at_last text_in old mid new (audit names) (opening_files names.layout names.stock names.orders) (tables_said layout opening) input.Journal
     names.journal s refl (λ text why none. rw none refl) so_far nothing
-stop_at_finding old mid new names layout opening s so_far same counts (inr (text, read, next, wrong)) =
-    stop_at_fault old mid new names layout opening text s so_far (record { same = same; counts = counts; reads = next }) read wrong
+stop_at_finding old mid new names layout opening s units so_far same counts (inr (text, read, next, wrong)) =
+    stop_at_fault old mid new names layout opening text s units so_far (record { same = same; counts = counts; reads = next }) read wrong
 
 -- what holds of an answer, by what holds of it and of all answers
 pub ok_and_read : {A E : Type 0} (r : Result A E) (P : A → Type 0) (Q : Type 0) (R : A → Type 0) → ((a : A) → P a → Q → R a) → IfOk r P → OnOk r Q → IfOk r R
 ok_and_read (Ok a) P Q R take p q = take a p q
 ok_and_read (Err e) P Q R take p q = tt
 
+-- each file of a plan was read
+pub plan_files : (old mid new : FilesTold) (names : PlanNames) (layout : Layout) (opening : Opening) (scripts : List Script)
+    → HaveRead old mid (opening_files names.layout names.stock names.orders) (tables_said layout opening) → WasRead mid new
+    → IsSaid scripts_in mid.holds names.desks scripts → HaveRead old new (files_of (plan names)) (day_said layout (opening_with opening None) scripts)
+plan_files old mid new names layout opening scripts so_far was is =
+    say_next scripts_in old mid new (opening_files names.layout names.stock names.orders) (tables_said layout opening)
+    (day_said layout (opening_with opening None) scripts) input.Desks names.desks scripts (λ text said. rw said refl) so_far was is
+
 -- the output of a plan
-pub plan_is : (old mid new : FilesTold) (names : PlanNames) (layout : Layout) (opening : Opening) (output : List ℕ)
-    → HaveRead old mid (opening_files names.layout names.stock names.orders) (opening_said layout opening) → WasRead mid new
-    → IsDay mid.holds layout opening (terms_of names) names.desks output
-    → IsOutput (Ok (plan names)) old new output
-plan_is old mid new names layout opening output so_far was day =
-    let all : Said = record (opening_said layout opening) { scripts = day.scripts } in
-    let text = day.day.text in
-    has_read old new (plan names) all _
-    (say_next scripts_in old mid new (opening_files names.layout names.stock names.orders) (opening_said layout opening) all input.Desks names.desks
-    day.scripts (λ text is. rw is refl) so_far was day.desk_file)
-    (record {
-      history = day.day.history;
-      answers = day.day.answers;
-      sheets = text.sheets;
-      planned = text.planned;
-      is = text.is;
-    })
+pub plan_is : (old new : FilesTold) (names : PlanNames) (layout : Layout) (opening : Opening) (scripts : List Script) (output : List ℕ)
+    → opening.units ≡ names.units → HaveSaid (IsHeld old.holds) (files_of (plan names)) (day_said layout (opening_with opening None) scripts)
+    → new.reads ≡ old.reads + 4 → IsDayOf layout opening (terms_of names) scripts output → IsOutput (Ok (plan names)) old new output
+plan_is old new names layout opening scripts output units accepted reads day =
+    let text = day.text in
+    record {
+      job = plan names;
+      asked_for = refl;
+      said = day_said layout (opening_with opening None) scripts;
+      accepted = accepted;
+      reads = reads;
+      comes = record {
+        history = day.history;
+        answers = subst (λ (o : Opening). IsHistoryOf o scripts day.history) (sym (with_units opening names.units units)) day.answers;
+        plans = text.plans;
+        planned = text.planned;
+        sheets = text.sheets;
+        printed = text.printed;
+        is = text.is;
+      };
+    }
 
 -- the output of a make is a summary, whatever the files hold
 pub make_is : (old new : FilesTold) (numbers : MakeNumbers) (output : List ℕ) → new.reads ≡ old.reads → IsSummary numbers output
@@ -135,16 +165,20 @@ summary_is numbers day run output says answers told is =
       history = history;
       answers = answers;
       plans = plans_of run.plans.items;
-      planned = subst (λ (sent : List WaveHolds). AreGoodPlans day.layout history.opening.stock (made_terms numbers) sent (plans_of run.plans.items)) told.waves
-          (good_plans day.layout history.opening.stock (made_terms numbers) run.plans.items told.planned);
+      planned = subst (λ (sent : List WaveHolds). AreGoodPlans day.layout history.opening (made_terms numbers) sent (plans_of run.plans.items)) told.waves
+          (good_plans day.layout history.opening (made_terms numbers) run.plans.items told.planned);
       is = is;
     }
 
 -- the output of an audit
 pub audit_is : (old mid new : FilesTold) (names : AuditNames) (layout : Layout) (opening : Opening) (entries : ℕ) (output : List ℕ)
-    → HaveRead old mid (opening_files names.layout names.stock names.orders) (opening_said layout opening) → WasRead mid new
+    → opening.units ≡ names.units → HaveRead old mid (opening_files names.layout names.stock names.orders) (tables_said layout opening) → WasRead mid new
     → HasRightText mid.holds names.journal (λ text. IsJournalOf opening text entries)
     → output ≡ audit_line entries → IsOutput (Ok (audit names)) old new output
-audit_is old mid new names layout opening entries output so_far was right is =
+audit_is old mid new names layout opening entries output units so_far was right is =
     has_read old new (audit names) (with_journal layout opening right.text) _ (audit_files old mid new names layout opening right.text so_far was right.read)
-    (record { entries = entries; shows = right.shows; is = is })
+    (record {
+      entries = entries;
+      shows = subst (λ (o : Opening). IsJournalOf o right.text entries) (sym (with_units opening names.units units)) right.shows;
+      is = is;
+    })

@@ -1,8 +1,6 @@
 -- A run keeps its promise, however it ended.
 use Rattle.std.proofs.Common.{◌≡◌, ◌∙◌, refl, sym, ap, subst, ℕ, false, inl, inr, List, [], Option, Some, None}
 use Rattle.std.proofs.Common.{Result, Ok, Err, arith}
-use Rattle.std.specs.Prelude.{IfOk, OnErr}
-use Rattle.wp_model.specs.declared.memory.Memory.{Memory}
 use Rattle.std.proofs.lemmas.List.{append-nil}
 use Rattle.wp_journal.proofs.OneFinding.{shows_one}
 use Rattle.wp_journal.specs.declared.verdict.Audit.{Audit}
@@ -11,20 +9,17 @@ use Rattle.wp_outside.specs.Outside.{Grows, NoneFalls, SameBytes, SinkTold}
 use Rattle.wp_top.specs.Ends.{Asked, EndsAt, HasRisen, IsRefused, ReadsWithin, most_reads}
 use Rattle.wp_top.specs.Promise.{AreGoodFiles, Course, IsBadFile, Keeps}
 use Rattle.wp_top.specs.Runs.{ComesTo, IsRight, IsWrong}
-use Rattle.wp_top.specs.Stops.{Finishes, IsEnding, number_of, status_of, text_of}
-use Rattle.wp_top.specs.Texts.{HaveSaid, IsHeld, Said, files_of}
+use Rattle.wp_top.specs.Stops.{End, Finishes, HasEnded, IsEnding, complains, gives, number_of, status_of, text_of}
+use Rattle.wp_top.specs.Texts.{HaveSaid, IsHeld, Said, files_of, opening_with}
 use Rattle.wp_top.specs.declared.complaint.Complaint.TheVariants as complaint
 use Rattle.wp_top.specs.declared.complaint.Finding.{Finding}
 use Rattle.wp_top.specs.declared.complaint.Finding.TheVariants as finding
-use Rattle.wp_top.specs.declared.ending.Ending.{Ending}
-use Rattle.wp_top.specs.declared.ending.Ending.TheVariants as ending
 use Rattle.wp_top.specs.declared.status.Status.{Status}
-use Rattle.wp_top.specs.declared.status.Status.TheVariants as status
 use Rattle.wp_words.specs.Words.{JobNames, audit, check, make, plan}
 use Rattle.wp_words.specs.declared.fault.WordsFault.{WordsFault}
 use Rattle.wp_top.proofs.Checks.{bound_no_fault}
 use Rattle.wp_top.proofs.RisenCounts.{bad_before_rise, none_rose}
-use Rattle.wp_top.proofs.Statuses.{HasEnded, due, few_statuses, part_taken, sink_rose, sink_sound, sink_stands, stands, when_done, when_fault, when_refused, when_words, when_wrong}
+use Rattle.wp_top.proofs.Statuses.{due, few_statuses, part_taken, sink_rose, sink_sound, sink_stands, stands, when_done, when_fault, when_refused, when_words, when_wrong}
 use Rattle.wp_top.proofs.Statuses.{whole}
 use Rattle.wp_top.proofs.ToldFiles.{none_refused, none_told, one_said}
 
@@ -32,29 +27,29 @@ use Rattle.wp_top.proofs.ToldFiles.{none_refused, none_told, one_said}
 pub not_both : {A E : Type 0} (o : Result A E) (a : A) (e : E) → o ≡ Ok a → o ≡ Err e → ⊥
 not_both o a e ok err = let same : Ok a ≡ Err e = sym ok ∙ err in cc same
 
-ends_for_words : (asked : Asked) (run : Course) (e : Ending) (why : WordsFault) → IsEnding asked run.files run.files' e → asked ≡ Err why
+ends_for_words : (asked : Asked) (run : Course) (e : End) (why : WordsFault) → IsEnding asked run.files run.files' e → asked ≡ Err why
     → number_of (status_of e) ≡ 1
-ends_for_words asked run (ending.Done text) w is bad = absurd (not_both asked is.job w is.asked_for bad)
-ends_for_words asked run (ending.Complaint (complaint.Words why)) w is bad = refl
-ends_for_words asked run (ending.Complaint (complaint.Refused f why)) w is bad = absurd (not_both asked is.0 w is.1 bad)
-ends_for_words asked run (ending.Complaint (complaint.Fault f)) w is bad = absurd (not_both asked is.0 w is.1 bad)
-ends_for_words asked run (ending.Complaint (complaint.Wrong found)) w is bad = absurd (not_both asked is.job w is.asked_for bad)
+ends_for_words asked run (gives text) w is bad = absurd (not_both asked is.job w is.asked_for bad)
+ends_for_words asked run (complains (complaint.Words why)) w is bad = refl
+ends_for_words asked run (complains (complaint.Refused f why)) w is bad = absurd (not_both asked is.0 w is.1 bad)
+ends_for_words asked run (complains (complaint.Fault f)) w is bad = absurd (not_both asked is.0 w is.1 bad)
+ends_for_words asked run (complains (complaint.Wrong found)) w is bad = absurd (not_both asked is.job w is.asked_for bad)
 
 job_is : (asked : Asked) (a b : JobNames) → asked ≡ Ok a → asked ≡ Ok b → a ≡ b
 job_is asked a b p q = let same : ◌≡◌ {A = Asked} (Ok a) (Ok b) = sym p ∙ q in cc same
 
-ends_for_bad_file : (asked : Asked) (run : Course) (e : Ending) → IsEnding asked run.files run.files' e → IsBadFile asked run
+ends_for_bad_file : (asked : Asked) (run : Course) (e : End) → IsEnding asked run.files run.files' e → IsBadFile asked run
     → number_of (status_of e) ≡ 2
-ends_for_bad_file asked run (ending.Done text) is bad =
+ends_for_bad_file asked run (gives text) is bad =
     absurd (none_told run.files.holds (files_of bad.job) bad.before bad.file bad.later is.said bad.said bad.text bad.why
     (subst (λ (j : JobNames). HaveSaid (IsHeld run.files.holds) (files_of j) is.said) (job_is asked is.job bad.job is.asked_for bad.asked_for) is.accepted) bad.place
     bad.accepted bad.told bad.refused)
-ends_for_bad_file asked run (ending.Complaint (complaint.Words why)) is bad = absurd (not_both asked bad.job why bad.asked_for is.0)
-ends_for_bad_file asked run (ending.Complaint (complaint.Refused f why)) is bad = refl
-ends_for_bad_file asked run (ending.Complaint (complaint.Fault f)) is bad =
+ends_for_bad_file asked run (complains (complaint.Words why)) is bad = absurd (not_both asked bad.job why bad.asked_for is.0)
+ends_for_bad_file asked run (complains (complaint.Refused f why)) is bad = refl
+ends_for_bad_file asked run (complains (complaint.Fault f)) is bad =
     absurd (bad_before_rise asked run bad f (subst (λ (j : JobNames). EndsAt run.files run.files' (files_of j) f (HasRisen run.files run.files'))
     (job_is asked is.0 bad.job is.1 bad.asked_for) is.2))
-ends_for_bad_file asked run (ending.Complaint (complaint.Wrong found)) is bad =
+ends_for_bad_file asked run (complains (complaint.Wrong found)) is bad =
     absurd (none_told run.files.holds (files_of bad.job) bad.before bad.file bad.later is.said bad.said bad.text bad.why
     (subst (λ (j : JobNames). HaveSaid (IsHeld run.files.holds) (files_of j) is.said) (job_is asked is.job bad.job is.asked_for bad.asked_for) is.accepted) bad.place
     bad.accepted bad.told bad.refused)
@@ -71,7 +66,7 @@ right_no_wrong (check names) said (finding.Certificate fault) (bound, right) wro
 right_no_wrong (make numbers) said found right wrong = wrong
 right_no_wrong (audit names) said (finding.Certificate fault) right wrong = wrong
 right_no_wrong (audit names) said (finding.Journal fault) (entries, right) wrong =
-    ok_no_err (record { entries = entries }) fault (shows_one said.opening said.journal (Ok (record { entries = entries })) (Err fault) right wrong)
+    ok_no_err (record { entries = entries }) fault (shows_one (opening_with said.opening names.units) said.journal (Ok (record { entries = entries })) (Err fault) right wrong)
 
 -- an output is what right files come to
 right_output : (job : JobNames) (said : Said) (output : List ℕ) → ComesTo job said output → IsRight job said
@@ -87,33 +82,33 @@ said_is asked run job other said more good asked_for have =
     let same = job_is asked other job asked_for good.asked_for in
     (same, one_said run.files.holds (files_of job) more said (subst (λ (j : JobNames). HaveSaid (IsHeld run.files.holds) (files_of j) more) same have) good.accepted)
 
-ends_for_wrong : (asked : Asked) (run : Course) (e : Ending) (job : JobNames) (said : Said) (found : Finding)
+ends_for_wrong : (asked : Asked) (run : Course) (e : End) (job : JobNames) (said : Said) (found : Finding)
     → IsEnding asked run.files run.files' e → AreGoodFiles asked run job said → IsWrong job said found → number_of (status_of e) ≡ 6
-ends_for_wrong asked run (ending.Done text) job said found is good wrong =
+ends_for_wrong asked run (gives text) job said found is good wrong =
     let same = said_is asked run job is.job said is.said good is.asked_for is.accepted in
-    absurd (right_no_wrong job said found (right_output job said text.items
-    (subst (λ (s : Said). ComesTo job s text.items) same.1 (subst (λ (j : JobNames). ComesTo j is.said text.items) same.0 is.comes)))
+    absurd (right_no_wrong job said found (right_output job said text
+    (subst (λ (s : Said). ComesTo job s text) same.1 (subst (λ (j : JobNames). ComesTo j is.said text) same.0 is.comes)))
     wrong)
-ends_for_wrong asked run (ending.Complaint (complaint.Words why)) job said found is good wrong = absurd (not_both asked job why good.asked_for is.0)
-ends_for_wrong asked run (ending.Complaint (complaint.Refused f why)) job said found is good wrong =
+ends_for_wrong asked run (complains (complaint.Words why)) job said found is good wrong = absurd (not_both asked job why good.asked_for is.0)
+ends_for_wrong asked run (complains (complaint.Refused f why)) job said found is good wrong =
     absurd (none_refused run.files run.files' (files_of job) said f why good.accepted
     (subst (λ (j : JobNames). EndsAt run.files run.files' (files_of j) f (IsRefused run.files f why)) (job_is asked is.0 job is.1 good.asked_for) is.2))
-ends_for_wrong asked run (ending.Complaint (complaint.Fault f)) job said found is good wrong =
+ends_for_wrong asked run (complains (complaint.Fault f)) job said found is good wrong =
     absurd (none_rose (files_of job) run f good.stand
     (subst (λ (j : JobNames). EndsAt run.files run.files' (files_of j) f (HasRisen run.files run.files')) (job_is asked is.0 job is.1 good.asked_for) is.2))
-ends_for_wrong asked run (ending.Complaint (complaint.Wrong other)) job said found is good wrong = refl
+ends_for_wrong asked run (complains (complaint.Wrong other)) job said found is good wrong = refl
 
-ends_for_good : (asked : Asked) (run : Course) (e : Ending) (job : JobNames) (said : Said) → IsEnding asked run.files run.files' e
+ends_for_good : (asked : Asked) (run : Course) (e : End) (job : JobNames) (said : Said) → IsEnding asked run.files run.files' e
     → AreGoodFiles asked run job said → IsRight job said → number_of (status_of e) ≡ 0
-ends_for_good asked run (ending.Done text) job said is good right = refl
-ends_for_good asked run (ending.Complaint (complaint.Words why)) job said is good right = absurd (not_both asked job why good.asked_for is.0)
-ends_for_good asked run (ending.Complaint (complaint.Refused f why)) job said is good right =
+ends_for_good asked run (gives text) job said is good right = refl
+ends_for_good asked run (complains (complaint.Words why)) job said is good right = absurd (not_both asked job why good.asked_for is.0)
+ends_for_good asked run (complains (complaint.Refused f why)) job said is good right =
     absurd (none_refused run.files run.files' (files_of job) said f why good.accepted
     (subst (λ (j : JobNames). EndsAt run.files run.files' (files_of j) f (IsRefused run.files f why)) (job_is asked is.0 job is.1 good.asked_for) is.2))
-ends_for_good asked run (ending.Complaint (complaint.Fault f)) job said is good right =
+ends_for_good asked run (complains (complaint.Fault f)) job said is good right =
     absurd (none_rose (files_of job) run f good.stand
     (subst (λ (j : JobNames). EndsAt run.files run.files' (files_of j) f (HasRisen run.files run.files')) (job_is asked is.0 job is.1 good.asked_for) is.2))
-ends_for_good asked run (ending.Complaint (complaint.Wrong found)) job said is good right =
+ends_for_good asked run (complains (complaint.Wrong found)) job said is good right =
     let same = said_is asked run job is.job said is.said good is.asked_for is.accepted in
     absurd (right_no_wrong job said found right (subst (λ (s : Said). IsWrong job s found) same.1
     (subst (λ (j : JobNames). IsWrong j is.said found) same.0 is.comes)))
@@ -126,28 +121,28 @@ pub record IsFrame (asked : Asked) (run : Course) : Type 0 where
   pub no_more : run.sink.stopped ≡ false → run.sink'.late ≡ run.sink.late
 
 -- a run that ended so keeps its promise
-pub keeps : (asked : Asked) (run : Course) (ended : Status) → IsFrame asked run → HasEnded asked run ended → Keeps asked run (number_of ended)
-keeps asked run ended frame so =
-    let e = so.ending in
+keeps : (asked : Asked) (run : Course) (ended : Status) (e : End) → IsFrame asked run → IsEnding asked run.files run.files' e
+    → Finishes e run.sink run.sink' ended → Keeps asked run (number_of ended)
+keeps asked run ended e frame cause finishes =
     record {
-      done = λ status. let t = whole asked run ended 0 e so.finishes status (inl (omega arith)) in when_done asked run e so.cause t.is t.took;
-      words = λ status. let t = whole asked run ended 1 e so.finishes status (inl (omega arith)) in when_words asked run e so.cause t.is t.took;
-      refused = λ status. let t = whole asked run ended 2 e so.finishes status (inl (omega arith)) in when_refused asked run e so.cause t.is t.took;
-      fault = λ status. let t = whole asked run ended 3 e so.finishes status (inl (omega arith)) in when_fault asked run e so.cause t.is t.took;
-      sink = λ status. (sink_rose asked run ended e so.finishes status).0;
-      cut = λ status. (text_of e, due asked run e so.cause, (sink_rose asked run ended e so.finishes status).1);
-      partial = λ status. inr (text_of e, due asked run e so.cause, part_taken run ended e so.finishes status);
-      wrong = λ status. let t = whole asked run ended 6 e so.finishes status (inr refl) in when_wrong asked run e so.cause t.is t.took;
+      done = λ status. let t = whole asked run ended 0 e finishes status (inl (omega arith)) in when_done asked run e cause t.is t.took;
+      words = λ status. let t = whole asked run ended 1 e finishes status (inl (omega arith)) in when_words asked run e cause t.is t.took;
+      refused = λ status. let t = whole asked run ended 2 e finishes status (inl (omega arith)) in when_refused asked run e cause t.is t.took;
+      fault = λ status. let t = whole asked run ended 3 e finishes status (inl (omega arith)) in when_fault asked run e cause t.is t.took;
+      sink = λ status. (sink_rose asked run ended e finishes status).0;
+      cut = λ status. (text_of e, due asked run e cause, (sink_rose asked run ended e finishes status).1);
+      partial = λ status. inr (text_of e, due asked run e cause, part_taken run ended e finishes status);
+      wrong = λ status. let t = whole asked run ended 6 e finishes status (inr refl) in when_wrong asked run e cause t.is t.took;
       most = few_statuses ended;
-      bad_words = λ why bad stand. stands run ended 1 e so.finishes stand (ends_for_words asked run e why so.cause bad);
-      bad_file = λ bad stand. stands run ended 2 e so.finishes stand (ends_for_bad_file asked run e so.cause bad);
-      bad_content = λ job said found good wrong stand. stands run ended 6 e so.finishes stand (ends_for_wrong asked run e job said found so.cause good wrong);
-      complete = λ job said good right stand. stands run ended 0 e so.finishes stand (ends_for_good asked run e job said so.cause good right);
+      bad_words = λ why bad stand. stands run ended 1 e finishes stand (ends_for_words asked run e why cause bad);
+      bad_file = λ bad stand. stands run ended 2 e finishes stand (ends_for_bad_file asked run e cause bad);
+      bad_content = λ job said found good wrong stand. stands run ended 6 e finishes stand (ends_for_wrong asked run e job said found cause good wrong);
+      complete = λ job said good right stand. stands run ended 0 e finishes stand (ends_for_good asked run e job said cause good right);
       same = frame.same;
       counts = frame.counts;
       reads = frame.reads;
-      sink_count = sink_stands run ended e so.finishes;
-      sound = sink_sound run ended e so.finishes;
+      sink_count = sink_stands run ended e finishes;
+      sound = sink_sound run ended e finishes;
       no_more = frame.no_more;
     }
 
@@ -156,7 +151,7 @@ nothing_more None taken' same = same
 nothing_more (Some bytes) taken' same = same ∙ ap Some (sym (append-nil bytes))
 
 -- so does one that had no memory before it could end
-pub keeps_nothing : (asked : Asked) (run : Course) → IsFrame asked run → run.sink' ≡ run.sink → Keeps asked run 5
+keeps_nothing : (asked : Asked) (run : Course) → IsFrame asked run → run.sink' ≡ run.sink → Keeps asked run 5
 keeps_nothing asked run frame same = record {
   done = λ status. absurd (omega (arith, status));
   words = λ status. absurd (omega (arith, status));
@@ -179,11 +174,8 @@ keeps_nothing asked run frame same = record {
   no_more = frame.no_more;
 }
 
--- a run with its ending, or without
-pub run_keeps : (asked : Asked) (run : Course) (made : Result Ending Memory) (ended : Status) → IsFrame asked run
-    → IfOk made (IsEnding asked run.files run.files')
-    → IfOk made (λ (e : Ending). Finishes e run.sink run.sink' ended)
-    → OnErr made ((ended ≡ status.OutOfMemory) × (run.sink' ≡ run.sink)) → Keeps asked run (number_of ended)
-run_keeps asked run (Ok e) ended frame cause finishes nothing = keeps asked run ended frame (record { ending = e; cause = cause; finishes = finishes })
-run_keeps asked run (Err memory) ended frame cause finishes nothing =
-    subst (Keeps asked run) (ap number_of (sym nothing.0)) (keeps_nothing asked run frame nothing.1)
+-- a run that ended so, with an end or for want of memory before it had one
+pub run_keeps : (asked : Asked) (run : Course) (ended : Status) → IsFrame asked run → HasEnded asked run.files run.files' run.sink run.sink' ended
+    → Keeps asked run (number_of ended)
+run_keeps asked run ended frame (inl (e, cause, finishes)) = keeps asked run ended e frame cause finishes
+run_keeps asked run ended frame (inr (none, same)) = subst (Keeps asked run) (ap number_of (sym none)) (keeps_nothing asked run frame same)

@@ -5,13 +5,16 @@ pub mod Taken
 pub mod Writing
 pub mod Waves
 pub mod SheetsGrow
+pub mod SectionTexts
 pub mod DayTexts
+pub mod DayWriting
 pub mod Output
 pub mod MadeDays
 pub mod MadeFiles
 pub mod Jobs
 pub mod Checks
 pub mod Statuses
+pub mod Endings
 pub mod ToldFiles
 pub mod RisenCounts
 pub mod KeptPromise

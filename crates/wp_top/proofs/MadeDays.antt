@@ -10,7 +10,7 @@ use Rattle.wp_machine.specs.Outcome.{outcome_of, outcomes_from, released_in, rel
 use Rattle.wp_machine.specs.declared.outcome.Outcome.{Outcome}
 use Rattle.wp_machine.specs.declared.outcome.Outcome.TheVariants as outcome
 use Rattle.wp_model.specs.History.{History, IsLegal, IsLegalFrom}
-use Rattle.wp_model.specs.Opening.{Opening, Stock}
+use Rattle.wp_model.specs.Opening.{Opening}
 use Rattle.wp_model.specs.State.{State, opening_state}
 use Rattle.wp_model.specs.Step.{says_released, step}
 use Rattle.wp_model.specs.Warehouse.{Layout}
@@ -49,13 +49,13 @@ pub released_count : (history : History) → IsLegal history → length (release
 released_count history legal = released_from history.opening 0 (opening_state history.opening) history.entries legal
 
 -- the plans of waves that went out, each with a good one
-pub good_plans : (layout : Layout) (stock : Stock) (terms : Terms) (sent : List Sent) → ArePlanned layout stock terms sent
-    → AreGoodPlans layout stock terms (waves_of sent) (plans_of sent)
-good_plans layout stock terms [] planned = tt
-good_plans layout stock terms (one ∷ sent) planned =
-    let P : Sent → Type 0 = IsPlanned layout stock terms in
+pub good_plans : (layout : Layout) (opening : Opening) (terms : Terms) (sent : List Sent) → ArePlanned layout opening terms sent
+    → AreGoodPlans layout opening terms (waves_of sent) (plans_of sent)
+good_plans layout opening terms [] planned = tt
+good_plans layout opening terms (one ∷ sent) planned =
+    let P : Sent → Type 0 = IsPlanned layout opening terms in
     let first = All-head P one sent planned in
-    rw first.there (first.good, good_plans layout stock terms sent (All-tail P one sent planned))
+    rw first.there (first.good, good_plans layout opening terms sent (All-tail P one sent planned))
 
 -- the plans up to the next wave
 pub plans_more : (sent : List Sent) (i : ℕ) (one : Sent) → slice_get sent i ≡ Some one

@@ -1,5 +1,5 @@
 -- The journal of a plan is right: each of its entries answers what a desk's script asks, within the bounds of a journal.
-use Rattle.std.proofs.Common.{◌≡◌, ◌≢◌, ◌∙◌, refl, sym, ap, subst, ℕ, suc, ◌+◌, ◌<◌, ◌≤◌, ◌==◌, List, [], ◌∷◌, ◌++◌, length, inl, inr, arith, eq-eqb, ne_eqb}
+use Rattle.std.proofs.Common.{◌≡◌, ◌≢◌, ◌∙◌, refl, sym, ap, subst, ℕ, suc, ◌+◌, ◌<◌, ◌≤◌, ◌==◌, List, [], ◌∷◌, ◌++◌, Option, length, inl, inr, arith, eq-eqb, ne_eqb}
 use Rattle.std.proofs.Common.{append_assoc}
 use Rattle.std.proofs.lemmas.Bool.{cases_eq, cond-false, cond-true}
 use Rattle.std.proofs.lemmas.List.Elements.{All-cons, All-head, All-nil, All-tail, All-weaker}
@@ -11,7 +11,6 @@ use Rattle.wp_floor.proofs.Floors.{is_opening}
 use Rattle.wp_journal.proofs.DayJournals.{day_journal}
 use Rattle.wp_journal.specs.Days.{IsAsked, IsDay}
 use Rattle.wp_journal.specs.Journals.{IsJournalOf}
-use Rattle.wp_machine.specs.Outcome.{refills_of}
 use Rattle.wp_model.specs.History.{Script, part_of, script_of, state_after}
 use Rattle.wp_model.specs.Journal.{journal, line}
 use Rattle.wp_model.specs.Name.{is_name}
@@ -22,8 +21,8 @@ use Rattle.wp_model.specs.declared.command.Command.{Command}
 use Rattle.wp_model.specs.declared.entry.Entry.{Entry}
 use Rattle.wp_top.specs.Runs.{IsPlan, command_count}
 use Rattle.wp_words.specs.Words.{PlanNames}
-use Rattle.wp_top.specs.Sections.{output_of, refills_section, stock_section}
-use Rattle.wp_top.specs.Texts.{Said}
+use Rattle.wp_top.specs.Sections.{after_refills, output_of, refills_section, refills_told, stock_section}
+use Rattle.wp_top.specs.Texts.{Said, opening_with}
 
 -- scripts of desks that are numbered on from the one after this
 abbrev AreNumbered : ℕ → List Script → Type 0
@@ -197,6 +196,10 @@ commands_count before entries (script ∷ scripts) (own, more) parts =
       commands_count (before + 1) entries scripts more (later_parts before entries script scripts own parts),
     )
 
+-- what an opening keeps it keeps with any units
+same_opening : (opening : Opening) (units : Option ℕ) → IsOpening opening → IsOpening (opening_with opening units)
+same_opening opening units is = record { rows = is.rows; orders = is.orders }
+
 -- the history of a plan is that of a day, with an entry for each command
 plan_is_day : (names : PlanNames) (said : Said) (output : List ℕ) → IsReadOpening said.opening → AreReadScripts said.scripts
     → (plan : IsPlan names said output) → IsDay plan.history × (length plan.history.entries ≡ command_count said.scripts)
@@ -211,7 +214,7 @@ plan_is_day names said output read are plan =
     let count : length entries ≡ command_count scripts =
     entries_count entries scripts numbered may ∙ commands_count 0 entries scripts numbered (λ desk after. plan.answers.parts desk) in (
       record {
-        opening = subst IsOpening (sym plan.answers.starts) (is_opening said.opening read);
+        opening = subst IsOpening (sym plan.answers.starts) (same_opening said.opening names.units (is_opening said.opening read));
         articles = subst (λ (o : Opening). All (λ article. IsTrue (is_name article)) o.stock.articles) (sym plan.answers.starts) read.stock.named;
         legal = plan.answers.legal;
         few = omega (arith, count, are.most);
@@ -226,22 +229,23 @@ plan_is_day names said output read are plan =
 
 -- the output of a plan is a right journal
 pub plan_journal : (names : PlanNames) (said : Said) (output : List ℕ) → IsReadOpening said.opening → AreReadScripts said.scripts → IsPlan names said output
-    → IsJournalOf said.opening output (command_count said.scripts)
+    → IsJournalOf (opening_with said.opening names.units) output (command_count said.scripts)
 plan_journal names said output read are plan =
     let day = plan_is_day names said output read are plan in
     let history = plan.history in
     let first = journal history.entries in
     let sheets = plan.sheets in
-    let refills = refills_section history.opening.stock (refills_of history) in
+    let refills = refills_section history.opening.stock (refills_told history) ++ after_refills history in
     let stock = stock_section history.opening.stock (state_after history).rows in
     let last = line (codes "end") in
     let more = sheets ++ refills ++ stock ++ last in
     let parts : output_of history sheets ≡ first ++ more =
-    ap (λ text. text ++ last) (ap (λ text. text ++ stock) (append_assoc first sheets refills) ∙ append_assoc first (sheets ++ refills) stock)
+    ap (λ text. text ++ last) (ap (λ text. text ++ stock) (append_assoc (first ++ sheets) _ (after_refills history) ∙ append_assoc first sheets refills)
+    ∙ append_assoc first (sheets ++ refills) stock)
     ∙ append_assoc first (sheets ++ refills ++ stock) last in
     let right : IsJournalOf history.opening (first ++ more) (length history.entries) = day_journal history more day.0 in
     let counted : IsJournalOf history.opening (first ++ more) (command_count said.scripts) =
     subst (λ n. IsJournalOf history.opening (first ++ more) n) day.1 right in
-    let opened : IsJournalOf said.opening (first ++ more) (command_count said.scripts) =
+    let opened : IsJournalOf (opening_with said.opening names.units) (first ++ more) (command_count said.scripts) =
     subst (λ (o : Opening). IsJournalOf o (first ++ more) (command_count said.scripts)) plan.answers.starts counted in
-    subst (λ text. IsJournalOf said.opening text (command_count said.scripts)) (sym (plan.is ∙ parts)) opened
+    subst (λ text. IsJournalOf (opening_with said.opening names.units) text (command_count said.scripts)) (sym (plan.is ∙ parts)) opened

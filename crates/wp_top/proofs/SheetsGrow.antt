@@ -1,70 +1,62 @@
 -- The sheets of waves, one after the other.
-use Rattle.std.proofs.Common.{◌≡◌, ◌∙◌, refl, sym, ap, subst, ℕ, ◌+◌, Bool, List, [], ◌∷◌, ◌++◌, Some, append_assoc, slice_get, take}
+use Rattle.std.proofs.Common.{◌≡◌, ◌∙◌, refl, sym, ap, subst, ℕ, ◌+◌, List, [], ◌∷◌, ◌++◌, Some, append_assoc, slice_get, take}
 use Rattle.std.proofs.lemmas.List.{append-nil}
-use Rattle.wp_machine.specs.Outcome.{is_cancelled_later}
 use Rattle.wp_machine.specs.declared.outcome.WaveHolds.{WaveHolds}
 use Rattle.wp_model.specs.History.{History}
-use Rattle.wp_model.specs.Opening.{Stock}
-use Rattle.wp_model.specs.Warehouse.{Layout}
-use Rattle.wp_planner.specs.Plans.{IsPlanOf}
-use Rattle.wp_planner.specs.Sheets.{GrowsBy, IsSheet}
+use Rattle.wp_planner.specs.Sheets.{GrowsBy}
 use Rattle.wp_planner.specs.Terms.{Terms}
 use Rattle.wp_planner.specs.declared.planner.WavePlan.{WavePlan}
+use Rattle.wp_top.proofs.MadeDays.{plans_more}
 use Rattle.wp_top.proofs.Waves.{one_wave_more}
 use Rattle.wp_top.proofs.Writing.{take_more}
-use Rattle.wp_top.specs.Planned.{IsPlanned, Sent, waves_of}
+use Rattle.wp_top.specs.Planned.{IsSentSheet, Sent, waves_of}
 use Rattle.wp_top.specs.Sheets.{AreSheets, IsSheetOf}
+use Rattle.wp_top.specs.Summaries.{plans_of}
 
 -- the sheets of waves and that of one more
-sheets_more : (layout : Layout) (stock : Stock) (terms : Terms) (history : History) (waves : List WaveHolds) (released : WaveHolds) (sheets sheet : List ℕ)
-    → AreSheets layout stock terms history waves sheets → IsSheetOf layout stock terms history released sheet
-    → AreSheets layout stock terms history (waves ++ released ∷ []) (sheets ++ sheet)
-sheets_more layout stock terms history [] released sheets sheet are is =
+sheets_more : (history : History) (terms : Terms) (waves : List WaveHolds) (plans : List WavePlan) (released : WaveHolds) (plan : WavePlan)
+    (sheets sheet : List ℕ) → AreSheets history terms waves plans sheets → IsSheetOf history terms released plan sheet
+    → AreSheets history terms (waves ++ released ∷ []) (plans ++ plan ∷ []) (sheets ++ sheet)
+sheets_more history terms [] [] released plan sheets sheet are is =
     (sheet, [], is, refl, ap (λ before. before ++ sheet) are ∙ sym (append-nil sheet))
-sheets_more layout stock terms history (wave ∷ waves) released sheets sheet (first, others, one, rest, parts) is = (
+sheets_more history terms (wave ∷ waves) (first_plan ∷ plans) released plan sheets sheet (first, others, one, rest, parts) is = (
   first,
   others ++ sheet,
   one,
-  sheets_more layout stock terms history waves released others sheet rest is,
+  sheets_more history terms waves plans released plan others sheet rest is,
   ap (λ text. text ++ sheet) parts ∙ append_assoc first others sheet,
 )
+sheets_more history terms [] (first_plan ∷ plans) released plan sheets sheet are is = absurd are
+sheets_more history terms (wave ∷ waves) [] released plan sheets sheet are is = absurd are
 
 -- a text that grew by sheets grows by one more
-pub grown_more : (layout : Layout) (stock : Stock) (terms : Terms) (history : History) (waves : List WaveHolds) (released : WaveHolds)
-    (old mid new : List ℕ) → GrowsBy (AreSheets layout stock terms history waves) old mid → GrowsBy (IsSheetOf layout stock terms history released) mid new
-    → GrowsBy (AreSheets layout stock terms history (waves ++ released ∷ [])) old new
-grown_more layout stock terms history waves released old mid new (sheets, are, grew) (sheet, is, grows) = (
+grown_more : (history : History) (terms : Terms) (waves : List WaveHolds) (plans : List WavePlan) (released : WaveHolds) (plan : WavePlan)
+    (old mid new : List ℕ) → GrowsBy (AreSheets history terms waves plans) old mid → GrowsBy (IsSheetOf history terms released plan) mid new
+    → GrowsBy (AreSheets history terms (waves ++ released ∷ []) (plans ++ plan ∷ [])) old new
+grown_more history terms waves plans released plan old mid new (sheets, are, grew) (sheet, is, grows) = (
   sheets ++ sheet,
-  sheets_more layout stock terms history waves released sheets sheet are is,
+  sheets_more history terms waves plans released plan sheets sheet are is,
   grows ∙ (ap (λ text. text ++ sheet) grew ∙ append_assoc old sheets sheet),
 )
 
 -- at first it has grown by none
-pub grown_by_none : (layout : Layout) (stock : Stock) (terms : Terms) (history : History) (text : List ℕ)
-    → GrowsBy (AreSheets layout stock terms history []) text text
-grown_by_none layout stock terms history text = ([], refl, sym (append-nil text))
+pub grown_by_none : (history : History) (terms : Terms) (text : List ℕ) → GrowsBy (AreSheets history terms [] []) text text
+grown_by_none history terms text = ([], refl, sym (append-nil text))
+
+-- the plan of one that has it
+one_plan : (one : Sent) (plan : WavePlan) → one.plan ≡ Some plan → plans_of (one ∷ []) ≡ plan ∷ []
+one_plan one plan is = rw is refl
 
 -- a text that grew by the sheets of the first waves grows by that of the next
-pub grown_next : (layout : Layout) (stock : Stock) (terms : Terms) (history : History) (sent : List Sent) (i : ℕ) (one : Sent) (old mid new : List ℕ)
-    → slice_get sent i ≡ Some one → GrowsBy (AreSheets layout stock terms history (waves_of (take i sent))) old mid
-    → GrowsBy (IsSheetOf layout stock terms history one.wave) mid new
-    → GrowsBy (AreSheets layout stock terms history (waves_of (take (i + 1) sent))) old new
-grown_next layout stock terms history sent i one old mid new at so_far next =
-    subst (λ (waves : List WaveHolds). GrowsBy (AreSheets layout stock terms history waves) old new)
-    (sym (ap waves_of (take_more sent i one at) ∙ one_wave_more (take i sent) one))
-    (grown_more layout stock terms history (waves_of (take i sent)) one.wave old mid new so_far next)
-
--- the sheet that was written is that of a wave with a good plan
-pub one_sheet : (layout : Layout) (stock : Stock) (terms : Terms) (history : History) (sent : Sent) (plan : WavePlan) (cancelled : Bool) (old new : List ℕ)
-    → sent.plan ≡ Some plan → IsPlanned layout stock terms sent → cancelled ≡ is_cancelled_later history sent.wave
-    → GrowsBy (IsSheet stock sent.wave terms plan cancelled) old new → GrowsBy (IsSheetOf layout stock terms history sent.wave) old new
-one_sheet layout stock terms history sent plan cancelled old new here planned same (sheet, is, grows) =
-    let one : planned.plan ≡ plan = cc (here, planned.there) in (
-      sheet,
-      record {
-        plan = plan;
-        good = subst (IsPlanOf layout stock sent.wave terms) one planned.good;
-        is = subst (λ (b : Bool). IsSheet stock sent.wave terms plan b sheet) same is;
-      },
-      grows,
-    )
+pub grown_next : (history : History) (terms : Terms) (sent : List Sent) (i : ℕ) (one : Sent) (old mid new : List ℕ)
+    → slice_get sent i ≡ Some one → GrowsBy (AreSheets history terms (waves_of (take i sent)) (plans_of (take i sent))) old mid
+    → GrowsBy (IsSentSheet history terms one) mid new
+    → GrowsBy (AreSheets history terms (waves_of (take (i + 1) sent)) (plans_of (take (i + 1) sent))) old new
+grown_next history terms sent i one old mid new at so_far (sheet, (plan, there, is), grows) =
+    let waves : waves_of (take (i + 1) sent) ≡ waves_of (take i sent) ++ one.wave ∷ [] =
+    ap waves_of (take_more sent i one at) ∙ one_wave_more (take i sent) one in
+    let plans : plans_of (take (i + 1) sent) ≡ plans_of (take i sent) ++ plan ∷ [] =
+    plans_more sent i one at ∙ ap (λ (more : List WavePlan). plans_of (take i sent) ++ more) (one_plan one plan there) in
+    subst (λ (ws : List WaveHolds). GrowsBy (AreSheets history terms ws (plans_of (take (i + 1) sent))) old new) (sym waves)
+    (subst (λ (ps : List WavePlan). GrowsBy (AreSheets history terms (waves_of (take i sent) ++ one.wave ∷ []) ps) old new) (sym plans)
+    (grown_more history terms (waves_of (take i sent)) (plans_of (take i sent)) one.wave plan old mid new so_far (sheet, is, grows)))

@@ -4,30 +4,22 @@ use Rattle.std.proofs.Common.{arith}
 use Rattle.wp_outside.specs.Outside.{TookPart, TookPrefix}
 use Rattle.wp_top.specs.Ends.{Asked, IsOutput}
 use Rattle.wp_top.specs.Promise.{Complains, Course, EndsWith, IsDue, SinkStands, Took}
-use Rattle.wp_top.specs.Stops.{Finishes, IsEnding, number_of, status_of, text_of}
+use Rattle.wp_top.specs.Stops.{End, Finishes, IsEnding, complains, gives, number_of, status_of, text_of}
 use Rattle.wp_top.specs.declared.complaint.Complaint.TheVariants as complaint
 use Rattle.wp_top.specs.declared.complaint.Finding.{Finding}
-use Rattle.wp_top.specs.declared.ending.Ending.{Ending}
-use Rattle.wp_top.specs.declared.ending.Ending.TheVariants as ending
 use Rattle.wp_top.specs.declared.input.Input.{Input}
 use Rattle.wp_top.specs.declared.input.Refusal.{Refusal}
 use Rattle.wp_top.specs.declared.status.Status.{Status}
 use Rattle.wp_top.specs.declared.status.Status.TheVariants as status
 use Rattle.wp_words.specs.declared.fault.WordsFault.{WordsFault}
 
--- a run ended so
-pub record HasEnded (asked : Asked) (run : Course) (ended : Status) : Type 0 where
-  pub ending : Ending
-  pub cause : IsEnding asked run.files run.files' ending
-  pub finishes : Finishes ending run.sink run.sink' ended
-
 -- the status of an ending is its own
-own : (e : Ending) → (number_of (status_of e) < 4) ⊎ (number_of (status_of e) ≡ 6)
-own (ending.Done text) = inl (omega arith)
-own (ending.Complaint (complaint.Words why)) = inl (omega arith)
-own (ending.Complaint (complaint.Refused f why)) = inl (omega arith)
-own (ending.Complaint (complaint.Fault f)) = inl (omega arith)
-own (ending.Complaint (complaint.Wrong found)) = inr refl
+own : (e : End) → (number_of (status_of e) < 4) ⊎ (number_of (status_of e) ≡ 6)
+own (gives text) = inl (omega arith)
+own (complains (complaint.Words why)) = inl (omega arith)
+own (complains (complaint.Refused f why)) = inl (omega arith)
+own (complains (complaint.Fault f)) = inl (omega arith)
+own (complains (complaint.Wrong found)) = inr refl
 
 neither : (n : ℕ) → (n < 4) ⊎ (n ≡ 6) → (n ≡ 4) ⊎ (n ≡ 5) → ⊥
 neither n (inl few) (inl is) = omega (arith, few, is)
@@ -36,14 +28,14 @@ neither n (inr six) (inl is) = omega (arith, six, is)
 neither n (inr six) (inr is) = omega (arith, six, is)
 
 -- the whole text of an ending was taken, and no write was answered with an error
-pub record IsWhole (run : Course) (e : Ending) (n : ℕ) : Type 0 where
+pub record IsWhole (run : Course) (e : End) (n : ℕ) : Type 0 where
   pub is : number_of (status_of e) ≡ n
   pub took : Took run (text_of e)
   pub stands : SinkStands run
   pub sound : run.sink'.stopped ≡ run.sink.stopped
 
 -- so it is with another status than 4 and 5
-pub whole : (asked : Asked) (run : Course) (ended : Status) (n : ℕ) (e : Ending) → Finishes e run.sink run.sink' ended
+pub whole : (asked : Asked) (run : Course) (ended : Status) (n : ℕ) (e : End) → Finishes e run.sink run.sink' ended
     → number_of ended ≡ n
     → (n < 4) ⊎ (n ≡ 6) → IsWhole run e n
 whole asked run ended n e (inl (is, grows, stands, sound)) same other =
@@ -52,77 +44,77 @@ whole asked run ended n e (inr (inl (is, rose, took))) same other = absurd (neit
 whole asked run ended n e (inr (inr (is, stands, took))) same other = absurd (neither n other (inr (sym same ∙ ap number_of is)))
 
 -- a run that ended with 0 gave its output
-pub when_done : (asked : Asked) (run : Course) (e : Ending) → IsEnding asked run.files run.files' e → number_of (status_of e) ≡ 0
+pub when_done : (asked : Asked) (run : Course) (e : End) → IsEnding asked run.files run.files' e → number_of (status_of e) ≡ 0
     → Took run (text_of e) → (output : List ℕ) × IsOutput asked run.files run.files' output × Took run output
-when_done asked run (ending.Done text) is status took = (text.items, is, took)
-when_done asked run (ending.Complaint (complaint.Words why)) is status took = absurd (omega (arith, status))
-when_done asked run (ending.Complaint (complaint.Refused f why)) is status took = absurd (omega (arith, status))
-when_done asked run (ending.Complaint (complaint.Fault f)) is status took = absurd (omega (arith, status))
-when_done asked run (ending.Complaint (complaint.Wrong found)) is status took = absurd (omega (arith, status))
+when_done asked run (gives text) is status took = (text, is, took)
+when_done asked run (complains (complaint.Words why)) is status took = absurd (omega (arith, status))
+when_done asked run (complains (complaint.Refused f why)) is status took = absurd (omega (arith, status))
+when_done asked run (complains (complaint.Fault f)) is status took = absurd (omega (arith, status))
+when_done asked run (complains (complaint.Wrong found)) is status took = absurd (omega (arith, status))
 
 -- one that ended with 1 complained of its words
-pub when_words : (asked : Asked) (run : Course) (e : Ending) → IsEnding asked run.files run.files' e → number_of (status_of e) ≡ 1
+pub when_words : (asked : Asked) (run : Course) (e : End) → IsEnding asked run.files run.files' e → number_of (status_of e) ≡ 1
     → Took run (text_of e) → (why : WordsFault) × Complains asked run (complaint.Words why)
-when_words asked run (ending.Done text) is status took = absurd (omega (arith, status))
-when_words asked run (ending.Complaint (complaint.Words why)) is status took = (why, (is, took))
-when_words asked run (ending.Complaint (complaint.Refused f why)) is status took = absurd (omega (arith, status))
-when_words asked run (ending.Complaint (complaint.Fault f)) is status took = absurd (omega (arith, status))
-when_words asked run (ending.Complaint (complaint.Wrong found)) is status took = absurd (omega (arith, status))
+when_words asked run (gives text) is status took = absurd (omega (arith, status))
+when_words asked run (complains (complaint.Words why)) is status took = (why, (is, took))
+when_words asked run (complains (complaint.Refused f why)) is status took = absurd (omega (arith, status))
+when_words asked run (complains (complaint.Fault f)) is status took = absurd (omega (arith, status))
+when_words asked run (complains (complaint.Wrong found)) is status took = absurd (omega (arith, status))
 
 -- one that ended with 2 complained of a refused file
-pub when_refused : (asked : Asked) (run : Course) (e : Ending) → IsEnding asked run.files run.files' e → number_of (status_of e) ≡ 2
+pub when_refused : (asked : Asked) (run : Course) (e : End) → IsEnding asked run.files run.files' e → number_of (status_of e) ≡ 2
     → Took run (text_of e) → (file : Input) × (why : Refusal) × Complains asked run (complaint.Refused file why)
-when_refused asked run (ending.Done text) is status took = absurd (omega (arith, status))
-when_refused asked run (ending.Complaint (complaint.Words why)) is status took = absurd (omega (arith, status))
-when_refused asked run (ending.Complaint (complaint.Refused f why)) is status took = (f, why, (is, took))
-when_refused asked run (ending.Complaint (complaint.Fault f)) is status took = absurd (omega (arith, status))
-when_refused asked run (ending.Complaint (complaint.Wrong found)) is status took = absurd (omega (arith, status))
+when_refused asked run (gives text) is status took = absurd (omega (arith, status))
+when_refused asked run (complains (complaint.Words why)) is status took = absurd (omega (arith, status))
+when_refused asked run (complains (complaint.Refused f why)) is status took = (f, why, (is, took))
+when_refused asked run (complains (complaint.Fault f)) is status took = absurd (omega (arith, status))
+when_refused asked run (complains (complaint.Wrong found)) is status took = absurd (omega (arith, status))
 
 -- one that ended with 3 complained of a file that could not be read
-pub when_fault : (asked : Asked) (run : Course) (e : Ending) → IsEnding asked run.files run.files' e → number_of (status_of e) ≡ 3
+pub when_fault : (asked : Asked) (run : Course) (e : End) → IsEnding asked run.files run.files' e → number_of (status_of e) ≡ 3
     → Took run (text_of e) → (file : Input) × Complains asked run (complaint.Fault file)
-when_fault asked run (ending.Done text) is status took = absurd (omega (arith, status))
-when_fault asked run (ending.Complaint (complaint.Words why)) is status took = absurd (omega (arith, status))
-when_fault asked run (ending.Complaint (complaint.Refused f why)) is status took = absurd (omega (arith, status))
-when_fault asked run (ending.Complaint (complaint.Fault f)) is status took = (f, (is, took))
-when_fault asked run (ending.Complaint (complaint.Wrong found)) is status took = absurd (omega (arith, status))
+when_fault asked run (gives text) is status took = absurd (omega (arith, status))
+when_fault asked run (complains (complaint.Words why)) is status took = absurd (omega (arith, status))
+when_fault asked run (complains (complaint.Refused f why)) is status took = absurd (omega (arith, status))
+when_fault asked run (complains (complaint.Fault f)) is status took = (f, (is, took))
+when_fault asked run (complains (complaint.Wrong found)) is status took = absurd (omega (arith, status))
 
 -- one that ended with 6 complained of what it found
-pub when_wrong : (asked : Asked) (run : Course) (e : Ending) → IsEnding asked run.files run.files' e → number_of (status_of e) ≡ 6
+pub when_wrong : (asked : Asked) (run : Course) (e : End) → IsEnding asked run.files run.files' e → number_of (status_of e) ≡ 6
     → Took run (text_of e) → (found : Finding) × Complains asked run (complaint.Wrong found)
-when_wrong asked run (ending.Done text) is status took = absurd (omega (arith, status))
-when_wrong asked run (ending.Complaint (complaint.Words why)) is status took = absurd (omega (arith, status))
-when_wrong asked run (ending.Complaint (complaint.Refused f why)) is status took = absurd (omega (arith, status))
-when_wrong asked run (ending.Complaint (complaint.Fault f)) is status took = absurd (omega (arith, status))
-when_wrong asked run (ending.Complaint (complaint.Wrong found)) is status took = (found, (is, took))
+when_wrong asked run (gives text) is status took = absurd (omega (arith, status))
+when_wrong asked run (complains (complaint.Words why)) is status took = absurd (omega (arith, status))
+when_wrong asked run (complains (complaint.Refused f why)) is status took = absurd (omega (arith, status))
+when_wrong asked run (complains (complaint.Fault f)) is status took = absurd (omega (arith, status))
+when_wrong asked run (complains (complaint.Wrong found)) is status took = (found, (is, took))
 
 -- with 4 the sink failed, once, after a part of the text
-pub sink_rose : (asked : Asked) (run : Course) (ended : Status) (e : Ending) → Finishes e run.sink run.sink' ended → number_of ended ≡ 4
+pub sink_rose : (asked : Asked) (run : Course) (ended : Status) (e : End) → Finishes e run.sink run.sink' ended → number_of ended ≡ 4
     → (run.sink'.faults ≡ run.sink.faults + 1) × TookPart run.sink.taken run.sink'.taken (text_of e)
 sink_rose asked run ended e (inl (is, grows, stands, sound)) same = absurd (neither (number_of (status_of e)) (own e) (inl (ap number_of (sym is) ∙ same)))
 sink_rose asked run ended e (inr (inl (is, rose, took))) same = (rose, took)
 sink_rose asked run ended e (inr (inr (is, stands, took))) same = absurd (omega (arith, ap number_of is, same))
 
 -- and else it didn't
-pub sink_stands : (run : Course) (ended : Status) (e : Ending) → Finishes e run.sink run.sink' ended → (number_of ended ≡ 4 → ⊥) → SinkStands run
+pub sink_stands : (run : Course) (ended : Status) (e : End) → Finishes e run.sink run.sink' ended → (number_of ended ≡ 4 → ⊥) → SinkStands run
 sink_stands run ended e (inl (is, grows, stands, sound)) other = stands
 sink_stands run ended e (inr (inl (is, rose, took))) other = absurd (other (ap number_of is))
 sink_stands run ended e (inr (inr (is, stands, took))) other = stands
 
 -- with another status than 4 and 5 no write was answered with an error
-pub sink_sound : (run : Course) (ended : Status) (e : Ending) → Finishes e run.sink run.sink' ended → (number_of ended ≡ 4 → ⊥)
+pub sink_sound : (run : Course) (ended : Status) (e : End) → Finishes e run.sink run.sink' ended → (number_of ended ≡ 4 → ⊥)
     → (number_of ended ≡ 5 → ⊥) → run.sink'.stopped ≡ run.sink.stopped
 sink_sound run ended e (inl (is, grows, stands, sound)) other another = sound
 sink_sound run ended e (inr (inl (is, rose, took))) other another = absurd (other (ap number_of is))
 sink_sound run ended e (inr (inr (is, stands, took))) other another = absurd (another (ap number_of is))
 
 -- the text of an ending is one that was due
-pub due : (asked : Asked) (run : Course) (e : Ending) → IsEnding asked run.files run.files' e → IsDue asked run (text_of e)
-due asked run (ending.Done text) is = inl is
-due asked run (ending.Complaint why) is = inr (why, is, refl)
+pub due : (asked : Asked) (run : Course) (e : End) → IsEnding asked run.files run.files' e → IsDue asked run (text_of e)
+due asked run (gives text) is = inl is
+due asked run (complains why) is = inr (why, is, refl)
 
 -- with 5 a beginning of it was taken
-pub part_taken : (run : Course) (ended : Status) (e : Ending) → Finishes e run.sink run.sink' ended → number_of ended ≡ 5
+pub part_taken : (run : Course) (ended : Status) (e : End) → Finishes e run.sink run.sink' ended → number_of ended ≡ 5
     → TookPrefix run.sink.taken run.sink'.taken (text_of e)
 part_taken run ended e (inl (is, grows, stands, sound)) same = absurd (neither (number_of (status_of e)) (own e) (inr (ap number_of (sym is) ∙ same)))
 part_taken run ended e (inr (inl (is, rose, took))) same = absurd (omega (arith, ap number_of is, same))
@@ -139,7 +131,7 @@ few_statuses status.OutOfMemory = omega arith
 few_statuses status.Wrong = omega arith
 
 -- while the sink's count stands the status is the ending's, or memory ran out
-pub stands : (run : Course) (ended : Status) (n : ℕ) (e : Ending) → Finishes e run.sink run.sink' ended → SinkStands run
+pub stands : (run : Course) (ended : Status) (n : ℕ) (e : End) → Finishes e run.sink run.sink' ended → SinkStands run
     → number_of (status_of e) ≡ n → EndsWith n (number_of ended)
 stands run ended n e (inl (is, grows, same_count, sound)) same ends = inl (ap number_of is ∙ ends)
 stands run ended n e (inr (inl (is, rose, took))) same ends = absurd (omega (arith, rose, same))

@@ -6,15 +6,14 @@ use Rattle.std.specs.List.{All, flat_map}
 use Rattle.std.specs.Prelude.{IfOk}
 use Rattle.wp_desk.specs.declared.day_run.DayRun.{DayRun}
 use Rattle.wp_floor.proofs.Floors.{is_opening}
-use Rattle.wp_machine.specs.Outcome.{outcomes_from, refills_of, released_in, released_of}
+use Rattle.wp_machine.specs.Outcome.{released_in}
 use Rattle.wp_machine.specs.declared.outcome.Outcome.{Outcome}
 use Rattle.wp_machine.specs.declared.outcome.Outcome.TheVariants as outcome
 use Rattle.wp_machine.specs.declared.outcome.WaveHolds.{WaveHolds}
 use Rattle.wp_model.proofs.Served.{stock_goes_where_it_covers}
 use Rattle.wp_model.specs.History.{History, IsLegal, Script, part_of, script_of}
-use Rattle.wp_model.specs.Opening.{Opening, Stock}
+use Rattle.wp_model.specs.Opening.{Opening}
 use Rattle.wp_model.specs.Sound.{EachStateIsSound}
-use Rattle.wp_model.specs.State.{opening_state}
 use Rattle.wp_model.specs.Tables.{IsReadOpening}
 use Rattle.wp_model.specs.Warehouse.{Layout}
 use Rattle.wp_model.specs.declared.memory.Memory.{Memory}
@@ -25,54 +24,55 @@ use Rattle.wp_planner.specs.Terms.{Terms}
 use Rattle.wp_planner.specs.declared.planner.WavePlan.{WavePlan}
 use Rattle.wp_top.specs.Planned.{AreMadeBy, ArePlanned, IsPlanned, IsToldOf, Sent, waves_of}
 use Rattle.wp_top.specs.Runs.{IsHistoryOf}
+use Rattle.wp_top.specs.Sections.{refills_told, told_of, waves_out}
 
 -- one more
 pub one_wave_more : (sent : List Sent) (one : Sent) → waves_of (sent ++ one ∷ []) ≡ waves_of sent ++ one.wave ∷ []
 one_wave_more [] one = refl
 one_wave_more (first ∷ sent) one = ap (λ waves. first.wave ∷ waves) (one_wave_more sent one)
 
--- where a step sends a wave out, that wave holds units for each of its orders
-sent_filled : (stock : Stock) (told : Outcome) → ((out : WaveHolds) → told ≡ outcome.Released out → IsReleased stock out)
-    → All (IsReleased stock) (released_in told)
-sent_filled stock outcome.Plain filled = All-nil (IsReleased stock)
-sent_filled stock (outcome.Refilled refill) filled = All-nil (IsReleased stock)
-sent_filled stock (outcome.Released out) filled = All-cons (IsReleased stock) out [] (filled out refl) (All-nil (IsReleased stock))
+-- where a step sends a wave out, that wave goes out filled
+sent_filled : (opening : Opening) (told : Outcome) → ((out : WaveHolds) → told ≡ outcome.Released out → IsReleased opening out)
+    → All (IsReleased opening) (released_in told)
+sent_filled opening outcome.Plain filled = All-nil (IsReleased opening)
+sent_filled opening (outcome.Refilled refill) filled = All-nil (IsReleased opening)
+sent_filled opening (outcome.Released out) filled = All-cons (IsReleased opening) out [] (filled out refl) (All-nil (IsReleased opening))
 
 -- so it is with each that steps send out
-each_filled : (stock : Stock) (outcomes : List Outcome) → All (λ told. All (IsReleased stock) (released_in told)) outcomes
-    → All (IsReleased stock) (flat_map released_in outcomes)
-each_filled stock [] all = All-nil (IsReleased stock)
-each_filled stock (told ∷ more) all =
-    let P : Outcome → Type 0 = λ told. All (IsReleased stock) (released_in told) in
-    subst (All (IsReleased stock)) (sym (flat_map-cons released_in told more))
-    (All-append (IsReleased stock) (released_in told) (flat_map released_in more) (All-head P told more all)
-    (each_filled stock more (All-tail P told more all)))
+each_filled : (opening : Opening) (outcomes : List Outcome) → All (λ told. All (IsReleased opening) (released_in told)) outcomes
+    → All (IsReleased opening) (flat_map released_in outcomes)
+each_filled opening [] all = All-nil (IsReleased opening)
+each_filled opening (told ∷ more) all =
+    let P : Outcome → Type 0 = λ told. All (IsReleased opening) (released_in told) in
+    subst (All (IsReleased opening)) (sym (flat_map-cons released_in told more))
+    (All-append (IsReleased opening) (released_in told) (flat_map released_in more) (All-head P told more all)
+    (each_filled opening more (All-tail P told more all)))
 
--- each wave that goes out in a history holds units for each of its orders
-pub released_each : (history : History) → IsReadOpening history.opening → All (IsReleased history.opening.stock) (released_of history)
+-- each wave that goes out in a history goes out filled
+pub released_each : (history : History) → IsReadOpening history.opening → All (IsReleased history.opening) (waves_out history)
 released_each history read =
-    let outcomes = outcomes_from history.opening 0 (opening_state history.opening) history.entries in
-    each_filled history.opening.stock outcomes
-    (All-weaker (Contains outcomes) (λ told. All (IsReleased history.opening.stock) (released_in told)) (λ told among.
-    sent_filled history.opening.stock told (λ out is. each_wave_out_is_filled history out read (subst (Contains outcomes) is among)))
+    let outcomes = told_of history in
+    each_filled history.opening outcomes
+    (All-weaker (Contains outcomes) (λ told. All (IsReleased history.opening) (released_in told)) (λ told among.
+    sent_filled history.opening told (λ out is. (each_wave_out_is_filled history out read (subst (Contains outcomes) is among)).released))
     outcomes (All-contains_itself outcomes))
 
--- a wave that went out and holds units for each of its orders has a plan
-one_planned : (layout : Layout) (stock : Stock) (terms : Terms) (sent : Sent) (plan : Option WavePlan) → sent.plan ≡ plan
-    → IsPlanFor layout stock terms sent.wave plan → IsReleased stock sent.wave → IsPlanned layout stock terms sent
-one_planned layout stock terms sent (Some plan) same is released = record { released = released; plan = plan; there = same; good = is.good }
-one_planned layout stock terms sent None same is released = absurd (cc (is.there.1 released))
+-- a wave that went out filled has a plan
+one_planned : (layout : Layout) (opening : Opening) (terms : Terms) (sent : Sent) (plan : Option WavePlan) → sent.plan ≡ plan
+    → IsPlanFor layout opening terms sent.wave plan → IsReleased opening sent.wave → IsPlanned layout opening terms sent
+one_planned layout opening terms sent (Some plan) same is released = record { released = released; plan = plan; there = same; good = is.good }
+one_planned layout opening terms sent None same is released = absurd (cc (is.there.1 released))
 
 -- so it is with each
-each_planned : (layout : Layout) (stock : Stock) (terms : Terms) (sent : List Sent) → All (λ s. IsPlanFor layout stock terms s.wave s.plan) sent
-    → All (IsReleased stock) (waves_of sent) → ArePlanned layout stock terms sent
-each_planned layout stock terms [] plans released = All-nil (IsPlanned layout stock terms)
-each_planned layout stock terms (one ∷ sent) plans released =
-    let P : Sent → Type 0 = λ s. IsPlanFor layout stock terms s.wave s.plan in
-    let R : WaveHolds → Type 0 = IsReleased stock in
-    All-cons (IsPlanned layout stock terms) one sent
-    (one_planned layout stock terms one one.plan refl (All-head P one sent plans) (All-head R one.wave (waves_of sent) released))
-    (each_planned layout stock terms sent (All-tail P one sent plans) (All-tail R one.wave (waves_of sent) released))
+each_planned : (layout : Layout) (opening : Opening) (terms : Terms) (sent : List Sent) → All (λ s. IsPlanFor layout opening terms s.wave s.plan) sent
+    → All (IsReleased opening) (waves_of sent) → ArePlanned layout opening terms sent
+each_planned layout opening terms [] plans released = All-nil (IsPlanned layout opening terms)
+each_planned layout opening terms (one ∷ sent) plans released =
+    let P : Sent → Type 0 = λ s. IsPlanFor layout opening terms s.wave s.plan in
+    let R : WaveHolds → Type 0 = IsReleased opening in
+    All-cons (IsPlanned layout opening terms) one sent
+    (one_planned layout opening terms one one.plan refl (All-head P one sent plans) (All-head R one.wave (waves_of sent) released))
+    (each_planned layout opening terms sent (All-tail P one sent plans) (All-tail R one.wave (waves_of sent) released))
 
 -- what the desks of an opening that was read answer is its day's history
 pub history_of : (opening : Opening) (scripts : List Script) (result : Result (DayRun (Option WavePlan)) Memory)
@@ -89,21 +89,21 @@ history_of opening scripts (Ok day) starts legal parts sound read = record {
 }
 
 -- a day of an opening that was read tells what the steps of its history tell, where whatever may be made of a wave is a plan for it
-pub told_of : (layout : Layout) (terms : Terms) (opening : Opening) (scripts : List Script) (makes : WaveHolds → Option WavePlan → Type 0)
+pub told_as : (layout : Layout) (terms : Terms) (opening : Opening) (scripts : List Script) (makes : WaveHolds → Option WavePlan → Type 0)
     (result : Result (DayRun (Option WavePlan)) Memory) → IsReadOpening opening → IfOk result (λ day. IsHistoryOf opening scripts day.machine)
-    → IfOk result (λ day. waves_of day.plans.items ≡ released_of day.machine) → IfOk result (λ day. day.refills.items ≡ refills_of day.machine)
+    → IfOk result (λ day. waves_of day.plans.items ≡ waves_out day.machine) → IfOk result (λ day. day.refills.items ≡ refills_told day.machine)
     → IfOk result (λ day. AreMadeBy makes day.plans.items)
-    → ((wave : WaveHolds) (plan : Option WavePlan) → makes wave plan → IsPlanFor layout opening.stock terms wave plan)
+    → ((wave : WaveHolds) (plan : Option WavePlan) → makes wave plan → IsPlanFor layout opening terms wave plan)
     → IfOk result (IsToldOf layout terms)
-told_of layout terms opening scripts makes (Err lack) read history waves refills plans good = tt
-told_of layout terms opening scripts makes (Ok day) read history waves refills plans good =
-    let begun = day.machine.opening.stock in
-    let P : Stock → Sent → Type 0 = λ stock sent. IsPlanFor layout stock terms sent.wave sent.plan in
-    let plans_for : All (P opening.stock) day.plans.items
-    = All-weaker (λ sent. makes sent.wave sent.plan) (P opening.stock) (λ sent. good sent.wave sent.plan) day.plans.items plans.each in
+told_as layout terms opening scripts makes (Err lack) read history waves refills plans good = tt
+told_as layout terms opening scripts makes (Ok day) read history waves refills plans good =
+    let begun = day.machine.opening in
+    let P : Opening → Sent → Type 0 = λ o sent. IsPlanFor layout o terms sent.wave sent.plan in
+    let plans_for : All (P opening) day.plans.items
+    = All-weaker (λ sent. makes sent.wave sent.plan) (P opening) (λ sent. good sent.wave sent.plan) day.plans.items plans.each in
     record {
       waves = waves;
-      planned = each_planned layout begun terms day.plans.items (subst (λ (o : Opening). All (P o.stock) day.plans.items) (sym history.starts) plans_for)
+      planned = each_planned layout begun terms day.plans.items (subst (λ (o : Opening). All (P o) day.plans.items) (sym history.starts) plans_for)
           (subst (All (IsReleased begun)) (sym waves) (released_each day.machine (subst IsReadOpening (sym history.starts) read)));
       refills = refills;
     }

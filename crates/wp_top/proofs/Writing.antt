@@ -1,5 +1,5 @@
 -- A text grows item by item.
-use Rattle.std.proofs.Common.{◌≡◌, ◌∙◌, sym, ap, ℕ, zero, suc, ◌+◌, List, [], ◌∷◌, ◌++◌, take, Some, slice_get, append_assoc, arith}
+use Rattle.std.proofs.Common.{◌≡◌, ◌∙◌, ap, ℕ, zero, suc, ◌+◌, List, [], ◌∷◌, ◌++◌, take, Some, length, slice_get, refl, arith}
 use Rattle.std.specs.List.{flat_map}
 use Rattle.std.proofs.lemmas.Grind.{flat_map-append}
 use Rattle.std.proofs.lemmas.List.{append-nil}
@@ -23,9 +23,7 @@ flat_map-next f xs i x is =
     ap (λ n. flat_map f (take n xs)) (one_more i) ∙ (ap (flat_map f) (take_next xs i x is)
     ∙ (flat_map-append f (take i xs) (x ∷ []) ∙ ap (λ text. flat_map f (take i xs) ++ text) (append-nil (f x))))
 
--- a text that has grown by a heading and items grows by one more
-pub grown : (old text new heading items item more : List ℕ) → text ≡ old ++ (heading ++ items) → new ≡ text ++ item → more ≡ items ++ item
-    → new ≡ old ++ (heading ++ more)
-grown old text new heading items item more so_far next is =
-    next ∙ (ap (λ text. text ++ item) so_far ∙ (append_assoc old (heading ++ items) item
-    ∙ ap (λ text. old ++ text) (append_assoc heading items item ∙ ap (λ text. heading ++ text) (sym is))))
+-- all items
+pub take_all : {X : Type 0} (xs : List X) → take (length xs) xs ≡ xs
+take_all [] = refl
+take_all (x ∷ xs) = ap (λ ys. x ∷ ys) (take_all xs)

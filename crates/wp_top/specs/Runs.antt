@@ -16,15 +16,14 @@ use Rattle.wp_model.specs.Opening.{Opening}
 use Rattle.wp_model.specs.Served.{StockGoesWhereItCovers}
 use Rattle.wp_model.specs.Sound.{EachStateIsSound}
 use Rattle.wp_model.specs.Warehouse.{Layout}
-use Rattle.wp_top.specs.Sections.{output_of}
+use Rattle.wp_top.specs.Sections.{output_of, waves_out}
 use Rattle.wp_top.specs.Sheets.{AreSheets, terms_of}
-use Rattle.wp_machine.specs.Outcome.{released_of}
 use Rattle.wp_top.specs.Summaries.{AreGoodPlans, made_files, made_terms, size_of, summary_of}
-use Rattle.wp_top.specs.Texts.{Said, Say}
+use Rattle.wp_top.specs.Texts.{Said, Say, opening_with}
 use Rattle.wp_top.specs.declared.complaint.Finding.{Finding}
 use Rattle.wp_top.specs.declared.complaint.Finding.TheVariants as finding
 use Rattle.wp_planner.specs.declared.planner.WavePlan.{WavePlan}
-use Rattle.wp_words.specs.Words.{JobNames, MakeNumbers, PlanNames, audit, check, make, plan}
+use Rattle.wp_words.specs.Words.{AuditNames, JobNames, MakeNumbers, PlanNames, audit, check, make, plan}
 
 -- What is promised of a day's history, in the words in which it is promised: it is one history of a single thread, from this opening,
 pub record IsHistoryOf (opening : Opening) (scripts : List Script) (history : History) : Type 0 where
@@ -39,13 +38,15 @@ pub record IsHistoryOf (opening : Opening) (scripts : List Script) (history : Hi
 
 -- What a plan promises where it ends with status 0, in the words in which it is promised.
 pub record IsPlan (names : PlanNames) (said : Said) (output : List ℕ) : Type 0 where
-  -- its output is the text of one history of the opening and of the scripts that the files say;
+  -- its output is the text of one history of the opening and of the scripts that the files say, for carts of the units that the words say;
   pub history : History
-  pub answers : IsHistoryOf said.opening said.scripts history
-  -- each released wave has a sheet with a good plan: every released order lies in one batch within capacity; every tour is a shortest closed walk; no
-  -- batching costs less than the printed bound
+  pub answers : IsHistoryOf (opening_with said.opening names.units) said.scripts history
+  -- each released wave has a good plan: every released order lies in one batch within capacity; no batching costs less than the bound;
+  pub plans : List WavePlan
+  pub planned : AreGoodPlans said.layout history.opening (terms_of names) (waves_out history) plans
+  -- and its sheet, on which every tour is a shortest closed walk
   pub sheets : List ℕ
-  pub planned : AreSheets said.layout history.opening.stock (terms_of names) history (released_of history) sheets
+  pub printed : AreSheets history (terms_of names) (waves_out history) plans sheets
   -- this is the text: its journal, the sheets, its refills, the stock after it
   pub is : output ≡ output_of history sheets
 
@@ -58,7 +59,7 @@ pub record IsSummary (numbers : MakeNumbers) (output : List ℕ) : Type 0 where
   pub answers : IsHistoryOf day.opening day.scripts history
   -- each released wave has a good plan
   pub plans : List WavePlan
-  pub planned : AreGoodPlans day.layout history.opening.stock (made_terms numbers) (released_of history) plans
+  pub planned : AreGoodPlans day.layout history.opening (made_terms numbers) (waves_out history) plans
   -- the output is the summary of this history and of these plans
   pub is : output ≡ summary_of numbers history plans
 
@@ -70,10 +71,11 @@ command_count scripts = sum_by (λ script. length script.commands) scripts
 abbrev pub audit_line : ℕ → List ℕ
 audit_line entries = line (codes "audit" ++ number_after_space entries ++ codes " entries")
 
--- the output of an audit: the journal begins with that of a legal history of the opening, and this is how many entries it has
-pub record IsAudit (said : Said) (output : List ℕ) : Type 0 where
+-- the output of an audit: the journal begins with that of a legal history of the opening, for carts of the units that the words say, and this is how many
+-- entries it has
+pub record IsAudit (names : AuditNames) (said : Said) (output : List ℕ) : Type 0 where
   pub entries : ℕ
-  pub shows : IsJournalOf said.opening said.journal entries
+  pub shows : IsJournalOf (opening_with said.opening names.units) said.journal entries
   pub is : output ≡ audit_line entries
 
 -- the line of a bound
@@ -120,17 +122,17 @@ pub record IsBound (said : Said) (output : List ℕ) : Type 0 where
 abbrev pub ComesTo : JobNames → Said → List ℕ → Type 0
 ComesTo (plan names) said output = IsPlan names said output
 ComesTo (check names) said output = IsBound said output
-ComesTo (audit names) said output = IsAudit said output
+ComesTo (audit names) said output = IsAudit names said output
 ComesTo (make numbers) said output = IsSummary numbers output
 
 -- what a job holds against its files isn't right, and this is found
 abbrev pub IsWrong : JobNames → Said → Finding → Type 0
 IsWrong (check names) said (finding.Certificate fault) = IsRefusedCertificate said.layout said.certificate fault
-IsWrong (audit names) said (finding.Journal fault) = Shows said.opening said.journal (Err fault)
+IsWrong (audit names) said (finding.Journal fault) = Shows (opening_with said.opening names.units) said.journal (Err fault)
 IsWrong other said found = ⊥
 
 -- it is right
 abbrev pub IsRight : JobNames → Said → Type 0
 IsRight (check names) said = (bound : ℕ) × TellsBound said.layout said.certificate bound
-IsRight (audit names) said = (entries : ℕ) × IsJournalOf said.opening said.journal entries
+IsRight (audit names) said = (entries : ℕ) × IsJournalOf (opening_with said.opening names.units) said.journal entries
 IsRight other said = ⊤

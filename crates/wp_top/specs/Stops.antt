@@ -1,5 +1,5 @@
 -- What comes of the files, one after the other, why a job stops, and how a run ends. The code is held against these; what they come to is in Promise.
-use Rattle.std.specs.Prelude.{◌≡◌, ◌⊎◌, ℕ, ◌+◌, ◌<◌, ⊤, Bool, true, false, List, [], ◌∷◌, ◌++◌, codes, map, Option, Vec, Result, Ok, Err, if◌then◌else◌}
+use Rattle.std.specs.Prelude.{◌≡◌, ◌⊎◌, ℕ, ◌+◌, ◌<◌, ⊤, Bool, true, false, List, [], ◌∷◌, ◌++◌, codes, map, None, Option, Vec, Result, Ok, Err, if◌then◌else◌}
 use Rattle.std.specs.declared.alloc.Global.{Global}
 use Rattle.wp_cert.specs.declared.tree.CertFault.{CertFault}
 use Rattle.wp_cert.specs.declared.tree.CertWhy.{CertWhy}
@@ -13,14 +13,17 @@ use Rattle.wp_model.specs.History.{History, Script}
 use Rattle.wp_model.specs.Opening.{Opening}
 use Rattle.wp_model.specs.Warehouse.{Layout}
 use Rattle.wp_outside.specs.Outside.{FilesTold, Grows, SinkTold, TookPart, TookPrefix}
+use Rattle.wp_outside.specs.declared.sink.SinkFault.{SinkFault}
+use Rattle.wp_outside.specs.declared.sink.SinkFault.TheVariants as sink_fault
 use Rattle.wp_top.specs.Ends.{Asked, Causes, HasCause, IsOutput, complaint_line, no_cause, of_run}
 use Rattle.wp_top.specs.Runs.{IsHistoryOf, IsRefusedCertificate}
 use Rattle.wp_planner.specs.Terms.{Terms}
-use Rattle.wp_top.specs.Sections.{output_of}
+use Rattle.wp_planner.specs.declared.planner.WavePlan.{WavePlan}
+use Rattle.wp_top.specs.Sections.{output_of, waves_out}
 use Rattle.wp_top.specs.Sheets.{AreSheets}
-use Rattle.wp_machine.specs.Outcome.{released_of}
-use Rattle.wp_top.specs.Summaries.{made_files, size_of}
-use Rattle.wp_top.specs.Texts.{File, HaveSaid, IsHeld, IsTold, ReadFile, Said, Say, file_of, nothing_said, scripts_in, text_in}
+use Rattle.wp_top.specs.Summaries.{AreGoodPlans, made_files, size_of}
+use Rattle.wp_top.specs.Texts.{File, HaveSaid, IsHeld, IsTold, ReadFile, Said, Say, file_of, nothing_said, opening_with, text_in}
+use Rattle.wp_top.specs.declared.complaint.Complaint.{Complaint}
 use Rattle.wp_top.specs.declared.complaint.Complaint.TheVariants as complaint
 use Rattle.wp_top.specs.declared.complaint.Finding.TheVariants as finding
 use Rattle.wp_top.specs.declared.complaint.Stop.{Stop}
@@ -95,6 +98,10 @@ opening_files layout stock orders = file_of input.Layout layout ∷ file_of inpu
 abbrev pub opening_said : Layout → Opening → Said
 opening_said layout opening = record nothing_said { layout = layout; opening = opening }
 
+-- what they say of an opening whose carts hold units, which no file says
+abbrev pub tables_said : Layout → Opening → Said
+tables_said layout opening = opening_said layout (opening_with opening None)
+
 -- what they say with the scripts of a desk file
 abbrev pub day_said : Layout → Opening → List Script → Said
 day_said layout opening scripts = record (opening_said layout opening) { scripts = scripts }
@@ -117,10 +124,12 @@ pub record HoldMadeDay (holds : List ℕ → Option (List ℕ)) (numbers : MakeN
   pub made : IsMadeDay numbers day
   pub told : HaveSaid (IsTold holds) day_files day
 
--- the output of a history and of the sheets of its waves, each with a good plan
+-- the output of a history, of good plans of the waves that went out in it, and of their sheets
 pub record IsTextOf (layout : Layout) (terms : Terms) (history : History) (output : List ℕ) : Type 0 where
+  pub plans : List WavePlan
+  pub planned : AreGoodPlans layout history.opening terms (waves_out history) plans
   pub sheets : List ℕ
-  pub planned : AreSheets layout history.opening.stock terms history (released_of history) sheets
+  pub printed : AreSheets history terms (waves_out history) plans sheets
   pub is : output ≡ output_of history sheets
 
 -- the output of a layout, of an opening and of scripts: that of one such history, whatever order the desks came in
@@ -128,12 +137,6 @@ pub record IsDayOf (layout : Layout) (opening : Opening) (terms : Terms) (script
   pub history : History
   pub answers : IsHistoryOf opening scripts history
   pub text : IsTextOf layout terms history output
-
--- the output of a layout, of an opening and of the desk file of this name
-pub record IsDay (holds : List ℕ → Option (List ℕ)) (layout : Layout) (opening : Opening) (terms : Terms) (name output : List ℕ) : Type 0 where
-  pub scripts : List Script
-  pub desk_file : IsSaid scripts_in holds name scripts
-  pub day : IsDayOf layout opening terms scripts output
 
 -- there was no memory for the check of a certificate
 abbrev pub is_memory : CertWhy → Bool
@@ -144,24 +147,34 @@ is_memory other = false
 abbrev pub stop_at_certificate : CertFault → Stop
 stop_at_certificate fault = if is_memory fault.why then stop.Memory else stop.Complaint (complaint.Wrong (finding.Certificate fault))
 
+-- how a run ends, where its text is taken: it gives an output, or complains
+pub data End : Type 0 where
+  gives : List ℕ → End
+  complains : Complaint → End
+
+-- the end that is an ending of the code
+abbrev pub end_of : Ending → End
+end_of (ending.Done text) = gives text.items
+end_of (ending.Complaint why) = complains why
+
 -- the ending of an output, or of a stop
 abbrev pub IsEndOf : Result (Vec ℕ Global) Stop → Ending → Type 0
 IsEndOf (Ok text) end = end ≡ ending.Done text
 IsEndOf (Err (stop.Complaint why)) end = end ≡ ending.Complaint why
 IsEndOf (Err stop.Memory) end = ⊥
 
--- the text of an ending
-abbrev pub text_of : Ending → List ℕ
-text_of (ending.Done text) = text.items
-text_of (ending.Complaint why) = complaint_line why
+-- the text of an end
+abbrev pub text_of : End → List ℕ
+text_of (gives text) = text
+text_of (complains why) = complaint_line why
 
--- the status of an ending whose text was taken
-abbrev pub status_of : Ending → Status
-status_of (ending.Done text) = status.Done
-status_of (ending.Complaint (complaint.Words why)) = status.BadWords
-status_of (ending.Complaint (complaint.Refused file why)) = status.Refused
-status_of (ending.Complaint (complaint.Fault file)) = status.ReadFault
-status_of (ending.Complaint (complaint.Wrong found)) = status.Wrong
+-- the status of an end whose text was taken
+abbrev pub status_of : End → Status
+status_of (gives text) = status.Done
+status_of (complains (complaint.Words why)) = status.BadWords
+status_of (complains (complaint.Refused file why)) = status.Refused
+status_of (complains (complaint.Fault file)) = status.ReadFault
+status_of (complains (complaint.Wrong found)) = status.Wrong
 
 -- the number of a status
 abbrev pub number_of : Status → ℕ
@@ -173,14 +186,25 @@ number_of status.WriteFault = 4
 number_of status.OutOfMemory = 5
 number_of status.Wrong = 6
 
--- an ending has its cause
-abbrev pub IsEnding : Asked → FilesTold → FilesTold → Ending → Type 0
-IsEnding asked old new (ending.Done text) = IsOutput asked old new text.items
-IsEnding asked old new (ending.Complaint why) = HasCause (of_run asked old new) why
+-- the status of a run whose output was written with this result
+abbrev pub status_when : Result Unit SinkFault → Status
+status_when (Ok done) = status.Done
+status_when (Err sink_fault.Failed) = status.WriteFault
+status_when (Err sink_fault.Memory) = status.OutOfMemory
 
--- the text of an ending was taken, or the sink failed, once, after a part of it, or memory ran out
-abbrev pub Finishes : Ending → SinkTold → SinkTold → Status → Type 0
-Finishes ending old new ended =
-    ((ended ≡ status_of ending) × Grows old.taken new.taken (text_of ending) × (new.faults ≡ old.faults) × (new.stopped ≡ old.stopped))
-    ⊎ ((ended ≡ status.WriteFault) × (new.faults ≡ old.faults + 1) × TookPart old.taken new.taken (text_of ending))
-    ⊎ ((ended ≡ status.OutOfMemory) × (new.faults ≡ old.faults) × TookPrefix old.taken new.taken (text_of ending))
+-- an end has its cause
+abbrev pub IsEnding : Asked → FilesTold → FilesTold → End → Type 0
+IsEnding asked old new (gives text) = IsOutput asked old new text
+IsEnding asked old new (complains why) = HasCause (of_run asked old new) why
+
+-- the text of an end was taken, or the sink failed, once, after a part of it, or memory ran out
+abbrev pub Finishes : End → SinkTold → SinkTold → Status → Type 0
+Finishes end old new ended =
+    ((ended ≡ status_of end) × Grows old.taken new.taken (text_of end) × (new.faults ≡ old.faults) × (new.stopped ≡ old.stopped))
+    ⊎ ((ended ≡ status.WriteFault) × (new.faults ≡ old.faults + 1) × TookPart old.taken new.taken (text_of end))
+    ⊎ ((ended ≡ status.OutOfMemory) × (new.faults ≡ old.faults) × TookPrefix old.taken new.taken (text_of end))
+
+-- a run that was asked for this has ended so: some end of it has its cause and finished, or memory ran out before there was one
+abbrev pub HasEnded : Asked → FilesTold → FilesTold → SinkTold → SinkTold → Status → Type 0
+HasEnded asked old new sink sink' ended =
+    ((end : End) × IsEnding asked old new end × Finishes end sink sink' ended) ⊎ ((ended ≡ status.OutOfMemory) × (sink' ≡ sink))

@@ -6,7 +6,7 @@ use Rattle.wp_make.specs.Texts.{Texts}
 use Rattle.wp_make.specs.declared.input.Size.{Size}
 use Rattle.wp_model.specs.History.{History, state_after}
 use Rattle.wp_model.specs.Journal.{line, number_after_space}
-use Rattle.wp_model.specs.Opening.{Stock}
+use Rattle.wp_model.specs.Opening.{Opening}
 use Rattle.wp_model.specs.Step.{says_released}
 use Rattle.wp_model.specs.Warehouse.{Layout}
 use Rattle.wp_model.specs.declared.entry.Entry.{Entry}
@@ -41,10 +41,10 @@ made_files texts =
     ∷ made_file input.Orders (codes "orders") texts.orders ∷ made_file input.Desks (codes "desks") texts.desks ∷ []
 
 -- good plans of waves that went out, one by one
-abbrev pub AreGoodPlans : Layout → Stock → Terms → List WaveHolds → List WavePlan → Type 0
-AreGoodPlans layout stock terms [] [] = ⊤
-AreGoodPlans layout stock terms (released ∷ more) (plan ∷ plans) = IsPlanOf layout stock released terms plan × AreGoodPlans layout stock terms more plans
-AreGoodPlans layout stock terms other others = ⊥
+abbrev pub AreGoodPlans : Layout → Opening → Terms → List WaveHolds → List WavePlan → Type 0
+AreGoodPlans layout opening terms [] [] = ⊤
+AreGoodPlans layout opening terms (released ∷ more) (plan ∷ plans) = IsPlanOf layout opening released terms plan × AreGoodPlans layout opening terms more plans
+AreGoodPlans layout opening terms other others = ⊥
 
 -- the plans of the waves that went out
 abbrev pub plans_of : List Sent → List WavePlan

@@ -67,6 +67,10 @@ nothing_said = record {
   journal = [];
 }
 
+-- an opening for carts that hold so many units, or for those that hold any number
+abbrev pub opening_with : Opening → Option ℕ → Opening
+opening_with opening units = record opening { units = units }
+
 -- what is said, or the refusal that comes of a fault
 abbrev pub refused_by : {A F E : Type 0} → (F → E) → Result A F → Result A E
 refused_by refusal (Ok said) = Ok said

@@ -8,7 +8,7 @@ ghost use Rattle.wp_top.specs.Runs.{audit_line};
 
 use crate::complaint::{Complaint, Finding, Stop};
 use crate::input::Input;
-use crate::reading::{read_text, read_warehouse};
+use crate::reading::{WarehouseNames, read_text, read_warehouse};
 use std::alloc::Global;
 use std::fmt::Write;
 use wp_journal::{Audit, AuditFault, audit};
@@ -67,13 +67,13 @@ pub fn audit_output<F: Files>(
     ensures counts { NoneFalls (F.told files.old).faults (F.told files.new).faults }
     ensures reads { ReadsWithin (F.told files.old) (F.told files.new) 4 }
 {
-    let warehouse = read_warehouse(
-        alloc,
-        files,
-        words.layout.as_str(),
-        words.stock.as_str(),
-        words.orders.as_str(),
-    )?;
+    let names = WarehouseNames {
+        layout: words.layout.as_str(),
+        stock: words.stock.as_str(),
+        orders: words.orders.as_str(),
+        units: words.units,
+    };
+    let warehouse = read_warehouse(alloc, files, &names)?;
     let found = found_in(alloc, files, &warehouse.opening, words.journal.as_str())?;
     let line = line_of(alloc, found)?;
     Ok(line.into_bytes())

@@ -2,7 +2,7 @@
 //!
 //! The words ask for a job, and each job has a file of its own: planning a day, checking a certificate, auditing a
 //! journal, and planning a day that is made. A job reads its files one after the other, and gives its output or stops; then
-//! the text of its ending goes out. The
+//! the text of its ending goes out. The output of a plan is written part by part, once the desks are back. The
 //! desks of a day run beside each other, so a day's output is that of one legal history of theirs, and another run may give another.
 #![tactic(auto)]
 
@@ -15,24 +15,55 @@ mod input;
 mod laws;
 mod make;
 mod plan;
-mod print;
 mod reading;
-mod sheets;
+mod sections;
 mod status;
 mod summary;
+mod written;
 
-ghost use Rattle.std.specs.Prelude.{Ok};
-ghost use Rattle.wp_top.specs.Ends.{asked_by, audit_job, check_job};
+ghost use Rattle.std.specs.Prelude.{◌≡◌, false, Ok};
+ghost use Rattle.wp_outside.specs.Outside.{NoneFalls, SameBytes};
+ghost use Rattle.wp_top.specs.Ends.{ReadsWithin, asked_by, audit_job, check_job, most_reads};
 ghost use Rattle.wp_top.specs.Promise.{Keeps, course};
+ghost use Rattle.wp_top.specs.Stops.{HasEnded};
 
-use crate::ending::{audit_ending, check_ending, ending_of, finish};
-pub use day::Resources;
-pub use laws::plans_print_right_journals;
+use crate::audit::audit_output;
+use crate::check::check_output;
+pub use crate::day::Resources;
+use crate::ending::{end_job, end_stopped};
+pub use crate::laws::plans_print_right_journals;
+use crate::make::make_output;
+use crate::plan::run_plan;
+use crate::status::Status;
 use std::alloc::Global;
 use std::sync::Wait;
 use std::thread::Threads;
 use wp_outside::{Files, Gate, Sink};
+use wp_words::{Job, read_words};
 pub use wp_words::{AuditWords, CheckWords};
+
+// Does the job that words ask for, and gives how the run ended.
+fn run_job<R: Threads + Wait + Sync, F: Files, K: Sink, G: Gate>(
+    resources: &Resources<'_, R, G>,
+    words: &Vec<String>,
+    files: &mut F,
+    out: &mut K,
+) -> Status
+    ensures ended { HasEnded (asked_by words.now.items) (F.told files.old) (F.told files.new) (K.told out.old) (K.told out.new) result }
+    ensures same { SameBytes (F.told files.old).holds (F.told files.new).holds }
+    ensures counts { NoneFalls (F.told files.old).faults (F.told files.new).faults }
+    ensures reads { ReadsWithin (F.told files.old) (F.told files.new) (most_reads (asked_by words.now.items)) }
+    ensures early { (K.told out.old).stopped ≡ false → (K.told out.new).late ≡ (K.told out.old).late }
+{
+    let alloc = resources.alloc;
+    match read_words(alloc, words) {
+        Ok(Job::Plan(words)) => run_plan(resources, &words, files, out),
+        Ok(Job::Check(words)) => end_job(alloc, check_output(alloc, files, &words), out),
+        Ok(Job::Audit(words)) => end_job(alloc, audit_output(alloc, files, &words), out),
+        Ok(Job::Make(words)) => end_job(alloc, make_output(resources, &words), out),
+        Err(fault) => end_stopped(alloc, fault.into(), out),
+    }
+}
 
 /// Runs the job that the words ask for, and gives its status: 0 the whole output was taken; 1 the words ask for no job;
 /// 2 a file is refused; 3 a file could not be read; 4 the output could not be written; 5 memory ran out; 6 the
@@ -49,8 +80,7 @@ pub fn run<R: Threads + Wait + Sync, F: Files, K: Sink, G: Gate>(
 ) -> u8
     ensures { Keeps (asked_by words.now.items) (course (F.told files.old) (K.told out.old) (F.told files.new) (K.told out.new)) result }
 {
-    let ending = ending_of(&Resources { rt, alloc, gate }, words, files);
-    finish(alloc, ending, out).number()
+    run_job(&Resources { rt, alloc, gate }, words, files, out).number()
 }
 
 /// Checks the certificate that the words name, and gives the status as `run` does: each but 1.
@@ -62,8 +92,7 @@ pub fn run_check<F: Files, K: Sink>(
 ) -> u8
     ensures { Keeps (Ok (check_job words.now)) (course (F.told files.old) (K.told out.old) (F.told files.new) (K.told out.new)) result }
 {
-    let ending = check_ending(alloc, words, files);
-    finish(alloc, ending, out).number()
+    end_job(alloc, check_output(alloc, files, words), out).number()
 }
 
 /// Audits the journal that the words name, and gives the status as `run` does: each but 1.
@@ -75,6 +104,5 @@ pub fn run_audit<F: Files, K: Sink>(
 ) -> u8
     ensures { Keeps (Ok (audit_job words.now)) (course (F.told files.old) (K.told out.old) (F.told files.new) (K.told out.new)) result }
 {
-    let ending = audit_ending(alloc, words, files);
-    finish(alloc, ending, out).number()
+    end_job(alloc, audit_output(alloc, files, words), out).number()
 }

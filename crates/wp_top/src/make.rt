@@ -12,7 +12,7 @@ ghost use Rattle.wp_words.specs.Words.{IsMakeable};
 
 use crate::complaint::Stop;
 use crate::day::{Resources, run_day};
-use crate::reading::{Warehouse, read_warehouse, scripts_from};
+use crate::reading::{Warehouse, WarehouseNames, read_warehouse, scripts_from};
 use crate::summary::summary_text;
 use std::alloc::Global;
 use std::sync::Wait;
@@ -124,7 +124,13 @@ fn summary_of_files<R: Threads + Wait + Sync, F: Files, G: Gate>(
     ensures stops { IfErr result (StopsFor (among (F.told files.old) (F.told files.new) day_files)) }
 {
     let alloc = resources.alloc;
-    let warehouse = read_warehouse(alloc, files, "layout", "stock", "orders")?;
+    let names = WarehouseNames {
+        layout: "layout",
+        stock: "stock",
+        orders: "orders",
+        units: None,
+    };
+    let warehouse = read_warehouse(alloc, files, &names)?;
     let scripts = scripts_from(alloc, files, "desks")?;
     let text = summary_of_day(resources, words, &warehouse, &scripts)?;
     Ok(text)

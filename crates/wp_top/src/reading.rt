@@ -1,16 +1,18 @@
 ghost use Rattle.std.specs.Prelude.{◌≡◌, ◌+◌, Err, IfOk, IfErr, OnOk, if◌then◌else◌};
 ghost use Rattle.std.proofs.Props.{props};
+ghost use Rattle.wp_floor.specs.Opening.{opening_of};
 ghost use Rattle.wp_model.specs.Tables.{AreReadOrders, AreReadScripts, IsReadOpening, IsReadStock};
 ghost use Rattle.wp_planner.specs.Released.{LiesIn};
 ghost use Rattle.wp_outside.specs.Outside.{NoneFalls, SameBytes};
 ghost use Rattle.wp_tables.specs.Faults.{wants_memory};
 ghost use Rattle.wp_top.specs.Ends.{ReadsWithin, among};
-ghost use Rattle.wp_top.specs.Stops.{IsRead, IsSaid, StopsFor, lacks_memory, of_file, opening_files, opening_said};
-ghost use Rattle.wp_top.specs.Texts.{HaveSaid, IsHeld, layout_in, orders_in, scripts_in, stock_in, text_in};
+ghost use Rattle.wp_top.specs.Stops.{IsRead, IsSaid, StopsFor, lacks_memory, of_file, opening_files, tables_said};
+ghost use Rattle.wp_top.specs.Texts.{HaveSaid, IsHeld, layout_in, opening_with, orders_in, scripts_in, stock_in, text_in};
 ghost use Rattle.wp_top.specs.declared.complaint.Complaint.TheVariants as complaint;
 ghost use Rattle.wp_top.specs.declared.complaint.Stop.TheVariants as stop;
 ghost use Rattle.wp_top.specs.declared.input.Input.TheVariants as input;
 ghost use Rattle.wp_top.specs.declared.input.Refusal.TheVariants as refusal;
+ghost use Rattle.wp_words.specs.Limits.{AreUnits};
 
 use crate::complaint::{Complaint, Stop};
 use crate::input::{Input, Refusal};
@@ -155,25 +157,48 @@ pub struct Warehouse {
     pub ghost lies: { LiesIn layout opening.stock },
 }
 
+/// The names of the files that say a warehouse, and how many units its carts hold, 1 to 40,000,000, or none where they hold any
+/// number.
+#[derive(Clone, Copy)]
+pub struct WarehouseNames<'a> {
+    pub layout: &'a str,
+    pub stock: &'a str,
+    pub orders: &'a str,
+    pub units: Option<u32>,
+    pub ghost cart: { AreUnits units },
+}
+
+// The opening of a stock and of orders, for carts of these units.
+fn opening_for(stock: Stock, orders: Orders, units: Option<u32>) -> Opening
+    requires orders { AreReadOrders stock.articles orders }
+    requires cart { AreUnits units }
+    ensures { result ≡ opening_with (opening_of stock orders) units }
+{
+    match units {
+        Some(units) => Opening::with_cart(stock, orders, units),
+        None => Opening::of(stock, orders),
+    }
+}
+
 /// Reads the layout, the stock file and the order file, one after the other. The first that isn't read stops it.
 pub fn read_warehouse<F: Files>(
     alloc: Global,
     files: &mut F,
-    layout_name: &str,
-    stock_name: &str,
-    orders_name: &str,
+    names: &WarehouseNames<'_>,
 ) -> Result<Warehouse, Stop>
-    ensures said { IfOk result (λ warehouse. HaveSaid (IsHeld (F.told files.old).holds) (opening_files layout_name.now stock_name.now orders_name.now)
-        (opening_said warehouse.layout warehouse.opening)) }
-    ensures stops { IfErr result (StopsFor (among (F.told files.old) (F.told files.new) (opening_files layout_name.now stock_name.now orders_name.now))) }
+    ensures said { IfOk result (λ warehouse. HaveSaid (IsHeld (F.told files.old).holds)
+        (opening_files names.now.layout.now names.now.stock.now names.now.orders.now) (tables_said warehouse.layout warehouse.opening)) }
+    ensures units { IfOk result (λ warehouse. warehouse.opening.units ≡ names.now.units) }
+    ensures stops { IfErr result (StopsFor (among (F.told files.old) (F.told files.new)
+        (opening_files names.now.layout.now names.now.stock.now names.now.orders.now))) }
     ensures same { SameBytes (F.told files.old).holds (F.told files.new).holds }
     ensures counts { NoneFalls (F.told files.old).faults (F.told files.new).faults }
     ensures all { OnOk result ((F.told files.new).reads ≡ (F.told files.old).reads + 3) }
     ensures reads { ReadsWithin (F.told files.old) (F.told files.new) 3 }
 {
-    let layout = layout_from(alloc, files, layout_name)?;
-    let stock = stock_from(alloc, files, stock_name, &layout)?;
-    let orders = orders_from(alloc, files, orders_name, &stock)?;
-    let opening = Opening::of(stock, orders);
+    let layout = layout_from(alloc, files, names.layout)?;
+    let stock = stock_from(alloc, files, names.stock, &layout)?;
+    let orders = orders_from(alloc, files, names.orders, &stock)?;
+    let opening = opening_for(stock, orders, names.units);
     Ok(Warehouse { layout, opening })
 }

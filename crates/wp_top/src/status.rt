@@ -1,5 +1,7 @@
 ghost use Rattle.std.specs.Prelude.{◌≡◌};
-ghost use Rattle.wp_top.specs.Stops.{number_of};
+ghost use Rattle.wp_top.specs.Stops.{number_of, status_when};
+
+use wp_outside::SinkFault;
 
 /// How a run ended.
 #[derive(Clone, Copy, PartialEq, Eq)]
@@ -19,5 +21,16 @@ impl Status {
         ensures { result ≡ number_of self }
     {
         self as u8
+    }
+}
+
+/// How a run ended whose output was written with this result.
+pub fn status_of(written: Result<(), SinkFault>) -> Status
+    ensures { result ≡ status_when written }
+{
+    match written {
+        Ok(()) => Status::Done,
+        Err(SinkFault::Failed) => Status::WriteFault,
+        Err(SinkFault::Memory) => Status::OutOfMemory,
     }
 }

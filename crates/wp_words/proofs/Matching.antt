@@ -1,12 +1,12 @@
 -- What clap matches of words, and what becomes of it.
-use Rattle.std.proofs.Common.{◌≡◌, ◌∙◌, ◌&&◌, refl, sym, ap, subst, Bool, true, false, List, [], ◌∷◌, Option, Some, None, Result, Ok, Err, ⊎_elim}
-use Rattle.clap.specs.Words.{App, HasKind, Kinds, ReadsOne, Row, Text, is_simple, is_simple_and_free, kind_of}
+use Rattle.std.proofs.Common.{◌≡◌, ◌∙◌, ◌&&◌, refl, sym, ap, subst, Bool, true, false, List, [], ◌∷◌, ℕ, Option, Some, None, option_map, Result, Ok, Err, ⊎_elim}
+use Rattle.clap.specs.Words.{App, HasKind, Kinds, ReadsOne, Row, Text, TriesOne, is_simple, is_simple_and_free, kind_of}
 use Rattle.clap.specs.declared.error.Error.{Error}
 use Rattle.clap.specs.declared.error.kind.ErrorKind.TheVariants as kind
 use Rattle.clap.proofs.OnLiterals.{clap_on_literals}
 use Rattle.wp_words.specs.Options.{audit_command, check_command, make_command, plan_command}
 use Rattle.wp_words.specs.Reading.{IsFaultOf}
-use Rattle.wp_words.specs.Words.{made_into, unless_faulty}
+use Rattle.wp_words.specs.Words.{made_into, number_said, unless_faulty}
 use Rattle.wp_words.specs.declared.fault.WordsFault.{WordsFault}
 use Rattle.wp_words.specs.declared.fault.WordsFault.TheVariants as fault
 
@@ -60,3 +60,13 @@ text_got gives None number got is none some =
     let bad : Some number ≡ None = sym is ∙ none refl in
     cc
 text_got {T} gives (Some t) number got is none some = (t, refl, subst (λ (o : Option T). ReadsOne gives t o) is (some t refl))
+
+-- a number is the one that the text of an option says, or there is neither
+pub number_if_got : {E : Type 0} (gives : Text → Result ℕ E → Type 0) → ((t : Text) (n : ℕ) → gives t (Ok n) → number_said t ≡ n)
+    → (text : Option Text) (number : Option ℕ) (tried : Result (Option ℕ) E) → tried ≡ Ok number → (text ≡ None → tried ≡ Ok None)
+    → ((t : Text) → text ≡ Some t → TriesOne gives t tried) → option_map number_said text ≡ number
+number_if_got gives said None number tried is none some =
+    let same : Ok number ≡ Ok None = sym is ∙ none refl in
+    cc
+number_if_got gives said (Some t) None tried is none some = absurd (subst (TriesOne gives t) is (some t refl))
+number_if_got gives said (Some t) (Some n) tried is none some = ap Some (said t n (subst (TriesOne gives t) is (some t refl)))

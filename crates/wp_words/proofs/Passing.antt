@@ -1,16 +1,16 @@
 -- The value that is read of an option of a command passed the option's parser.
-use Rattle.std.proofs.Common.{◌≡◌, ◌∙◌, ◌<◌, ℕ, Bool, true, false, zero, suc, refl, sym, ap, subst, arith, inl, inr}
-use Rattle.std.proofs.Common.{List, [], ◌∷◌, length, map, All, Option, Some, None, option_map, unwrap_or, bytes_eq, codes}
+use Rattle.std.proofs.Common.{◌≡◌, ◌∙◌, ◌<◌, ℕ, Bool, true, false, cond, zero, suc, refl, sym, ap, subst, arith, inl, inr}
+use Rattle.std.proofs.Common.{List, [], ◌∷◌, ◌++◌, length, map, All, Option, Some, None, option_map, unwrap_or, bytes_eq, codes}
 use Rattle.std.specs.Prelude.{slice_get, ⊤}
 use Rattle.std.specs.List.{slice_index_or}
 use Rattle.std.specs.Borrow.{Bor}
-use Rattle.std.proofs.lemmas.Bool.{cases_lt}
+use Rattle.std.proofs.lemmas.Bool.{cases_lt, false≢true}
 use Rattle.std.proofs.lemmas.List.Elements.{All-get_or}
 use Rattle.std.proofs.lemmas.Slice.Eq.{bytes_eq-Decides}
 use Rattle.clap.specs.Built.{IsAuto, IsParsedFrom, SameRules}
 use Rattle.clap.specs.Facts.{Entry, EntryPasses, HasReading, IsParsed, PassesArg, args_of, groups_of, parser_of, parser_of_value}
 use Rattle.clap.specs.Matches.{found_of, has_subcommand, matched_of, one_text}
-use Rattle.clap.specs.Simple.{app_of}
+use Rattle.clap.specs.Simple.{App, app_of, new_rule}
 use Rattle.clap.specs.Values.{Accepts, read_as, reading_of}
 use Rattle.clap.specs.Walk.{Rule, Text, one_of, rows_of, rule_of}
 use Rattle.clap.specs.Words.{is_simple_and_free}
@@ -23,11 +23,29 @@ use Rattle.clap.specs.declared.parser.matches.MatchedArg.{MatchedArg}
 use Rattle.clap.proofs.CallerLemmas.{entry_by_id}
 use Rattle.clap.proofs.SimpleLemmas.{plain_fields, simple_groups}
 use Rattle.clap.proofs.WalkLemmas.{both, one_text-rows}
+use Rattle.wp_words.specs.Options.{IsMatchOf}
 
--- each rule of a list is so
-abbrev pub EachRule : (Rule → Type 0) → List Rule → Type 0
-EachRule P [] = ⊤
-EachRule P (rule ∷ rules) = P rule × EachRule P rules
+-- each member of a list is so
+abbrev pub Each : {A : Type 0} → (A → Type 0) → List A → Type 0
+Each P [] = ⊤
+Each P (x ∷ xs) = P x × Each P xs
+
+-- how a value is read: by the parser, if there is one, and whether case counts for nothing
+abbrev Reader : Type 0
+Reader = Option ValueParser × Bool
+
+-- how the options of this name are read
+abbrev pub readers_of : Text → List Rule → List Reader
+readers_of name [] = []
+readers_of name (rule ∷ rules) = cond (bytes_eq rule.id name) ((rule.parser, rule.ignore_case) ∷ readers_of name rules) (readers_of name rules)
+
+-- the names that stand for no option of a command's own: no name, and those of the options that clap adds
+abbrev pub foreign_names : List Text
+foreign_names = [] ∷ codes "help" ∷ codes "version" ∷ []
+
+-- a command has one option of this name, its own, which this parser reads and which heeds case
+abbrev pub HasOption : Text → ValueParser → App → Type 0
+HasOption name parser app = readers_of name (map new_rule foreign_names ++ app.top.rules) ≡ (Some parser, false) ∷ []
 
 -- a rule of this name has this parser, and heeds case
 abbrev pub IsReadBy : Text → ValueParser → Rule → Type 0
@@ -35,10 +53,44 @@ IsReadBy name parser rule = bytes_eq rule.id name ≡ true → (rule.parser ≡ 
 
 -- the options of this name among the rules of a command have this parser, and it is no name that clap adds
 pub record HasParser (name : Text) (parser : ValueParser) (rules : List Rule) : Type 0 where
-  pub each : EachRule (IsReadBy name parser) rules
+  pub each : Each (IsReadBy name parser) rules
   pub named : bytes_eq [] name ≡ false
   pub help : bytes_eq (codes "help") name ≡ false
   pub version : bytes_eq (codes "version") name ≡ false
+
+-- where all options of a name are read by a parser, each rule of the name has it
+each_read : (name : Text) (parser : ValueParser) (rules : List Rule) → Each (λ (r : Reader). r ≡ (Some parser, false)) (readers_of name rules)
+    → Each (IsReadBy name parser) rules
+each_read name parser [] all = tt
+each_read name parser (rule ∷ rules) all = go (bytes_eq rule.id name) refl (λ rest. each_read name parser rules rest) all
+  where
+    go : (b : Bool) → bytes_eq rule.id name ≡ b
+        → (Each (λ (r : Reader). r ≡ (Some parser, false)) (readers_of name rules) → Each (IsReadBy name parser) rules)
+        → Each (λ (r : Reader). r ≡ (Some parser, false)) (cond b ((rule.parser, rule.ignore_case) ∷ readers_of name rules) (readers_of name rules))
+        → IsReadBy name parser rule × Each (IsReadBy name parser) rules
+    go true is others all = (λ _. (ap (λ (r : Reader). r.0) all.0, ap (λ (r : Reader). r.1) all.0), others all.1)
+    go false is others all = (λ same. absurd (false≢true (sym is ∙ same)), others all)
+
+-- a name that no parser reads is another than one that a parser reads
+unread : (name id : Text) (parser : ValueParser) → IsReadBy name parser (new_rule id) → bytes_eq id name ≡ false
+unread name id parser read = go (bytes_eq id name) refl
+  where
+    go : (b : Bool) → bytes_eq id name ≡ b → b ≡ false
+    go true same =
+        let bad : None ≡ Some parser = (read same).0 in
+        cc
+    go false same = refl
+
+-- an option of a command's own has its parser among the command's rules
+has_parser : (name : Text) (parser : ValueParser) (app : App) → HasOption name parser app → HasParser name parser app.top.rules
+has_parser name parser app own =
+    let each = each_read name parser (map new_rule foreign_names ++ app.top.rules) (subst (Each (λ (r : Reader). r ≡ (Some parser, false))) (sym own) (refl, tt)) in
+    record {
+      each = each.1.1.1;
+      named = unread name [] parser each.0;
+      help = unread name (codes "help") parser each.1.0;
+      version = unread name (codes "version") parser each.1.1.0;
+    }
 
 -- a name isn't one that it differs from
 other : (name id : Text) → bytes_eq id name ≡ false → name ≡ id → ⊥
@@ -48,7 +100,7 @@ other name id differs same =
     cc
 
 -- the rule of an argument at its place
-rule_at : (P : Rule → Type 0) (args : List Arg) (k : ℕ) (d : Arg) → EachRule P (map rule_of args) → k < length args
+rule_at : (P : Rule → Type 0) (args : List Arg) (k : ℕ) (d : Arg) → Each P (map rule_of args) → k < length args
     → P (rule_of (slice_index_or args k d))
 rule_at P [] k d each lt = absurd (omega arith)
 rule_at P (a ∷ args) zero d each lt = each.0
@@ -110,11 +162,11 @@ simple_parse c m p simple =
     let fields = plain_fields c rules.0 in
     (p.parsed (p.from.globals ∙ fields.globals), (p.from.same_groups (simple_groups c rules.1)).1 ∙ fields.groups)
 
--- what is read of an option was written so that it passed the option's parser
-pub passed : (c : Command) (m : ArgMatches) (name text : Text) (q : ValueParser) → IsParsedFrom c m → is_simple_and_free (app_of c) ≡ true
+-- what is read of an option of a parsed command was written so that it passed the option's parser
+passed_parsed : (c : Command) (m : ArgMatches) (name text : Text) (q : ValueParser) → IsParsedFrom c m → is_simple_and_free (app_of c) ≡ true
     → HasParser name q (app_of c).top.rules → one_of name (rows_of (found_of m)) ≡ Some text
     → (written : Text) × (text ≡ read_as (reading_of q) written) × Accepts false q written
-passed c m name text q p simple own is = go (matched_of (found_of m) name) refl (one_text-rows (found_of m) name ∙ is)
+passed_parsed c m name text q p simple own is = go (matched_of (found_of m) name) refl (one_text-rows (found_of m) name ∙ is)
   where
     go : (o : Option MatchedArg) → matched_of (found_of m) name ≡ o → one_text (found_of m) name ≡ Some text
         → (written : Text) × (text ≡ read_as (reading_of q) written) × Accepts false q written
@@ -127,3 +179,11 @@ passed c m name text q p simple own is = go (matched_of (found_of m) name) refl 
         let at_x : option_map (λ s. read_as x.reading s.now) (slice_get x.vals.items 0) ≡ Some text = rw found at said in
         let at_e = subst (λ (y : MatchedArg). option_map (λ s. read_as y.reading s.now) (slice_get y.vals.items 0) ≡ Some text) (sym got.1) at_x in
         of_entry c m p name text q own parse.1 got.0 ((bytes_eq-Decides got.0.0.now name).0 got.2) got.3 at_e
+
+-- what is read of a command's option was written so that it passed the option's parser
+pub passed : (app : App) (m : ArgMatches) (name text : Text) (q : ValueParser) → IsMatchOf app m → HasOption name q app
+    → one_of name (rows_of (found_of m)) ≡ Some text → (written : Text) × (text ≡ read_as (reading_of q) written) × Accepts false q written
+passed app m name text q match own is =
+    let simple = subst (λ (a : App). is_simple_and_free a ≡ true) (sym match.options) match.simple in
+    let parser = subst (λ (a : App). HasParser name q a.top.rules) (sym match.options) (has_parser name q app own) in
+    passed_parsed match.command m name text q match.parsed simple parser is

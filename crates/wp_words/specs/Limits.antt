@@ -1,10 +1,16 @@
 -- The ranges of the numbers that the options give which limit no file, and what stands for those that aren't given.
-use Rattle.std.specs.Prelude.{ℕ, codes}
+use Rattle.std.specs.Prelude.{ℕ, Option, codes}
+use Rattle.std.specs.Option.{ForSome}
 use Rattle.clap.specs.Walk.{Text}
+use Rattle.wp_model.specs.Tables.{IsCart}
 
 -- the most orders that a batch may have
 abbrev pub most_capacity : ℕ
 most_capacity = 8
+
+-- where units are given, they may be those of a cart
+abbrev pub AreUnits : Option ℕ → Type 0
+AreUnits units = ForSome units IsCart
 
 -- the greatest budget, the work that the search for better batches may do
 abbrev pub most_budget : ℕ

@@ -25,6 +25,7 @@ plan_names words = record {
   orders = string_bytes words.orders;
   desks = string_bytes words.desks;
   capacity = words.capacity;
+  units = words.units;
   budget = words.budget;
   workers = words.workers;
 }
@@ -33,13 +34,14 @@ plan_names words = record {
 abbrev pub check_names : CheckWords → CheckNames
 check_names words = record { layout = string_bytes words.layout; certificate = string_bytes words.certificate }
 
--- the names that the words of `audit` hold
+-- the names and the number that the words of `audit` hold
 abbrev pub audit_names : AuditWords → AuditNames
 audit_names words = record {
   layout = string_bytes words.layout;
   stock = string_bytes words.stock;
   orders = string_bytes words.orders;
   journal = string_bytes words.journal;
+  units = words.units;
 }
 
 -- the numbers that the words of `make` hold

@@ -6,18 +6,19 @@ use Rattle.std.specs.Str.Parse.{digits_value, without_leading_plus}
 use Rattle.clap.specs.Words.{App, Kinds, Row, Text, fault_of, first_of, matches_of, one_of}
 use Rattle.wp_model.specs.Limits.{greatest_desk, most_aisles, most_file_orders, most_submissions, most_wave_orders}
 use Rattle.wp_model.specs.Outcomes.{and_then}
-use Rattle.wp_words.specs.Limits.{most_budget, most_capacity, most_workers}
+use Rattle.wp_words.specs.Limits.{AreUnits, most_budget, most_capacity, most_workers}
 use Rattle.wp_words.specs.Options.{audit_command, check_command, make_command, plan_command}
 use Rattle.wp_words.specs.declared.fault.WordsFault.{WordsFault}
 use Rattle.wp_words.specs.declared.fault.WordsFault.TheVariants as fault
 
--- the names and the numbers that the options of `plan` give
+-- the names and the numbers that the options of `plan` give: the units are those that a cart holds, if carts have such a limit
 pub record PlanNames : Type 0 where
   pub layout : Text
   pub stock : Text
   pub orders : Text
   pub desks : Text
   pub capacity : ℕ
+  pub units : Option ℕ
   pub budget : ℕ
   pub workers : ℕ
 
@@ -25,6 +26,7 @@ pub record PlanNames : Type 0 where
 pub record HasRanges (names : PlanNames) : Type 0 where
   pub some_capacity : 1 ≤ names.capacity
   pub capacity : names.capacity ≤ most_capacity
+  pub cart : AreUnits names.units
   pub budget : names.budget ≤ most_budget
   pub some_workers : 1 ≤ names.workers
   pub workers : names.workers ≤ most_workers
@@ -34,12 +36,17 @@ pub record CheckNames : Type 0 where
   pub layout : Text
   pub certificate : Text
 
--- the names that the options of `audit` give
+-- the names that the options of `audit` give, and the units that a cart holds, if carts have such a limit
 pub record AuditNames : Type 0 where
   pub layout : Text
   pub stock : Text
   pub orders : Text
   pub journal : Text
+  pub units : Option ℕ
+
+-- the number of `audit` lies in its range
+pub record HasAuditRange (names : AuditNames) : Type 0 where
+  pub cart : AreUnits names.units
 
 -- the numbers that the options of `make` give
 pub record MakeNumbers : Type 0 where
@@ -84,11 +91,11 @@ pub data JobNames : Type 0 where
   audit : AuditNames → JobNames
   make : MakeNumbers → JobNames
 
--- the numbers of a job lie in their ranges, and its waves aren't too many. A check and an audit have none
+-- the numbers of a job lie in their ranges, and its waves aren't too many. A check has no number
 abbrev pub AreInRange : JobNames → Type 0
 AreInRange (plan names) = HasRanges names
 AreInRange (check names) = ⊤
-AreInRange (audit names) = ⊤
+AreInRange (audit names) = HasAuditRange names
 AreInRange (make numbers) = IsMakeable numbers
 
 -- what was matched, where no kind of error comes of the words
@@ -125,6 +132,7 @@ plan_names_of rows = record {
   orders = value_of rows (codes "orders");
   desks = value_of rows (codes "desks");
   capacity = number_of rows (codes "capacity");
+  units = number_read (codes "units") rows;
   budget = number_of rows (codes "budget");
   workers = number_of rows (codes "workers");
 }
@@ -133,13 +141,14 @@ plan_names_of rows = record {
 abbrev pub check_names_of : List Row → CheckNames
 check_names_of rows = record { layout = value_of rows (codes "layout"); certificate = value_of rows (codes "certificate") }
 
--- the names that were matched for `audit`
+-- the names and the number that were matched for `audit`
 abbrev pub audit_names_of : List Row → AuditNames
 audit_names_of rows = record {
   layout = value_of rows (codes "layout");
   stock = value_of rows (codes "stock");
   orders = value_of rows (codes "orders");
   journal = value_of rows (codes "journal");
+  units = number_read (codes "units") rows;
 }
 
 -- the numbers that were matched for `make`
@@ -194,13 +203,14 @@ job_said (mode ∷ words) =
     else if bytes_eq mode (codes "make") then made_into make (make_said words)
     else Err fault.UnknownMode
 
--- clap states these values for the options of `plan`
+-- clap states these values for the options of `plan`: the units are there exactly where their option was given
 pub record ArePlanValues (rows : List Row) (names : PlanNames) : Type 0 where
   pub layout : first_of (codes "layout") rows ≡ Some names.layout
   pub stock : first_of (codes "stock") rows ≡ Some names.stock
   pub orders : first_of (codes "orders") rows ≡ Some names.orders
   pub desks : first_of (codes "desks") rows ≡ Some names.desks
   pub capacity : number_read (codes "capacity") rows ≡ Some names.capacity
+  pub units : number_read (codes "units") rows ≡ names.units
   pub budget : number_read (codes "budget") rows ≡ Some names.budget
   pub workers : number_read (codes "workers") rows ≡ Some names.workers
 
@@ -209,12 +219,13 @@ pub record AreCheckValues (rows : List Row) (names : CheckNames) : Type 0 where
   pub layout : first_of (codes "layout") rows ≡ Some names.layout
   pub certificate : first_of (codes "certificate") rows ≡ Some names.certificate
 
--- clap states these values for the options of `audit`
+-- clap states these values for the options of `audit`: the units are there exactly where their option was given
 pub record AreAuditValues (rows : List Row) (names : AuditNames) : Type 0 where
   pub layout : first_of (codes "layout") rows ≡ Some names.layout
   pub stock : first_of (codes "stock") rows ≡ Some names.stock
   pub orders : first_of (codes "orders") rows ≡ Some names.orders
   pub journal : first_of (codes "journal") rows ≡ Some names.journal
+  pub units : number_read (codes "units") rows ≡ names.units
 
 -- clap states these values for the options of `make`
 pub record AreMakeValues (rows : List Row) (numbers : MakeNumbers) : Type 0 where

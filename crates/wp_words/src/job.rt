@@ -1,3 +1,5 @@
+ghost use Rattle.wp_words.specs.Limits.{AreUnits};
+
 /// What words ask for.
 #[derive(Drop)]
 pub enum Job {
@@ -20,6 +22,8 @@ pub struct PlanWords {
     pub desks: String,
     /// The most orders that a batch may have, 1 to 8.
     pub capacity: u32,
+    /// The most units that a cart holds, 1 to 40,000,000; none where carts have no such limit.
+    pub units: Option<u32>,
     /// The work that the search for better batches may do, 0 to 1,000,000,000,000,000,000.
     pub budget: u64,
     /// The most threads that may search at once, 1 to 16.
@@ -33,13 +37,16 @@ pub struct CheckWords {
     pub certificate: String,
 }
 
-/// The names of a journal, and of the files that it came from.
+/// The names of a journal, and of the files that it came from, and the number that its batches went by.
 #[derive(Drop)]
 pub struct AuditWords {
     pub layout: String,
     pub stock: String,
     pub orders: String,
     pub journal: String,
+    /// The most units that a cart holds, 1 to 40,000,000; none where carts have no such limit.
+    pub units: Option<u32>,
+    pub ghost cart: { AreUnits units },
 }
 
 /// The numbers from which a day is made and planned.

@@ -2,7 +2,7 @@
 //!
 //! The first word is the mode. Each mode has options of its own, which the kit's `clap` reads: `--option VALUE` or
 //! `--option=VALUE`, in any order, each once. None is left out but the budget and the workers of a plan or of a made day,
-//! which then are 2,000,000 and 1.
+//! which then are 2,000,000 and 1, and the units of a plan or of an audit, which then are absent: carts have no such limit.
 #![tactic(auto)]
 
 mod fault;

@@ -1,16 +1,18 @@
 ghost use Rattle.std.specs.Prelude.{◌≡◌, List, ℕ, [], IfOk, IfErr, Some, Ok, string_bytes, true, false};
-ghost use Rattle.clap.specs.Words.{IsParsedFrom, app_of, rule_of, first_of, found_of, is_simple_and_free, one_of, rows_of};
-ghost use Rattle.wp_words.specs.Options.{audit_command, budget_rule, capacity_rule, check_command, command_with, count_rule, make_command, named_rule};
-ghost use Rattle.wp_words.specs.Options.{number_rule, plan_command, required_rule, workers_rule};
+ghost use Rattle.clap.specs.Words.{app_of, rule_of, first_of, found_of, is_simple_and_free, one_of, rows_of};
+ghost use Rattle.wp_words.specs.Options.{IsMatchOf, audit_command, budget_rule, capacity_rule, check_command, command_with, count_rule, make_command, named_rule};
+ghost use Rattle.wp_words.specs.Options.{number_rule, plan_command, required_rule, units_rule, workers_rule};
 ghost use Rattle.wp_words.specs.Reading.{IsFaultOf, texts_of};
-ghost use Rattle.wp_words.specs.Words.{matched};
+ghost use Rattle.wp_words.specs.Words.{matched, number_read};
 
 use crate::fault::WordsFault;
 use clap::error::ErrorKind;
 use clap::{Arg, ArgAction, ArgMatches, Command, value_parser};
 use std::alloc::{AllocError, Global};
 use std::str::FromStr;
-use wp_model::{GREATEST_DESK, MOST_AISLES, MOST_FILE_ORDERS, MOST_WAVE_ORDERS, Memory};
+use wp_model::{
+    GREATEST_DESK, MOST_AISLES, MOST_CART_UNITS, MOST_FILE_ORDERS, MOST_WAVE_ORDERS, Memory,
+};
 
 /// The most orders that a batch may have.
 const MOST_CAPACITY: i64 = 8;
@@ -43,6 +45,15 @@ fn capacity_option<'a>(alloc: Global) -> Arg<'a>
     ensures local { result.global ≡ false }
 {
     required_option(alloc, "capacity").value_parser(value_parser!(u32).range(1..=MOST_CAPACITY))
+}
+
+/// The option of the units that a cart holds.
+fn units_option<'a>(alloc: Global) -> Arg<'a>
+    ensures rule { rule_of result ≡ units_rule }
+    ensures local { result.global ≡ false }
+{
+    let range = value_parser!(u32).range(1..=i64::from(MOST_CART_UNITS));
+    named_option(alloc, "units").value_parser(range)
 }
 
 /// The option of the budget.
@@ -100,6 +111,7 @@ pub fn plan_command<'a>(alloc: Global) -> Result<Command<'a>, AllocError>
         .arg(required_option(alloc, "orders"))?
         .arg(required_option(alloc, "desks"))?
         .arg(capacity_option(alloc))?
+        .arg(units_option(alloc))?
         .arg(budget_option(alloc))?
         .arg(workers_option(alloc))?;
     Ok(command)
@@ -123,7 +135,8 @@ pub fn audit_command<'a>(alloc: Global) -> Result<Command<'a>, AllocError>
         .arg(required_option(alloc, "layout"))?
         .arg(required_option(alloc, "stock"))?
         .arg(required_option(alloc, "orders"))?
-        .arg(required_option(alloc, "journal"))?;
+        .arg(required_option(alloc, "journal"))?
+        .arg(units_option(alloc))?;
     Ok(command)
 }
 
@@ -147,7 +160,7 @@ pub fn make_command<'a>(alloc: Global) -> Result<Command<'a>, AllocError>
 pub fn matched<'a>(command: Command<'a>, words: &'a [String]) -> Result<ArgMatches<'a>, WordsFault>
     requires simple { is_simple_and_free (app_of command) ≡ true }
     ensures rows { IfOk result (λ matches. matched (app_of command.entry) (texts_of words.entry.now) ≡ Ok (rows_of (found_of matches))) }
-    ensures parsed { IfOk result (λ matches. IsParsedFrom command.entry matches) }
+    ensures of_command { IfOk result (IsMatchOf (app_of command.entry)) }
     ensures fault { IfErr result (IsFaultOf (matched (app_of command.entry) (texts_of words.entry.now))) }
 {
     match command.try_get_matches_from(words) {
@@ -179,5 +192,15 @@ where
     match matches.get_one::<T>(name) {
         Some(number) => Ok(number),
         None => Err(Memory),
+    }
+}
+
+/// The number that an option got, if it was given.
+pub fn number_if_given(matches: &ArgMatches<'_>, name: &str) -> Result<Option<u32>, Memory>
+    ensures { IfOk result (λ number. number_read name.now (rows_of (found_of matches.now)) ≡ number) }
+{
+    match matches.try_get_one::<u32>(name) {
+        Ok(number) => Ok(number),
+        Err(_) => Err(Memory),
     }
 }

@@ -1,14 +1,15 @@
 ghost use Rattle.std.specs.Prelude.{◌≡◌, IfOk, IfErr, Ok};
 ghost use Rattle.clap.specs.Words.{found_of, matches_of, rows_of};
-ghost use Rattle.wp_words.specs.Options.{audit_command, check_command, make_command, plan_command};
+ghost use Rattle.wp_words.specs.Options.{IsMatchOf, audit_command, check_command, make_command, plan_command};
 ghost use Rattle.wp_words.specs.Reading.{IsFaultOf, audit_names, check_names, job_names, make_numbers, plan_names, texts_of};
-ghost use Rattle.wp_words.specs.Words.{AreAuditValues, AreCheckValues, AreInRange, AreMakeValues, ArePlanValues, AreStated, HasMakeRanges, HasRanges};
+ghost use Rattle.wp_words.specs.Words.{AreAuditValues, AreCheckValues, AreInRange, AreMakeValues, ArePlanValues, AreStated, HasAuditRange, HasMakeRanges, HasRanges};
 ghost use Rattle.wp_words.specs.Words.{IsMakeable, audit_said, check_said, job_said, make_given, make_said, plan_said};
 
 use crate::fault::WordsFault;
 use crate::job::{AuditWords, CheckWords, Job, MakeWords, PlanWords};
 use crate::options::{
-    audit_command, check_command, make_command, matched, number_of, plan_command, value_of,
+    audit_command, check_command, make_command, matched, number_if_given, number_of, plan_command,
+    value_of,
 };
 use clap::ArgMatches;
 use std::alloc::Global;
@@ -18,6 +19,7 @@ fn plan_words(alloc: Global, matches: &ArgMatches<'_>) -> Result<PlanWords, Memo
     ensures { IfOk result (λ words. ArePlanValues (rows_of (found_of matches.now)) (plan_names words)) }
 {
     let capacity = number_of::<u32>(matches, "capacity")?;
+    let units = number_if_given(matches, "units")?;
     let budget = number_of::<u64>(matches, "budget")?;
     let workers = number_of::<u32>(matches, "workers")?;
     let layout = value_of(alloc, matches, "layout")?;
@@ -30,6 +32,7 @@ fn plan_words(alloc: Global, matches: &ArgMatches<'_>) -> Result<PlanWords, Memo
         orders,
         desks,
         capacity,
+        units,
         budget,
         workers,
     })
@@ -47,8 +50,10 @@ fn check_words(alloc: Global, matches: &ArgMatches<'_>) -> Result<CheckWords, Me
 }
 
 fn audit_words(alloc: Global, matches: &ArgMatches<'_>) -> Result<AuditWords, Memory>
+    requires { IsMatchOf audit_command matches.now }
     ensures { IfOk result (λ words. AreAuditValues (rows_of (found_of matches.now)) (audit_names words)) }
 {
+    let units = number_if_given(matches, "units")?;
     let layout = value_of(alloc, matches, "layout")?;
     let stock = value_of(alloc, matches, "stock")?;
     let orders = value_of(alloc, matches, "orders")?;
@@ -58,6 +63,7 @@ fn audit_words(alloc: Global, matches: &ArgMatches<'_>) -> Result<AuditWords, Me
         stock,
         orders,
         journal,
+        units,
     })
 }
 
@@ -106,6 +112,7 @@ fn read_audit(alloc: Global, words: &[String]) -> Result<AuditWords, WordsFault>
     ensures said { IfOk result (λ audit. audit_said (texts_of words.now) ≡ Ok (audit_names audit)) }
     ensures stated { IfOk result (λ audit. AreAuditValues (matches_of audit_command (texts_of words.now)) (audit_names audit)) }
     ensures fault { IfErr result (IsFaultOf (audit_said (texts_of words.now))) }
+    ensures range { IfOk result (λ audit. HasAuditRange (audit_names audit)) }
 {
     let command = audit_command(alloc)?;
     let matches = matched(command, words)?;
@@ -146,7 +153,8 @@ fn read_make(alloc: Global, words: &[String]) -> Result<MakeWords, WordsFault>
 /// options. NoMode comes exactly where there is no word, UnknownMode exactly where the first word is no mode, BadWords
 /// exactly where the words after it aren't accepted for the mode's command, and TooManyWaves exactly where they are a good
 /// `make` whose orders are cut into more than 500 waves, with their number. Of a plan and of a made day the capacity is 1
-/// to 8, the budget 0 to 1,000,000,000,000,000,000 and the workers 1 to 16.
+/// to 8, the budget 0 to 1,000,000,000,000,000,000 and the workers 1 to 16. Of a plan and of an audit the units, where they are
+/// given, are 1 to 40,000,000.
 #[tactic(auto, unfolding(crate::specs::Words::job_said))]
 pub fn read_words(alloc: Global, words: &Vec<String>) -> Result<Job, WordsFault>
     ensures job { IfOk result (λ job. job_said (texts_of words.now.items) ≡ Ok (job_names job)) }

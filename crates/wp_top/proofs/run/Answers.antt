@@ -9,9 +9,7 @@ returns g c =
     let files = g.F.Files.told in
     let sink = g.K.Sink.told in
     let asked = asked_by c.args.words.now.items in
-    let went = course (files c.args.files.now) (sink c.args.out.now) (files c.ending_of-ending.new.files) (sink c.finish.new.out) in
-    let read = c.ending_of-ending.ensures in
+    let went = course (files c.args.files.now) (sink c.args.out.now) (files c.run_job.new.files) (sink c.run_job.new.out) in
+    let job = c.run_job.ensures in
     subst (Keeps asked went) (sym c.number.ensures)
-    (run_keeps asked went c.ending_of-ending.result c.finish.result
-    (record { same = read.same; counts = read.counts; reads = read.reads; no_more = c.finish.ensures.early })
-    read.is c.finish.ensures.finishes c.finish.ensures.nothing)
+    (run_keeps asked went c.run_job.result (record { same = job.same; counts = job.counts; reads = job.reads; no_more = job.early }) job.ended)

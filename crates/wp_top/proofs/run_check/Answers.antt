@@ -9,9 +9,10 @@ returns g c =
     let files = g.F.Files.told in
     let sink = g.K.Sink.told in
     let asked = Ok (check_job c.args.words.now) in
-    let went = course (files c.args.files.now) (sink c.args.out.now) (files c.check_ending-ending.new.files) (sink c.finish.new.out) in
-    let read = c.check_ending-ending.ensures in
+    let old = files c.args.files.now in
+    let new = files c.check_output.new.files in
+    let went = course old (sink c.args.out.now) new (sink c.end_job.new.out) in
+    let read = c.check_output.ensures in
     subst (Keeps asked went) (sym c.number.ensures)
-    (run_keeps asked went c.check_ending-ending.result c.finish.result
-    (record { same = read.same; counts = read.counts; reads = read.reads; no_more = c.finish.ensures.early })
-    read.is c.finish.ensures.finishes c.finish.ensures.nothing)
+    (run_keeps asked went c.end_job.result (record { same = read.same; counts = read.counts; reads = read.reads; no_more = c.end_job.ensures.early })
+    (c.end_job.ensures.ended asked old new read.output read.stops))

@@ -1,5 +1,16 @@
 use Rattle.wp_sheets.proofs.PicksByRow.{single_from_rises}
+use Rattle.wp_planner.proofs.SheetParts.{sheet_grown}
 use Rattle.wp_planner.proofs.sheet.print_sheet.Goals as goal
+use Rattle.std.proofs.Common.{refl}
 
 pub print_parts-requires-clause-single : goal.print_parts-requires-clause-single
 print_parts-requires-clause-single c = single_from_rises c.args.sent.now.released.now.holds c.requires.released.rise
+
+pub returns : goal.returns
+returns c =
+    let parts = c.in_ok-print_parts.ensures in (
+      _,
+      record { parts = parts.0; are = parts.1; is = refl },
+      sheet_grown c.args.text.now.items _ parts.0 _ _ _ _ _ _ c.in_ok-print_plan.ensures parts.2 c.in_ok-print_shown.ensures
+          c.in_ok-extend_from_slice.ensures.items,
+    )

@@ -26,7 +26,7 @@ returns-in_err-found-clause-stops g c =
     let said = rw (c.as_str.ensures.value, c.as_str-2.ensures.value, c.as_str-3.ensures.value) at read.said in
     rw (p.1, p.2)
     (stop_at_finding (told c.args.files.now) (told c.read_warehouse.new.files) (told c.found_in.new.files) (audit_names c.args.words.now)
-    c.in_ok-warehouse.warehouse.layout c.in_ok-warehouse.warehouse.opening c.in_err-found.field-0.0
+    c.in_ok-warehouse.warehouse.layout c.in_ok-warehouse.warehouse.opening c.in_err-found.field-0.0 read.units
     (record { accepted = said; same = read.same; counts = read.counts; reads = read.all }) c.found_in.ensures.same c.found_in.ensures.counts
     (rw c.as_str-4.ensures.value at c.in_err-found.ensures.stops))
 
@@ -38,7 +38,7 @@ returns-clause-output g c =
     let said = rw (c.as_str.ensures.value, c.as_str-2.ensures.value, c.as_str-3.ensures.value) at read.said in
     audit_is (told c.args.files.now) (told c.read_warehouse.new.files) (told c.found_in.new.files)
     (audit_names c.args.words.now) c.in_ok-warehouse.warehouse.layout c.in_ok-warehouse.warehouse.opening c.in_ok-found.found.entries
-    c.into_bytes.result.items
+    c.into_bytes.result.items read.units
     (record { accepted = said; same = read.same; counts = read.counts; reads = read.all })
     (record { same = found.same; counts = found.counts; reads = found.once }) (rw c.as_str-4.ensures.value at found.found)
     (ap (λ v. v.items) c.into_bytes.ensures.value ∙ c.in_ok-line.ensures)

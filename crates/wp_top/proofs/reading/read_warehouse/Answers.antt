@@ -13,7 +13,7 @@ returns-in_err-layout-clause-stops g c =
     let p = err_from_is_err_and c.from_residual.result c.from_residual.ensures.1 in
     rw (p.1, p.2)
     (stops_there layout_in (told c.args.files.now) (told c.args.files.now) (told c.layout_from.new.files) []
-    (file_of input.Stock c.args.stock_name.now ∷ file_of input.Orders c.args.orders_name.now ∷ []) nothing_said input.Layout c.args.layout_name.now
+    (file_of input.Stock c.args.names.now.stock.now ∷ file_of input.Orders c.args.names.now.orders.now ∷ []) nothing_said input.Layout c.args.names.now.layout.now
     c.in_err-layout.field-0.0 (λ text why none. rw none refl) (nothing_read (told c.args.files.now)) c.in_err-layout.ensures.stops)
 
 pub returns-in_err-stock-clause-stops : goal.returns-in_err-stock-clause-stops
@@ -23,10 +23,10 @@ returns-in_err-stock-clause-stops g c =
     let layout = c.in_ok-layout.ensures in
     rw (p.1, p.2)
     (stops_there (stock_in c.in_ok-layout.layout) (told c.args.files.now) (told c.layout_from.new.files) (told c.stock_from.new.files)
-    (layout_file c.args.layout_name.now) (file_of input.Orders c.args.orders_name.now ∷ [])
-    (record nothing_said { layout = c.in_ok-layout.layout }) input.Stock c.args.stock_name.now c.in_err-stock.field-0.0
+    (layout_file c.args.names.now.layout.now) (file_of input.Orders c.args.names.now.orders.now ∷ [])
+    (record nothing_said { layout = c.in_ok-layout.layout }) input.Stock c.args.names.now.stock.now c.in_err-stock.field-0.0
     (λ text why none. rw none refl)
-    (after_layout (told c.args.files.now) (told c.layout_from.new.files) c.args.layout_name.now c.in_ok-layout.layout
+    (after_layout (told c.args.files.now) (told c.layout_from.new.files) c.args.names.now.layout.now c.in_ok-layout.layout
     (record { same = layout.same; counts = layout.counts; reads = layout.once }) layout.said) c.in_err-stock.ensures.stops)
 
 pub returns-in_err-orders-clause-stops : goal.returns-in_err-orders-clause-stops
@@ -37,12 +37,12 @@ returns-in_err-orders-clause-stops g c =
     let stock = c.in_ok-stock.ensures in
     rw (p.1, p.2)
     (stops_there (orders_in c.in_ok-stock.stock) (told c.args.files.now) (told c.stock_from.new.files) (told c.orders_from.new.files)
-    (stock_files c.args.layout_name.now c.args.stock_name.now) []
-    (opening_said c.in_ok-layout.layout (opening_of c.in_ok-stock.stock [])) input.Orders c.args.orders_name.now
+    (stock_files c.args.names.now.layout.now c.args.names.now.stock.now) []
+    (opening_said c.in_ok-layout.layout (opening_of c.in_ok-stock.stock [])) input.Orders c.args.names.now.orders.now
     c.in_err-orders.field-0.0 (λ text why none. rw none refl)
-    (after_stock (told c.args.files.now) (told c.layout_from.new.files) (told c.stock_from.new.files) c.args.layout_name.now c.args.stock_name.now
+    (after_stock (told c.args.files.now) (told c.layout_from.new.files) (told c.stock_from.new.files) c.args.names.now.layout.now c.args.names.now.stock.now
     c.in_ok-layout.layout c.in_ok-stock.stock
-    (after_layout (told c.args.files.now) (told c.layout_from.new.files) c.args.layout_name.now c.in_ok-layout.layout
+    (after_layout (told c.args.files.now) (told c.layout_from.new.files) c.args.names.now.layout.now c.in_ok-layout.layout
     (record { same = layout.same; counts = layout.counts; reads = layout.once }) layout.said)
     (record { same = stock.same; counts = stock.counts; reads = stock.once }) stock.said) c.in_err-orders.ensures.stops)
 
@@ -52,13 +52,13 @@ returns-clause-said g c =
     let layout = c.in_ok-layout.ensures in
     let stock = c.in_ok-stock.ensures in
     let orders = c.in_ok-orders.ensures in
-    let read = after_orders (told c.args.files.now) (told c.stock_from.new.files) (told c.orders_from.new.files) c.args.layout_name.now
-    c.args.stock_name.now c.args.orders_name.now
+    let read = after_orders (told c.args.files.now) (told c.stock_from.new.files) (told c.orders_from.new.files) c.args.names.now.layout.now
+    c.args.names.now.stock.now c.args.names.now.orders.now
     c.in_ok-layout.layout c.in_ok-stock.stock c.in_ok-orders.orders
-    (after_stock (told c.args.files.now) (told c.layout_from.new.files) (told c.stock_from.new.files) c.args.layout_name.now c.args.stock_name.now
+    (after_stock (told c.args.files.now) (told c.layout_from.new.files) (told c.stock_from.new.files) c.args.names.now.layout.now c.args.names.now.stock.now
     c.in_ok-layout.layout c.in_ok-stock.stock
-    (after_layout (told c.args.files.now) (told c.layout_from.new.files) c.args.layout_name.now c.in_ok-layout.layout
+    (after_layout (told c.args.files.now) (told c.layout_from.new.files) c.args.names.now.layout.now c.in_ok-layout.layout
     (record { same = layout.same; counts = layout.counts; reads = layout.once }) layout.said)
     (record { same = stock.same; counts = stock.counts; reads = stock.once }) stock.said)
     (record { same = orders.same; counts = orders.counts; reads = orders.once }) orders.said in
-    rw c.of-opening.ensures read.accepted
+    rw c.opening_for-opening.ensures read.accepted

@@ -10,5 +10,6 @@ returns c =
     let three = one_more _ _ _ _ _ c.in_ok-arg-3.ensures two c.required_option-3.ensures.rule c.required_option-3.ensures.local in
     let four = one_more _ _ _ _ _ c.in_ok-arg-4.ensures three c.required_option-4.ensures.rule c.required_option-4.ensures.local in
     let five = one_more _ _ _ _ _ c.in_ok-arg-5.ensures four c.capacity_option.ensures.rule c.capacity_option.ensures.local in
-    let six = one_more _ _ _ _ _ c.in_ok-arg-6.ensures five c.budget_option.ensures.rule c.budget_option.ensures.local in
-    one_more _ _ _ _ _ c.in_ok-command.ensures six c.workers_option.ensures.rule c.workers_option.ensures.local
+    let six = one_more _ _ _ _ _ c.in_ok-arg-6.ensures five c.units_option.ensures.rule c.units_option.ensures.local in
+    let seven = one_more _ _ _ _ _ c.in_ok-arg-7.ensures six c.budget_option.ensures.rule c.budget_option.ensures.local in
+    one_more _ _ _ _ _ c.in_ok-command.ensures seven c.workers_option.ensures.rule c.workers_option.ensures.local

@@ -1,6 +1,7 @@
 use Rattle.std.proofs.Common.{◌∙◌, ap, sym, subst, List}
 use Rattle.std.proofs.lemmas.Result.{err_from_is_err_and}
 use Rattle.clap.specs.Words.{App, Row, is_simple_and_free}
+use Rattle.wp_words.specs.Options.{IsMatchOf}
 use Rattle.wp_words.specs.Reading.{IsFaultOf, audit_names, texts_of}
 use Rattle.wp_words.specs.Words.{AreAuditValues, matched, audit_names_of}
 use Rattle.wp_words.proofs.Matching.{fault_after, audit_is_simple, rows_matched}
@@ -8,6 +9,9 @@ use Rattle.wp_words.proofs.reading.read_audit.Goals as goal
 
 pub matched-requires : goal.matched-requires
 matched-requires c = record { simple = ap is_simple_and_free c.in_ok-command.ensures ∙ audit_is_simple }
+
+pub audit_words-requires : goal.audit_words-requires
+audit_words-requires c = subst (λ (a : App). IsMatchOf a c.in_ok-matches.matches) c.in_ok-command.ensures c.in_ok-matches.ensures.of_command
 
 pub returns-in_err-matches-clause-fault : goal.returns-in_err-matches-clause-fault
 returns-in_err-matches-clause-fault c =

@@ -1,6 +1,7 @@
 use Rattle.std.proofs.Common.{◌∙◌, ap, sym, subst, List}
 use Rattle.std.proofs.lemmas.Result.{err_from_is_err_and}
 use Rattle.clap.specs.Words.{App, Row, is_simple_and_free}
+use Rattle.wp_words.specs.Options.{IsMatchOf}
 use Rattle.wp_words.specs.Reading.{IsFaultOf, make_numbers, texts_of}
 use Rattle.wp_words.specs.Words.{AreMakeValues, matched, make_numbers_of}
 use Rattle.wp_words.proofs.Matching.{fault_after, make_is_simple, rows_matched}
@@ -24,4 +25,6 @@ returns-clause-stated c =
     subst (λ (rows : List Row). AreMakeValues rows (make_numbers c.in_ok-make.make)) (sym rows) c.in_ok-make.ensures
 
 pub returns-clause-ranges : goal.returns-clause-ranges
-returns-clause-ranges c = in_make_ranges _ _ _ c.in_ok-matches.ensures.parsed c.in_ok-command.ensures c.in_ok-make.ensures
+returns-clause-ranges c =
+    let match = subst (λ (a : App). IsMatchOf a c.in_ok-matches.matches) c.in_ok-command.ensures c.in_ok-matches.ensures.of_command in
+    in_make_ranges _ _ match c.in_ok-make.ensures

@@ -1,6 +1,7 @@
 use Rattle.std.proofs.Common.{◌∙◌, ap, sym, subst, List}
 use Rattle.std.proofs.lemmas.Result.{err_from_is_err_and}
 use Rattle.clap.specs.Words.{App, Row, is_simple_and_free}
+use Rattle.wp_words.specs.Options.{IsMatchOf}
 use Rattle.wp_words.specs.Reading.{IsFaultOf, plan_names, texts_of}
 use Rattle.wp_words.specs.Words.{ArePlanValues, matched, plan_names_of}
 use Rattle.wp_words.proofs.Matching.{fault_after, plan_is_simple, rows_matched}
@@ -24,4 +25,6 @@ returns-clause-stated c =
     subst (λ (rows : List Row). ArePlanValues rows (plan_names c.in_ok-plan.plan)) (sym rows) c.in_ok-plan.ensures
 
 pub returns-clause-ranges : goal.returns-clause-ranges
-returns-clause-ranges c = in_ranges _ _ _ c.in_ok-matches.ensures.parsed c.in_ok-command.ensures c.in_ok-plan.ensures
+returns-clause-ranges c =
+    let match = subst (λ (a : App). IsMatchOf a c.in_ok-matches.matches) c.in_ok-command.ensures c.in_ok-matches.ensures.of_command in
+    in_ranges _ _ match c.in_ok-plan.ensures

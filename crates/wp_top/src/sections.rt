@@ -1,0 +1,186 @@
+//! The sections of a day's output, of which the parts are printed one after the other.
+ghost use Rattle.std.specs.Prelude.{◌≡◌, ◌<◌, ◌++◌, ⊤, All, IfOk, Some, length, map, slice_get};
+ghost use Rattle.wp_machine.specs.Outcome.{is_cancelled_later};
+ghost use Rattle.wp_model.specs.History.{state_after};
+ghost use Rattle.wp_model.specs.Journal.{entry_line};
+ghost use Rattle.wp_model.specs.Warehouse.{Layout as Block};
+ghost use Rattle.wp_parts.specs.Texts.{GrowsBy};
+ghost use Rattle.wp_sheets.specs.StockLines.{refill_lines, row_line};
+ghost use Rattle.wp_top.specs.Planned.{ArePlanned, IsPlanned, IsSentSheet, IsSheetAt};
+ghost use Rattle.wp_top.specs.Sections.{IsTextAt};
+
+use std::alloc::Global;
+use std::io::Write;
+use wp_desk::Planned;
+use wp_machine::{Machine, Opening, Refill, WaveHolds};
+use wp_model::{Entry, Memory, Row, WaveState};
+use wp_parts::Parts;
+use wp_planner::{SentWave, Terms, WavePlan, print_sheet};
+use wp_sheets::{print_refill, print_row};
+use wp_tables::Stock;
+
+/// The lines of a journal's entries.
+#[derive(Drop)]
+pub struct JournalLines<'a, 'b> {
+    pub entries: &'a [&'b Entry],
+}
+
+// Adds the line of an entry.
+fn print_entry(text: &mut Vec<u8>, entry: &Entry) -> Result<(), Memory>
+    ensures { IfOk result (λ _. text.new.items ≡ text.old.items ++ entry_line entry.now) }
+{
+    match writeln!(text, "{entry}") {
+        Ok(()) => Ok(()),
+        Err(_) => Err(Memory),
+    }
+}
+
+impl Parts for JournalLines<'_, '_> {
+    ghost count = { λ lines. length lines.entries.now };
+
+    ghost says = { λ lines. IsTextAt entry_line (map (λ entry. entry.now) lines.entries.now) };
+
+    ghost can_print = { λ lines. ⊤ };
+
+    fn count(&self) -> usize {
+        self.entries.len()
+    }
+
+    fn print(&self, _alloc: Global, number: usize, text: &mut Vec<u8>) -> Result<(), Memory> {
+        print_entry(text, self.entries[number])
+    }
+}
+
+/// The sheets of the waves that went out on a day, each with a good plan: the opening and the terms of their plans, and the machine at
+/// its end.
+#[derive(Drop)]
+pub struct DaySheets<'a, 'b> {
+    pub opening: &'a Opening,
+    pub terms: &'a Terms,
+    pub machine: &'a Machine<'b>,
+    pub plans: &'a [Planned<Option<WavePlan>>],
+    pub ghost own: { machine.now.opening ≡ opening.now },
+}
+
+// Whether a wave is cancelled in a machine's last state.
+fn is_cancelled(machine: &Machine<'_>, released: &WaveHolds) -> bool
+    ensures { result ≡ is_cancelled_later machine.now released.now }
+{
+    match machine.state(&released.wave) {
+        Some(WaveState::Cancelled) => true,
+        _ => false,
+    }
+}
+
+// Adds the sheet of a wave that went out.
+fn print_one(
+    alloc: Global,
+    text: &mut Vec<u8>,
+    day: &DaySheets<'_, '_>,
+    one: &Planned<Option<WavePlan>>,
+) -> Result<(), Memory>
+    requires { (layout : Block) × IsPlanned layout day.now.opening.now day.now.terms.now one.now }
+    ensures { IfOk result (λ _. GrowsBy (IsSentSheet day.now.machine.now day.now.terms.now one.now) text.old.items text.new.items) }
+{
+    let Some(plan) = &one.plan else {
+        unreachable!()
+    };
+    let sent = SentWave {
+        opening: day.opening,
+        released: &one.wave,
+        terms: day.terms,
+        plan,
+        cancelled_later: is_cancelled(day.machine, &one.wave),
+    };
+    print_sheet(alloc, text, &sent)
+}
+
+impl Parts for DaySheets<'_, '_> {
+    ghost count = { λ day. length day.plans.now };
+
+    ghost says = { λ day. IsSheetAt day.machine.now day.terms.now day.plans.now };
+
+    ghost can_print = { λ day. (layout : Block) × ArePlanned layout day.opening.now day.terms.now day.plans.now };
+
+    fn count(&self) -> usize {
+        self.plans.len()
+    }
+
+    fn print(&self, alloc: Global, number: usize, text: &mut Vec<u8>) -> Result<(), Memory> {
+        print_one(alloc, text, self, &self.plans[number])
+    }
+}
+
+/// The lines of refills: one for each row from which one took.
+#[derive(Drop)]
+pub struct RefillLines<'a> {
+    pub stock: &'a Stock,
+    pub refills: &'a [Refill],
+}
+
+// Adds the lines of a refill.
+fn print_taken(
+    alloc: Global,
+    text: &mut Vec<u8>,
+    stock: &Stock,
+    refill: &Refill,
+) -> Result<(), Memory>
+    requires { All (λ hold. hold.row < length stock.now.rows) refill.now.holds }
+    ensures { IfOk result (λ _. text.new.items ≡ text.old.items ++ refill_lines stock.now refill.now) }
+{
+    let lines = print_refill(alloc, refill, stock)?;
+    text.extend_from_slice(&lines)?;
+    Ok(())
+}
+
+impl Parts for RefillLines<'_> {
+    ghost count = { λ lines. length lines.refills.now };
+
+    ghost says = { λ lines. IsTextAt (refill_lines lines.stock.now) lines.refills.now };
+
+    ghost can_print = { λ lines. All (λ refill. All (λ hold. hold.row < length lines.stock.now.rows) refill.holds) lines.refills.now };
+
+    fn count(&self) -> usize {
+        self.refills.len()
+    }
+
+    fn print(&self, alloc: Global, number: usize, text: &mut Vec<u8>) -> Result<(), Memory> {
+        print_taken(alloc, text, self.stock, &self.refills[number])
+    }
+}
+
+/// The lines of the rows of the stock as a machine has them.
+#[derive(Drop)]
+pub struct StockRows<'a, 'b> {
+    pub stock: &'a Stock,
+    pub machine: &'a Machine<'b>,
+}
+
+// Adds the line of a row.
+fn add_row(alloc: Global, text: &mut Vec<u8>, stock: &Stock, row: Row) -> Result<(), Memory>
+    requires { row.article < length stock.now.articles }
+    ensures { IfOk result (λ _. text.new.items ≡ text.old.items ++ row_line stock.now row) }
+{
+    let line = print_row(alloc, &row, stock)?;
+    text.extend_from_slice(&line)?;
+    Ok(())
+}
+
+impl Parts for StockRows<'_, '_> {
+    ghost count = { λ rows. length (state_after rows.machine.now).rows };
+
+    ghost says = { λ rows. IsTextAt (row_line rows.stock.now) (state_after rows.machine.now).rows };
+
+    ghost can_print = { λ rows. All (λ row. row.article < length rows.stock.now.articles) (state_after rows.machine.now).rows };
+
+    fn count(&self) -> usize {
+        self.machine.rows() as usize
+    }
+
+    fn print(&self, alloc: Global, number: usize, text: &mut Vec<u8>) -> Result<(), Memory> {
+        let rows = self.machine.rows();
+        let within = number < rows as usize;
+        prove!(within);
+        add_row(alloc, text, self.stock, self.machine.row(number as u32))
+    }
+}
