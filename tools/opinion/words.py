@@ -12,13 +12,14 @@ FILES = {
     'make': (),
 }
 PLAN_NUMBERS = {'capacity': (1, 8), 'budget': (0, 10 ** 18), 'workers': (1, 16)}
+CART_NUMBERS = {'units': (1, 40000000)}
 NUMBERS = {
-    'plan': PLAN_NUMBERS,
+    'plan': {**PLAN_NUMBERS, **CART_NUMBERS},
     'check': {},
-    'audit': {},
+    'audit': CART_NUMBERS,
     'make': {'number': (0, 2 ** 64 - 1), 'aisles': (1, 64), 'orders': (1, 10000), 'desks': (1, 8), 'wave': (1, 64), **PLAN_NUMBERS},
 }
-GIVEN = {'budget': 2000000, 'workers': 1}
+GIVEN = {'budget': 2000000, 'workers': 1, 'units': None}  # where they are left out
 MOST_WAVES = 500
 NUMBER = re.compile(r'\+?[0-9]+')
 

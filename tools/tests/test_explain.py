@@ -66,6 +66,11 @@ WORDS = [
     ('plann', 'words unknown-mode', 'begin with one of them'),
     ('plan --layout layout.json --stock stock.csv --orders orders.csv --desks desks.csv', 'words bad-words', 'option   --capacity'),
     ('plan --layout layout.json --stock stock.csv --orders orders.csv --desks desks.csv --capacity 9', 'words bad-words', 'from 1 to 8'),
+    ('plan --layout layout.json --stock stock.csv --orders orders.csv --desks desks.csv --capacity 2 --units 0', 'words bad-words', 'from 1 to 40000000'),
+    ('plan --layout layout.json --stock stock.csv --orders orders.csv --desks desks.csv --capacity 2 --unit 5', 'words bad-words', 'perhaps --units'),
+    ('audit --layout layout.json --stock stock.csv --orders orders.csv --journal stock.csv --units 1.5', 'words bad-words', 'option   --units 1.5'),
+    ('check --layout layout.json --certificate stock.csv --units 5', 'words bad-words', 'no option of check'),
+    ('make --number 1 --aisles 2 --orders 5 --desks 1 --wave 1 --capacity 1 --units 5', 'words bad-words', 'no option of make'),
     ('plan --layout layout.json --stok stock.csv --orders orders.csv --desks desks.csv --capacity 2', 'words bad-words', 'perhaps --stock'),
     ('plan --layout layout.json --stock my stock.csv --orders orders.csv --desks desks.csv --capacity 2', 'words bad-words', 'a name with spaces into quotes'),
     ('plan --layout layout.json --stock stok.csv --orders orders.csv --desks desks.csv --capacity 2', 'read fault stock', 'perhaps stock.csv'),
@@ -115,6 +120,17 @@ class Explaining(unittest.TestCase):
                                    'audit --layout layout.json --stock stock.csv --orders orders.csv --journal j.txt'.split())
         self.assertEqual(run.output, done.output.splitlines()[0] + '\n')
         self.assertIn('command  submit W1 O1', done.output)
+
+    def test_a_journal_of_other_carts(self):
+        journal = 'journal\n0 1 submit W1 O1 -> refused over-cart O1 2\n1 1 release W1 -> refused unknown-wave\nend journal\n'
+        words = 'audit --layout layout.json --stock stock.csv --orders orders.csv --journal j.txt'.split()
+        for units, told in (((), 'these words say none'), (('--units', '2'), 'these words say 2')):
+            done, run = self.explained({'j.txt': journal}, [*words, *units])
+            self.assertEqual(run.output, done.output.splitlines()[0] + '\n')
+            for text in (told, 'the same --units as the plan'):
+                self.assertIn(text, done.output)
+        done, run = self.explained({'j.txt': journal}, [*words, '--units', '1'])
+        self.assertEqual((0, 'audit 2 entries\n'), (done.status, run.output))
 
     def test_what_is_right_is_told(self):
         done, _ = self.explained({}, PLAN)

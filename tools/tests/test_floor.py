@@ -144,6 +144,10 @@ class Tables(unittest.TestCase):
         self.assertEqual(('1', '14-5-L'), (tables['picks'][0]['place'], tables['picks'][0]['location']))
         self.assertEqual(('refused', 'short', 'DRUM-DR2400 1 0'), tuple(tables['journal'][8][name] for name in ('reply', 'reason', 'about')))
         self.assertTrue((folder / 'stock.csv').read_bytes().endswith(b'\r\n'))
+        self.assertEqual({''}, {wave['units'] for wave in tables['waves']})
+        self.assertEqual(0, runs.script('to-csv', '-', folder, given=LATER.encode()).status)
+        waves = list(csv.DictReader(io.StringIO((folder / 'waves.csv').read_text())))
+        self.assertEqual([('2', '8', '2')], [(wave['capacity'], wave['units'], wave['cost']) for wave in waves])
 
     def test_the_object_has_all_that_is_printed(self):
         found = json.loads(runs.script('to-json', runs.example_day()).output)
@@ -159,6 +163,9 @@ class Tables(unittest.TestCase):
         self.assertEqual(1, done.status)
         self.assertRegex(done.output, r'MON-08.00 cost: 74300, and \d+ \(\+')
         self.assertRegex(done.output, 'only in the second: batch of SO-10231')
+        for units, told in ((' units 9', 'W1 units: 8, and 9\n'), ('', 'W1 units: 8, and None\n')):
+            folder = runs.put(Path(runs.shelf().name) / 'carts', {'one.txt': LATER, 'other.txt': LATER.replace(' units 8', units)})
+            self.assertIn(told, runs.script('compare', folder / 'one.txt', folder / 'other.txt').output)
         changed = Path(runs.shelf().name) / 'changed.txt'
         changed.write_text(one.read_text().replace('refused short DRUM-DR2400 1 0', 'refused short DRUM-DR2400 2 0'))
         self.assertIn('release MON-13.00: refused short DRUM-DR2400 1 0, and refused short DRUM-DR2400 2 0', runs.script('compare', one, changed).output)

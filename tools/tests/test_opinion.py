@@ -109,7 +109,16 @@ class Files(unittest.TestCase):
 
     def test_words_are_read_as_documented(self):
         job = words.read_words('plan --layout=l --stock s --orders o --desks d --capacity +03'.split())
-        self.assertEqual(({'capacity': 3, 'budget': 2000000, 'workers': 1}, 'l'), (job.numbers, job.files['layout']))
+        self.assertEqual(({'capacity': 3, 'budget': 2000000, 'workers': 1, 'units': None}, 'l'), (job.numbers, job.files['layout']))
+        for units, due in (('1', 1), ('=40000000', 40000000), ('=+007', 7)):
+            for mode in ('plan --desks d --capacity 3', 'audit --journal j'):
+                asked = '%s --layout l --stock s --orders o --units%s%s' % (mode, '' if '=' in units else ' ', units)
+                self.assertEqual(due, words.read_words(asked.split()).numbers['units'], asked)
+        for units in ('0', '40000001', '1.5', '-1', '', '5 --units 6'):
+            for mode in ('plan --desks d --capacity 3', 'audit --journal j'):
+                asked = '%s --layout l --stock s --orders o --units %s' % (mode, units)
+                self.assertEqual('refused words bad-words', refused(words.read_words, asked.split()), asked)
+        self.assertEqual('refused words bad-words', refused(words.read_words, 'check --layout l --certificate c --units 5'.split()))
         for text, why in (('', 'no-mode'), ('plann', 'unknown-mode'), ('check --layout l', 'bad-words'), ('check --layout l --certificate --x', 'bad-words'),
                           ('check --layout l --certificate c x', 'bad-words'), ('make --number 1 --aisles 2 --orders 501 --desks 1 --wave 1 --capacity 1', 'too-many-waves 501')):
             self.assertEqual('refused words ' + why, refused(words.read_words, text.split()), text)
@@ -261,8 +270,45 @@ end
 '''
 
 
+class Carts(unittest.TestCase):
+    """A wave of three orders at one place, which load 3, 2 and 4 units, with a cart of 5."""
+
+    OUT_AND_BACK = 'tour 1-0 2-0 3-0 3-1 3-2 3-3 3-4 3-3 3-2 3-1 3-0 2-0 1-0\n'
+    OUTPUT = ('journal\n0 1 submit W1 O1 O2 O3 -> submitted\n1 1 release W1 -> released\nend journal\n'
+              'wave W1 entry 1 orders 3 capacity 3 units 5 cost 68 bound 34 open\n'
+              'batch 1 length 34 orders O1 O2\n' + OUT_AND_BACK + 'pick 3-4-L A 3 O1\npick 3-4-L A 2 O2\n'
+              'batch 2 length 34 orders O3\n' + OUT_AND_BACK + 'pick 3-4-L A 4 O3\n'
+              'certificate {"capacity":3,"loads":[3,2,4],"nodes":[{"kind":"kept"}],"orders":[[[3,4]],[[3,4]],[[3,4]]],"units":5,"version":2}\n'
+              'end wave\nrefills\nend refills\nstock\n3-4-L A 9 0 9\nend stock\nend\n')
+    OPENING = days.Opening(SMALL, tables.Stock([tables.StockRow(tables.Location(3, 4, 'L'), 'A', 9)], ['A']),
+                           {'O1': [('A', 3)], 'O2': [('A', 2)], 'O3': [('A', 1), ('A', 3)]}, {1: [('submit', 'W1', 'O1', 'O2', 'O3'), ('release', 'W1')]}, 3, 5)
+
+    def fault(self, output, **changed):
+        try:
+            days.judge(self.OPENING._replace(**changed), output.encode())
+        except days.Fault as why:
+            return str(why)
+        return None
+
+    def test_a_day_with_carts_is_right(self):
+        self.assertIsNone(self.fault(self.OUTPUT))
+
+    def test_what_is_wrong_with_its_carts_is_found(self):
+        as_one = self.OUTPUT.replace('orders O1 O2\n', 'orders O1 O2 O3\n')
+        for output, words in ((as_one, 'batch 1 has more units than the cart'), (self.OUTPUT.replace(' units 5 cost', ' cost'), 'heading'),
+                              (self.OUTPUT.replace(' units 5 cost 68', ' cost 68 units 5'), 'heading'), (self.OUTPUT.replace('[3,2,4]', '[1,1,1]'), 'another cart'),
+                              (self.OUTPUT.replace('"units":5', '"units":6'), 'another cart'), (self.OUTPUT.replace('"version":2', '"version":1'), 'out-of-range'),
+                              (self.OUTPUT.replace('"loads":[3,2,4],', '').replace('"units":5,"version":2', '"version":1'), 'another cart')):
+            self.assertRegex(self.fault(output) or 'nothing found', words)
+
+    def test_the_same_day_with_other_units(self):
+        self.assertRegex(self.fault(self.OUTPUT, units=4), 'heading')
+        self.assertRegex(self.fault(self.OUTPUT, units=3), 'reply')
+        self.assertRegex(self.fault(self.OUTPUT, units=None), 'heading')
+
+
 class LaterLines(unittest.TestCase):
-    """Lines that the program is to print one day are judged already: carts, rules, brackets, pickers, stored entries."""
+    """Lines that the program is to print one day are judged already: rules, brackets, pickers, stored entries, beside carts."""
 
     STOCK = tables.Stock([tables.StockRow(tables.Location(1, 1, 'L'), 'A', 5)], ['A'])
 

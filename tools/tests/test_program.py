@@ -29,15 +29,45 @@ FAULTS = [
     ('a summary with a unit more', 'make', rb'units (\d+)', 'b"units %d" % (int(found[1]) + 1)', 'done.returncode'),
 ]
 
+# Those that only waves with carts show, which are few among the runs.
+CART_FAULTS = [
+    ('sheets without the units of their carts', 'plan', rb'^(wave .* capacity \d+) units \d+', 'found[1]', 'done.returncode'),
+    ('a cart of one unit more', 'plan', rb'^(certificate .*"units":)(\d+)', 'b"%s%d" % (found[1], int(found[2]) + 1)', 'done.returncode'),
+]
+
 
 class Days(unittest.TestCase):
     def judged(self, folder, day, *more):
         return runs.script('second-opinion', *runs.options(folder), *more, day)
 
     def test_example_days_are_right(self):
-        for example, capacity in (('one-day', '3'), ('one-wave', '2'), ('three-desks', '2')):
-            done = self.judged(runs.EXAMPLES / example, runs.day_of(example, '--capacity', capacity), '--capacity', capacity)
+        for example, *words in (('one-day', '--capacity', '3'), ('one-wave', '--capacity', '2'), ('three-desks', '--capacity', '2'),
+                                ('three-desks', '--capacity', '2', '--units', '12'), ('small-carts', '--capacity', '3', '--units', '30')):
+            done = self.judged(runs.EXAMPLES / example, runs.day_of(example, *words), *words)
             self.assertEqual((0, ''), (done.status, done.errors), done.output)
+
+    def test_the_plan_of_other_carts_is_wrong(self):
+        day = runs.day_of('small-carts', '--capacity', '3', '--units', '30')
+        for more, due in (((), 'submitted'), (('--units', '40'), 'submitted'), (('--units', '29'), 'units 29')):
+            done = self.judged(runs.EXAMPLES / 'small-carts', day, '--capacity', '3', *more)
+            self.assertEqual(1, done.status)
+            self.assertIn(due, done.output)
+
+    def test_a_cart_parts_what_would_go_together(self):
+        day = runs.day_of('small-carts', '--capacity', '3', '--units', '30').read_text()
+        self.assertIn('0 1 submit WED-08.00 SO-30101 SO-30102 SO-30103 SO-30104 SO-30105 SO-30106 SO-30107 -> refused over-cart SO-30104 40\n', day)
+        self.assertIn('wave WED-08.00 entry 2 orders 6 capacity 3 units 30 cost 19460 bound 19460 proven\n', day)
+        self.assertIn('"units":30,"version":2}\n', day)
+        self.assertEqual(['SO-30101 SO-30105', 'SO-30102', 'SO-30103 SO-30106 SO-30107'], re.findall('^batch .* orders (.*)$', day, re.MULTILINE))
+
+    def test_an_audit_for_carts_is_judged(self):
+        folder, day = runs.EXAMPLES / 'small-carts', runs.day_of('small-carts', '--capacity', '3', '--units', '30')
+        options = (*runs.options(folder, runs.FILES[:3]), '--journal', day)
+        for units, status in ((('--units', '30'), 0), ((), 6)):
+            done = runs.waveplan('audit', *options, *units)
+            self.assertEqual(status, done.status, done.output)
+            judged = runs.script('second-opinion', *options, *units, '-', given=done.bytes)
+            self.assertEqual(0, judged.status, judged.output)
 
     def test_the_plan_of_another_capacity_is_wrong(self):
         done = self.judged(runs.EXAMPLES / 'one-day', runs.example_day(), '--capacity', '2')
@@ -103,12 +133,12 @@ class Fuzzing(unittest.TestCase):
             self.assertEqual(0, done.status, done.output + done.errors)
 
     def test_each_planted_fault_is_found(self):
-        for place, (name, mode, pattern, new, status) in enumerate(FAULTS):
+        for place, (name, mode, pattern, new, status) in enumerate(FAULTS + CART_FAULTS):
             with self.subTest(name):
                 program = Path(runs.shelf().name) / ('planted-%d' % place)
                 program.write_text(PLANTED % {'python': sys.executable, 'program': runs.PROGRAM, 'pattern': pattern, 'new': new, 'status': status})
                 program.chmod(0o755)
-                done = self.fuzzed(program, mode, 30)
+                done = self.fuzzed(program, mode, 80 if place < len(FAULTS) else 400)
                 self.assertEqual(1, done.status, done.output + done.errors)
                 self.assertRegex(done.output, 'wrong: %s run' % mode)
 
