@@ -28,7 +28,7 @@ O1,A,2
 struct Case {
     /// How many units a cart holds, or none for any number.
     units: Option<u32>,
-    /// How many units are held for the order in the first row, in the second one, and so on.
+    /// How many units are held for the order in the first row, and in the second one.
     held: &'static [u32],
     /// Whether there is a plan.
     planned: bool,
@@ -105,17 +105,36 @@ fn names_of(alloc: Global, name: Name) -> Result<Names, Fail> {
     Ok(Names::of(names))
 }
 
-/// Holds for the first order, of so many units in the first row, in the second one, and so on.
-fn holds_of(alloc: Global, held: &[u32]) -> Result<Holds, Fail> {
-    let mut holds = Vec::new(alloc);
-    for row in 0..held.len() {
-        holds.push(Hold {
-            order: 0,
-            row: row as u32,
-            quantity: held[row],
-        })?;
+/// A hold of so many units for the first order.
+fn hold_in(row: u32, quantity: u32) -> Hold {
+    Hold {
+        order: 0,
+        row,
+        quantity,
     }
+}
+
+fn one_hold(alloc: Global, first: u32) -> Result<Holds, Fail> {
+    let mut holds = Vec::new(alloc);
+    holds.push(hold_in(0, first))?;
     Ok(Holds::of(holds))
+}
+
+fn two_holds(alloc: Global, first: u32, second: u32) -> Result<Holds, Fail> {
+    let mut holds = Vec::new(alloc);
+    holds.push(hold_in(0, first))?;
+    holds.push(hold_in(1, second))?;
+    Ok(Holds::of(holds))
+}
+
+/// Holds for the first order, of so many units in the first row, and in the second one.
+fn holds_of(alloc: Global, held: &[u32]) -> Result<Holds, Fail> {
+    match held {
+        [] => Ok(Holds::of(Vec::new(alloc))),
+        [first] => one_hold(alloc, *first),
+        [first, second] => two_holds(alloc, *first, *second),
+        _ => Err("too many holds".into()),
+    }
 }
 
 /// A wave of one order, for which this is held.
