@@ -1,3 +1,5 @@
 pub mod StockLines
 pub mod Picks
 pub mod Sheets
+pub mod Rules
+pub mod Crews
