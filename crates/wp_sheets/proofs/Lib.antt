@@ -2,3 +2,4 @@ pub mod PicksByRow
 pub mod OnePicking
 pub mod OrdersAhead
 pub mod AnyPicks
+pub mod GivenBatches
