@@ -20,6 +20,14 @@ most_budget = 1000000000000000000
 abbrev pub most_workers : ℕ
 most_workers = 16
 
+-- the greatest number of rules: 1 asks for what three usual rules would walk, and 0 doesn't
+abbrev pub most_rules : ℕ
+most_rules = 1
+
+-- the most pickers to whom the batches of a day are dealt
+abbrev pub most_pickers : ℕ
+most_pickers = 100
+
 -- the greatest number from which an input is made: any word of 64 bits is one
 abbrev pub most_number : ℕ
 most_number = 18446744073709551615
@@ -31,3 +39,7 @@ usual_budget = codes "2000000"
 -- the number of threads where none is given
 abbrev pub usual_workers : Text
 usual_workers = codes "1"
+
+-- the number of a switch where none is given: what the switch asks for isn't done
+abbrev pub usual_switch : Text
+usual_switch = codes "0"

@@ -9,7 +9,7 @@ use Rattle.clap.specs.declared.builder.value_parser.ValueParser.{ValueParser}
 use Rattle.clap.specs.declared.builder.value_parser.ValueParser.TheVariants as vp
 use Rattle.clap.specs.declared.parser.matches.ArgMatches.{ArgMatches}
 use Rattle.wp_model.specs.Limits.{greatest_desk, most_aisles, most_cart_units, most_file_orders, most_wave_orders}
-use Rattle.wp_words.specs.Limits.{most_budget, most_capacity, most_number, most_workers, usual_budget, usual_workers}
+use Rattle.wp_words.specs.Limits.{most_budget, most_capacity, most_number, most_pickers, most_rules, most_workers, usual_budget, usual_switch, usual_workers}
 
 -- an option `--name VALUE` or `--name=VALUE` that may be given, and at most once
 abbrev pub named_rule : Text → Rule
@@ -39,6 +39,10 @@ budget_rule = record (named_rule (codes "budget")) { parser = Some (vp.Unsigned 
 abbrev pub workers_rule : Rule
 workers_rule = record (named_rule (codes "workers")) { parser = Some (count_up_to most_workers); defaults = usual_workers ∷ [] }
 
+-- a switch may be given, a number from 0 to this one, and is 0 where it isn't
+abbrev pub switch_rule : Text → ℕ → Rule
+switch_rule name most = record (named_rule name) { parser = Some (vp.Signed (pos 0) (pos most)); defaults = usual_switch ∷ [] }
+
 -- a command with these options and nothing besides: it shows no help, and its words are all that follow the mode
 abbrev pub command_with : Text → List Rule → App
 command_with mode options =
@@ -52,11 +56,14 @@ number_rule = record (required_rule (codes "number")) { parser = Some (vp.Unsign
 abbrev pub count_rule : Text → ℕ → Rule
 count_rule name most = record (required_rule name) { parser = Some (count_up_to most) }
 
--- `plan` takes the names of a layout, a stock file, an order file and a desk file, and four numbers
+-- `plan` takes the names of a layout, a stock file, an order file and a desk file, and six numbers
 unfoldable pub plan_command : App
 plan_command =
     let files = map required_rule (codes "layout" ∷ codes "stock" ∷ codes "orders" ∷ codes "desks" ∷ []) in
-    command_with (codes "plan") (files ++ capacity_rule ∷ units_rule ∷ budget_rule ∷ workers_rule ∷ [])
+    let switches = switch_rule (codes "rules") most_rules
+    ∷ switch_rule (codes "pickers") most_pickers
+    ∷ [] in
+    command_with (codes "plan") (files ++ capacity_rule ∷ units_rule ∷ budget_rule ∷ workers_rule ∷ switches)
 
 -- `check` takes the names of a layout and a certificate
 unfoldable pub check_command : App

@@ -28,6 +28,8 @@ plan_names words = record {
   units = words.units;
   budget = words.budget;
   workers = words.workers;
+  rules = words.rules;
+  pickers = words.pickers;
 }
 
 -- the names that the words of `check` hold

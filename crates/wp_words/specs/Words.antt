@@ -6,12 +6,14 @@ use Rattle.std.specs.Str.Parse.{digits_value, without_leading_plus}
 use Rattle.clap.specs.Words.{App, Kinds, Row, Text, fault_of, first_of, matches_of, one_of}
 use Rattle.wp_model.specs.Limits.{greatest_desk, most_aisles, most_file_orders, most_submissions, most_wave_orders}
 use Rattle.wp_model.specs.Outcomes.{and_then}
-use Rattle.wp_words.specs.Limits.{AreUnits, most_budget, most_capacity, most_workers}
+use Rattle.wp_words.specs.Limits.{AreUnits, most_budget, most_capacity, most_pickers, most_rules, most_workers}
 use Rattle.wp_words.specs.Options.{audit_command, check_command, make_command, plan_command}
 use Rattle.wp_words.specs.declared.fault.WordsFault.{WordsFault}
 use Rattle.wp_words.specs.declared.fault.WordsFault.TheVariants as fault
 
--- the names and the numbers that the options of `plan` give: the units are those that a cart holds, if carts have such a limit
+-- the names and the numbers that the options of `plan` give: the units are those that a cart holds, if carts have such a limit,
+-- the rules are 1 where the sheets tell what usual rules would walk and otherwise 0, and the pickers are those to whom the batches
+-- are dealt, 0 where they aren't
 pub record PlanNames : Type 0 where
   pub layout : Text
   pub stock : Text
@@ -21,6 +23,8 @@ pub record PlanNames : Type 0 where
   pub units : Option ℕ
   pub budget : ℕ
   pub workers : ℕ
+  pub rules : ℕ
+  pub pickers : ℕ
 
 -- each number of `plan` lies in its range
 pub record HasRanges (names : PlanNames) : Type 0 where
@@ -30,6 +34,8 @@ pub record HasRanges (names : PlanNames) : Type 0 where
   pub budget : names.budget ≤ most_budget
   pub some_workers : 1 ≤ names.workers
   pub workers : names.workers ≤ most_workers
+  pub rules : names.rules ≤ most_rules
+  pub pickers : names.pickers ≤ most_pickers
 
 -- the names that the options of `check` give
 pub record CheckNames : Type 0 where
@@ -135,6 +141,8 @@ plan_names_of rows = record {
   units = number_read (codes "units") rows;
   budget = number_of rows (codes "budget");
   workers = number_of rows (codes "workers");
+  rules = number_of rows (codes "rules");
+  pickers = number_of rows (codes "pickers");
 }
 
 -- the names that were matched for `check`
@@ -213,6 +221,8 @@ pub record ArePlanValues (rows : List Row) (names : PlanNames) : Type 0 where
   pub units : number_read (codes "units") rows ≡ names.units
   pub budget : number_read (codes "budget") rows ≡ Some names.budget
   pub workers : number_read (codes "workers") rows ≡ Some names.workers
+  pub rules : number_read (codes "rules") rows ≡ Some names.rules
+  pub pickers : number_read (codes "pickers") rows ≡ Some names.pickers
 
 -- clap states these values for the options of `check`
 pub record AreCheckValues (rows : List Row) (names : CheckNames) : Type 0 where

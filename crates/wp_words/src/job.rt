@@ -28,6 +28,10 @@ pub struct PlanWords {
     pub budget: u64,
     /// The most threads that may search at once, 1 to 16.
     pub workers: u32,
+    /// Whether the sheets tell what three usual rules would walk: 1 where they do, and 0 where they don't.
+    pub rules: u32,
+    /// To how many pickers the batches of the day are dealt, 1 to 100; 0 where they aren't dealt.
+    pub pickers: u32,
 }
 
 /// The names of a certificate, and of the layout that it is for.

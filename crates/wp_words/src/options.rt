@@ -1,7 +1,7 @@
 ghost use Rattle.std.specs.Prelude.{◌≡◌, List, ℕ, [], IfOk, IfErr, Some, Ok, string_bytes, true, false};
 ghost use Rattle.clap.specs.Words.{app_of, rule_of, first_of, found_of, is_simple_and_free, one_of, rows_of};
 ghost use Rattle.wp_words.specs.Options.{IsMatchOf, audit_command, budget_rule, capacity_rule, check_command, command_with, count_rule, make_command, named_rule};
-ghost use Rattle.wp_words.specs.Options.{number_rule, plan_command, required_rule, units_rule, workers_rule};
+ghost use Rattle.wp_words.specs.Options.{number_rule, plan_command, required_rule, switch_rule, units_rule, workers_rule};
 ghost use Rattle.wp_words.specs.Reading.{IsFaultOf, texts_of};
 ghost use Rattle.wp_words.specs.Words.{matched, number_read};
 
@@ -22,6 +22,12 @@ const MOST_BUDGET: i64 = 1_000_000_000_000_000_000;
 
 /// The most workers.
 const MOST_WORKERS: i64 = 16;
+
+/// The greatest number of rules.
+const MOST_RULES: u32 = 1;
+
+/// The most pickers.
+const MOST_PICKERS: u32 = 100;
 
 /// An option that may be given, and at most once.
 fn named_option<'a>(alloc: Global, name: &'a str) -> Arg<'a>
@@ -76,6 +82,16 @@ fn workers_option<'a>(alloc: Global) -> Arg<'a>
         .default_value("1")
 }
 
+/// A switch: an option that may be given, a number from 0 to this one, which is 0 where it isn't given.
+fn switch_option<'a>(alloc: Global, name: &'a str, most: u32) -> Arg<'a>
+    ensures rule { rule_of result ≡ switch_rule name.entry.now most }
+    ensures local { result.global ≡ false }
+{
+    named_option(alloc, name)
+        .value_parser(value_parser!(u32).range(0..=i64::from(most)))
+        .default_value("0")
+}
+
 /// The option of the number that a day is drawn from.
 fn number_option<'a>(alloc: Global) -> Arg<'a>
     ensures rule { rule_of result ≡ number_rule }
@@ -113,7 +129,9 @@ pub fn plan_command<'a>(alloc: Global) -> Result<Command<'a>, AllocError>
         .arg(capacity_option(alloc))?
         .arg(units_option(alloc))?
         .arg(budget_option(alloc))?
-        .arg(workers_option(alloc))?;
+        .arg(workers_option(alloc))?
+        .arg(switch_option(alloc, "rules", MOST_RULES))?
+        .arg(switch_option(alloc, "pickers", MOST_PICKERS))?;
     Ok(command)
 }
 
