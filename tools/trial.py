@@ -38,7 +38,7 @@ LINES = {
 
 # What the whole output of each mode is, where the status is 0.
 OUTPUTS = {
-    "plan": rb"journal\n.*end journal\n.*refills\n.*end refills\nstock\n.*end stock\nend\n",
+    "plan": rb"journal\n.*end journal\n.*refills\n.*end refills\n(crew [^\n]*\n(picker [^\n]*\n)+end crew\n)?stock\n.*end stock\nend\n",
     "check": rb"bound \d+\n",
     "audit": rb"audit \d+ entries\n",
     "make": rb"made [^\n]*\ncommands \d+ released \d+ units \d+\ncost \d+ bound \d+ proven \d+\n",

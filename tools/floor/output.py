@@ -8,16 +8,17 @@ Entry = namedtuple('Entry', 'number desk command reply')  # the command and the 
 Pick = namedtuple('Pick', 'location article quantity order')
 Refill = namedtuple('Refill', 'entry wave order location quantity')
 Row = namedtuple('Row', 'location article on_hand free held')
+Rule = namedtuple('Rule', 'name length surplus')  # what a usual rule walks past a batch's picks, and how much longer that is than its tour
 Picker = namedtuple('Picker', 'number load batches')
 Crew = namedtuple('Crew', 'longest least pickers')
 
 
 class Batch:
-    """A batch of a wave: its orders, its tour point by point, its picks as they are printed, and the words of its rules, if any."""
+    """A batch of a wave: its orders, its tour point by point, its picks as they are printed, and what usual rules walk, where that is told."""
 
     def __init__(self, number, length, orders):
         self.number, self.length, self.orders = number, length, orders
-        self.tour, self.picks, self.rules = [], [], None
+        self.tour, self.picks, self.rules = [], [], []
 
     def walk(self):
         """The picks in the order in which the tour first comes to their slots: for each such slot its picks."""
@@ -60,11 +61,20 @@ class Output:
     def refused(self):
         return [entry for entry in self.entries if entry.reply[0] == 'refused']
 
+    def picker_of(self):
+        """The number of the picker of each batch, by the names that the crew has for batches; none where there is no crew."""
+        return {name: picker.number for picker in self.crew.pickers for name in picker.batches} if self.crew else {}
+
     def wave(self, name):
         for wave in self.waves:
             if wave.name == name:
                 return wave
         raise Trouble('no wave %s went out in this day; %s did' % (name, ', '.join(wave.name for wave in self.waves) or 'none'))
+
+
+def name_of(wave, batch):
+    """The name that a crew has for a batch."""
+    return '%s/%d' % (wave.name, batch.number)
 
 
 def slot_of(location):
@@ -124,7 +134,7 @@ class _Reader:
         elif words[0] == 'pick':
             wave.batches[-1].picks.append(Pick(words[1], words[2], int(words[3]), words[4]))
         elif words[0] == 'rules':
-            wave.batches[-1].rules = words[1:]
+            wave.batches[-1].rules = [Rule(words[place], int(words[place + 1]), int(words[place + 2])) for place in range(1, len(words), 3)]
         elif words[0] == 'certificate':
             wave.certificate = words[1]
         elif words[0] == 'root':

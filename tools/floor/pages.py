@@ -4,6 +4,7 @@ from html import escape
 from math import comb
 
 from . import drawing
+from .output import name_of
 
 STYLE = '''@page{size:A4;margin:12mm}
 body{font:13px/1.35 sans-serif;color:#111;margin:1.5em auto;max-width:60em}
@@ -65,6 +66,19 @@ def of_waves(day):
     return table(('wave', '>orders', '>carts', '>length of the tours', '>bound', '>gap at most', 'state'), rows)
 
 
+def of_rules(day):
+    """What three usual rules would walk past the picks of all carts."""
+    walked, toured = {}, 0
+    for wave in day.waves:
+        for batch in wave.batches:
+            toured += batch.length if batch.rules else 0
+            for rule in batch.rules:
+                walked[rule.name] = walked.get(rule.name, 0) + rule.length
+    rows = [(cell(escape(name)), number(length), number(length - toured), cell('%.1f %%' % (100 * (length - toured) / toured) if toured else '', 'right'))
+            for name, length in walked.items()]
+    return '<h2>By usual rules</h2>' + table(('rule', '>length of all walks', '>longer than the tours by', '>that is'), rows) if rows else ''
+
+
 def of_refused(day):
     rows = [(number(entry.number), number(entry.desk), cell(escape(' '.join(entry.command))), cell(escape(' '.join(entry.reply[1:]))),
              cell(REASONS.get(entry.reply[1], ''))) for entry in day.refused()]
@@ -82,7 +96,7 @@ def of_short(day):
 def of_planner(day):
     """The first page."""
     waves = of_waves(day) if day.waves else '<p>No wave went out.</p>'
-    return '<section><h1>The day</h1>%s%s%s</section>' % (waves, of_refused(day), of_short(day))
+    return '<section><h1>The day</h1>%s%s%s%s</section>' % (waves, of_rules(day), of_refused(day), of_short(day))
 
 
 def of_picks(walk, places):
@@ -94,7 +108,7 @@ def of_picks(walk, places):
     return table(('>stop', 'location', 'article', '>take', 'for place', 'done'), rows)
 
 
-def of_batch(layout, wave, batch):
+def of_batch(layout, wave, batch, picker=None):
     """The page of a cart: its orders, the drawing of its tour, and its picks in the order of the walk."""
     walk, places = batch.walk(), {order: place for place, order in enumerate(batch.orders, 1)}
     orders = ', '.join('<b>%d</b> %s' % (place, escape(order)) for order, place in places.items())
@@ -102,10 +116,12 @@ def of_batch(layout, wave, batch):
     facts = 'Places on the cart: %s.<br>%d stops, %d picks, %d units%s; the tour is %s long, and no shorter one passes all of them.' % (
         orders, len(walk), len(batch.picks), units, ' of %d that the cart holds' % wave.units if wave.units is not None else '',
         '{:,}'.format(batch.length))
-    rules = '<p class="facts quiet">By usual rules: %s.</p>' % escape(' '.join(batch.rules)) if batch.rules else ''
+    told = ', '.join('%s %s (%s longer)' % (escape(rule.name), '{:,}'.format(rule.length), '{:,}'.format(rule.surplus)) for rule in batch.rules)
+    rules = '<p class="facts quiet">By usual rules the walk is: %s.</p>' % told if batch.rules else ''
+    whose = '<p class="facts">Walked by picker <b>%d</b>.</p>' % picker if picker else ''
     picture = drawing.drawing(layout, batch, 'block', 'the tour of wave %s, cart %d' % (wave.name, batch.number))
-    return '<section id="%s"><h1>Wave %s, cart %d of %d</h1><p class="facts">%s</p>%s%s%s</section>' % (
-        place_of(wave, batch), escape(wave.name), batch.number, len(wave.batches), facts, rules, picture, of_picks(walk, places))
+    return '<section id="%s"><h1>Wave %s, cart %d of %d</h1>%s<p class="facts">%s</p>%s%s%s</section>' % (
+        place_of(wave, batch), escape(wave.name), batch.number, len(wave.batches), whose, facts, rules, picture, of_picks(walk, places))
 
 
 def of_refills(day):
@@ -119,9 +135,12 @@ def of_refills(day):
 def of_crew(day):
     if not day.crew:
         return ''
-    rows = [(number(each.number), number(each.load), cell(escape(', '.join(each.batches)))) for each in day.crew.pickers]
-    told = '<p class="facts">The longest load is %d; no way to deal these batches has one below %d.</p>' % (day.crew.longest, day.crew.least)
-    return '<section><h1>Pickers</h1>%s%s</section>' % (told, table(('>picker', '>load', 'wave and cart'), rows))
+    pages = {name_of(wave, batch): place_of(wave, batch) for wave in day.waves if not wave.cancelled for batch in wave.batches}
+    rows = [(number(each.number), number(each.load), cell(', '.join(
+        '<a href="#%s">%s</a>' % (pages[name], escape(name)) if name in pages else escape(name) + ' (cancelled later)' for name in each.batches)))
+        for each in day.crew.pickers]
+    told = '<p class="facts">The longest load is {:,}; no way to deal these carts to as many pickers has one below {:,}.</p>'
+    return '<section><h1>Pickers</h1>%s%s</section>' % (told.format(day.crew.longest, day.crew.least), table(('>picker', '>load', 'wave and cart'), rows))
 
 
 def of_day(layout, day):
@@ -132,7 +151,8 @@ def of_day(layout, day):
     yield of_planner(day)
     yield of_crew(day)
     yield of_refills(day)
+    picker_of = day.picker_of()
     for wave in day.waves:
         for batch in wave.batches if not wave.cancelled else ():
-            yield '\n' + of_batch(layout, wave, batch)
+            yield '\n' + of_batch(layout, wave, batch, picker_of.get(name_of(wave, batch)))
     yield '\n</body></html>\n'

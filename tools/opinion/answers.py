@@ -34,7 +34,8 @@ def opening_of(files):
     """What the four files of a plan say. Fails with the first that is refused."""
     layout, stock, orders = files.opening()
     scripts = tables.read_desks(files.bytes('desks'))
-    return days.Opening(layout, stock, orders, scripts, files.job.numbers['capacity'], files.job.numbers.get('units'))
+    numbers = files.job.numbers
+    return days.Opening(layout, stock, orders, scripts, numbers['capacity'], numbers.get('units'), numbers.get('rules', 0), numbers.get('pickers', 0))
 
 
 def check_of(files):

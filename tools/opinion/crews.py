@@ -1,17 +1,19 @@
-"""The section of a crew: batches dealt to pickers."""
+"""The section of a crew: batches dealt to pickers, as docs/CREWS.md tells it."""
 
 import re
 
+NUMBER = '(0|[1-9][0-9]*)'
+
 
 def _heading(lines):
-    found = re.fullmatch(r'crew longest (0|[1-9][0-9]*) least (0|[1-9][0-9]*)', lines.next())
+    found = re.fullmatch('crew longest %s least %s' % (NUMBER, NUMBER), lines.next())
     lines.test(found, 'no heading of a crew')
     return int(found[1]), int(found[2])
 
 
 def _picker(lines, number, lengths):
     """The load of a picker and the places of its batches in the output."""
-    found = re.fullmatch(r'picker %d load (0|[1-9][0-9]*) batches((?: \S+)*)' % number, lines.next())
+    found = re.fullmatch(r'picker %d load %s batches((?: \S+)*)' % (number, NUMBER), lines.next())
     lines.test(found, 'no line of picker %d' % number)
     names = found[2].split()
     lines.test(all(name in lengths for name in names), 'picker %d has a batch that there is none of' % number)
@@ -22,38 +24,32 @@ def _picker(lines, number, lengths):
     return load, places
 
 
-def judge_crew(lines, batches):
-    """Judges the section, over all batches of the output: a wave, a number and a length of each."""
+def judge_crew(lines, batches, pickers):
+    """Judges the section of so many pickers, over all batches of the output: a wave, a number and a length of each."""
     longest, least = _heading(lines)
     lengths = {'%s/%d' % (wave, number): (place, length) for place, (wave, number, length) in enumerate(batches)}
-    crew = []
-    while lines.peek().startswith('picker '):
-        crew.append(_picker(lines, len(crew) + 1, lengths))
+    crew = [_picker(lines, number, lengths) for number in range(1, pickers + 1)]
     lines.is_due('end crew')
-    lines.test(crew, 'a crew of no pickers')
     dealt = sorted(place for _, places in crew for place in places)
     lines.test(dealt == list(range(len(batches))), 'the batches are not each dealt to one picker')
     firsts = [min(places, default=len(batches)) for _, places in crew]
-    lines.test(firsts == sorted(firsts), 'the pickers are not numbered by their first batches')
-    _judge_loads(lines, (longest, least), [load for load, _ in crew], [(length, load) for load, places in crew for length in
-                                                                       (batches[place][2] for place in places)])
+    lines.test(firsts == sorted(firsts), 'the pickers are not numbered by the places of their first batches')
+    _judge_numbers(lines, (longest, least), [load for load, _ in crew], [length for _, _, length in batches])
+    _judge_settled(lines, longest, [(load, [batches[place][2] for place in places]) for load, places in crew])
 
 
-def _judge_loads(lines, told, loads, dealt):
-    """The two numbers of the heading, and that no batch of a longest load is better moved."""
+def _judge_numbers(lines, told, loads, lengths):
+    """The two numbers of the heading: the longest load, and what no crew's longest load is below."""
     longest, least = told
-    lengths = [length for length, _ in dealt]
     lines.test(longest == max(loads), 'the longest load is %d where %d is printed' % (max(loads), longest))
     right = max(max(lengths, default=0), -(-sum(lengths) // len(loads)))
     lines.test(least == right, 'the least longest load is %d where %d is printed' % (right, least))
-    best = min(loads)
-    for length, load in dealt:
-        lines.test(load != longest or len(loads) == 1 or min(_without(loads, load), default=best) + length >= longest,
-                   'a batch of %d would be better moved from a longest load' % length)
 
 
-def _without(loads, load):
-    """The loads of the other pickers, where one has this load."""
-    rest = list(loads)
-    rest.remove(load)
-    return rest
+def _judge_settled(lines, longest, crew):
+    """No length of a picker with the longest load would come with another picker's load to less than that."""
+    for number, (load, lengths) in enumerate(crew):
+        others = [other for place, (other, _) in enumerate(crew) if place != number]
+        for length in lengths if load == longest else ():
+            lines.test(all(other + length >= longest for other in others),
+                       'the crew is not settled: with a batch of %d of picker %d another load is below the longest' % (length, number + 1))

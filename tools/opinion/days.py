@@ -8,14 +8,14 @@ from .certificates import PARTS, Wave as CertifiedWave, bound_of, read_certifica
 from .crews import judge_crew
 from .journals import read_entry
 from .refusals import Refusal
-from .rules import rules_line
+from .rules import judge_rules
 from .stock_book import Book, command_text
 
 SMALL = 9  # so few slots that every order of them is tried
 COMPACT = re.compile(rb'[ \t\r\n]')
 
-# What the files of a day say, and what its words do: the units of a cart may be None.
-Opening = namedtuple('Opening', 'layout stock orders scripts capacity units')
+# What the files of a day say, and what its words do: the units of a cart may be None, and rules and pickers are 0 where nothing is told of them.
+Opening = namedtuple('Opening', 'layout stock orders scripts capacity units rules pickers', defaults=(0, 0))
 
 # A wave that went out: its name, the number of the entry, its orders, and what it holds then, as (row, order, units).
 Released = namedtuple('Released', 'name entry orders held')
@@ -164,10 +164,14 @@ class Judge:
         for row, order, quantity in held:
             place = self.book.rows[row]
             self.lines.is_due('pick %s %s %d %s' % (place.location, place.article, quantity, order))
-        if self.lines.peek().startswith('rules '):
-            slots = tours.gathered({self.point(row) for row, _, _ in held})
-            self.lines.is_due(rules_line(self.opening.layout, slots, length))
+        if self.opening.rules:
+            judge_rules(self.lines, self.opening.layout, tours.gathered({self.point(row) for row, _, _ in held}), length)
+        self.test_no_further('rules')
         return orders, length
+
+    def test_no_further(self, word):
+        """No line that begins with this word comes next."""
+        self.lines.test(not self.lines.peek().startswith(word + ' '), 'a line `%s ..` follows that is not due' % word)
 
     def point(self, row):
         location = self.book.rows[row].location
@@ -266,8 +270,9 @@ class Judge:
         self.journal()
         self.sheets()
         self.refill_lines()
-        if self.lines.peek().startswith('crew '):
-            judge_crew(self.lines, self.batches)
+        if self.opening.pickers:
+            judge_crew(self.lines, self.batches, self.opening.pickers)
+        self.test_no_further('crew')
         self.stock_lines()
         self.lines.is_due('end')
         self.lines.end()

@@ -1,11 +1,31 @@
-"""What three usual rules would walk: through every aisle, back in every aisle, and round the largest gap (Hall, 1993)."""
+"""What three usual rules would walk past the picks of a batch: through every aisle, back in every aisle, and round the largest gap (Hall, 1993).
+
+A rule is a list of stops, and its walk goes straight from each to the next, point by point. So its length is that of its moves.
+"""
+
+import re
 
 from . import tours
 
+NUMBER = '(0|[1-9][0-9]*)'
+NAMES = ('s-shape', 'return', 'largest-gap')
+LINE = re.compile('rules ' + ' '.join('%s %s %s' % (name, NUMBER, NUMBER) for name in NAMES))
 
-def _straight(layout, stops):
-    """The length of the walk that goes straight from stop to stop, each in one aisle or at one end with the next."""
-    return sum(tours.apart(layout, left, right) for left, right in zip(stops, stops[1:]))
+
+def _steps(left, right):
+    """The numbers after one up or down to another, none where they are the same."""
+    step = 1 if left <= right else -1
+    return range(left + step, right + step, step) if left != right else ()
+
+
+def straight(left, right):
+    """The points after a stop to the next one, which lies in the same aisle or at the same end."""
+    (aisle, slot), (other, place) = left, right
+    if aisle == other:
+        return [(aisle, each) for each in _steps(slot, place)]
+    if slot != place:
+        raise ValueError('the stops %s and %s lie neither in one aisle nor at one end' % (left, right))
+    return [(each, slot) for each in _steps(aisle, other)]
 
 
 class Rules:
@@ -23,6 +43,7 @@ class Rules:
         return self.layout.length() - front if self.layout.back else front
 
     def back(self, aisle):
+        """Into an aisle from home to its deepest pick, and out again."""
         return [(aisle, self.home), (aisle, self.picks[aisle][-1]), (aisle, self.home)]
 
     def returns(self):
@@ -37,7 +58,7 @@ class Rules:
         return stops + (self.back(self.aisles[-1]) if len(self.aisles) % 2 else [])
 
     def parts(self, aisle):
-        """The picks of an aisle before its largest gap from home, and behind it."""
+        """The picks of an aisle before its largest gap from home, and behind it. Of equal gaps the one nearest to home counts."""
         slots = self.picks[aisle]
         depths = [0, *map(self.depth, slots), self.layout.length()]
         gaps = [right - left for left, right in zip(depths, depths[1:])]
@@ -45,8 +66,8 @@ class Rules:
         return slots[:cut], slots[cut:]
 
     def largest_gap(self):
-        if len(self.aisles) == 1:
-            return self.back(self.aisles[0])
+        if len(self.aisles) < 2:
+            return self.returns()
         first, last = self.aisles[0], self.aisles[-1]
         stops = [(first, self.home), (first, self.far)]
         for aisle in self.aisles[1:-1]:
@@ -58,15 +79,25 @@ class Rules:
                 stops += [(aisle, self.home), (aisle, self.parts(aisle)[0][-1]), (aisle, self.home)]
         return stops
 
-    def length(self, stops):
-        return _straight(self.layout, [self.depot, *stops, self.depot]) if self.aisles else 0
+    def walks(self):
+        """The walk of each rule, by its name."""
+        return dict(zip(NAMES, map(self.walk, (self.s_shape(), self.returns(), self.largest_gap()))))
+
+    def walk(self, stops):
+        """From the depot straight to each stop, and back to it."""
+        points = [self.depot]
+        for stop in [*stops, self.depot]:
+            points += straight(points[-1], stop)
+        return points
 
 
-def rules_line(layout, slots, length):
-    """The line of a batch's rules, where its tour has this length."""
-    rules = Rules(layout, slots)
-    told = []
-    for name, stops in (('s-shape', rules.s_shape), ('return', rules.returns), ('largest-gap', rules.largest_gap)):
-        walked = rules.length(stops() if rules.aisles else [])
-        told.append('%s %d %d' % (name, walked, walked - length))
-    return 'rules ' + ' '.join(told)
+def judge_rules(lines, layout, slots, length):
+    """Judges the line of a batch's rules, where its tour past these slots has this length."""
+    found = LINE.fullmatch(lines.next())
+    lines.test(found, 'no line of rules')
+    told = list(map(int, found.groups()))
+    for (name, walk), walked, surplus in zip(Rules(layout, slots).walks().items(), told[::2], told[1::2]):
+        lines.test(walked >= length, 'the walk by %s is %d long, and no tour of the batch is shorter than %d' % (name, walked, length))
+        lines.test(surplus == walked - length, 'the surplus of %s is %d where %d and %d are %d apart' % (name, surplus, walked, length, walked - length))
+        right = tours.walked(layout, walk)
+        lines.test(walked == right, 'the walk by %s is %d long where %d is printed' % (name, right, walked))

@@ -71,6 +71,15 @@ WORDS = [
     ('audit --layout layout.json --stock stock.csv --orders orders.csv --journal stock.csv --units 1.5', 'words bad-words', 'option   --units 1.5'),
     ('check --layout layout.json --certificate stock.csv --units 5', 'words bad-words', 'no option of check'),
     ('make --number 1 --aisles 2 --orders 5 --desks 1 --wave 1 --capacity 1 --units 5', 'words bad-words', 'no option of make'),
+    ('plan --layout layout.json --stock stock.csv --orders orders.csv --desks desks.csv --capacity 2 --rules 2', 'words bad-words', 'from 0 to 1'),
+    ('plan --layout layout.json --stock stock.csv --orders orders.csv --desks desks.csv --capacity 2 --rules yes', 'words bad-words', 'option   --rules yes'),
+    ('plan --layout layout.json --stock stock.csv --orders orders.csv --desks desks.csv --capacity 2 --rules 1 --rules=1', 'words bad-words', 'it stands twice'),
+    ('plan --layout layout.json --stock stock.csv --orders orders.csv --desks desks.csv --capacity 2 --pickers 101', 'words bad-words', 'from 0 to 100'),
+    ('plan --layout layout.json --stock stock.csv --orders orders.csv --desks desks.csv --capacity 2 --pickers', 'words bad-words', 'it is left out, or has no value'),
+    ('plan --layout layout.json --stock stock.csv --orders orders.csv --desks desks.csv --capacity 2 --picker 4', 'words bad-words', 'perhaps --pickers'),
+    ('check --layout layout.json --certificate stock.csv --rules 1', 'words bad-words', 'no option of check'),
+    ('audit --layout layout.json --stock stock.csv --orders orders.csv --journal stock.csv --pickers 4', 'words bad-words', 'no option of audit'),
+    ('make --number 1 --aisles 2 --orders 5 --desks 1 --wave 1 --capacity 1 --pickers 0', 'words bad-words', 'no option of make'),
     ('plan --layout layout.json --stok stock.csv --orders orders.csv --desks desks.csv --capacity 2', 'words bad-words', 'perhaps --stock'),
     ('plan --layout layout.json --stock my stock.csv --orders orders.csv --desks desks.csv --capacity 2', 'words bad-words', 'a name with spaces into quotes'),
     ('plan --layout layout.json --stock stok.csv --orders orders.csv --desks desks.csv --capacity 2', 'read fault stock', 'perhaps stock.csv'),
@@ -133,8 +142,9 @@ class Explaining(unittest.TestCase):
         self.assertEqual((0, 'audit 2 entries\n'), (done.status, run.output))
 
     def test_what_is_right_is_told(self):
-        done, _ = self.explained({}, PLAN)
-        self.assertEqual((0, 'nothing in these words and files is refused\n'), (done.status, done.output))
+        for more in ((), ('--rules', '1', '--pickers', '100'), ('--rules', '0', '--pickers', '0')):
+            done, _ = self.explained({}, [*PLAN, *more])
+            self.assertEqual((0, 'nothing in these words and files is refused\n'), (done.status, done.output))
 
 
 if __name__ == '__main__':

@@ -8,6 +8,7 @@ import unittest
 import xml.etree.ElementTree as ElementTree
 from pathlib import Path
 
+import by_hand
 import runs
 from floor import drawing, output, warehouse
 
@@ -100,7 +101,7 @@ class Sheets(unittest.TestCase):
         folder = runs.put(Path(runs.shelf().name) / 'later', {'day.txt': LATER, 'layout.json': SMALL})
         done = sheets(folder / 'day.txt', folder / 'layout.json')
         self.assertEqual('', done.errors)
-        for text in ('2 units of 8 that the cart holds', 's-shape 2 0', 'W1/1', 'more units than a cart holds'):
+        for text in ('2 units of 8 that the cart holds', 'By usual rules the walk is: s-shape 2 (0 longer)', 'W1/1', 'more units than a cart holds'):
             self.assertIn(text, done.output)
 
     def test_what_is_no_output_is_told(self):
@@ -138,7 +139,7 @@ class Tables(unittest.TestCase):
         self.assertEqual(0, runs.script('to-csv', runs.example_day(), folder).status)
         day = output.read_output(str(runs.example_day()))
         tables = {path.stem: list(csv.DictReader(io.StringIO(path.read_bytes().decode()))) for path in folder.iterdir()}
-        self.assertEqual({'journal', 'waves', 'batches', 'picks', 'refills', 'stock'}, set(tables))
+        self.assertEqual({'journal', 'waves', 'batches', 'picks', 'refills', 'pickers', 'stock'}, set(tables))
         self.assertEqual([len(day.entries), 3, 8, 1, len(day.rows)], [len(tables[name]) for name in ('journal', 'waves', 'batches', 'refills', 'stock')])
         self.assertEqual(sum(len(batch.picks) for wave in day.waves for batch in wave.batches), len(tables['picks']))
         self.assertEqual(('1', '14-5-L'), (tables['picks'][0]['place'], tables['picks'][0]['location']))
@@ -169,6 +170,58 @@ class Tables(unittest.TestCase):
         changed = Path(runs.shelf().name) / 'changed.txt'
         changed.write_text(one.read_text().replace('refused short DRUM-DR2400 1 0', 'refused short DRUM-DR2400 2 0'))
         self.assertIn('release MON-13.00: refused short DRUM-DR2400 1 0, and refused short DRUM-DR2400 2 0', runs.script('compare', one, changed).output)
+
+
+
+class Shown(unittest.TestCase):
+    """What the scripts make of lines of rules and of a crew: of outputs that were written by hand, so that no program is run."""
+
+    def test_rules_and_pickers_are_shown(self):
+        folder = runs.put(Path(runs.shelf().name) / 'shown', {'day.txt': '\n'.join(by_hand.PAIR), 'layout.json': by_hand.LAYOUT})
+        page = sheets(folder / 'day.txt', folder / 'layout.json').output
+        for text in ('s-shape 26 (0 longer), return 38 (12 longer), largest-gap 26 (0 longer)', '<h2>By usual rules</h2>',
+                     '<td>return</td><td class="right">60</td><td class="right">12</td><td class="right">25.0 %</td>', 'The longest load is 26; ',
+                     '<td class="right">2</td><td class="right">22</td><td><a href="#cart-W1-2">W1/2</a></td>'):
+            self.assertIn(text, page)
+        self.assertIn('Walked by picker <b>2</b>', page.split('Wave W1, cart 2 of 2')[1])
+        day = runs.put(folder, {'alone.txt': '\n'.join(by_hand.ALONE)}) / 'alone.txt'
+        self.assertIn('<a href="#cart-W1-2">W1/2</a>, W2/1 (cancelled later)', sheets(day, folder / 'layout.json').output)
+        day = runs.put(folder, {'plain.txt': '\n'.join(by_hand.plain(by_hand.PAIR))}) / 'plain.txt'
+        self.assertNotRegex(sheets(day, folder / 'layout.json').output, 'picker|usual rules')
+
+    def test_the_tables_have_rules_and_pickers(self):
+        for lines, batches, pickers in ((by_hand.PAIR, [['26', '26', '38', '26', '1'], ['22', '22', '22', '22', '2']], [['1', '26', 'W1/1'], ['2', '22', 'W1/2']]),
+                                        (by_hand.plain(by_hand.PAIR), [['26', '', '', '', ''], ['22', '', '', '', '']], []),
+                                        (by_hand.NOBODY, [], [['1', '0', '']])):
+            folder = Path(runs.shelf().name) / 'shown-tables'
+            self.assertEqual(0, runs.script('to-csv', '-', folder, given='\n'.join(lines).encode()).status)
+            tables = {name: list(csv.DictReader(io.StringIO((folder / (name + '.csv')).read_text()))) for name in ('batches', 'pickers')}
+            self.assertEqual(batches, [[row[name] for name in ('length', 's_shape', 'return', 'largest_gap', 'picker')] for row in tables['batches']])
+            self.assertEqual(pickers, [[row[name] for name in ('picker', 'load', 'batches')] for row in tables['pickers']])
+
+    def test_the_object_has_rules_and_pickers(self):
+        shown = json.loads(runs.script('to-json', '-', given='\n'.join(by_hand.PAIR).encode()).output)
+        self.assertEqual({'name': 'return', 'length': 38, 'surplus': 12}, shown['waves'][0]['batches'][0]['rules'][1])
+        self.assertEqual({'longest': 26, 'least': 26, 'pickers': [{'number': 1, 'load': 26, 'batches': ['W1/1']}, {'number': 2, 'load': 22, 'batches': ['W1/2']}]}, shown['crew'])
+        plain = json.loads(runs.script('to-json', '-', given='\n'.join(by_hand.plain(by_hand.PAIR)).encode()).output)
+        self.assertEqual(set(), {'rules', 'crew'} & {*plain, *plain['waves'][0]['batches'][0]})
+
+    def test_crews_are_compared(self):
+        lines = by_hand.ALONE
+        place = lines.index('crew longest 36 least 31')
+        other = ['crew longest 38 least 31', 'picker 1 load 38 batches W1/1 W1/2', 'picker 2 load 24 batches W1/3 W2/1']
+        one = ['crew longest 62 least 62', 'picker 1 load 62 batches W1/1 W1/2 W1/3 W2/1']
+        for changed, told in ((lines, 'no difference'), (by_hand.plain(lines), 'rules: told only in the first\ncrew: only in the first, 2 pickers with a longest load of 36\n'),
+                              (lines[:place] + other + lines[place + 3:], 'crew longest load: 36, and 38 (+5.56 %)\ncrew picker 1: W1/1 W1/3, and W1/1 W1/2\n'),
+                              (lines[:place] + one + lines[place + 3:], 'crew pickers: 2, and 1 (-50.00 %)\n')):
+            folder = runs.put(Path(runs.shelf().name) / 'crews', {'one.txt': '\n'.join(lines), 'other.txt': '\n'.join(changed)})
+            self.assertIn(told, runs.script('compare', folder / 'one.txt', folder / 'other.txt').output)
+
+    def test_a_day_with_a_crew_goes_on_as_one_without(self):
+        for name, *words in (('continue',), ('confirm', 'W1'), ('confirm', 'W1', '2'), ('closing-stock', '--free')):
+            shown, plain = (runs.script(name, '-', *words, given='\n'.join(lines).encode()) for lines in (by_hand.ALONE, by_hand.plain(by_hand.ALONE)))
+            self.assertEqual((0, plain.output), (shown.status, shown.output), name)
+            self.assertGreater(len(shown.output.splitlines()), 0)
 
 
 class GoingOn(unittest.TestCase):

@@ -5,6 +5,7 @@ import random
 import re
 import unittest
 
+import by_hand
 import runs
 from opinion import certificates, days, journals, json_text, layouts, making, rules, tables, tours, words
 from opinion.refusals import Refusal
@@ -16,6 +17,41 @@ DATA = runs.TOP / 'crates' / 'wp_cases' / 'data'
 
 def length(layout, points):
     return tours.shortest(layout, tours.gathered(points))
+
+
+def rule_fault(layout, points, line):
+    """What is wrong with a line of rules, None where nothing is."""
+    try:
+        rules.judge_rules(days.Lines(line.encode() + b'\n'), layout, tours.gathered(points), length(layout, points))
+    except days.Fault as why:
+        return str(why)
+    return None
+
+
+def by_sums(layout, points):
+    """What S-shape, return and largest gap walk, added up: along the ends, through aisles, and into them and out again."""
+    def across(left, right):
+        return sum(layout.spacings[min(left, right) - 1:max(left, right) - 1])
+
+    depths, whole, depot = {}, layout.length(), layout.depot
+    for aisle, slot in points:
+        depths.setdefault(aisle, set()).add(whole - layout.depth(slot) if layout.back else layout.depth(slot))
+    if not depths:
+        return [0, 0, 0]
+    first, last, odd = min(depths), max(depths), len(depths) % 2
+    along = across(depot, first) + across(first, last) + across(last, depot)
+    back = along + sum(2 * max(some) for some in depths.values())
+    shape = along + (len(depths) - odd) * whole + odd * 2 * max(depths[last])
+    if first == last:
+        return [shape, back, back]
+    around, homes = across(depot, first) + whole + across(first, last) + whole, []
+    for aisle in sorted(set(depths) - {first, last}):
+        places = [0, *sorted(depths[aisle]), whole]
+        shallow, deep = max(zip(places, places[1:]), key=lambda gap: gap[1] - gap[0])
+        around += 2 * shallow + 2 * (whole - deep)
+        homes += [aisle] if shallow else []
+    turn = min(homes, default=last)
+    return [shape, back, around + across(last, turn) + across(turn, depot)]
 
 
 def refused(call, *words):
@@ -50,7 +86,37 @@ class Tours(unittest.TestCase):
         every = [(aisle, slot) for aisle in (1, 2, 3) for slot in (1, 2, 3, 4)]
         for points, due in ((every, 's-shape 50 2 return 62 14 largest-gap 48 0'), ([(1, 4), (2, 1), (2, 4), (3, 1)], 's-shape 38 0 return 50 12 largest-gap 40 2'),
                             ([(3, 4)], 's-shape 34 0 return 34 0 largest-gap 34 0')):
-            self.assertEqual('rules ' + due, rules.rules_line(SMALL, tours.gathered(points), length(SMALL, points)))
+            self.assertIsNone(rule_fault(SMALL, points, 'rules ' + due))
+
+    def test_what_is_wrong_with_a_line_of_rules_is_found(self):
+        points, right = [(1, 4), (2, 1), (2, 4), (3, 1)], 'rules s-shape 38 0 return 50 12 largest-gap 40 2'
+        for old, new, words in (('50 12', '50 13', 'surplus of return'), ('38 0', '36 0', 'no tour of the batch is shorter'), ('40 2', '42 4', 'by largest-gap is 40 long'),
+                                ('50 12', '48 10', 'by return is 50 long'), ('38 0', '40 0', 'surplus of s-shape'), ('38 0', '50 12', 'by s-shape is 38 long'),
+                                (' largest-gap 40 2', '', 'no line of rules'), ('s-shape 38 0 return 50 12', 'return 50 12 s-shape 38 0', 'no line of rules'),
+                                ('38 0', '38 -0', 'no line of rules'), ('38 0', '038 0', 'no line of rules'), ('rules', 'rule', 'no line of rules')):
+            self.assertRegex(rule_fault(SMALL, points, right.replace(old, new)) or 'nothing found', words, new)
+
+    def test_a_walk_goes_straight_from_stop_to_stop(self):
+        found = rules.Rules(SMALL, tours.gathered([(1, 4), (2, 1), (2, 4), (3, 1)]))
+        up, down = [(1, slot) for slot in range(6)], [(2, slot) for slot in range(5, -1, -1)]
+        self.assertEqual([*up, *down, (3, 0), (3, 1), (3, 0), (2, 0), (1, 0)], found.walks()['s-shape'])
+        self.assertRaises(ValueError, rules.straight, (1, 0), (2, 5))
+        self.assertIsNone(tours.walked(SMALL, [(1, 2), *rules.straight((1, 2), (2, 2))]))
+        self.assertEqual([[(1, 0)]] * 3, list(rules.Rules(SMALL, {}).walks().values()))
+
+    def test_each_rule_walks_a_tour_of_the_length_that_its_parts_add_up_to(self):
+        dice = random.Random(2)
+        for _ in range(1500):
+            aisles, slots = dice.randint(1, 7), dice.randint(1, 6)
+            spacings = tuple(dice.randint(1, 30) for _ in range(aisles - 1))
+            layout = layouts.Layout(aisles, slots, dice.randint(1, 9), dice.randint(1, 9), spacings, dice.randint(1, aisles), dice.random() < 0.5)
+            points = [(dice.randint(1, aisles), dice.randint(1, slots)) for _ in range(dice.randint(0, 8))]
+            walks = rules.Rules(layout, tours.gathered(points)).walks()
+            for name, walk in walks.items():
+                self.assertEqual((layout.depot_point(),) * 2, (walk[0], walk[-1]), (layout, points, name))
+                self.assertLessEqual(set(points), set(walk), (layout, points, name))
+                self.assertGreaterEqual(tours.walked(layout, walk), length(layout, points), (layout, points, name))
+            self.assertEqual(by_sums(layout, points), [tours.walked(layout, walks[name]) for name in rules.NAMES], (layout, points))
 
 
 class Certificates(unittest.TestCase):
@@ -109,7 +175,7 @@ class Files(unittest.TestCase):
 
     def test_words_are_read_as_documented(self):
         job = words.read_words('plan --layout=l --stock s --orders o --desks d --capacity +03'.split())
-        self.assertEqual(({'capacity': 3, 'budget': 2000000, 'workers': 1, 'units': None}, 'l'), (job.numbers, job.files['layout']))
+        self.assertEqual(({'capacity': 3, 'budget': 2000000, 'workers': 1, 'units': None, 'rules': 0, 'pickers': 0}, 'l'), (job.numbers, job.files['layout']))
         for units, due in (('1', 1), ('=40000000', 40000000), ('=+007', 7)):
             for mode in ('plan --desks d --capacity 3', 'audit --journal j'):
                 asked = '%s --layout l --stock s --orders o --units%s%s' % (mode, '' if '=' in units else ' ', units)
@@ -119,6 +185,17 @@ class Files(unittest.TestCase):
                 asked = '%s --layout l --stock s --orders o --units %s' % (mode, units)
                 self.assertEqual('refused words bad-words', refused(words.read_words, asked.split()), asked)
         self.assertEqual('refused words bad-words', refused(words.read_words, 'check --layout l --certificate c --units 5'.split()))
+        for word, due in (('--rules 0', 0), ('--rules=1', 1), ('--rules +01', 1), ('--rules=-0', 0), ('--pickers 0', 0), ('--pickers 100', 100), ('--pickers=007', 7)):
+            job = words.read_words(['plan', *'--layout l --stock s --orders o --desks d --capacity 3'.split(), *word.split()])
+            self.assertEqual(due, job.numbers['rules' if 'rules' in word else 'pickers'], word)
+        for word in ('--rules 2', '--rules -0', '--rules=-1', '--rules', '--rules=', '--rules 1 --rules 1', '--rules 1.0', '--pickers 101', '--pickers=-1', '--pickers',
+                     '--pickers x', '--pickers 3 --pickers 3', '--pickers 1 --rules', '--budget=-0'):
+            asked = ['plan', *'--layout l --stock s --orders o --desks d --capacity 3'.split(), *word.split()]
+            self.assertEqual('refused words bad-words', refused(words.read_words, asked), word)
+        for asked in ('check --layout l --certificate c', 'audit --layout l --stock s --orders o --journal j', 'make --number 1 --aisles 2 --orders 5 --desks 1 --wave 1 --capacity 1'):
+            for word in ('--rules 1', '--rules 0', '--pickers 2', '--pickers 0'):
+                self.assertIsNone(refused(words.read_words, asked.split()), asked)
+                self.assertEqual('refused words bad-words', refused(words.read_words, [*asked.split(), *word.split()]), (asked, word))
         for text, why in (('', 'no-mode'), ('plann', 'unknown-mode'), ('check --layout l', 'bad-words'), ('check --layout l --certificate --x', 'bad-words'),
                           ('check --layout l --certificate c x', 'bad-words'), ('make --number 1 --aisles 2 --orders 501 --desks 1 --wave 1 --capacity 1', 'too-many-waves 501')):
             self.assertEqual('refused words ' + why, refused(words.read_words, text.split()), text)
@@ -307,15 +384,113 @@ class Carts(unittest.TestCase):
         self.assertRegex(self.fault(self.OUTPUT, units=None), 'heading')
 
 
+class Crews(unittest.TestCase):
+    """What a plan prints with --rules and --pickers, and what may be wrong with it."""
+
+    STOCK = tables.Stock([tables.StockRow(tables.Location(aisle, slot, 'L'), article, 5) for aisle, slot, article in (
+        (1, 1, 'D'), (1, 4, 'A'), (2, 4, 'B'), (3, 1, 'C'))], list('DABC'))
+    ORDERS = {'O1': [('A', 1)], 'O2': [('B', 1)], 'O3': [('C', 1)], 'O4': [('D', 1)]}
+    PAIR, ALONE = by_hand.PAIR, by_hand.ALONE
+    PAIR_SCRIPT = {1: [('submit', 'W1', 'O1', 'O2', 'O3'), ('release', 'W1')]}
+    ALONE_SCRIPT = {1: [*PAIR_SCRIPT[1], ('submit', 'W2', 'O4'), ('release', 'W2'), ('cancel', 'W2')]}
+
+    def fault(self, lines, scripts, capacity, rules=1, pickers=2):
+        try:
+            days.judge(days.Opening(SMALL, self.STOCK, self.ORDERS, scripts, capacity, None, rules, pickers), '\n'.join(lines).encode())
+        except days.Fault as why:
+            return str(why)
+        return None
+
+    def of_pair(self, lines, **asked):
+        return self.fault(lines, self.PAIR_SCRIPT, 2, **asked)
+
+    def of_alone(self, lines, **asked):
+        return self.fault(lines, self.ALONE_SCRIPT, 1, **asked)
+
+    def test_they_are_right(self):
+        self.assertIsNone(self.of_pair(self.PAIR))
+        self.assertIsNone(self.of_alone(self.ALONE))
+        self.assertIsNone(self.fault(by_hand.NOBODY, {}, 1, pickers=1))
+
+    def test_neither_stands_there_where_it_is_not_asked_for(self):
+        plain, no_rules = by_hand.plain(self.ALONE), by_hand.without(self.ALONE, 'rules ')
+        no_crew = by_hand.without(self.ALONE, 'crew ', 'picker ', 'end crew')
+        for lines, asked in ((plain, {'rules': 0, 'pickers': 0}), (no_crew, {'pickers': 0}), (no_rules, {'rules': 0})):
+            self.assertIsNone(self.of_alone(lines, **asked))
+        for lines, asked, words in ((self.ALONE, {'rules': 0}, 'line 11: a line `rules'), (self.ALONE, {'pickers': 0}, 'a line `crew'), (no_crew, {}, 'no heading of a crew'),
+                                    (plain, {'pickers': 0}, 'no line of rules'), (no_rules, {}, 'no line of rules')):
+            self.assertRegex(self.of_alone(lines, **asked) or 'nothing found', words)
+
+    def test_what_is_wrong_with_the_rules_is_found(self):
+        last = self.PAIR.index('rules s-shape 22 0 return 22 0 largest-gap 22 0')
+        for old, new, words in (('38 12', '38 11', 'surplus of return'), ('s-shape 26 0', 's-shape 24 0', 'no tour of the batch is shorter'),
+                                ('38 12', '36 10', 'by return is 38 long'), ('s-shape 26 0 return 38 12', 's-shape 38 12 return 26 0', 'by s-shape is 26 long')):
+            self.assertRegex(self.of_pair([line.replace(old, new) for line in self.PAIR]) or 'nothing found', words, new)
+        self.assertRegex(self.of_pair(self.PAIR[:last] + self.PAIR[last + 1:]), 'no line of rules')
+        self.assertRegex(self.of_pair(self.PAIR[:last] + self.PAIR[last:last + 1] + self.PAIR[last:]), 'a line `rules')
+        self.assertRegex(self.of_pair(self.PAIR[:last - 1] + [self.PAIR[last], self.PAIR[last - 1]] + self.PAIR[last + 1:]), 'pick')
+
+    def test_what_is_wrong_with_a_crew_is_found(self):
+        heading, first, second = 'crew longest 36 least 31', 'picker 1 load 36 batches W1/1 W1/3', 'picker 2 load 26 batches W1/2 W2/1'
+        settled = 'the crew is not settled'
+        for crew, words in (
+                (('crew longest 60 least 31', 'picker 1 load 60 batches W1/1 W1/2 W1/3', 'picker 2 load 2 batches W2/1'), settled),
+                (('crew longest 48 least 31', 'picker 1 load 14 batches W1/1', 'picker 2 load 48 batches W1/2 W1/3 W2/1'), 'of 24 of picker 2'),
+                (('crew longest 62 least 31', 'picker 1 load 62 batches W1/1 W1/2 W1/3 W2/1', 'picker 2 load 0 batches'), settled),
+                (('crew longest 46 least 31', 'picker 1 load 16 batches W1/1 W2/1', 'picker 2 load 46 batches W1/2 W1/3'), 'of 24 of picker 2'),
+                ((heading, first, 'picker 2 load 24 batches W1/2'), 'not each dealt'),
+                ((heading, first, 'picker 2 load 40 batches W1/1 W1/2 W2/1'), 'not each dealt'),
+                (('crew longest 50 least 31', 'picker 1 load 50 batches W1/1 W1/1 W1/3', second), 'not each dealt'),
+                ((heading, 'picker 1 load 35 batches W1/1 W1/3', second), 'load of picker 1'),
+                ((heading, first, second.replace('26', '0')), 'load of picker 2'),
+                ((heading, 'picker 1 load 26 batches W1/2 W2/1', 'picker 2 load 36 batches W1/1 W1/3'), 'numbered'),
+                ((heading, second, first), 'no line of picker 1'),
+                ((heading, 'picker 0' + first[8:], 'picker 1' + second[8:]), 'no line of picker 1'),
+                ((heading, first.replace('W1/1 W1/3', 'W1/3 W1/1'), second), 'order of the output'),
+                ((heading, first.replace('W1/3', 'W1/4'), second), 'none of'), ((heading, first, second.replace('W2/1', 'W2/4')), 'none of'),
+                ((heading, first.replace('W1/3', 'W1/03'), second), 'none of'),
+                ((heading, first), 'no line of picker 2'), ((heading, second), 'no line of picker 1'), ((first, second), 'no heading'),
+                ((heading, first, second, 'picker 3 load 0 batches'), 'end crew'), ((heading, first, second, second), 'end crew'),
+                ((heading.replace('36', '26'), first, second), 'the longest load is 36'), ((heading.replace('31', '36'), first, second), 'least longest load is 31'),
+                ((heading.replace('31', '30'), first, second), 'least longest load is 31'), ((heading, first + ' ', second), 'no line of picker 1')):
+            place = self.ALONE.index(heading)
+            self.assertRegex(self.of_alone([*self.ALONE[:place], *crew, *self.ALONE[place + 3:]]) or 'nothing found', words, crew)
+
+    def test_another_settled_crew_is_right(self):
+        place = self.ALONE.index('crew longest 36 least 31')
+        other = ('crew longest 38 least 31', 'picker 1 load 38 batches W1/1 W1/2', 'picker 2 load 24 batches W1/3 W2/1', 'end crew')
+        self.assertIsNone(self.of_alone([*self.ALONE[:place], *other, *self.ALONE[place + 4:]]))
+
+    def test_a_picker_without_batches_has_a_line(self):
+        three = [line.replace('least 31', 'least 24').replace('longest 36', 'longest 24') for line in self.ALONE]
+        place = three.index('crew longest 24 least 24')
+        end = three[place + 3:]
+        for pickers, crew in ((3, ('picker 1 load 16 batches W1/1 W2/1', 'picker 2 load 24 batches W1/2', 'picker 3 load 22 batches W1/3')),
+                              (6, ('picker 1 load 14 batches W1/1', 'picker 2 load 24 batches W1/2', 'picker 3 load 22 batches W1/3', 'picker 4 load 2 batches W2/1',
+                                   'picker 5 load 0 batches', 'picker 6 load 0 batches'))):
+            self.assertIsNone(self.of_alone([*three[:place + 1], *crew, *end], pickers=pickers), pickers)
+            self.assertRegex(self.of_alone([*three[:place + 1], *crew[:-1], *end], pickers=pickers), 'no line of picker %d' % pickers)
+        early = ('picker 1 load 14 batches W1/1', 'picker 2 load 0 batches', 'picker 3 load 24 batches W1/2', 'picker 4 load 24 batches W1/3 W2/1')
+        self.assertRegex(self.of_alone([*three[:place + 1], *early, *end], pickers=4), 'numbered')
+
+    def test_the_section_stands_between_the_refills_and_the_stock(self):
+        place = self.ALONE.index('crew longest 36 least 31')
+        crew, rest = self.ALONE[place:place + 4], self.ALONE[:place] + self.ALONE[place + 4:]
+        for before, words in (('refills', "'refills' is due"), ('end refills', "'end refills' is due"), ('end stock', 'no heading of a crew'), ('end', 'no heading of a crew')):
+            at = rest.index(before)
+            self.assertRegex(self.of_alone(rest[:at] + crew + rest[at:]) or 'nothing found', words, before)
+        self.assertRegex(self.of_alone(self.ALONE[:place] + crew + crew + self.ALONE[place + 4:]), 'a line `crew')
+
+
 class LaterLines(unittest.TestCase):
-    """Lines that the program is to print one day are judged already: rules, brackets, pickers, stored entries, beside carts."""
+    """Lines that the program is to print one day are judged already: brackets and stored entries, beside carts, rules and pickers."""
 
     STOCK = tables.Stock([tables.StockRow(tables.Location(1, 1, 'L'), 'A', 5)], ['A'])
 
-    def fault(self, output, scripts=None, units=2, stored=False):
+    def fault(self, output, scripts=None, units=2, shown=(1, 2), stored=False):
         scripts = scripts or {1: [('submit', 'W1', 'O1'), ('release', 'W1')]}
         try:
-            days.judge(days.Opening(SMALL, self.STOCK, {'O1': [('A', 2)]}, scripts, 1, units), output.encode(), stored)
+            days.judge(days.Opening(SMALL, self.STOCK, {'O1': [('A', 2)]}, scripts, 1, units, *shown), output.encode(), stored)
         except days.Fault as why:
             return str(why)
         return None
@@ -325,27 +500,21 @@ class LaterLines(unittest.TestCase):
         self.assertIsNone(self.fault(LATER.replace('1201 over', '1200 over')))
 
     def test_what_is_wrong_with_them_is_found(self):
-        for old, new, words in ((' units 2 cost', ' cost', 'heading'), ('"loads":[2]', '"loads":[1]', 'cart'), ('return 2 0', 'return 2 1', 'rules'),
+        for old, new, words in ((' units 2 cost', ' cost', 'heading'), ('"loads":[2]', '"loads":[1]', 'cart'), ('return 2 0', 'return 2 1', 'surplus'),
                                 ('root 1200', 'root 1201', 'above its cost'), ('root 1200 1201', 'root 1200 1210', 'narrow'),
-                                ('root 1200 1201', 'root 1200 1199', 'empty'), ('longest 2', 'longest 3', 'longest'), ('least 2', 'least 1', 'least'),
-                                ('picker 1 load 2', 'picker 1 load 3', 'load'), ('picker 2 load 0 batches', 'picker 2 load 2 batches W1/1', 'dealt'),
-                                ('picker 1 load 2 batches W1/1', 'picker 1 load 0 batches', 'dealt'), ('W1/1', 'W1/2', 'none of')):
+                                ('root 1200 1201', 'root 1200 1199', 'empty')):
             self.assertRegex(self.fault(LATER.replace(old, new, 1)) or 'nothing found', words, old)
-
-    def test_pickers_are_numbered_by_their_first_batches(self):
-        turned = LATER.replace('picker 1 load 2 batches W1/1\npicker 2 load 0 batches', 'picker 1 load 0 batches\npicker 2 load 2 batches W1/1')
-        self.assertRegex(self.fault(turned), 'numbered')
 
     def test_an_order_over_the_cart_is_refused(self):
         output = 'journal\n0 1 submit W1 O1 -> refused over-cart O1 2\n1 1 release W1 -> refused unknown-wave\nend journal\n' + STORED.split('end journal\n')[1]
-        self.assertIsNone(self.fault(output, units=1))
-        self.assertRegex(self.fault(output, units=2), 'reply')
+        self.assertIsNone(self.fault(output, units=1, shown=(0, 0)))
+        self.assertRegex(self.fault(output, units=2, shown=(0, 0)), 'reply')
 
     def test_stored_entries_have_no_sheets(self):
         new = {1: [('cancel', 'W1')]}
-        self.assertIsNone(self.fault(STORED, new, None, stored=True))
-        self.assertRegex(self.fault(STORED, new, None), '2 commands more')
-        self.assertRegex(self.fault(STORED, {1: [('allot', 'W1')]}, None, stored=True), 'desk 1')
+        self.assertIsNone(self.fault(STORED, new, None, (0, 0), stored=True))
+        self.assertRegex(self.fault(STORED, new, None, (0, 0)), '2 commands more')
+        self.assertRegex(self.fault(STORED, {1: [('allot', 'W1')]}, None, (0, 0), stored=True), 'desk 1')
 
 
 class Books(unittest.TestCase):

@@ -5,6 +5,7 @@ import sys
 import unittest
 from pathlib import Path
 
+import by_hand
 import runs
 from opinion import making
 
@@ -35,6 +36,14 @@ CART_FAULTS = [
     ('a cart of one unit more', 'plan', rb'^(certificate .*"units":)(\d+)', 'b"%s%d" % (found[1], int(found[2]) + 1)', 'done.returncode'),
 ]
 
+# Those that only plans with rules or pickers show.
+SHOWN_FAULTS = [
+    ('a surplus of one more', 'plan', rb'^(rules s-shape \d+) (\d+)', 'b"%s %d" % (found[1], int(found[2]) + 1)', 'done.returncode'),
+    ('a walk that is longer by one', 'plan', rb'^(rules s-shape) (\d+) (\d+)', 'b"%s %d %d" % (found[1], int(found[2]) + 1, int(found[3]) + 1)', 'done.returncode'),
+    ('a load of one more', 'plan', rb'^(picker 1 load) (\d+)', 'b"%s %d" % (found[1], int(found[2]) + 1)', 'done.returncode'),
+    ('a crew without its last picker', 'plan', rb'^picker .*\n(end crew\n)', 'found[1]', 'done.returncode'),
+]
+
 
 class Days(unittest.TestCase):
     def judged(self, folder, day, *more):
@@ -42,7 +51,9 @@ class Days(unittest.TestCase):
 
     def test_example_days_are_right(self):
         for example, *words in (('one-day', '--capacity', '3'), ('one-wave', '--capacity', '2'), ('three-desks', '--capacity', '2'),
-                                ('three-desks', '--capacity', '2', '--units', '12'), ('small-carts', '--capacity', '3', '--units', '30')):
+                                ('three-desks', '--capacity', '2', '--units', '12'), ('small-carts', '--capacity', '3', '--units', '30'),
+                                ('four-pickers', '--capacity', '2', '--rules', '1', '--pickers', '4'), ('one-day', '--capacity', '3', '--rules', '1', '--pickers', '3'),
+                                ('three-desks', '--capacity', '2', '--pickers', '100'), ('packing-at-the-back', '--capacity', '2', '--rules', '1')):
             done = self.judged(runs.EXAMPLES / example, runs.day_of(example, *words), *words)
             self.assertEqual((0, ''), (done.status, done.errors), done.output)
 
@@ -59,6 +70,34 @@ class Days(unittest.TestCase):
         self.assertIn('wave WED-08.00 entry 2 orders 6 capacity 3 units 30 cost 19460 bound 19460 proven\n', day)
         self.assertIn('"units":30,"version":2}\n', day)
         self.assertEqual(['SO-30101 SO-30105', 'SO-30102', 'SO-30103 SO-30106 SO-30107'], re.findall('^batch .* orders (.*)$', day, re.MULTILINE))
+
+    def test_rules_and_pickers_add_their_lines_and_change_no_other(self):
+        plain = runs.example_day().read_text().split('\n')
+        for rules, pickers in (('0', '0'), ('1', '0'), ('0', '3'), ('1', '3')):
+            shown = runs.day_of('one-day', '--capacity', '3', '--rules', rules, '--pickers', pickers).read_text().split('\n')
+            self.assertEqual(plain, by_hand.plain(shown))
+            batches, pickers_told = (sum(line.startswith(word) for line in shown) for word in ('batch ', 'picker '))
+            self.assertEqual((int(rules) * batches, int(pickers)), (sum(line.startswith('rules ') for line in shown), pickers_told))
+
+    def test_rules_and_pickers_of_the_day_by_hand(self):
+        files = {'layout.json': by_hand.LAYOUT, 'stock.csv': 'location,article,on_hand\n1-1-L,D,5\n1-4-L,A,5\n2-4-L,B,5\n3-1-L,C,5\n',
+                 'orders.csv': 'order,article,quantity\nO1,A,1\nO2,B,1\nO3,C,1\nO4,D,1\n'}
+        head, first, second = 'desk,command,arguments\n', '1,submit,W1,O1,O2,O3\n1,release,W1\n', '1,submit,W2,O4\n1,release,W2\n1,cancel,W2\n'
+        for lines, desks, capacity, pickers in ((by_hand.PAIR, first, '2', '2'), (by_hand.ALONE, first + second, '1', '2'), (by_hand.NOBODY, '', '1', '1')):
+            folder = runs.put(Path(runs.shelf().name) / 'by-hand', {**files, 'desks.csv': head + desks})
+            done = runs.planned(folder, '--capacity', capacity, '--budget', '0', '--rules', '1', '--pickers', pickers)
+            kinds = ('batch ', 'tour ', 'pick ', 'rules ', 'crew ', 'picker ', 'end')
+            self.assertEqual([line for line in lines if line.startswith(kinds)], [line for line in done.output.split('\n') if line.startswith(kinds)])
+
+    def test_a_day_with_a_crew_is_audited_and_checked(self):
+        folder, day = runs.EXAMPLES / 'four-pickers', runs.day_of('four-pickers', '--capacity', '2', '--rules', '1', '--pickers', '4')
+        self.assertEqual('audit 4 entries\n', runs.waveplan('audit', *runs.options(folder, runs.FILES[:3]), '--journal', day).output)
+        self.assertRegex(day.read_text(), '(?m)^crew longest 10960 least 10830$')
+        certificates = re.findall('^wave .* bound ([0-9]+) (?:.*\n)*?certificate (.*)$', day.read_text(), re.MULTILINE)
+        self.assertEqual(2, len(certificates))
+        for bound, certificate in certificates:
+            place = runs.put(Path(runs.shelf().name) / 'checked', {'certificate.json': certificate}) / 'certificate.json'
+            self.assertEqual('bound %s\n' % bound, runs.waveplan('check', '--layout', folder / 'layout.json', '--certificate', place).output)
 
     def test_an_audit_for_carts_is_judged(self):
         folder, day = runs.EXAMPLES / 'small-carts', runs.day_of('small-carts', '--capacity', '3', '--units', '30')
@@ -133,7 +172,7 @@ class Fuzzing(unittest.TestCase):
             self.assertEqual(0, done.status, done.output + done.errors)
 
     def test_each_planted_fault_is_found(self):
-        for place, (name, mode, pattern, new, status) in enumerate(FAULTS + CART_FAULTS):
+        for place, (name, mode, pattern, new, status) in enumerate(FAULTS + CART_FAULTS + SHOWN_FAULTS):
             with self.subTest(name):
                 program = Path(runs.shelf().name) / ('planted-%d' % place)
                 program.write_text(PLANTED % {'python': sys.executable, 'program': runs.PROGRAM, 'pattern': pattern, 'new': new, 'status': status})
