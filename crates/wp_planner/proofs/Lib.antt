@@ -4,7 +4,11 @@ pub mod OrderPicks
 pub mod Outgoing
 pub mod Rising
 pub mod BatchTours
+pub mod BatchSlots
+pub mod BatchLengths
+pub mod RuleWalks
 pub mod SheetParts
 pub mod OrderLoads
 pub mod Served
 pub mod AnySheet
+pub mod ListedBatches

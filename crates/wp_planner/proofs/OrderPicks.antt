@@ -10,17 +10,17 @@ use Rattle.std.proofs.lemmas.Option.{same_Some, slice_get-get_or}
 use Rattle.wp_graph.proofs.Members.{Contains-from_among, among-append, among-append_left, among-append_right, among_from_Contains}
 use Rattle.wp_batch.specs.Waves.{HaveSamePicks, WavePicks}
 use Rattle.wp_graph.specs.PickSets.{PickSet}
-use Rattle.wp_model.proofs.Elements.{within_some}
+use Rattle.wp_model.proofs.Elements.{All-at, within_some}
 use Rattle.wp_model.specs.HoldLists.{IsHoldWithin}
-use Rattle.wp_model.specs.Opening.{Opening}
-use Rattle.wp_model.specs.Warehouse.{Layout}
+use Rattle.wp_model.specs.Opening.{Opening, Stock}
+use Rattle.wp_model.specs.Warehouse.{IsLayout, IsSlot, Layout}
 use Rattle.wp_model.specs.declared.point.Point.{Point}
 use Rattle.wp_model.specs.declared.row.Hold.{Hold}
 use Rattle.wp_model.specs.declared.row.StockRow.{StockRow}
 use Rattle.wp_machine.specs.declared.outcome.WaveHolds.{WaveHolds}
 use Rattle.wp_pairs.specs.Carts.{LoadedCart}
 use Rattle.wp_planner.specs.Loads.{IsCartOf}
-use Rattle.wp_planner.specs.Released.{IsWaveOf}
+use Rattle.wp_planner.specs.Released.{IsWaveOf, LiesIn}
 use Rattle.wp_planner.specs.Slots.{ArePicksOf, HoldsAt, slot_at}
 
 -- nobody holds anything where nothing is held
@@ -178,11 +178,17 @@ both_ok : {T E : Type 0} (result : Result T E) (P Q R : T → Type 0) → ((v : 
 both_ok (Ok v) P Q R then' p q = then' v p q
 both_ok (Err e) P Q R then' p q = tt
 
+-- an order that holds units in a row of a stock that lies in a layout picks at a slot of it
+slot_held : (layout : Layout) (stock : Stock) (holds : List Hold) (order : ℕ) (point : Point) → LiesIn layout stock → HoldsAt stock.rows holds order point
+    → IsSlot layout point
+slot_held layout stock holds order point lies at =
+    subst (IsSlot layout) (sym at.lies) (All-at (λ (row : StockRow). IsSlot layout (slot_at row.location)) stock.rows at.hold.row at.row lies at.in_row)
+
 -- a wave with the same picks and with their cart is the wave of those holds
-wave_with : (layout : Layout) (opening : Opening) (released : WaveHolds) (picks : List PickSet) (wave : WavePicks) → wave.layout ≡ layout
-    → ArePicksOf layout opening.stock.rows released.holds (length released.orders) picks → HaveSamePicks wave.orders picks
+wave_with : (layout : Layout) (opening : Opening) (released : WaveHolds) (picks : List PickSet) (wave : WavePicks) → IsLayout layout
+    → LiesIn layout opening.stock → wave.layout ≡ layout → ArePicksOf layout opening.stock.rows released.holds (length released.orders) picks → HaveSamePicks wave.orders picks
     → IsCartOf opening.units released wave.cart → IsWaveOf layout opening released wave
-wave_with layout opening released picks wave of_layout are same cart = record {
+wave_with layout opening released picks wave valid lies of_layout are same cart = record {
   layout_is = of_layout;
   orders = same.count ∙ are.count;
   picks = λ order point below.
@@ -190,16 +196,23 @@ wave_with layout opening released picks wave of_layout are same cart = record {
       let to = same.each order d (omega (arith, below, same.count, are.count)) point in
       let on = are.each order d point below in
       (λ has. on.0 (to.0 has), λ holds. to.1 (on.1 holds));
+  slots = λ order below. record {
+    ranges = valid;
+    slots = λ point has.
+        let d : PickSet = record { layout = wave.layout; points = [] } in
+        let to = same.each order d (omega (arith, below, same.count, are.count)) point in
+        slot_held layout opening.stock released.holds order point lies ((are.each order d point below).0 (to.0 has));
+  };
   cart = cart;
 }
 
 -- so is one that is made, where memory lasts
 pub wave_made : {E : Type 0} (layout : Layout) (opening : Opening) (released : WaveHolds) (picks : List PickSet) (cart : Option LoadedCart)
-    (made : Result WavePicks E) → ArePicksOf layout opening.stock.rows released.holds (length released.orders) picks
+    (made : Result WavePicks E) → IsLayout layout → LiesIn layout opening.stock → ArePicksOf layout opening.stock.rows released.holds (length released.orders) picks
     → IsCartOf opening.units released cart → IfOk made (λ wave. wave.layout ≡ layout)
     → IfOk made (λ wave. HaveSamePicks wave.orders picks) → IfOk made (λ wave. wave.cart ≡ cart) → IfOk made (IsWaveOf layout opening released)
-wave_made layout opening released picks cart made are loaded of_layout same carts =
+wave_made layout opening released picks cart made valid lies are loaded of_layout same carts =
     both_ok made (λ wave. (wave.layout ≡ layout) × HaveSamePicks wave.orders picks) (λ wave. wave.cart ≡ cart) (IsWaveOf layout opening released)
-    (λ wave both is. wave_with layout opening released picks wave both.0 are both.1 (subst (IsCartOf opening.units released) (sym is) loaded))
+    (λ wave both is. wave_with layout opening released picks wave valid lies both.0 are both.1 (subst (IsCartOf opening.units released) (sym is) loaded))
     (both_ok made (λ wave. wave.layout ≡ layout) (λ wave. HaveSamePicks wave.orders picks)
     (λ wave. (wave.layout ≡ layout) × HaveSamePicks wave.orders picks) (λ wave l h. (l, h)) of_layout same) carts

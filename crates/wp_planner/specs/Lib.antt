@@ -3,5 +3,7 @@ pub mod Slots
 pub mod Loads
 pub mod Released
 pub mod Plans
+pub mod Sent
 pub mod Sheets
+pub mod Crews
 pub mod Laws

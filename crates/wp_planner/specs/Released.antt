@@ -8,6 +8,7 @@ use Rattle.wp_model.specs.declared.point.Point.{Point}
 use Rattle.wp_model.specs.declared.row.Hold.{Hold}
 use Rattle.wp_machine.specs.declared.outcome.WaveHolds.{WaveHolds}
 use Rattle.wp_batch.specs.Waves.{WavePicks, picks_of}
+use Rattle.wp_graph.specs.PickSets.{AreSlots}
 use Rattle.wp_planner.specs.Loads.{AreLight, IsCartOf, load_for}
 use Rattle.wp_planner.specs.Slots.{HoldsAt, slot_at}
 
@@ -34,11 +35,12 @@ IsServed opening released = (order : ℕ) (name : List ℕ) → slice_get releas
 abbrev pub LiesIn : Layout → Stock → Type 0
 LiesIn layout stock = All (λ row. IsSlot layout (slot_at row.location)) stock.rows
 
--- the wave of a layout whose orders pick where those of a wave that went out hold units; where carts hold so many units, it has such a cart, in which
--- each order loads what it holds
+-- the wave of a layout whose orders pick where those of a wave that went out hold units, at slots of the layout; where carts hold so many units, it has such
+-- a cart, in which each order loads what it holds
 pub record IsWaveOf (layout : Layout) (opening : Opening) (released : WaveHolds) (wave : WavePicks) : Type 0 where
   pub layout_is : wave.layout ≡ layout
   pub orders : length wave.orders ≡ length released.orders
   pub picks : (order : ℕ) (point : Point) → order < length released.orders
       → (Contains (picks_of wave order) point ↔ HoldsAt opening.stock.rows released.holds order point)
+  pub slots : (order : ℕ) → order < length released.orders → AreSlots layout (picks_of wave order)
   pub cart : IsCartOf opening.units released wave.cart

@@ -1,6 +1,7 @@
-//! The plan of a wave that went out: its batches and their bound, and its sheet.
+//! The plan of a wave that went out: its batches and their bound, and its sheet; and the crew to which the batches of a day are dealt.
 #![tactic(auto)]
 
+mod crew;
 mod day_planner;
 mod laws;
 mod loads;
@@ -12,6 +13,7 @@ mod terms;
 mod tours;
 mod waves;
 
+pub use crew::{DayBatches, DayCrew, crew_for};
 pub use day_planner::{DayPlanner, PlansWaves};
 pub use laws::waves_that_go_out_are_filled;
 pub use planner::{Planning, WavePlan, plan_for, plan_of};

@@ -1,10 +1,12 @@
 ghost use Rattle.std.specs.Prelude.{◌≡◌, ◌<◌, ◌++◌, All, IfOk, length};
 ghost use Rattle.wp_model.specs.Warehouse.{Layout as Block};
+ghost use Rattle.wp_batch.specs.Lengths.{IsLengthOf};
 ghost use Rattle.wp_cert.specs.TextData.{HaveDualsWithin};
 ghost use Rattle.wp_sheets.specs.Picks.{AreSingle};
 ghost use Rattle.wp_planner.specs.Plans.{IsPlanOf};
 ghost use Rattle.wp_planner.specs.Released.{IsReleased};
-ghost use Rattle.wp_planner.specs.Sheets.{AreParts, GrowsBy, IsPart, IsSheet, IsShortestTour, certificate_line, is_open as is_open_state, plan_line};
+ghost use Rattle.wp_planner.specs.Sheets.{AreParts, FollowsPicks, GrowsBy, IsPart, IsRulesLine, IsSheet, IsShortestTour, certificate_line};
+ghost use Rattle.wp_planner.specs.Sheets.{is_open as is_open_state, plan_line};
 
 use crate::planner::WavePlan;
 use crate::terms::Terms;
@@ -15,8 +17,9 @@ use wp_cert::print_certificate;
 use wp_machine::{Opening, WaveHolds};
 use wp_model::Memory;
 use wp_pairs::Batch;
+use wp_rules::{Rule, rule_length};
 use wp_search::{Planned, State};
-use wp_sheets::{BatchSheet, print_batch, print_heading};
+use wp_sheets::{BatchSheet, print_batch, print_heading, print_rules};
 
 /// A wave that went out, as its sheet tells of it: the opening in whose stock it holds units, the terms of its plan, the plan, and whether
 /// a later entry cancels the wave.
@@ -42,6 +45,46 @@ fn sheet_of(alloc: Global, wave: &Wave, batch: Batch) -> Result<BatchSheet, Memo
     })
 }
 
+// Adds the line of what three usual rules would walk past a batch's picks, beside the length of its tour.
+fn print_walks(
+    alloc: Global,
+    text: &mut Vec<u8>,
+    wave: &Wave,
+    batch: Batch,
+    shortest: u64,
+) -> Result<(), Memory>
+    requires places { All (λ order. order < length wave.now.orders) batch }
+    requires length { IsLengthOf wave.now batch shortest }
+    ensures { IfOk result (λ _. GrowsBy (IsRulesLine wave.now batch shortest) text.old.items text.new.items) }
+{
+    let layout = wave.layout();
+    let picks = wave.union_of(batch);
+    let shape = rule_length(&layout, &picks, Rule::SShape);
+    let back = rule_length(&layout, &picks, Rule::Return);
+    let gap = rule_length(&layout, &picks, Rule::LargestGap);
+    let line = print_rules(alloc, shape, back, gap, shortest)?;
+    text.extend_from_slice(&line)?;
+    Ok(())
+}
+
+// Adds what follows the picks of a batch, where the sheets tell of rules.
+fn print_after(
+    alloc: Global,
+    text: &mut Vec<u8>,
+    sent: &SentWave<'_>,
+    batch: Batch,
+    shortest: u64,
+) -> Result<(), Memory>
+    requires places { All (λ order. order < length sent.now.plan.now.wave.orders) batch }
+    requires length { IsLengthOf sent.now.plan.now.wave batch shortest }
+    ensures { IfOk result (λ _. GrowsBy (FollowsPicks sent.now.terms.now.rules sent.now.plan.now.wave batch shortest) text.old.items text.new.items) }
+{
+    if sent.terms.rules() {
+        print_walks(alloc, text, &sent.plan.wave, batch, shortest)?;
+    }
+    Ok(())
+}
+
 // Adds the part of a batch with a number.
 fn print_part(
     alloc: Global,
@@ -54,12 +97,13 @@ fn print_part(
     requires places { All (λ order. order < length sent.now.released.now.orders) batch }
     requires rows { All (λ hold. hold.row < length sent.now.opening.now.stock.rows) sent.now.released.now.holds }
     requires single { AreSingle sent.now.released.now.holds }
-    ensures { IfOk result (λ _. GrowsBy (IsPart sent.now.opening.now.stock sent.now.released.now sent.now.plan.now.wave number batch) text.old.items text.new.items) }
+    ensures { IfOk result (λ _. GrowsBy
+        (IsPart sent.now.opening.now.stock sent.now.released.now sent.now.plan.now.wave sent.now.terms.now.rules number batch) text.old.items text.new.items) }
 {
     let sheet = sheet_of(alloc, &sent.plan.wave, batch)?;
     let part = print_batch(alloc, number, sent.released, sent.opening.stock(), &sheet)?;
     text.extend_from_slice(&part)?;
-    Ok(())
+    print_after(alloc, text, sent, batch, sheet.length)
 }
 
 // Adds the parts of all batches of a plan, numbered from 1, each with its tour, of which none is kept.
@@ -69,7 +113,8 @@ fn print_parts(alloc: Global, text: &mut Vec<u8>, sent: &SentWave<'_>) -> Result
     requires rows { All (λ hold. hold.row < length sent.now.opening.now.stock.rows) sent.now.released.now.holds }
     requires single { AreSingle sent.now.released.now.holds }
     ensures { IfOk result (λ _. GrowsBy
-        (AreParts sent.now.opening.now.stock sent.now.released.now sent.now.plan.now.wave 1 sent.now.plan.now.planned.batching) text.old.items text.new.items) }
+        (AreParts sent.now.opening.now.stock sent.now.released.now sent.now.plan.now.wave sent.now.terms.now.rules 1 sent.now.plan.now.planned.batching)
+        text.old.items text.new.items) }
 {
     let batches = &sent.plan.planned.batching;
     for place in 0..batches.len() {
@@ -125,8 +170,8 @@ fn print_shown(alloc: Global, text: &mut Vec<u8>, sent: &SentWave<'_>) -> Result
 }
 
 /// Adds the sheet of a wave that went out and its plan to a text: a line of the wave, its cost and its bound; for each batch, numbered
-/// from 1, the length of its tour, its orders, the tour point by point and its picks by row; the certificate; and a last line. The heading
-/// says `cancelled later` where a later entry cancels the wave. Tours are made one batch at a time. An `Err` comes from a want of memory
+/// from 1, the length of its tour, its orders, the tour point by point and its picks by row, and, where the terms say so, what three usual
+/// rules would walk past them; the certificate; and a last line. The heading says `cancelled later` where a later entry cancels the wave. Tours are made one batch at a time. An `Err` comes from a want of memory
 /// alone, and the text may then have some of the sheet.
 pub fn print_sheet(alloc: Global, text: &mut Vec<u8>, sent: &SentWave<'_>) -> Result<(), Memory>
     requires released { IsReleased sent.now.opening.now sent.now.released.now }

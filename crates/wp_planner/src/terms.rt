@@ -1,16 +1,19 @@
-ghost use Rattle.std.specs.Prelude.{◌≡◌, ◌≤◌, ◌^◌};
+ghost use Rattle.std.specs.Prelude.{◌≡◌, ◌≤◌, ◌^◌, false};
 ghost use Rattle.wp_planner.specs.Terms.{AreTerms};
 
 use std::marker::Model;
 use wp_pairs::Capacity;
 
 /// What waves are planned with: how many orders a batch may have, 1 to 8; what may be spent on a wave's bound, 0 to 10 ^ 18;
-/// and on how many threads, 1 to 16.
+/// and on how many threads, 1 to 16. And what is told of their plans besides: whether their sheets tell what three usual rules
+/// would walk, and to how many pickers all batches are dealt, 0 to 100, where 0 says that they aren't.
 #[derive(Clone, Copy)]
 pub struct Terms {
     capacity: u32,
     budget: u64,
     workers: u32,
+    rules: bool,
+    pickers: u32,
 }
 
 impl Model for Terms {
@@ -18,23 +21,38 @@ impl Model for Terms {
 
     ghost Value = { Numbers };
 
-    ghost view = { λ t. record { capacity = t.capacity; budget = t.budget; workers = t.workers } };
+    ghost view = { λ t. record { capacity = t.capacity; budget = t.budget; workers = t.workers; rules = t.rules; pickers = t.pickers } };
 
-    ghost invariant = { λ t. AreTerms (record { capacity = t.capacity; budget = t.budget; workers = t.workers }) };
+    ghost invariant = { λ t. AreTerms (record { capacity = t.capacity; budget = t.budget; workers = t.workers; rules = t.rules; pickers = t.pickers }) };
 
-    ghost inverse = { λ t. record { capacity = t.capacity; budget = t.budget; workers = t.workers } };
+    ghost inverse = { λ t. record { capacity = t.capacity; budget = t.budget; workers = t.workers; rules = t.rules; pickers = t.pickers } };
 }
 
 impl Terms {
-    /// The terms of three numbers within their ranges.
+    /// The terms of three numbers within their ranges, with nothing told besides.
     pub fn of(capacity: u32, budget: u64, workers: u32) -> Terms
-        requires { AreTerms (record { capacity = capacity; budget = budget; workers = workers }) }
-        ensures { result ≡ record { capacity = capacity; budget = budget; workers = workers } }
+        requires { AreTerms (record { capacity = capacity; budget = budget; workers = workers; rules = false; pickers = 0 }) }
+        ensures { result ≡ record { capacity = capacity; budget = budget; workers = workers; rules = false; pickers = 0 } }
     {
         Terms {
             capacity,
             budget,
             workers,
+            rules: false,
+            pickers: 0,
+        }
+    }
+
+    /// The same with what is told besides: whether sheets tell what three usual rules would walk, and to how many pickers all batches
+    /// are dealt, 0 to 100.
+    pub fn telling(self, rules: bool, pickers: u32) -> Terms
+        requires { pickers ≤ 100 }
+        ensures { result ≡ record self { rules = rules; pickers = pickers } }
+    {
+        Terms {
+            rules,
+            pickers,
+            ..self
         }
     }
 
@@ -62,5 +80,20 @@ impl Terms {
         ensures most { result ≤ 16 }
     {
         self.workers
+    }
+
+    /// Whether sheets tell what three usual rules would walk.
+    pub fn rules(&self) -> bool
+        ensures { result ≡ self.now.rules }
+    {
+        self.rules
+    }
+
+    /// To how many pickers all batches are dealt, 0 to 100; 0 says that they aren't.
+    pub fn pickers(&self) -> u32
+        ensures value { result ≡ self.now.pickers }
+        ensures most { result ≤ 100 }
+    {
+        self.pickers
     }
 }

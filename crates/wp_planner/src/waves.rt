@@ -22,6 +22,7 @@ pub fn wave_of(
     requires lies { LiesIn layout.now opening.now.stock }
     ensures { IfOk result (IsWaveOf layout.now opening.now released.now) }
 {
+    let _aisles = layout.aisles();
     let rows = opening.stock().as_rows();
     let holds = released.holds.as_slice();
     let picks = order_picks(alloc, layout, rows, holds, released.orders.len())?;

@@ -11,15 +11,17 @@ use Rattle.wp_outside.specs.declared.sink.SinkFault.{SinkFault}
 use Rattle.wp_parts.proofs.Steps.{Fails-before, Fails-then, Writes-then}
 use Rattle.wp_parts.specs.Texts.{IsSection}
 use Rattle.wp_parts.specs.Writing.{Fails, Writes}
+use Rattle.wp_planner.specs.Crews.{crew_text}
 use Rattle.wp_planner.specs.Terms.{Terms}
+use Rattle.wp_planner.specs.declared.crew.DayCrew.{DayCrew}
 use Rattle.wp_planner.specs.declared.planner.WavePlan.{WavePlan}
 use Rattle.wp_top.proofs.DayTexts.{any_text, text_is}
 use Rattle.wp_top.proofs.SectionTexts.{lines_fail, lines_then, lines_then_fail, sheets_are}
-use Rattle.wp_top.specs.Planned.{IsSheetAt, IsToldOf, Sent, waves_of}
+use Rattle.wp_planner.specs.Sent.{Sent, plans_of, waves_of}
+use Rattle.wp_top.specs.Planned.{HasCrew, IsSheetAt, IsToldOf}
 use Rattle.wp_top.specs.Sections.{IsTextAt, refills_and_end}
 use Rattle.wp_top.specs.Sheets.{AreSheets}
 use Rattle.wp_top.specs.Stops.{IsTextOf}
-use Rattle.wp_top.specs.Summaries.{plans_of}
 
 -- sheets fail, with more behind them
 pub sheets_fail : (history : History) (terms : Terms) (listed sent : List Sent) (count : ℕ) (more waited : List ℕ) (fault : SinkFault) (old new : SinkTold)
@@ -61,12 +63,12 @@ abbrev Lines : List Entry → ℕ → List ℕ → Type 0
 Lines entries count text = IsSection (line (codes "journal")) count (IsTextAt entry_line entries) (line (codes "end journal")) text
 
 -- the journal of a day fails, and some text of the day begins with it
-pub day_fails : (layout : Layout) (terms : Terms) (day : DayRun (Option WavePlan)) (entries : List Entry) (count : ℕ) (waited : List ℕ) (fault : SinkFault)
-    (old new : SinkTold) → IsToldOf layout terms day → entries ≡ day.machine.entries → count ≡ length entries → waited ≡ []
+pub day_fails : (layout : Layout) (terms : Terms) (day : DayRun (Option WavePlan)) (crew : Option DayCrew) (entries : List Entry) (count : ℕ) (waited : List ℕ) (fault : SinkFault)
+    (old new : SinkTold) → IsToldOf layout terms day → HasCrew terms day crew → entries ≡ day.machine.entries → count ≡ length entries → waited ≡ []
     → (text : List ℕ) × Lines entries count text × Fails fault old new (waited ++ text)
     → (text : List ℕ) × IsTextOf layout terms day.machine text × Fails fault old new text
-day_fails layout terms day entries count waited fault old new told all count_is none section =
-    let whole = any_text layout terms day told in
+day_fails layout terms day crew entries count waited fault old new told dealt all count_is none section =
+    let whole = any_text layout terms day crew told dealt in
     let fails = lines_fail entry_line entries count (line (codes "journal")) (line (codes "end journal")) (journal entries) whole.0 waited fault old new
     count_is refl section in (
       journal day.machine.entries ++ whole.0,
@@ -76,41 +78,41 @@ day_fails layout terms day entries count waited fault old new told all count_is 
     )
 
 -- it is written, and then all that comes after it
-pub day_then : (layout : Layout) (terms : Terms) (day : DayRun (Option WavePlan)) (entries : List Entry) (count : ℕ) (waited between : List ℕ)
-    (old mid new : SinkTold) → IsToldOf layout terms day → entries ≡ day.machine.entries → count ≡ length entries → waited ≡ []
+pub day_then : (layout : Layout) (terms : Terms) (day : DayRun (Option WavePlan)) (crew : Option DayCrew) (entries : List Entry) (count : ℕ) (waited between : List ℕ)
+    (old mid new : SinkTold) → IsToldOf layout terms day → HasCrew terms day crew → entries ≡ day.machine.entries → count ≡ length entries → waited ≡ []
     → (text : List ℕ) × Lines entries count text × Writes old mid waited between text
     → (sheets : List ℕ) × AreSheets day.machine terms (waves_of day.plans.items) (plans_of day.plans.items) sheets
-    × Writes mid new between [] (sheets ++ refills_and_end day.machine)
+    × Writes mid new between [] (sheets ++ refills_and_end day.machine (crew_text crew))
     → (text : List ℕ) × IsTextOf layout terms day.machine text × Writes old new [] [] text
-day_then layout terms day entries count waited between old mid new told all count_is none section (sheets, are, rest) =
-    let more = sheets ++ refills_and_end day.machine in
+day_then layout terms day crew entries count waited between old mid new told dealt all count_is none section (sheets, are, rest) =
+    let more = sheets ++ refills_and_end day.machine (crew_text crew) in
     let writes = lines_then entry_line entries count (line (codes "journal")) (line (codes "end journal")) (journal entries) more waited between [] old mid new
     count_is refl section rest in (
       journal day.machine.entries ++ more,
-      text_is layout terms day sheets _ told are refl,
+      text_is layout terms day crew sheets _ told dealt are refl,
       subst (λ (es : List Entry). Writes old new [] [] (journal es ++ more)) all
           (subst (λ (w : List ℕ). Writes old new w [] (journal entries ++ more)) none writes),
     )
 
 -- it is written, and then something fails
-pub day_then_fails : (layout : Layout) (terms : Terms) (day : DayRun (Option WavePlan)) (entries : List Entry) (count : ℕ) (waited between : List ℕ)
-    (fault : SinkFault) (old mid new : SinkTold) → IsToldOf layout terms day → entries ≡ day.machine.entries → count ≡ length entries → waited ≡ []
+pub day_then_fails : (layout : Layout) (terms : Terms) (day : DayRun (Option WavePlan)) (crew : Option DayCrew) (entries : List Entry) (count : ℕ) (waited between : List ℕ)
+    (fault : SinkFault) (old mid new : SinkTold) → IsToldOf layout terms day → HasCrew terms day crew → entries ≡ day.machine.entries → count ≡ length entries → waited ≡ []
     → (text : List ℕ) × Lines entries count text × Writes old mid waited between text
     → (sheets : List ℕ) × AreSheets day.machine terms (waves_of day.plans.items) (plans_of day.plans.items) sheets
-    × Fails fault mid new (between ++ (sheets ++ refills_and_end day.machine))
+    × Fails fault mid new (between ++ (sheets ++ refills_and_end day.machine (crew_text crew)))
     → (text : List ℕ) × IsTextOf layout terms day.machine text × Fails fault old new text
-day_then_fails layout terms day entries count waited between fault old mid new told all count_is none section (sheets, are, rest) =
-    let more = sheets ++ refills_and_end day.machine in
+day_then_fails layout terms day crew entries count waited between fault old mid new told dealt all count_is none section (sheets, are, rest) =
+    let more = sheets ++ refills_and_end day.machine (crew_text crew) in
     let fails = lines_then_fail entry_line entries count (line (codes "journal")) (line (codes "end journal")) (journal entries) more waited between fault
     old mid new count_is refl section rest in (
       journal day.machine.entries ++ more,
-      text_is layout terms day sheets _ told are refl,
+      text_is layout terms day crew sheets _ told dealt are refl,
       subst (λ (es : List Entry). Fails fault old new (journal es ++ more)) all
           (subst (λ (w : List ℕ). Fails fault old new (w ++ (journal entries ++ more))) none fails),
     )
 
 -- where nothing is written some text of the day isn't
-pub day_unwritten : (layout : Layout) (terms : Terms) (day : DayRun (Option WavePlan)) (fault : SinkFault) (told : SinkTold) → IsToldOf layout terms day
+pub day_unwritten : (layout : Layout) (terms : Terms) (day : DayRun (Option WavePlan)) (crew : Option DayCrew) (fault : SinkFault) (told : SinkTold) → IsToldOf layout terms day → HasCrew terms day crew
     → ((text : List ℕ) → Fails fault told told text) → (text : List ℕ) × IsTextOf layout terms day.machine text × Fails fault told told text
-day_unwritten layout terms day fault told is none =
-    let whole = any_text layout terms day is in (journal day.machine.entries ++ whole.0, whole.1, none (journal day.machine.entries ++ whole.0))
+day_unwritten layout terms day crew fault told is dealt none =
+    let whole = any_text layout terms day crew is dealt in (journal day.machine.entries ++ whole.0, whole.1, none (journal day.machine.entries ++ whole.0))

@@ -16,7 +16,8 @@ use Rattle.wp_top.specs.Planned.{IsToldOf}
 use Rattle.wp_top.specs.Runs.{IsHistoryOf, IsSummary, IsWrong, audit_line}
 use Rattle.wp_top.specs.Sheets.{terms_of}
 use Rattle.wp_top.specs.Stops.{HasRightText, IsDayOf, IsMadeDay, IsRead, IsSaid, StopsAt, StopsFor, day_said, of_file, of_journal, opening_files, stop_at_words, tables_said}
-use Rattle.wp_top.specs.Summaries.{AreGoodPlans, made_terms, plans_of, summary_of}
+use Rattle.wp_planner.specs.Sent.{plans_of}
+use Rattle.wp_top.specs.Summaries.{AreGoodPlans, made_terms, summary_of}
 use Rattle.wp_top.specs.Texts.{File, HaveSaid, IsHeld, Said, file_of, files_of, nothing_said, opening_with, said_with, scripts_in, text_in}
 use Rattle.wp_top.specs.declared.complaint.Complaint.TheVariants as complaint
 use Rattle.wp_top.specs.declared.complaint.Stop.{Stop}
@@ -137,6 +138,8 @@ plan_is old new names layout opening scripts output units accepted reads day =
         planned = text.planned;
         sheets = text.sheets;
         printed = text.printed;
+        crew = text.crew;
+        dealt = text.dealt;
         is = text.is;
       };
     }

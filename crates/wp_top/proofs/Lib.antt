@@ -20,3 +20,4 @@ pub mod RisenCounts
 pub mod KeptPromise
 pub mod LongTexts
 pub mod PlanJournals
+pub mod FewWaves

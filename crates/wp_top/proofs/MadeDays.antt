@@ -16,8 +16,8 @@ use Rattle.wp_model.specs.Step.{says_released, step}
 use Rattle.wp_model.specs.Warehouse.{Layout}
 use Rattle.wp_model.specs.declared.entry.Entry.{Entry}
 use Rattle.wp_planner.specs.Terms.{Terms}
-use Rattle.wp_top.specs.Planned.{ArePlanned, IsPlanned, Sent, waves_of}
-use Rattle.wp_top.specs.Summaries.{AreGoodPlans, is_proven, plans_of, proven_plans, releases, total_bound, total_cost}
+use Rattle.wp_planner.specs.Sent.{ArePlanned, IsPlanned, Sent, plans_of, waves_of}
+use Rattle.wp_top.specs.Summaries.{AreGoodPlans, is_proven, proven_plans, releases, total_bound, total_cost}
 use Rattle.wp_top.proofs.Writing.{take_more}
 
 -- a step tells one wave that goes out, or none

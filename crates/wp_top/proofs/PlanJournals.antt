@@ -11,7 +11,7 @@ use Rattle.wp_floor.proofs.Floors.{is_opening}
 use Rattle.wp_journal.proofs.DayJournals.{day_journal}
 use Rattle.wp_journal.specs.Days.{IsAsked, IsDay}
 use Rattle.wp_journal.specs.Journals.{IsJournalOf}
-use Rattle.wp_model.specs.History.{Script, part_of, script_of, state_after}
+use Rattle.wp_model.specs.History.{History, Script, part_of, script_of, state_after}
 use Rattle.wp_model.specs.Journal.{journal, line}
 use Rattle.wp_model.specs.Name.{is_name}
 use Rattle.wp_model.specs.Opening.{IsOpening, Opening}
@@ -19,9 +19,10 @@ use Rattle.wp_model.specs.Plain.{has_names, is_plain}
 use Rattle.wp_model.specs.Tables.{AreReadScripts, IsReadOpening}
 use Rattle.wp_model.specs.declared.command.Command.{Command}
 use Rattle.wp_model.specs.declared.entry.Entry.{Entry}
-use Rattle.wp_top.specs.Runs.{IsPlan, command_count}
+use Rattle.wp_planner.specs.Crews.{crew_text}
+use Rattle.wp_top.specs.Runs.{IsHistoryOf, IsPlan, command_count}
 use Rattle.wp_words.specs.Words.{PlanNames}
-use Rattle.wp_top.specs.Sections.{after_refills, output_of, refills_section, refills_told, stock_section}
+use Rattle.wp_top.specs.Sections.{output_of, refills_section, refills_told, stock_section}
 use Rattle.wp_top.specs.Texts.{Said, opening_with}
 
 -- scripts of desks that are numbered on from the one after this
@@ -36,6 +37,10 @@ numbered_on before (script ∷ scripts) each = (
   omega (arith, each 0),
   numbered_on (before + 1) scripts (λ i. IfSome_then (slice_get scripts i) (each (suc i)) (λ s is. omega (arith, is))),
 )
+
+-- scripts that were read are numbered from 1
+numbered_from_1 : (scripts : List Script) → AreReadScripts scripts → AreNumbered 0 scripts
+numbered_from_1 scripts are = numbered_on 0 scripts (λ i. IfSome_then (slice_get scripts i) (are.numbered i) (λ s is. omega (arith, is)))
 
 -- the command of an entry heads the part of its desk
 own_part : (desk : ℕ) (entry : Entry) (entries : List Entry) → entry.desk ≡ desk → part_of desk (entry ∷ entries) ≡ entry.command ∷ part_of desk entries
@@ -200,29 +205,37 @@ commands_count before entries (script ∷ scripts) (own, more) parts =
 same_opening : (opening : Opening) (units : Option ℕ) → IsOpening opening → IsOpening (opening_with opening units)
 same_opening opening units is = record { rows = is.rows; orders = is.orders }
 
+-- each entry of a history is of a desk that may ask its command
+history_asks : (opening : Opening) (scripts : List Script) (history : History) → AreReadScripts scripts → IsHistoryOf opening scripts history
+    → All (MayBe (length scripts)) history.entries
+history_asks opening scripts history are answers =
+    let last = length scripts in
+    each_may_be last history.entries (λ desk. subst (All (MayAsk 0 last desk)) (sym (answers.parts desk))
+    (scripts_may 0 last scripts desk (numbered_from_1 scripts are) (omega arith) are.plain are.named))
+
+-- and it has an entry for each command of the scripts
+pub history_count : (opening : Opening) (scripts : List Script) (history : History) → AreReadScripts scripts → IsHistoryOf opening scripts history
+    → length history.entries ≡ command_count scripts
+history_count opening scripts history are answers =
+    let numbered = numbered_from_1 scripts are in
+    entries_count history.entries scripts numbered (history_asks opening scripts history are answers)
+    ∙ commands_count 0 history.entries scripts numbered (λ desk after. answers.parts desk)
+
 -- the history of a plan is that of a day, with an entry for each command
 plan_is_day : (names : PlanNames) (said : Said) (output : List ℕ) → IsReadOpening said.opening → AreReadScripts said.scripts
     → (plan : IsPlan names said output) → IsDay plan.history × (length plan.history.entries ≡ command_count said.scripts)
 plan_is_day names said output read are plan =
-    let entries = plan.history.entries in
-    let scripts = said.scripts in
-    let last = length scripts in
-    let numbered : AreNumbered 0 scripts =
-    numbered_on 0 scripts (λ i. IfSome_then (slice_get scripts i) (are.numbered i) (λ s is. omega (arith, is))) in
-    let may : All (MayBe last) entries = each_may_be last entries (λ desk.
-    subst (All (MayAsk 0 last desk)) (sym (plan.answers.parts desk)) (scripts_may 0 last scripts desk numbered (omega arith) are.plain are.named)) in
-    let count : length entries ≡ command_count scripts =
-    entries_count entries scripts numbered may ∙ commands_count 0 entries scripts numbered (λ desk after. plan.answers.parts desk) in (
+    let count = history_count (opening_with said.opening names.units) said.scripts plan.history are plan.answers in (
       record {
         opening = subst IsOpening (sym plan.answers.starts) (same_opening said.opening names.units (is_opening said.opening read));
         articles = subst (λ (o : Opening). All (λ article. IsTrue (is_name article)) o.stock.articles) (sym plan.answers.starts) read.stock.named;
         legal = plan.answers.legal;
         few = omega (arith, count, are.most);
-        asked = All-weaker (MayBe last) IsAsked (λ e is. record {
+        asked = All-weaker (MayBe (length said.scripts)) IsAsked (λ e is. record {
           desk = (omega (arith, is.after), omega (arith, is.within, are.few));
           plain = is.plain;
           names = is.names;
-        }) entries may;
+        }) plan.history.entries (history_asks (opening_with said.opening names.units) said.scripts plan.history are plan.answers);
       },
       count,
     )
@@ -235,12 +248,13 @@ plan_journal names said output read are plan =
     let history = plan.history in
     let first = journal history.entries in
     let sheets = plan.sheets in
-    let refills = refills_section history.opening.stock (refills_told history) ++ after_refills history in
+    let crew = crew_text plan.crew in
+    let refills = refills_section history.opening.stock (refills_told history) ++ crew in
     let stock = stock_section history.opening.stock (state_after history).rows in
     let last = line (codes "end") in
     let more = sheets ++ refills ++ stock ++ last in
-    let parts : output_of history sheets ≡ first ++ more =
-    ap (λ text. text ++ last) (ap (λ text. text ++ stock) (append_assoc (first ++ sheets) _ (after_refills history) ∙ append_assoc first sheets refills)
+    let parts : output_of history sheets crew ≡ first ++ more =
+    ap (λ text. text ++ last) (ap (λ text. text ++ stock) (append_assoc (first ++ sheets) _ crew ∙ append_assoc first sheets refills)
     ∙ append_assoc first (sheets ++ refills) stock)
     ∙ append_assoc first (sheets ++ refills ++ stock) last in
     let right : IsJournalOf history.opening (first ++ more) (length history.entries) = day_journal history more day.0 in

@@ -19,10 +19,10 @@ use Rattle.wp_top.proofs.Writing.{flat_map-next, take_all}
 use Rattle.wp_machine.specs.Outcome.{is_cancelled_later}
 use Rattle.wp_model.specs.Opening.{Stock}
 use Rattle.wp_machine.specs.declared.outcome.Refill.{Refill}
-use Rattle.wp_top.specs.Planned.{ArePlanned, IsPlanned, IsSheetAt, Sent, waves_of}
+use Rattle.wp_planner.specs.Sent.{ArePlanned, IsPlanned, Sent, plans_of, waves_of}
+use Rattle.wp_top.specs.Planned.{IsSheetAt}
 use Rattle.wp_top.specs.Sections.{IsTextAt, refills_section}
 use Rattle.wp_top.specs.Sheets.{AreSheets}
-use Rattle.wp_top.specs.Summaries.{plans_of}
 
 -- the texts of the first items are those of the first parts
 first_texts : {X : Type 0} (write : X → List ℕ) (items : List X) (count : ℕ) (text : List ℕ) → count ≤ length items
@@ -80,6 +80,10 @@ told_section stock stock' refills refills' one other =
 -- the texts of items are there
 pub texts_there : {X : Type 0} (write : X → List ℕ) (items : List X) (count : ℕ) → HaveText (IsTextAt write items) count
 texts_there write items count number within = (option_map_or write (slice_get items number) [], refl)
+
+-- a section of one text alone is that text
+pub one_text : {X : Type 0} (write : X → List ℕ) (item : X) → write item ≡ [] ++ flat_map write (item ∷ []) ++ []
+one_text write item = sym (append-nil (flat_map write (item ∷ [])) ∙ append-nil (write item))
 
 -- the first sheets are those of the first parts
 first_sheets : (history : History) (terms : Terms) (sent : List Sent) (count : ℕ) (text : List ℕ)

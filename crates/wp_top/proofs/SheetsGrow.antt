@@ -9,9 +9,9 @@ use Rattle.wp_planner.specs.declared.planner.WavePlan.{WavePlan}
 use Rattle.wp_top.proofs.MadeDays.{plans_more}
 use Rattle.wp_top.proofs.Waves.{one_wave_more}
 use Rattle.wp_top.proofs.Writing.{take_more}
-use Rattle.wp_top.specs.Planned.{IsSentSheet, Sent, waves_of}
+use Rattle.wp_planner.specs.Sent.{Sent, plans_of, waves_of}
+use Rattle.wp_top.specs.Planned.{IsSentSheet}
 use Rattle.wp_top.specs.Sheets.{AreSheets, IsSheetOf}
-use Rattle.wp_top.specs.Summaries.{plans_of}
 
 -- the sheets of waves and that of one more
 sheets_more : (history : History) (terms : Terms) (waves : List WaveHolds) (plans : List WavePlan) (released : WaveHolds) (plan : WavePlan)

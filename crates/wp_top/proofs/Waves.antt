@@ -22,7 +22,8 @@ use Rattle.wp_planner.specs.Plans.{IsPlanFor}
 use Rattle.wp_planner.specs.Released.{IsReleased}
 use Rattle.wp_planner.specs.Terms.{Terms}
 use Rattle.wp_planner.specs.declared.planner.WavePlan.{WavePlan}
-use Rattle.wp_top.specs.Planned.{AreMadeBy, ArePlanned, IsPlanned, IsToldOf, Sent, waves_of}
+use Rattle.wp_planner.specs.Sent.{ArePlanned, IsPlanned, Sent, waves_of}
+use Rattle.wp_top.specs.Planned.{AreMadeBy, IsToldOf}
 use Rattle.wp_top.specs.Runs.{IsHistoryOf}
 use Rattle.wp_top.specs.Sections.{refills_told, told_of, waves_out}
 

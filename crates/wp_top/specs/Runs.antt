@@ -1,5 +1,5 @@
 -- What a job comes to.
-use Rattle.std.specs.Prelude.{◌≡◌, ◌⊎◌, ◌++◌, ℕ, ⊤, List, Err, codes, length}
+use Rattle.std.specs.Prelude.{◌≡◌, ◌⊎◌, ◌++◌, ℕ, ⊤, List, Option, Err, codes, length}
 use Rattle.std.specs.List.{sum_by}
 use Rattle.wp_batch.specs.Waves.{WavePicks}
 use Rattle.wp_cert.specs.Refusals.{IsFirstBroken}
@@ -22,6 +22,8 @@ use Rattle.wp_top.specs.Summaries.{AreGoodPlans, made_files, made_terms, size_of
 use Rattle.wp_top.specs.Texts.{Said, Say, opening_with}
 use Rattle.wp_top.specs.declared.complaint.Finding.{Finding}
 use Rattle.wp_top.specs.declared.complaint.Finding.TheVariants as finding
+use Rattle.wp_planner.specs.Crews.{IsCrewFor, crew_text, day_batches}
+use Rattle.wp_planner.specs.declared.crew.DayCrew.{DayCrew}
 use Rattle.wp_planner.specs.declared.planner.WavePlan.{WavePlan}
 use Rattle.wp_words.specs.Words.{AuditNames, JobNames, MakeNumbers, PlanNames, audit, check, make, plan}
 
@@ -44,11 +46,14 @@ pub record IsPlan (names : PlanNames) (said : Said) (output : List ℕ) : Type 0
   -- each released wave has a good plan: every released order lies in one batch within capacity; no batching costs less than the bound;
   pub plans : List WavePlan
   pub planned : AreGoodPlans said.layout history.opening (terms_of names) (waves_out history) plans
-  -- and its sheet, on which every tour is a shortest closed walk
+  -- and its sheet, on which every tour is a shortest closed walk, with what three usual rules would walk where the words say so;
   pub sheets : List ℕ
   pub printed : AreSheets history (terms_of names) (waves_out history) plans sheets
-  -- this is the text: its journal, the sheets, its refills, the stock after it
-  pub is : output ≡ output_of history sheets
+  -- where the words have pickers, all batches of the sheets are dealt to them, and the longest load is near the least that it can be
+  pub crew : Option DayCrew
+  pub dealt : IsCrewFor names.pickers (day_batches (waves_out history) plans) crew
+  -- this is the text: its journal, the sheets, its refills, the crew, the stock after it
+  pub is : output ≡ output_of history sheets (crew_text crew)
 
 -- What a make promises where it ends with status 0, in the words in which it is promised.
 pub record IsSummary (numbers : MakeNumbers) (output : List ℕ) : Type 0 where

@@ -32,15 +32,11 @@ refills_section stock refills = line (codes "refills") ++ flat_map (refill_lines
 abbrev pub stock_section : Stock → List Row → List ℕ
 stock_section stock rows = line (codes "stock") ++ flat_map (row_line stock) rows ++ line (codes "end stock")
 
--- what follows the refills: nothing
-abbrev pub after_refills : History → List ℕ
-after_refills history = []
-
--- the output of a history and of the sheets of its waves: its journal, the sheets, its refills, what follows them, the stock as it leaves it, and a last
--- line
-abbrev pub output_of : History → List ℕ → List ℕ
-output_of history sheets =
-    journal history.entries ++ sheets ++ refills_section history.opening.stock (refills_told history) ++ after_refills history
+-- the output of a history, of the sheets of its waves and of the crew of their batches: its journal, the sheets, its refills, the section of the crew, the
+-- stock as it leaves it, and a last line
+abbrev pub output_of : History → List ℕ → List ℕ → List ℕ
+output_of history sheets crew =
+    journal history.entries ++ sheets ++ refills_section history.opening.stock (refills_told history) ++ crew
     ++ stock_section history.opening.stock (state_after history).rows ++ line (codes "end")
 
 -- a text is that of the item at a place
@@ -51,6 +47,10 @@ IsTextAt write items number text = text ≡ option_map_or write (slice_get items
 abbrev pub stock_and_end : History → List ℕ
 stock_and_end history = stock_section history.opening.stock (state_after history).rows ++ line (codes "end")
 
--- what comes after the sheets: the refills, what follows them, and the end
-abbrev pub refills_and_end : History → List ℕ
-refills_and_end history = refills_section history.opening.stock (refills_told history) ++ (after_refills history ++ stock_and_end history)
+-- what comes after the refills: the section of the crew, and the end
+abbrev pub crew_and_end : History → List ℕ → List ℕ
+crew_and_end history crew = crew ++ stock_and_end history
+
+-- what comes after the sheets: the refills, and then that
+abbrev pub refills_and_end : History → List ℕ → List ℕ
+refills_and_end history crew = refills_section history.opening.stock (refills_told history) ++ crew_and_end history crew

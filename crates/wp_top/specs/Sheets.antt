@@ -1,5 +1,5 @@
 -- The sheets of the waves that went out.
-use Rattle.std.specs.Prelude.{◌≡◌, ℕ, List, [], ◌∷◌, ◌++◌}
+use Rattle.std.specs.Prelude.{◌≡◌, ◌==◌, ℕ, List, [], ◌∷◌, ◌++◌}
 use Rattle.wp_machine.specs.Outcome.{is_cancelled_later}
 use Rattle.wp_machine.specs.declared.outcome.WaveHolds.{WaveHolds}
 use Rattle.wp_model.specs.History.{History}
@@ -8,9 +8,15 @@ use Rattle.wp_planner.specs.Terms.{Terms}
 use Rattle.wp_planner.specs.declared.planner.WavePlan.{WavePlan}
 use Rattle.wp_words.specs.Words.{PlanNames}
 
--- what the words of a plan say of how waves are planned
+-- what the words of a plan say of how waves are planned, and of what is told of their plans besides
 abbrev pub terms_of : PlanNames → Terms
-terms_of names = record { capacity = names.capacity; budget = names.budget; workers = names.workers }
+terms_of names = record {
+  capacity = names.capacity;
+  budget = names.budget;
+  workers = names.workers;
+  rules = names.rules == 1;
+  pickers = names.pickers;
+}
 
 -- the sheet of a wave that went out in a history and of its plan
 abbrev pub IsSheetOf : History → Terms → WaveHolds → WavePlan → List ℕ → Type 0

@@ -17,7 +17,9 @@ use Rattle.wp_outside.specs.declared.sink.SinkFault.{SinkFault}
 use Rattle.wp_outside.specs.declared.sink.SinkFault.TheVariants as sink_fault
 use Rattle.wp_top.specs.Ends.{Asked, Causes, HasCause, IsOutput, complaint_line, no_cause, of_run}
 use Rattle.wp_top.specs.Runs.{IsHistoryOf, IsRefusedCertificate}
+use Rattle.wp_planner.specs.Crews.{IsCrewFor, crew_text, day_batches}
 use Rattle.wp_planner.specs.Terms.{Terms}
+use Rattle.wp_planner.specs.declared.crew.DayCrew.{DayCrew}
 use Rattle.wp_planner.specs.declared.planner.WavePlan.{WavePlan}
 use Rattle.wp_top.specs.Sections.{output_of, waves_out}
 use Rattle.wp_top.specs.Sheets.{AreSheets}
@@ -124,13 +126,15 @@ pub record HoldMadeDay (holds : List ℕ → Option (List ℕ)) (numbers : MakeN
   pub made : IsMadeDay numbers day
   pub told : HaveSaid (IsTold holds) day_files day
 
--- the output of a history, of good plans of the waves that went out in it, and of their sheets
+-- the output of a history, of good plans of the waves that went out in it, of their sheets, and of the crew of their batches
 pub record IsTextOf (layout : Layout) (terms : Terms) (history : History) (output : List ℕ) : Type 0 where
   pub plans : List WavePlan
   pub planned : AreGoodPlans layout history.opening terms (waves_out history) plans
   pub sheets : List ℕ
   pub printed : AreSheets history terms (waves_out history) plans sheets
-  pub is : output ≡ output_of history sheets
+  pub crew : Option DayCrew
+  pub dealt : IsCrewFor terms.pickers (day_batches (waves_out history) plans) crew
+  pub is : output ≡ output_of history sheets (crew_text crew)
 
 -- the output of a layout, of an opening and of scripts: that of one such history, whatever order the desks came in
 pub record IsDayOf (layout : Layout) (opening : Opening) (terms : Terms) (scripts : List Script) (output : List ℕ) : Type 0 where

@@ -1,6 +1,6 @@
 -- A made day, and its summary.
 use Rattle.std.specs.Prelude.{ℕ, ⊤, Bool, true, false, List, [], ◌∷◌, ◌++◌, codes, count_by, length}
-use Rattle.std.specs.List.{filter_map, sum_by}
+use Rattle.std.specs.List.{sum_by}
 use Rattle.wp_machine.specs.declared.outcome.WaveHolds.{WaveHolds}
 use Rattle.wp_make.specs.Texts.{Texts}
 use Rattle.wp_make.specs.declared.input.Size.{Size}
@@ -16,7 +16,6 @@ use Rattle.wp_planner.specs.Terms.{Terms}
 use Rattle.wp_planner.specs.declared.planner.WavePlan.{WavePlan}
 use Rattle.wp_search.specs.declared.plan.State.{State}
 use Rattle.wp_search.specs.declared.plan.State.TheVariants as states
-use Rattle.wp_top.specs.Planned.{Sent}
 use Rattle.wp_top.specs.Texts.{ReadFile, file_of}
 use Rattle.wp_top.specs.declared.input.Input.{Input}
 use Rattle.wp_top.specs.declared.input.Input.TheVariants as input
@@ -28,7 +27,7 @@ size_of numbers = record { aisles = numbers.aisles; orders = numbers.orders; des
 
 -- and how its waves are to be planned
 abbrev pub made_terms : MakeNumbers → Terms
-made_terms numbers = record { capacity = numbers.capacity; budget = numbers.budget; workers = numbers.workers }
+made_terms numbers = record { capacity = numbers.capacity; budget = numbers.budget; workers = numbers.workers; rules = false; pickers = 0 }
 
 -- a file of a made day: which it is, the name by which it is read, and its text
 abbrev pub made_file : Input → List ℕ → List ℕ → ReadFile
@@ -45,10 +44,6 @@ abbrev pub AreGoodPlans : Layout → Opening → Terms → List WaveHolds → Li
 AreGoodPlans layout opening terms [] [] = ⊤
 AreGoodPlans layout opening terms (released ∷ more) (plan ∷ plans) = IsPlanOf layout opening released terms plan × AreGoodPlans layout opening terms more plans
 AreGoodPlans layout opening terms other others = ⊥
-
--- the plans of the waves that went out
-abbrev pub plans_of : List Sent → List WavePlan
-plans_of sent = filter_map (λ s. s.plan) sent
 
 -- how many entries have the reply that a wave is released
 abbrev pub releases : List Entry → ℕ

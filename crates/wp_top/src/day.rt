@@ -3,7 +3,8 @@ ghost use Rattle.std.specs.Prelude.{◌≡◌, IfOk};
 ghost use Rattle.wp_model.specs.Tables.{IsReadOpening};
 ghost use Rattle.wp_planner.specs.Plans.{IsPlanFor};
 ghost use Rattle.wp_planner.specs.Released.{LiesIn};
-ghost use Rattle.wp_top.specs.Planned.{AreMadeBy, IsToldOf, waves_of};
+ghost use Rattle.wp_planner.specs.Sent.{waves_of};
+ghost use Rattle.wp_top.specs.Planned.{AreMadeBy, IsToldOf};
 ghost use Rattle.wp_top.specs.Sections.{refills_told, waves_out};
 ghost use Rattle.wp_top.specs.Runs.{IsHistoryOf};
 

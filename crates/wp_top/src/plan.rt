@@ -1,5 +1,6 @@
 //! The mode `plan`.
 ghost use Rattle.std.specs.Prelude.{◌≡◌, ◌⊎◌, ◌+◌, [], List, ℕ, None, Ok, IfOk, IfErr, OnOk, false};
+ghost use Rattle.wp_model.specs.Tables.{AreReadScripts};
 ghost use Rattle.wp_outside.specs.Outside.{NoneFalls, SameBytes};
 ghost use Rattle.wp_outside.specs.declared.sink.SinkFault.TheVariants as sink_fault;
 ghost use Rattle.wp_parts.specs.Writing.{Fails, Writes};
@@ -20,7 +21,7 @@ use std::alloc::Global;
 use std::sync::Wait;
 use std::thread::Threads;
 use wp_outside::{Files, Gate, Sink, SinkFault};
-use wp_planner::Terms;
+use wp_planner::{Terms, crew_for};
 use wp_tables::Scripts;
 use wp_words::PlanWords;
 
@@ -31,12 +32,12 @@ struct DayFiles {
     scripts: Scripts,
 }
 
-// What the words say of how waves are planned.
+// What the words say of how waves are planned, and of what is told of their plans besides.
 fn terms_of(words: &PlanWords) -> Terms
     requires { HasRanges (plan_names words.now) }
     ensures { result ≡ terms_of (plan_names words.now) }
 {
-    Terms::of(words.capacity, words.budget, words.workers)
+    Terms::of(words.capacity, words.budget, words.workers).telling(words.rules == 1, words.pickers)
 }
 
 // Reads the four files of a plan, one after the other. The first that isn't read stops it.
@@ -45,6 +46,7 @@ fn read_day<F: Files>(alloc: Global, files: &mut F, words: &PlanWords) -> Result
     ensures said { IfOk result (λ day. HaveSaid (IsHeld (F.told files.old).holds) (files_of (plan (plan_names words.now)))
         (day_said day.warehouse.layout (opening_with day.warehouse.opening None) day.scripts)) }
     ensures units { IfOk result (λ day. day.warehouse.opening.units ≡ (plan_names words.now).units) }
+    ensures read { IfOk result (λ day. AreReadScripts day.scripts) }
     ensures stops { IfErr result (StopsFor (of_run (Ok (plan_job words.now)) (F.told files.old) (F.told files.new))) }
     ensures same { SameBytes (F.told files.old).holds (F.told files.new).holds }
     ensures counts { NoneFalls (F.told files.old).faults (F.told files.new).faults }
@@ -62,13 +64,15 @@ fn read_day<F: Files>(alloc: Global, files: &mut F, words: &PlanWords) -> Result
     Ok(DayFiles { warehouse, scripts })
 }
 
-// Runs a day of these scripts in a warehouse, and writes its output. Nothing is written where memory runs out before the desks are back.
+// Runs a day of these scripts in a warehouse, and writes its output. Nothing is written where memory runs out before the desks are back and
+// the batches are dealt.
 fn write_planned<R: Threads + Wait + Sync, K: Sink, G: Gate>(
     resources: &Resources<'_, R, G>,
     files: &DayFiles,
     terms: &Terms,
     out: &mut K,
 ) -> Result<(), SinkFault>
+    requires { AreReadScripts files.now.scripts }
     ensures writes { OnOk result ((text : List ℕ)
         × IsDayOf files.now.warehouse.layout files.now.warehouse.opening terms.now files.now.scripts text × Writes (K.told out.old) (K.told out.new) [] [] text) }
     ensures fails { IfErr result (λ fault. ((text : List ℕ)
@@ -78,10 +82,12 @@ fn write_planned<R: Threads + Wait + Sync, K: Sink, G: Gate>(
 {
     let warehouse = &files.warehouse;
     let run = run_day(resources, warehouse, terms, &files.scripts)?;
+    let crew = crew_for(resources.alloc, run.plans.as_slice(), terms.pickers())?;
     let day = PlannedDay {
         opening: &warehouse.opening,
         terms,
         run: &run,
+        crew: &crew,
     };
     write_day(resources.alloc, out, &day)
 }

@@ -1,12 +1,14 @@
 //! The sections of a day's output, of which the parts are printed one after the other.
-ghost use Rattle.std.specs.Prelude.{◌≡◌, ◌<◌, ◌++◌, ⊤, All, IfOk, Some, length, map, slice_get};
+ghost use Rattle.std.specs.Prelude.{◌≡◌, ◌<◌, ◌++◌, ℕ, ⊤, [], ◌∷◌, All, IfOk, List, Some, length, map, slice_get};
 ghost use Rattle.wp_machine.specs.Outcome.{is_cancelled_later};
 ghost use Rattle.wp_model.specs.History.{state_after};
 ghost use Rattle.wp_model.specs.Journal.{entry_line};
 ghost use Rattle.wp_model.specs.Warehouse.{Layout as Block};
 ghost use Rattle.wp_parts.specs.Texts.{GrowsBy};
 ghost use Rattle.wp_sheets.specs.StockLines.{refill_lines, row_line};
-ghost use Rattle.wp_top.specs.Planned.{ArePlanned, IsPlanned, IsSentSheet, IsSheetAt};
+ghost use Rattle.wp_planner.specs.Crews.{AreDealt, DayBatch, IsCrewFor, crew_text};
+ghost use Rattle.wp_planner.specs.Sent.{ArePlanned, IsPlanned};
+ghost use Rattle.wp_top.specs.Planned.{IsSentSheet, IsSheetAt};
 ghost use Rattle.wp_top.specs.Sections.{IsTextAt};
 
 use std::alloc::Global;
@@ -15,8 +17,8 @@ use wp_desk::Planned;
 use wp_machine::{Machine, Opening, Refill, WaveHolds};
 use wp_model::{Entry, Memory, Row, WaveState};
 use wp_parts::Parts;
-use wp_planner::{SentWave, Terms, WavePlan, print_sheet};
-use wp_sheets::{print_refill, print_row};
+use wp_planner::{DayCrew, SentWave, Terms, WavePlan, print_sheet};
+use wp_sheets::{print_crew, print_refill, print_row};
 use wp_tables::Stock;
 
 /// The lines of a journal's entries.
@@ -146,6 +148,50 @@ impl Parts for RefillLines<'_> {
 
     fn print(&self, alloc: Global, number: usize, text: &mut Vec<u8>) -> Result<(), Memory> {
         print_taken(alloc, text, self.stock, &self.refills[number])
+    }
+}
+
+/// The section of the crew to which all batches of a day are dealt, if there is one, as one part.
+#[derive(Drop)]
+pub struct CrewLines<'a> {
+    pub crew: &'a Option<DayCrew>,
+}
+
+// Adds the section of a crew.
+fn print_dealt(alloc: Global, text: &mut Vec<u8>, dealt: &DayCrew) -> Result<(), Memory>
+    requires { (pickers : ℕ) × (batches : List DayBatch) × AreDealt pickers batches dealt.now }
+    ensures { IfOk result (λ _. text.new.items ≡ text.old.items ++ crew_text (Some dealt.now)) }
+{
+    let batches = &dealt.batches;
+    let section = print_crew(alloc, &dealt.crew, &batches.waves, &batches.numbers)?;
+    text.extend_from_slice(&section)?;
+    Ok(())
+}
+
+// Adds the section of a crew, if there is one.
+fn print_if_dealt(alloc: Global, text: &mut Vec<u8>, crew: &Option<DayCrew>) -> Result<(), Memory>
+    requires { (pickers : ℕ) × (batches : List DayBatch) × IsCrewFor pickers batches crew.now }
+    ensures { IfOk result (λ _. text.new.items ≡ text.old.items ++ crew_text crew.now) }
+{
+    match crew {
+        Some(dealt) => print_dealt(alloc, text, dealt),
+        None => Ok(()),
+    }
+}
+
+impl Parts for CrewLines<'_> {
+    ghost count = { λ lines. 1 };
+
+    ghost says = { λ lines. IsTextAt crew_text (lines.crew.now ∷ []) };
+
+    ghost can_print = { λ lines. (pickers : ℕ) × (batches : List DayBatch) × IsCrewFor pickers batches lines.crew.now };
+
+    fn count(&self) -> usize {
+        1
+    }
+
+    fn print(&self, alloc: Global, _number: usize, text: &mut Vec<u8>) -> Result<(), Memory> {
+        print_if_dealt(alloc, text, self.crew)
     }
 }
 

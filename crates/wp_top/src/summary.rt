@@ -1,9 +1,9 @@
 //! The summary of a made day.
 ghost use Rattle.std.specs.Prelude.{◌≡◌, ◌<◌, ◌≤◌, ◌+◌, ◌-◌, ◌^◌, ◌∷◌, ◌++◌, [], IfOk, string_bytes};
 ghost use Rattle.wp_model.specs.History.{IsLegal, state_after};
-ghost use Rattle.wp_top.specs.Planned.{waves_of};
+ghost use Rattle.wp_planner.specs.Sent.{plans_of, waves_of};
 ghost use Rattle.wp_top.specs.Sections.{waves_out};
-ghost use Rattle.wp_top.specs.Summaries.{commands_line, held_units, is_proven, made_line, plans_line, plans_of, proven_plans, releases, size_words, summary_of, total_bound, total_cost};
+ghost use Rattle.wp_top.specs.Summaries.{commands_line, held_units, is_proven, made_line, plans_line, proven_plans, releases, size_words, summary_of, total_bound, total_cost};
 ghost use Rattle.wp_words.specs.Reading.{make_numbers};
 
 use crate::make::size_of;

@@ -3,27 +3,30 @@ ghost use Rattle.std.specs.Prelude.{◌≡◌, ◌++◌, [], List, ℕ, IfErr, O
 ghost use Rattle.wp_model.specs.Journal.{journal};
 ghost use Rattle.wp_model.specs.Warehouse.{Layout as Block};
 ghost use Rattle.wp_parts.specs.Writing.{Fails, Writes};
-ghost use Rattle.wp_top.specs.Planned.{IsToldOf, waves_of};
-ghost use Rattle.wp_top.specs.Sections.{refills_and_end, stock_and_end};
+ghost use Rattle.wp_planner.specs.Crews.{crew_text};
+ghost use Rattle.wp_planner.specs.Sent.{plans_of, waves_of};
+ghost use Rattle.wp_top.specs.Planned.{HasCrew, IsToldOf};
+ghost use Rattle.wp_top.specs.Sections.{crew_and_end, refills_and_end, stock_and_end};
 ghost use Rattle.wp_top.specs.Sheets.{AreSheets};
 ghost use Rattle.wp_top.specs.Stops.{IsTextOf};
-ghost use Rattle.wp_top.specs.Summaries.{plans_of};
 
-use crate::sections::{DaySheets, JournalLines, RefillLines, StockRows};
+use crate::sections::{CrewLines, DaySheets, JournalLines, RefillLines, StockRows};
 use std::alloc::Global;
 use wp_desk::DayRun;
 use wp_machine::Opening;
 use wp_model::Entry;
 use wp_outside::{Sink, SinkFault};
 use wp_parts::{Section, room, write_rest, write_section};
-use wp_planner::{Terms, WavePlan};
+use wp_planner::{DayCrew, Terms, WavePlan};
 
-/// A day that is over: the opening from which it went on, the terms of its plans, and what the desks give.
+/// A day that is over: the opening from which it went on, the terms of its plans, what the desks give, and the crew to which all batches
+/// are dealt, where the terms have pickers.
 #[derive(Drop)]
 pub struct PlannedDay<'a, 'b> {
     pub opening: &'a Opening,
     pub terms: &'a Terms,
     pub run: &'a DayRun<'b, Option<WavePlan>>,
+    pub crew: &'a Option<DayCrew>,
     pub ghost own: { run.now.machine.opening ≡ opening.now },
 }
 
@@ -50,16 +53,42 @@ fn write_stock<K: Sink>(
     write_rest(out, waiting, b"end\n")
 }
 
-// Writes the refills, and then the stock and the last line.
+// Writes the section of the crew, if there is one, and then the stock and the last line.
+fn write_crew<K: Sink>(
+    alloc: Global,
+    out: &mut K,
+    waiting: &mut Vec<u8>,
+    day: &PlannedDay<'_, '_>,
+) -> Result<(), SinkFault>
+    requires dealt { HasCrew day.now.terms.now day.now.run.now day.now.crew.now }
+    ensures writes { OnOk result (Writes (K.told out.old) (K.told out.new) waiting.old.items []
+        (crew_and_end day.now.run.now.machine (crew_text day.now.crew.now))) }
+    ensures fails { IfErr result (λ fault. Fails fault (K.told out.old) (K.told out.new)
+        (waiting.old.items ++ crew_and_end day.now.run.now.machine (crew_text day.now.crew.now))) }
+{
+    let lines = CrewLines { crew: day.crew };
+    let section = Section {
+        heading: b"",
+        parts: &lines,
+        ending: b"",
+    };
+    write_section(alloc, out, waiting, &section)?;
+    write_stock(alloc, out, waiting, day)
+}
+
+// Writes the refills, and then all that comes after them.
 fn write_refills<K: Sink>(
     alloc: Global,
     out: &mut K,
     waiting: &mut Vec<u8>,
     day: &PlannedDay<'_, '_>,
 ) -> Result<(), SinkFault>
-    requires { (layout : Block) × IsToldOf layout day.now.terms.now day.now.run.now }
-    ensures writes { OnOk result (Writes (K.told out.old) (K.told out.new) waiting.old.items [] (refills_and_end day.now.run.now.machine)) }
-    ensures fails { IfErr result (λ fault. Fails fault (K.told out.old) (K.told out.new) (waiting.old.items ++ refills_and_end day.now.run.now.machine)) }
+    requires told { (layout : Block) × IsToldOf layout day.now.terms.now day.now.run.now }
+    requires dealt { HasCrew day.now.terms.now day.now.run.now day.now.crew.now }
+    ensures writes { OnOk result (Writes (K.told out.old) (K.told out.new) waiting.old.items []
+        (refills_and_end day.now.run.now.machine (crew_text day.now.crew.now))) }
+    ensures fails { IfErr result (λ fault. Fails fault (K.told out.old) (K.told out.new)
+        (waiting.old.items ++ refills_and_end day.now.run.now.machine (crew_text day.now.crew.now))) }
 {
     let lines = RefillLines {
         stock: day.opening.stock(),
@@ -71,7 +100,7 @@ fn write_refills<K: Sink>(
         ending: b"end refills\n",
     };
     write_section(alloc, out, waiting, &section)?;
-    write_stock(alloc, out, waiting, day)
+    write_crew(alloc, out, waiting, day)
 }
 
 // Writes the sheets, and then all that comes after them.
@@ -81,13 +110,16 @@ fn write_sheets<K: Sink>(
     waiting: &mut Vec<u8>,
     day: &PlannedDay<'_, '_>,
 ) -> Result<(), SinkFault>
-    requires { (layout : Block) × IsToldOf layout day.now.terms.now day.now.run.now }
+    requires told { (layout : Block) × IsToldOf layout day.now.terms.now day.now.run.now }
+    requires dealt { HasCrew day.now.terms.now day.now.run.now day.now.crew.now }
     ensures writes { OnOk result ((sheets : List ℕ) × AreSheets day.now.run.now.machine day.now.terms.now (waves_of day.now.run.now.plans.items)
         (plans_of day.now.run.now.plans.items) sheets
-        × Writes (K.told out.old) (K.told out.new) waiting.old.items [] (sheets ++ refills_and_end day.now.run.now.machine)) }
+        × Writes (K.told out.old) (K.told out.new) waiting.old.items []
+        (sheets ++ refills_and_end day.now.run.now.machine (crew_text day.now.crew.now))) }
     ensures fails { IfErr result (λ fault. (sheets : List ℕ) × AreSheets day.now.run.now.machine day.now.terms.now
         (waves_of day.now.run.now.plans.items) (plans_of day.now.run.now.plans.items) sheets
-        × Fails fault (K.told out.old) (K.told out.new) (waiting.old.items ++ (sheets ++ refills_and_end day.now.run.now.machine))) }
+        × Fails fault (K.told out.old) (K.told out.new)
+        (waiting.old.items ++ (sheets ++ refills_and_end day.now.run.now.machine (crew_text day.now.crew.now)))) }
 {
     let sheets = DaySheets {
         opening: day.opening,
@@ -115,6 +147,7 @@ fn write_entries<K: Sink>(
     requires none { waiting.old.items ≡ [] }
     requires told { (layout : Block) × IsToldOf layout day.now.terms.now day.now.run.now }
     requires all { map (λ entry. entry.now) entries.now ≡ day.now.run.now.machine.entries }
+    requires dealt { HasCrew day.now.terms.now day.now.run.now day.now.crew.now }
     ensures writes { (layout : Block) → IsToldOf layout day.now.terms.now day.now.run.now → OnOk result ((text : List ℕ)
         × IsTextOf layout day.now.terms.now day.now.run.now.machine text × Writes (K.told out.old) (K.told out.new) [] [] text) }
     ensures fails { (layout : Block) → IsToldOf layout day.now.terms.now day.now.run.now → IfErr result (λ fault. (text : List ℕ)
@@ -131,14 +164,15 @@ fn write_entries<K: Sink>(
 }
 
 /// Writes the output of a day: the journal of all that the desks asked, in the order in which it was answered, a sheet for each wave that
-/// went out, and the refills and the stock as they leave it. The room in which parts wait is taken before the first is written. After
+/// went out, the refills, the crew where there is one, and the stock as they leave it. The room in which parts wait is taken before the first is written. After
 /// an `Err` the sink took a beginning of such an output: `Failed` comes from the sink, and `Memory` from it or from a want of memory.
 pub fn write_day<K: Sink>(
     alloc: Global,
     out: &mut K,
     day: &PlannedDay<'_, '_>,
 ) -> Result<(), SinkFault>
-    requires { (layout : Block) × IsToldOf layout day.now.terms.now day.now.run.now }
+    requires told { (layout : Block) × IsToldOf layout day.now.terms.now day.now.run.now }
+    requires dealt { HasCrew day.now.terms.now day.now.run.now day.now.crew.now }
     ensures writes { (layout : Block) → IsToldOf layout day.now.terms.now day.now.run.now → OnOk result ((text : List ℕ)
         × IsTextOf layout day.now.terms.now day.now.run.now.machine text × Writes (K.told out.old) (K.told out.new) [] [] text) }
     ensures fails { (layout : Block) → IsToldOf layout day.now.terms.now day.now.run.now → IfErr result (λ fault. (text : List ℕ)

@@ -1,5 +1,6 @@
 use Rattle.std.proofs.Common.{◌≡◌, ◌*◌, ◌≤◌, take}
-use Rattle.wp_top.specs.Summaries.{plans_of, proven_plans, total_bound, total_cost}
+use Rattle.wp_planner.specs.Sent.{plans_of}
+use Rattle.wp_top.specs.Summaries.{proven_plans, total_bound, total_cost}
 use Rattle.wp_top.proofs.summary.totals_of.Given as goal
 
 -- the plans so far were added

@@ -5,9 +5,10 @@ use Rattle.wp_top.proofs.Taken.{IsWithin}
 use Rattle.std.proofs.lemmas.Result.{IfErr-weaker, IfOk-weaker, err_from_is_err_and}
 use Rattle.wp_model.specs.Journal.{line}
 use Rattle.wp_model.specs.Opening.{Opening, Stock}
+use Rattle.wp_planner.specs.Crews.{crew_text}
 use Rattle.wp_sheets.specs.StockLines.{refill_lines}
 use Rattle.wp_top.proofs.SectionTexts.{lines_fail, lines_then, lines_then_fail, told_section}
-use Rattle.wp_top.specs.Sections.{refills_section, refills_told, stock_and_end}
+use Rattle.wp_top.specs.Sections.{crew_and_end, refills_section, refills_told}
 use Rattle.wp_top.proofs.written.write_refills.Goals as goal
 
 pub returns-in_err-write_section-clause-fails : goal.returns-in_err-write_section-clause-fails
@@ -16,10 +17,10 @@ returns-in_err-write_section-clause-fails g c =
     let day = c.args.day.now in
     let history = day.run.now.machine in
     let stock : history.opening.stock ≡ c.stock.result.now = ap (λ (o : Opening). o.stock) day.own ∙ sym c.stock.ensures.stock in
-    let told : refills_told history ≡ c.as_slice.result.now = sym (c.as_slice.ensures.value ∙ c.requires.1.refills) in
+    let told : refills_told history ≡ c.as_slice.result.now = sym (c.as_slice.ensures.value ∙ c.requires.told.1.refills) in
     rw (p.1, p.2)
     (lines_fail (refill_lines c.stock.result.now) c.as_slice.result.now _ (line (codes "refills")) (line (codes "end refills"))
-    (refills_section history.opening.stock (refills_told history)) (stock_and_end history) c.args.waiting.now.items _ _ _ refl
+    (refills_section history.opening.stock (refills_told history)) (crew_and_end history (crew_text day.crew.now)) c.args.waiting.now.items _ _ _ refl
     (told_section _ _ _ _ stock told) c.in_err-write_section.ensures.fails)
 
 pub returns-clause-writes : goal.returns-clause-writes
@@ -27,31 +28,31 @@ returns-clause-writes g c =
     let day = c.args.day.now in
     let history = day.run.now.machine in
     let stock : history.opening.stock ≡ c.stock.result.now = ap (λ (o : Opening). o.stock) day.own ∙ sym c.stock.ensures.stock in
-    let told : refills_told history ≡ c.as_slice.result.now = sym (c.as_slice.ensures.value ∙ c.requires.1.refills) in
-    IfOk-weaker c.write_stock.result _ _
+    let told : refills_told history ≡ c.as_slice.result.now = sym (c.as_slice.ensures.value ∙ c.requires.told.1.refills) in
+    IfOk-weaker c.write_crew.result _ _
     (λ done rest. lines_then (refill_lines c.stock.result.now) c.as_slice.result.now _ (line (codes "refills")) (line (codes "end refills"))
-    (refills_section history.opening.stock (refills_told history)) (stock_and_end history) c.args.waiting.now.items _ _ _ _ _ refl
+    (refills_section history.opening.stock (refills_told history)) (crew_and_end history (crew_text day.crew.now)) c.args.waiting.now.items _ _ _ _ _ refl
     (told_section _ _ _ _ stock told) c.in_ok-write_section.ensures.writes rest)
-    c.write_stock.ensures.writes
+    c.write_crew.ensures.writes
 
 pub returns-clause-fails : goal.returns-clause-fails
 returns-clause-fails g c =
     let day = c.args.day.now in
     let history = day.run.now.machine in
     let stock : history.opening.stock ≡ c.stock.result.now = ap (λ (o : Opening). o.stock) day.own ∙ sym c.stock.ensures.stock in
-    let told : refills_told history ≡ c.as_slice.result.now = sym (c.as_slice.ensures.value ∙ c.requires.1.refills) in
-    IfErr-weaker c.write_stock.result _ _
+    let told : refills_told history ≡ c.as_slice.result.now = sym (c.as_slice.ensures.value ∙ c.requires.told.1.refills) in
+    IfErr-weaker c.write_crew.result _ _
     (λ fault rest. lines_then_fail (refill_lines c.stock.result.now) c.as_slice.result.now _ (line (codes "refills")) (line (codes "end refills"))
-    (refills_section history.opening.stock (refills_told history)) (stock_and_end history) c.args.waiting.now.items _ _ _ _ _ refl
+    (refills_section history.opening.stock (refills_told history)) (crew_and_end history (crew_text day.crew.now)) c.args.waiting.now.items _ _ _ _ _ refl
     (told_section _ _ _ _ stock told) c.in_ok-write_section.ensures.writes rest)
-    c.write_stock.ensures.fails
+    c.write_crew.ensures.fails
 
 pub write_section-requires-clause-ready : goal.write_section-requires-clause-ready
 write_section-requires-clause-ready g c =
     let day = c.args.day.now in
     let history = day.run.now.machine in
     let stock : history.opening.stock ≡ c.stock.result.now = ap (λ (o : Opening). o.stock) day.own ∙ sym c.stock.ensures.stock in
-    let told : refills_told history ≡ c.as_slice.result.now = sym (c.as_slice.ensures.value ∙ c.requires.1.refills) in
+    let told : refills_told history ≡ c.as_slice.result.now = sym (c.as_slice.ensures.value ∙ c.requires.told.1.refills) in
     subst (λ (s : Stock). All (IsWithin (length s.rows)) c.as_slice.result.now) stock
     (subst (All (IsWithin (length history.opening.stock.rows))) told
     (refills_after history (subst IsReadOpening (sym day.own) c.stock.ensures.read)))
