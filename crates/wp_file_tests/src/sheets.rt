@@ -1,13 +1,17 @@
-//! Lines of sheets, refills and rows with numbers that no run comes to.
-ghost use Rattle.std.specs.Prelude.{◌≡◌, IfOk, [], length};
+//! Lines of sheets, refills and rows with numbers that no run comes to, and lines of rules and crews that were worked by hand.
+ghost use Rattle.std.specs.Prelude.{◌≡◌, ◌≤◌, ◌^◌, ◌↔◌, IfOk, IsTrue, [], length};
+ghost use Rattle.std.specs.List.{All};
 
 use std::alloc::Global;
 use std::test::Fail;
+use wp_crew::assign;
 use wp_graph::{Layout, Point};
 use wp_machine::{Refill, WaveHolds};
 use wp_model::{Holds, Location, Memory, Name, Names, Row, Side};
 use wp_pairs::Batch;
-use wp_sheets::{BatchSheet, print_batch, print_heading, print_refill, print_row};
+use wp_sheets::{
+    BatchSheet, print_batch, print_crew, print_heading, print_refill, print_row, print_rules,
+};
 use wp_tables::{RowFault, Stock, read_stock};
 
 fn stock_of(alloc: Global, text: &[u8]) -> Result<Stock, RowFault> {
@@ -159,5 +163,143 @@ fn a_refill_of_no_units_has_no_lines(rt: HostRuntime) -> Result<(), Fail> {
     let stock = stock_of(rt.alloc(), b"location,article,on_hand\n")?;
     let text = refill_text(rt.alloc(), &stock)?;
     assert!(rt; text.is_empty());
+    Ok(())
+}
+
+/// What S-shape, return and largest gap walk, the length of a shortest tour, and the line of these rules.
+const RULES: &[([u64; 3], u64, &str)] = &[
+    (
+        [50, 62, 48],
+        48,
+        "rules s-shape 50 2 return 62 14 largest-gap 48 0\n",
+    ),
+    (
+        [38, 50, 40],
+        38,
+        "rules s-shape 38 0 return 50 12 largest-gap 40 2\n",
+    ),
+    (
+        [34, 34, 34],
+        34,
+        "rules s-shape 34 0 return 34 0 largest-gap 34 0\n",
+    ),
+];
+
+/// Whether rules have this line, where none walks less than a shortest tour.
+fn is_rules_line(
+    alloc: Global,
+    walked: [u64; 3],
+    shortest: u64,
+    wanted: &str,
+) -> Result<bool, Memory> {
+    let [shape, back, gap] = walked;
+    if shape < shortest || back < shortest || gap < shortest {
+        return Ok(false);
+    }
+    let line = print_rules(alloc, shape, back, gap, shortest)?;
+    Ok(line.as_slice() == wanted.as_bytes())
+}
+
+/// The first line that rules have otherwise.
+fn other_rules_line(alloc: Global) -> Result<Option<&'static str>, Memory> {
+    for (walked, shortest, wanted) in RULES {
+        if !is_rules_line(alloc, *walked, *shortest, *wanted)? {
+            return Ok(Some(*wanted));
+        }
+    }
+    Ok(None)
+}
+
+#[test]
+fn rules_have_their_lengths_and_surpluses(rt: HostRuntime) -> Result<(), Fail> {
+    assert_eq!(rt; other_rules_line(rt.alloc())?, None);
+    Ok(())
+}
+
+/// Whether each length is one that may be dealt.
+fn are_lengths(lengths: &[u64]) -> bool
+    ensures { IsTrue result ↔ All (λ one. (1 ≤ one) × (one ≤ 2 ^ 40)) lengths.now }
+{
+    lengths
+        .iter()
+        .all(|length| 1 <= *length && *length <= 1 << 40)
+}
+
+/// The section of a crew for batches of one wave with these lengths, numbered from 1.
+fn section_of(
+    alloc: Global,
+    lengths: &[u64],
+    numbers: &[u32],
+    pickers: u32,
+) -> Result<Vec<u8>, Memory>
+    requires some { 1 ≤ pickers }
+    requires most { pickers ≤ 100 }
+    requires count { length lengths.now ≤ 1000000 }
+    requires each { All (λ one. (1 ≤ one) × (one ≤ 2 ^ 40)) lengths.now }
+    requires numbers { length numbers.now ≡ length lengths.now }
+{
+    let wave = name_of(b"W1")?;
+    let crew = assign(alloc, lengths, pickers)?;
+    let names = vec![in alloc; wave; numbers.len()]?;
+    print_crew(alloc, &crew, &names, numbers)
+}
+
+/// Lengths and numbers of batches of the wave W1, a number of pickers, and the section of their crew.
+const CREWS: &[(&[u64], &[u32], u32, &str)] = &[
+    (
+        &[26, 22],
+        &[1, 2],
+        2,
+        "crew longest 26 least 26\npicker 1 load 26 batches W1/1\npicker 2 load 22 batches W1/2\nend crew\n",
+    ),
+    (
+        &[7],
+        &[1],
+        3,
+        "crew longest 7 least 7\npicker 1 load 7 batches W1/1\npicker 2 load 0 batches\npicker 3 load 0 batches\nend crew\n",
+    ),
+    (
+        &[5, 6, 1],
+        &[1, 2, 3],
+        2,
+        "crew longest 6 least 6\npicker 1 load 6 batches W1/1 W1/3\npicker 2 load 6 batches W1/2\nend crew\n",
+    ),
+    (
+        &[],
+        &[],
+        1,
+        "crew longest 0 least 0\npicker 1 load 0 batches\nend crew\n",
+    ),
+];
+
+/// Whether the crew for these lengths has this section, where it may be made.
+fn is_section(
+    alloc: Global,
+    lengths: &[u64],
+    numbers: &[u32],
+    pickers: u32,
+    wanted: &str,
+) -> Result<bool, Memory> {
+    let few = lengths.len() <= 1_000_000 && 1 <= pickers && pickers <= 100;
+    if !few || numbers.len() != lengths.len() || !are_lengths(lengths) {
+        return Ok(false);
+    }
+    let section = section_of(alloc, lengths, numbers, pickers)?;
+    Ok(section.as_slice() == wanted.as_bytes())
+}
+
+/// The first section that a crew has otherwise.
+fn other_section(alloc: Global) -> Result<Option<&'static str>, Memory> {
+    for (lengths, numbers, pickers, wanted) in CREWS {
+        if !is_section(alloc, *lengths, *numbers, *pickers, *wanted)? {
+            return Ok(Some(*wanted));
+        }
+    }
+    Ok(None)
+}
+
+#[test]
+fn a_crew_has_its_pickers_and_their_batches(rt: HostRuntime) -> Result<(), Fail> {
+    assert_eq!(rt; other_section(rt.alloc())?, None);
     Ok(())
 }

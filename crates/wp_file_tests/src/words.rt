@@ -19,6 +19,14 @@ fn with_units(alloc: Global, text: String, units: Option<u32>) -> Result<String,
     }
 }
 
+/// A text, and behind it the number of a switch, where it isn't 0.
+fn with_switch(alloc: Global, text: String, name: &str, number: u32) -> Result<String, AllocError> {
+    match number {
+        0 => Ok(text),
+        number => format!(in alloc; "{text}, {number} {name}"),
+    }
+}
+
 fn plan_text(alloc: Global, words: &PlanWords) -> Result<String, AllocError> {
     let PlanWords {
         layout,
@@ -29,11 +37,15 @@ fn plan_text(alloc: Global, words: &PlanWords) -> Result<String, AllocError> {
         units,
         budget,
         workers,
+        rules,
+        pickers,
     } = words;
     let text = format!(in alloc;
         "plan {layout}, {stock}, {orders}, {desks}, {capacity}, {budget}, {workers}"
     )?;
-    with_units(alloc, text, *units)
+    let text = with_units(alloc, text, *units)?;
+    let text = with_switch(alloc, text, "rules", *rules)?;
+    with_switch(alloc, text, "pickers", *pickers)
 }
 
 fn check_text(alloc: Global, words: &CheckWords) -> Result<String, AllocError> {
@@ -228,7 +240,7 @@ fn jobs_are_read(rt: HostRuntime) {
 /// The words of a plan but for its numbers.
 const FILES: &str = "plan --layout l --stock s --orders o --desks d";
 
-/// Numbers of a plan, and the capacity, the budget and the workers that they are read as.
+/// Numbers of a plan, and the capacity, the budget, the workers, the units and the switches that they are read as.
 const NUMBERS: &[(&str, &str)] = &[
     (" --capacity 1", "1, 2000000, 1"),
     (" --capacity 8", "8, 2000000, 1"),
@@ -260,6 +272,24 @@ const NUMBERS: &[(&str, &str)] = &[
     (
         " --workers=4 --units=7 --budget=5 --capacity=6",
         "6, 5, 4, 7 units",
+    ),
+    (" --capacity 2 --rules 0", "2, 2000000, 1"),
+    (" --capacity 2 --rules 1", "2, 2000000, 1, 1 rules"),
+    (" --rules=-0 --capacity 2", "2, 2000000, 1"),
+    (" --pickers=0 --capacity 2", "2, 2000000, 1"),
+    (" --capacity 2 --pickers 1", "2, 2000000, 1, 1 pickers"),
+    (" --pickers=100 --capacity 2", "2, 2000000, 1, 100 pickers"),
+    (
+        " --rules 1 --pickers 0 --capacity 2",
+        "2, 2000000, 1, 1 rules",
+    ),
+    (
+        " --capacity 2 --pickers +02 --rules=+0000000000000000000000001",
+        "2, 2000000, 1, 1 rules, 2 pickers",
+    ),
+    (
+        " --pickers=8 --workers=4 --rules=1 --units=7 --budget=5 --capacity=6",
+        "6, 5, 4, 7 units, 1 rules, 8 pickers",
     ),
 ];
 
@@ -326,13 +356,72 @@ const BAD_UNITS: &[&str] = &[
 /// Units that a plan and an audit take.
 const GOOD_UNITS: &[&str] = &["--units 1", "--units=5", "--units 40000000"];
 
-/// The first units that a command takes.
+/// Commands with all that they want, and switches that they don't take.
+const REFUSED_SWITCHES: &[(&str, &[&str])] = &[
+    (
+        "plan --layout l --stock s --orders o --desks d --capacity 2",
+        BAD_SWITCHES,
+    ),
+    (
+        "audit --layout l --stock s --orders o --journal j",
+        GOOD_SWITCHES,
+    ),
+    ("check --layout l --certificate c", GOOD_SWITCHES),
+    (
+        "make --number 1 --aisles 1 --orders 1 --desks 1 --wave 1 --capacity 1",
+        GOOD_SWITCHES,
+    ),
+];
+
+/// Switches whose numbers are out of their ranges or aren't whole, or that aren't given at most once and with a number.
+const BAD_SWITCHES: &[&str] = &[
+    "--rules 2",
+    "--rules=2",
+    "--rules 100",
+    "--pickers 101",
+    "--pickers=101",
+    "--rules -1",
+    "--rules=-1",
+    "--pickers=-1",
+    "--pickers -0",
+    "--rules 4294967296",
+    "--pickers 4294967296",
+    "--rules=18446744073709551616",
+    "--rules 0.5",
+    "--pickers 1e1",
+    "--rules x",
+    "--pickers x",
+    "--rules=",
+    "--pickers=",
+    "--rules",
+    "--pickers",
+    "--rules --pickers 1",
+    "--rules 1 --rules 1",
+    "--rules=0 --rules 1",
+    "--pickers 5 --pickers 5",
+    "--pickers=0 --pickers 6",
+    "--rules 1 --pickers 5 --rules 1",
+    "--rule 1",
+    "--picker 5",
+    "-rules 1",
+];
+
+/// Switches that a plan takes.
+const GOOD_SWITCHES: &[&str] = &[
+    "--rules 0",
+    "--rules=1",
+    "--pickers 0",
+    "--pickers=100",
+    "--rules 1 --pickers 5",
+];
+
+/// The first of some words that a command takes.
 fn taken_among(
     alloc: Global,
     command: &str,
-    units: &[&'static str],
+    refused: &[&'static str],
 ) -> Result<Option<&'static str>, AllocError> {
-    for words in units {
+    for words in refused {
         let line = format!(in alloc; "{command} {words}")?;
         if !is_read(alloc, line.as_str(), "bad-words")? {
             return Ok(Some(*words));
@@ -341,10 +430,13 @@ fn taken_among(
     Ok(None)
 }
 
-/// The first bad units that are taken.
-fn taken_units(alloc: Global) -> Result<Option<&'static str>, AllocError> {
-    for (command, units) in REFUSED_UNITS {
-        let taken = taken_among(alloc, command, units)?;
+/// The first words that are taken, of those that each command doesn't take.
+fn first_taken(
+    alloc: Global,
+    refused: &[(&str, &[&'static str])],
+) -> Result<Option<&'static str>, AllocError> {
+    for (command, words) in refused {
+        let taken = taken_among(alloc, command, words)?;
         if taken.is_some() {
             return Ok(taken);
         }
@@ -354,5 +446,10 @@ fn taken_units(alloc: Global) -> Result<Option<&'static str>, AllocError> {
 
 #[test]
 fn bad_units_are_refused(rt: HostRuntime) {
-    assert_eq!(rt; taken_units(rt.alloc()), Ok(None));
+    assert_eq!(rt; first_taken(rt.alloc(), REFUSED_UNITS), Ok(None));
+}
+
+#[test]
+fn bad_switches_are_refused(rt: HostRuntime) {
+    assert_eq!(rt; first_taken(rt.alloc(), REFUSED_SWITCHES), Ok(None));
 }
