@@ -1,5 +1,5 @@
--- Lengths that a wave keeps: none, one more, one in place of another, and one that is read.
-use Rattle.std.proofs.Common.{◌≡◌, ℕ, ◌<◌, List, [], length, get_or, sym, subst}
+-- Lengths that a wave keeps: none, one in a part of them, and one that is read.
+use Rattle.std.proofs.Common.{◌≡◌, ℕ, ◌<◌, List, [], arith, length, get_or, sym, subst}
 use Rattle.std.proofs.lemmas.List.Elements.{All-get_or, All-nil}
 use Rattle.wp_batch.specs.declared.lengths.Length.{Length}
 use Rattle.wp_batch.specs.KeptLengths.{HaveLengths, IsKept}
@@ -23,3 +23,9 @@ pub kept_read : (now wave : WavePicks) (lengths : List Length) (place : ℕ) (ke
     → place < length lengths → kept ≡ get_or lengths place kept → kept.batch ≡ batch → IsLengthOf now batch kept.length
 kept_read now wave lengths place kept batch view all within is same =
     subst (λ (xs : List ℕ). IsLengthOf now xs kept.length) same (kept_there now wave lengths place kept view all within is).is
+
+-- what stands in a part is kept
+pub kept_in_part : (wave : WavePicks) (part : List Length) (count offset : ℕ) (kept default : Length) → HaveLengths wave part → length part ≡ count
+    → offset < count → get_or part offset default ≡ kept → IsKept wave kept
+kept_in_part wave part count offset kept default all same within is =
+    subst (IsKept wave) is (all offset default (omega (arith, same, within)))

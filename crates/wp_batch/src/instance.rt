@@ -16,7 +16,7 @@ pub struct Instance<'a> {
 impl Instance<'_> {
     /// Whether a batch has an order, no more than the capacity, and fits the cart, if there is one.
     pub fn is_fit(&self, batch: Batch) -> bool
-        ensures { IsTrue result → IsFit self.now.wave.now self.now.capacity batch }
+        ensures { IsTrue result ↔ IsFit self.now.wave.now self.now.capacity batch }
     {
         let orders = batch.len();
         if orders < 1 || self.capacity < orders {

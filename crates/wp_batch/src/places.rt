@@ -15,6 +15,20 @@ pub struct Places {
     wider: [[u64; 65]; 9],
 }
 
+/// The place of a batch, and the last place of those that begin with it: theirs are all places between the two.
+#[derive(Clone, Copy)]
+pub struct Span {
+    pub first: u64,
+    pub last: u64,
+}
+
+/// A part of a list of all batches: their places in the whole list, and the place at which the part begins.
+#[derive(Clone, Copy)]
+pub struct Part<'a> {
+    pub places: &'a Places,
+    pub start: u64,
+}
+
 // No way to go on from any order on.
 fn no_ways() -> [u64; 65] {
     [0; 65]
@@ -83,8 +97,23 @@ impl Places {
         self.wider[0][0].saturating_add(1)
     }
 
+    /// How many orders a batch has at most.
+    pub fn capacity(&self) -> u32
+        ensures { result ≡ self.now.capacity }
+    {
+        self.capacity
+    }
+
     /// The place of a batch. None comes exactly for one with more orders than the capacity, or than eight.
     pub fn place_of(&self, batch: Batch) -> Option<u64>
+        ensures { IsSome result ↔ ((length batch ≤ self.now.capacity) × (length batch ≤ 8)) }
+    {
+        Some(self.span_of(batch)?.first)
+    }
+
+    /// The places of a batch and of those that begin with it. None comes exactly for one with more orders than the capacity, or
+    /// than eight.
+    pub fn span_of(&self, batch: Batch) -> Option<Span>
         ensures { IsSome result ↔ ((length batch ≤ self.now.capacity) × (length batch ≤ 8)) }
     {
         let size = batch.len();
@@ -93,16 +122,29 @@ impl Places {
         }
         // the last place of those that begin with the orders so far, and the first order that can come next
         let mut last = self.wider[0][0];
-        let mut first: usize = 0;
+        let mut next: usize = 0;
         let mut rest = batch;
         for count in 0..size as usize {
             let Some(order) = rest.least() else {
                 break;
             };
-            first = order as usize + 1;
-            last = last.saturating_sub(self.wider[count][first]);
+            next = order as usize + 1;
+            last = last.saturating_sub(self.wider[count][next]);
             rest = rest.without(order);
         }
-        Some(last.saturating_sub(self.wider[size as usize][first]))
+        let first = last.saturating_sub(self.wider[size as usize][next]);
+        Some(Span { first, last })
+    }
+}
+
+impl Part<'_> {
+    /// The first place of a span, counted from where the part begins. None comes where it lies before the part.
+    pub fn place_of(&self, span: Span) -> Option<u64> {
+        span.first.checked_sub(self.start)
+    }
+
+    /// Whether the part, with so many places, has one of a span.
+    pub fn meets(&self, span: Span, count: usize) -> bool {
+        self.start <= span.last && span.first < self.start.saturating_add(count as u64)
     }
 }

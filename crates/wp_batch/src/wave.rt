@@ -1,4 +1,4 @@
-ghost use Rattle.std.specs.Prelude.{◌≡◌, ◌≤◌, ◌<◌, ◌^◌, ◌↔◌, ◌⊎◌, ◌++◌, ℕ, All, Contains, IfOk, IfSome, IsTrue, None, Some, length};
+ghost use Rattle.std.specs.Prelude.{◌≡◌, ◌≤◌, ◌<◌, ◌*◌, ◌^◌, ◌↔◌, ◌⊎◌, ◌++◌, ℕ, All, Contains, IfOk, IfSome, IsTrue, None, Some, length};
 ghost use Rattle.wp_model.specs.declared.point.Point.{Point as PointData};
 ghost use Rattle.wp_model.specs.Warehouse.{Layout as Block};
 ghost use Rattle.wp_pairs.specs.Carts.{FitsAnyCart, IsCartFor};
@@ -8,9 +8,11 @@ ghost use Rattle.wp_batch.specs.KeptLengths.{HaveLengths, IsPicked};
 ghost use Rattle.wp_batch.specs.Lengths.{IsLengthOf, batch_picks};
 
 use crate::lengths::{Later, Length, PickedBatch};
-use crate::places::Places;
+use crate::places::{Part, Places};
 use std::alloc::Global;
 use std::marker::Model;
+use std::thread;
+use std::thread::Threads;
 use wp_fast::tour_length;
 use wp_graph::{Layout, Picks};
 use wp_model::Memory;
@@ -18,6 +20,9 @@ use wp_pairs::{Batch, Cart, Pairs};
 
 /// How many lengths are kept at most: 64 MiB have room for so many.
 const MOST_LENGTHS: u64 = 4_194_304;
+
+/// How many lengths a worker is worth: to begin a thread takes as long as to find some hundred lengths.
+const LENGTHS_FOR_ONE: usize = 1_000;
 
 /// A wave of 1 to 64 orders: a layout, the slots at which each order picks, and a cart with what each order loads, if there is
 /// one. An order is named by its place, from 0 on.
@@ -64,6 +69,15 @@ fn copies_of(alloc: Global, layout: &Layout, orders: &Vec<Picks>) -> Result<Vec<
         copies.push(copy_of(layout, picks))?;
     }
     Ok(copies)
+}
+
+// How many of so many lengths are a worker's part. There are no more such parts than workers.
+fn part_size(count: usize, workers: u32) -> usize
+    requires { 1 ≤ workers }
+    ensures some { 0 < result }
+    ensures few { count ≤ workers * result }
+{
+    count.div_ceil(workers as usize).max(LENGTHS_FOR_ONE)
 }
 
 impl Wave {
@@ -216,7 +230,29 @@ impl Wave {
         ensures { self.new ≡ self.old }
     {
         let places = Places::of(self.orders(), capacity);
-        let lengths = self.lengths_of(alloc, &places, capacity)?;
+        let mut lengths = self.blank_lengths(alloc, &places)?;
+        self.keep_part(&places, 0, lengths.as_mut_slice());
+        self.places = places;
+        self.lengths = lengths;
+        Ok(())
+    }
+
+    /// The same by up to so many workers, 1 to 16, that find the lengths beside each other, each in a thread of its own but for
+    /// one. No more take part than the lengths are worth. What is kept doesn't depend on the workers.
+    pub fn keep_lengths_by<R: Threads + Sync>(
+        &mut self,
+        rt: &R,
+        alloc: Global,
+        capacity: u32,
+        workers: u32,
+    ) -> Result<(), Memory>
+        requires some { 1 ≤ workers }
+        requires most { workers ≤ 16 }
+        ensures { self.new ≡ self.old }
+    {
+        let places = Places::of(self.orders(), capacity);
+        let mut lengths = self.blank_lengths(alloc, &places)?;
+        self.keep_parts(rt, &places, workers, lengths.as_mut_slice());
         self.places = places;
         self.lengths = lengths;
         Ok(())
@@ -237,59 +273,82 @@ impl Wave {
         None
     }
 
-    // The lengths of all batches of at most so many orders, each at its place.
-    fn lengths_of(
-        &self,
-        alloc: Global,
-        places: &Places,
-        capacity: u32,
-    ) -> Result<Vec<Length>, Memory>
+    // The batch of no order as often as there are places, or never where there are too many of them.
+    fn blank_lengths(&self, alloc: Global, places: &Places) -> Result<Vec<Length>, Memory>
         ensures { IfOk result (λ lengths. HaveLengths self.now lengths.items) }
     {
         let count = places.count();
         if count > MOST_LENGTHS {
             return Ok(Vec::new(alloc));
         }
-        let mut lengths = self.blank_lengths(alloc, count)?;
+        let batch = Batch::empty();
+        let length = self.batch_length(batch);
+        let blank = Length { batch, length };
+        let lengths = vec![in alloc; blank; count as usize]?;
+        Ok(lengths)
+    }
+
+    // Keeps the lengths of all batches: each worker finds those of a part of the list.
+    fn keep_parts<R: Threads + Sync>(
+        &self,
+        rt: &R,
+        places: &Places,
+        workers: u32,
+        lengths: &mut [Length],
+    )
+        requires some { 1 ≤ workers }
+        requires kept { HaveLengths self.now lengths.old }
+        ensures { HaveLengths self.now lengths.new }
+    {
+        let wave = self;
+        let size = part_size(lengths.len(), workers);
+        thread::for_each_chunk_mut(
+            rt,
+            lengths,
+            size,
+            &|start: usize, part: &mut [Length]|
+                requires { HaveLengths wave.now part.now }
+                ensures { HaveLengths wave.entry.now part.exit.now × (length part.exit.now ≡ length part.entry.now) }
+            { wave.keep_part(places, start, part) },
+        );
+    }
+
+    // Keeps the lengths of those batches whose places lie in a part of the list, which begins at a place.
+    fn keep_part(&self, places: &Places, start: usize, lengths: &mut [Length])
+        requires { HaveLengths self.now lengths.old }
+        ensures { HaveLengths self.now lengths.new }
+    {
         let batch = Batch::empty();
         let none = PickedBatch {
             batch,
             union: self.union_of(batch),
         };
-        let later = Later {
+        let all = Later {
             first: 0,
-            most: capacity,
+            most: places.capacity(),
         };
-        self.keep_all(places, &mut lengths, &none, later);
-        Ok(lengths)
+        let part = Part {
+            places,
+            start: start as u64,
+        };
+        self.keep_all(&part, lengths, &none, all);
     }
 
-    // So many times the batch of no order.
-    fn blank_lengths(&self, alloc: Global, count: u64) -> Result<Vec<Length>, Memory>
-        ensures { IfOk result (λ lengths. HaveLengths self.now lengths.items) }
-    {
-        let batch = Batch::empty();
-        let length = self.batch_length(batch);
-        let mut lengths = Vec::new(alloc);
-        for _ in 0..count {
-            lengths.push(Length { batch, length })?;
-        }
-        Ok(lengths)
-    }
-
-    // Keeps the length of a batch and of each with up to so many further orders.
-    fn keep_all(
-        &self,
-        places: &Places,
-        lengths: &mut Vec<Length>,
-        picked: &PickedBatch,
-        later: Later,
-    )
+    // Keeps the length of a batch and of each with up to so many further orders, as far as their places lie in a part.
+    fn keep_all(&self, part: &Part<'_>, lengths: &mut [Length], picked: &PickedBatch, later: Later)
         requires picked { IsPicked self.now picked.now }
-        requires kept { HaveLengths self.now lengths.old.items }
-        ensures { HaveLengths self.now lengths.new.items }
+        requires kept { HaveLengths self.now lengths.old }
+        ensures { HaveLengths self.now lengths.new }
     {
-        self.keep_one(places, lengths, picked);
+        let Some(span) = part.places.span_of(picked.batch) else {
+            return;
+        };
+        if !part.meets(span, lengths.len()) {
+            return;
+        }
+        if let Some(place) = part.place_of(span) {
+            self.keep_one(lengths, picked, place);
+        }
         if later.most == 0 {
             return;
         }
@@ -302,22 +361,20 @@ impl Wave {
                 first: order + 1,
                 most: later.most - 1,
             };
-            self.keep_all(places, lengths, &wider, after);
+            self.keep_all(part, lengths, &wider, after);
         }
     }
 
-    // Keeps the length of a batch at its place.
-    fn keep_one(&self, places: &Places, lengths: &mut Vec<Length>, picked: &PickedBatch)
+    // Keeps the length of a batch at a place, if there is one.
+    fn keep_one(&self, lengths: &mut [Length], picked: &PickedBatch, place: u64)
         requires picked { IsPicked self.now picked.now }
-        requires kept { HaveLengths self.now lengths.old.items }
-        ensures { HaveLengths self.now lengths.new.items }
+        requires kept { HaveLengths self.now lengths.old }
+        ensures { HaveLengths self.now lengths.new }
     {
-        let batch = picked.batch;
-        let length = tour_length(&self.layout, &picked.union);
-        if let Some(place) = places.place_of(batch) {
-            if place < lengths.len() as u64 {
-                lengths[place as usize] = Length { batch, length };
-            }
+        if place < lengths.len() as u64 {
+            let batch = picked.batch;
+            let length = tour_length(&self.layout, &picked.union);
+            lengths[place as usize] = Length { batch, length };
         }
     }
 

@@ -2,6 +2,7 @@ ghost use Rattle.std.specs.Prelude.{◌≤◌, ◌<◌, ℕ, Contains, IsTrue};
 ghost use Rattle.wp_batch.specs.Batchings.{IsBatching};
 
 use std::alloc::Global;
+use std::thread::Threads;
 use wp_batch::{Batching, Marks, Wave, joined, merged_start};
 use wp_pairs::Batch;
 use wp_samples::{Slots, are_exactly, batch_below, batch_of, wave_of};
@@ -61,6 +62,34 @@ fn wrong_length(alloc: Global) -> Option<usize> {
 #[test]
 fn batches_have_the_lengths_of_their_tours(rt: HostRuntime) {
     assert_eq!(rt; wrong_length(rt.alloc()), None);
+}
+
+/// The lengths of all batches of two orders of a wave, one after the other.
+fn lengths_of_two(alloc: Global, wave: &Wave) -> Option<Vec<u64>> {
+    let mut lengths = Vec::new(alloc);
+    for left in 0..wave.orders() {
+        for right in left + 1..wave.orders() {
+            lengths.push(length_of(wave, &[left, right])?).ok()?;
+        }
+    }
+    Some(lengths)
+}
+
+/// Whether lengths that so many workers keep are those that are computed.
+fn are_as_computed<R: Threads + Sync>(rt: &R, alloc: Global, workers: u32) -> Option<bool> {
+    let mut wave = wave_of(alloc, MANY, 21)?;
+    let computed = lengths_of_two(alloc, &wave)?;
+    wave.keep_lengths_by(rt, alloc, 2, workers.clamp(1, 16))
+        .ok()?;
+    let kept = lengths_of_two(alloc, &wave)?;
+    Some(kept == computed)
+}
+
+#[test]
+fn workers_keep_the_lengths_that_are_computed(rt: HostRuntime) {
+    for workers in [1, 2, 16] {
+        assert_eq!(rt; are_as_computed(&rt, rt.alloc(), workers), Some(true));
+    }
 }
 
 /// Waves, how often their orders are repeated, a capacity, and the batches of the start.

@@ -10,6 +10,6 @@ returns c = let whole = c.is.ensures.0 c.if-not-is.false in record {
     );
     apart = c.meets.ensures.none c.if-meets.false;
   };
-  left = c.is_fit.ensures c.if-not-is_fit.false;
-  right = c.is_fit-else-not-is_fit.ensures c.if-not-is_fit-2.false;
+  left = c.is_fit.ensures.0 c.if-not-is_fit.false;
+  right = c.is_fit-else-not-is_fit.ensures.0 c.if-not-is_fit-2.false;
 }

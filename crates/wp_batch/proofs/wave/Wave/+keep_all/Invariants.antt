@@ -5,4 +5,4 @@ abbrev pub decreases-keep_all : goal.decreases-keep_all
 decreases-keep_all l = l.later.most
 
 abbrev pub invariant-loop-order : goal.invariant-loop-order
-invariant-loop-order l = HaveLengths l.self l.lengths.items
+invariant-loop-order l = HaveLengths l.self l.lengths

@@ -8,8 +8,8 @@ use Rattle.wp_batch.specs.Waves.{WavePicks}
 use Rattle.wp_batch.proofs.Unions.{same_shortest}
 use Rattle.wp_batch.proofs.wave.Wave.keep_one.Goals as goal
 
-pub returns-then-place-len : goal.returns-then-place-len
-returns-then-place-len c =
+pub returns-then-place-lengths : goal.returns-then-place-lengths
+returns-then-place-lengths c =
     let is : IsLengthOf c.args.self.now c.args.picked.now.batch c.tour_length-length.result =
     subst (λ (layout : Layout). IsShortest layout (batch_picks c.args.self.now c.args.picked.now.batch) c.tour_length-length.result)
     (ap (λ (w : WavePicks). w.layout) c.self.view_is)
