@@ -8,7 +8,7 @@ use Rattle.wp_desk.specs.declared.told.Told.{Told}
 use Rattle.wp_machine.specs.Outcome.{refill_in, released_in}
 use Rattle.wp_machine.specs.declared.outcome.Outcome.{Outcome}
 use Rattle.wp_machine.specs.declared.outcome.WaveHolds.{WaveHolds}
-use Rattle.wp_model.specs.Opening.{Opening}
+use Rattle.wp_model.specs.History.{History}
 use Rattle.wp_model.specs.declared.command.Command.{Command}
 use Rattle.wp_turn.proofs.Sums.{only-same}
 use Rattle.wp_turn.specs.Calls.{IsAmong}
@@ -24,20 +24,20 @@ if_no_err (Err fault) P none if = absurd (true≢false none)
 
 module _ {T : Type 0} where
   -- a desk that has done commands has done one more once that is answered and what its step told is kept
-  pub done_more : (opening : Opening) (commands : List Command) (pass after : Seen) (command : Command) (outcome : Outcome) (old new : Told T)
-      (Plans : WaveHolds → T → Type 0) → pass.callers ≡ pass.caller ∷ [] → HasDone opening commands pass old → IsAnswered opening pass after command outcome
-      → IsKept Plans old new outcome → HasDone opening (commands ++ command ∷ []) after new
-  done_more opening commands pass after command outcome old new Plans alone done answered kept =
+  pub done_more : (start : History) (commands : List Command) (pass after : Seen) (command : Command) (outcome : Outcome) (old new : Told T)
+      (Plans : WaveHolds → T → Type 0) → pass.callers ≡ pass.caller ∷ [] → HasDone start commands pass old → IsAnswered start pass after command outcome
+      → IsKept Plans old new outcome → HasDone start (commands ++ command ∷ []) after new
+  done_more start commands pass after command outcome old new Plans alone done answered kept =
       let before = answered.before in
       let among : IsAmong pass.caller pass.callers = subst (IsAmong pass.caller) (sym alone) (among_own pass.caller) in
-      subst (λ (p : Seen). HasDone opening (commands ++ command ∷ []) p new) (sym answered.last) (record {
-        asked = asked_more (history_of opening before) pass.caller before commands command
+      subst (λ (p : Seen). HasDone start (commands ++ command ∷ []) p new) (sym answered.last) (record {
+        asked = asked_more (history_of start before) pass.caller before commands command
             (asked_later pass.caller pass.calls before pass.callers commands answered.follow among done.asked);
         waves = kept.waves
-            ∙ (ap (λ waves. waves ++ released_in outcome) (done.waves ∙ sym (waves_later opening pass.caller pass.calls before pass.callers answered.follow among))
-            ∙ (ap (λ o. waves_by opening before pass.caller ++ released_in o) answered.tells ∙ sym (waves_more opening pass.caller before command)));
+            ∙ (ap (λ waves. waves ++ released_in outcome) (done.waves ∙ sym (waves_later start pass.caller pass.calls before pass.callers answered.follow among))
+            ∙ (ap (λ o. waves_by start before pass.caller ++ released_in o) answered.tells ∙ sym (waves_more start pass.caller before command)));
         refills = kept.refills
             ∙ (ap (λ refills. refills ++ refill_in outcome)
-            (done.refills ∙ sym (refills_later opening pass.caller pass.calls before pass.callers answered.follow among))
-            ∙ (ap (λ o. refills_by opening before pass.caller ++ refill_in o) answered.tells ∙ sym (refills_more opening pass.caller before command)));
+            (done.refills ∙ sym (refills_later start pass.caller pass.calls before pass.callers answered.follow among))
+            ∙ (ap (λ o. refills_by start before pass.caller ++ refill_in o) answered.tells ∙ sym (refills_more start pass.caller before command)));
       })

@@ -1,3 +1,4 @@
+pub mod GoingOn
 pub mod Parts
 pub mod Whole
 pub mod Rising

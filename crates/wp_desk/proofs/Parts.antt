@@ -1,17 +1,18 @@
 -- The part of a desk grows by its own calls, and stays where others call.
-use Rattle.std.proofs.Common.{◌≡◌, ◌∙◌, refl, sym, ap, subst, ℕ, suc, ◌+◌, Bool, true, false, List, [], ◌∷◌, ◌++◌, length, map, arith, cond, eq-eqb}
+use Rattle.std.proofs.Common.{◌≡◌, ◌∙◌, refl, sym, ap, subst, ℕ, suc, ◌+◌, Bool, true, false, List, [], ◌∷◌, ◌++◌, length, length-append, map, arith, cond, eq-eqb}
 use Rattle.std.proofs.Common.{append-nil}
 use Rattle.std.specs.Prelude.{◌==◌, if◌then◌else◌}
 use Rattle.std.specs.List.{All, flat_map}
 use Rattle.std.proofs.lemmas.Bool.{cond-true}
 use Rattle.std.proofs.lemmas.Grind.{flat_map-append}
 use Rattle.std.proofs.lemmas.List.{append_cancel_left, map_push}
+use Rattle.wp_desk.proofs.GoingOn.{state_goes_on}
 use Rattle.wp_desk.specs.Parts.{HasAsked, history_of, refills_by, told_from, told_to, waves_by}
 use Rattle.wp_machine.specs.Outcome.{outcome_of, refill_in, released_in}
 use Rattle.wp_machine.specs.declared.outcome.Outcome.{Outcome}
 use Rattle.wp_model.specs.History.{History, next_entry, state_after, state_from}
 use Rattle.wp_model.specs.Opening.{Opening}
-use Rattle.wp_model.specs.State.{State, opening_state}
+use Rattle.wp_model.specs.State.{State}
 use Rattle.wp_model.specs.Step.{step}
 use Rattle.wp_model.specs.declared.command.Command.{Command}
 use Rattle.wp_model.specs.declared.entry.Entry.{Entry}
@@ -21,9 +22,10 @@ use Rattle.wp_turn.specs.Calls.{IsAmong, calls_of, entries_of}
 use Rattle.wp_turn.specs.Told.{Extends}
 
 -- what the step of one more command tells, after calls
-abbrev pub next_told : Opening → List (ℕ × Entry) → Command → Outcome
-next_told opening calls command =
-    outcome_of (length (entries_of calls)) (state_after (history_of opening calls)) command (step opening (state_after (history_of opening calls)) command)
+abbrev pub next_told : History → List (ℕ × Entry) → Command → Outcome
+next_told start calls command =
+    outcome_of (length (history_of start calls).entries) (state_after (history_of start calls)) command
+    (step start.opening (state_after (history_of start calls)) command)
 
 -- a call goes before what is told, or doesn't
 onto_told : (mine : Bool) (told : Outcome) (xs ys zs : List Outcome) → xs ≡ ys ++ zs
@@ -46,24 +48,28 @@ told_from-append desk opening number state (call ∷ calls) more =
     (told_from-append desk opening (number + 1) after calls more
     ∙ ap (λ n. told_from desk opening (number + 1) after calls ++ told_from desk opening n (state_from opening after (entries_of calls)) more) shifted)
 
-zero_more : (n : ℕ) → 0 + n ≡ n
-zero_more n = omega arith
-
--- what is told to a desk by calls in two parts, from the opening on
-told_to-append : (desk : ℕ) (opening : Opening) (calls more : List (ℕ × Entry))
-    → told_to desk opening (calls ++ more) ≡ told_to desk opening calls
-    ++ told_from desk opening (length (entries_of calls)) (state_after (history_of opening calls)) more
-told_to-append desk opening calls more = told_from-append desk opening 0 (opening_state opening) calls more
-    ∙ ap (λ n. told_to desk opening calls ++ told_from desk opening n (state_after (history_of opening calls)) more) (zero_more (length (entries_of calls)))
+-- what is told to a desk by calls in two parts, from the history to begin with on
+told_to-append : (desk : ℕ) (start : History) (calls more : List (ℕ × Entry))
+    → told_to desk start (calls ++ more) ≡ told_to desk start calls
+    ++ told_from desk start.opening (length (history_of start calls).entries) (state_after (history_of start calls)) more
+told_to-append desk start calls more =
+    let told = told_to desk start calls in
+    let counted : length start.entries + length (entries_of calls) ≡ length (history_of start calls).entries =
+    sym (length-append start.entries (entries_of calls)) in
+    let after : state_from start.opening (state_after start) (entries_of calls) ≡ state_after (history_of start calls) =
+    sym (state_goes_on start (entries_of calls)) in
+    told_from-append desk start.opening (length start.entries) (state_after start) calls more
+    ∙ (ap (λ n. told ++ told_from desk start.opening n (state_from start.opening (state_after start) (entries_of calls)) more) counted
+    ∙ ap (λ state. told ++ told_from desk start.opening (length (history_of start calls).entries) state more) after)
 
 -- where a desk calls, it is told what the step tells
-pub told_more : (opening : Opening) (desk : ℕ) (calls : List (ℕ × Entry)) (command : Command)
-    → told_to desk opening (calls ++ (desk, next_entry (history_of opening calls) desk command) ∷ [])
-    ≡ told_to desk opening calls ++ outcome_of (length (entries_of calls)) (state_after (history_of opening calls)) command
-    (step opening (state_after (history_of opening calls)) command) ∷ []
-told_more opening desk calls command =
-    told_to-append desk opening calls ((desk, next_entry (history_of opening calls) desk command) ∷ [])
-    ∙ ap (λ os. told_to desk opening calls ++ os) (cond-true (desk == desk) (next_told opening calls command ∷ []) [] (eq-eqb desk desk refl))
+pub told_more : (start : History) (desk : ℕ) (calls : List (ℕ × Entry)) (command : Command)
+    → told_to desk start (calls ++ (desk, next_entry (history_of start calls) desk command) ∷ [])
+    ≡ told_to desk start calls ++ outcome_of (length (history_of start calls).entries) (state_after (history_of start calls)) command
+    (step start.opening (state_after (history_of start calls)) command) ∷ []
+told_more start desk calls command =
+    told_to-append desk start calls ((desk, next_entry (history_of start calls) desk command) ∷ [])
+    ∙ ap (λ os. told_to desk start calls ++ os) (cond-true (desk == desk) (next_told start calls command ∷ []) [] (eq-eqb desk desk refl))
 
 flat_map_more : {X : Type 0} (told_in : Outcome → List X) (all told : List Outcome) (next : Outcome) → all ≡ told ++ next ∷ []
     → flat_map told_in all ≡ flat_map told_in told ++ told_in next
@@ -71,20 +77,20 @@ flat_map_more told_in all told next more = ap (flat_map told_in) more
     ∙ (flat_map-append told_in told (next ∷ []) ∙ ap (λ xs. flat_map told_in told ++ xs) (append-nil (told_in next)))
 
 -- and it sends out the wave that the step sends out
-pub waves_more : (opening : Opening) (desk : ℕ) (calls : List (ℕ × Entry)) (command : Command)
-    → waves_by opening (calls ++ (desk, next_entry (history_of opening calls) desk command) ∷ []) desk
-    ≡ waves_by opening calls desk ++ released_in (outcome_of (length (entries_of calls)) (state_after (history_of opening calls)) command
-    (step opening (state_after (history_of opening calls)) command))
-waves_more opening desk calls command = flat_map_more released_in _ (told_to desk opening calls) (next_told opening calls command)
-    (told_more opening desk calls command)
+pub waves_more : (start : History) (desk : ℕ) (calls : List (ℕ × Entry)) (command : Command)
+    → waves_by start (calls ++ (desk, next_entry (history_of start calls) desk command) ∷ []) desk
+    ≡ waves_by start calls desk ++ released_in (outcome_of (length (history_of start calls).entries) (state_after (history_of start calls)) command
+    (step start.opening (state_after (history_of start calls)) command))
+waves_more start desk calls command = flat_map_more released_in _ (told_to desk start calls) (next_told start calls command)
+    (told_more start desk calls command)
 
 -- and it has the refill that the step tells
-pub refills_more : (opening : Opening) (desk : ℕ) (calls : List (ℕ × Entry)) (command : Command)
-    → refills_by opening (calls ++ (desk, next_entry (history_of opening calls) desk command) ∷ []) desk
-    ≡ refills_by opening calls desk ++ refill_in (outcome_of (length (entries_of calls)) (state_after (history_of opening calls)) command
-    (step opening (state_after (history_of opening calls)) command))
-refills_more opening desk calls command = flat_map_more refill_in _ (told_to desk opening calls) (next_told opening calls command)
-    (told_more opening desk calls command)
+pub refills_more : (start : History) (desk : ℕ) (calls : List (ℕ × Entry)) (command : Command)
+    → refills_by start (calls ++ (desk, next_entry (history_of start calls) desk command) ∷ []) desk
+    ≡ refills_by start calls desk ++ refill_in (outcome_of (length (history_of start calls).entries) (state_after (history_of start calls)) command
+    (step start.opening (state_after (history_of start calls)) command))
+refills_more start desk calls command = flat_map_more refill_in _ (told_to desk start calls) (next_told start calls command)
+    (told_more start desk calls command)
 
 -- an entry goes before a desk's calls, or doesn't
 onto_calls : (mine : Bool) (entry : Entry) (xs ys zs : List Entry) → xs ≡ ys ++ zs → cond mine (entry ∷ xs) xs ≡ cond mine (entry ∷ ys) ys ++ zs
@@ -111,28 +117,28 @@ told_nothing desk opening number state (call ∷ calls) none =
     (told_nothing desk opening (number + 1) (step opening state call.1.command).state calls) none
 
 -- where others call, a desk is told no more
-pub told_later : (opening : Opening) (desk : ℕ) (before calls : List (ℕ × Entry)) (callers : List ℕ) → Extends before callers calls → IsAmong desk callers
-    → told_to desk opening calls ≡ told_to desk opening before
-told_later opening desk before calls callers extends among =
+pub told_later : (start : History) (desk : ℕ) (before calls : List (ℕ × Entry)) (callers : List ℕ) → Extends before callers calls → IsAmong desk callers
+    → told_to desk start calls ≡ told_to desk start before
+told_later start desk before calls callers extends among =
     let more = extends.begins.0 in
     let own : calls_of desk before ++ calls_of desk more ≡ calls_of desk before ++ [] =
     sym (calls_of-append desk before more) ∙ (ap (calls_of desk) extends.begins.1 ∙ (extends.own desk among ∙ sym (append-nil (calls_of desk before)))) in
     let none : calls_of desk more ≡ [] = append_cancel_left (calls_of desk before) (calls_of desk more) [] own in
-    ap (told_to desk opening) (sym extends.begins.1)
-    ∙ (told_to-append desk opening before more
-    ∙ (ap (λ os. told_to desk opening before ++ os)
-    (told_nothing desk opening (length (entries_of before)) (state_after (history_of opening before)) more none)
-    ∙ append-nil (told_to desk opening before)))
+    ap (told_to desk start) (sym extends.begins.1)
+    ∙ (told_to-append desk start before more
+    ∙ (ap (λ os. told_to desk start before ++ os)
+    (told_nothing desk start.opening (length (history_of start before).entries) (state_after (history_of start before)) more none)
+    ∙ append-nil (told_to desk start before)))
 
 -- and it sends out no more waves
-pub waves_later : (opening : Opening) (desk : ℕ) (before calls : List (ℕ × Entry)) (callers : List ℕ) → Extends before callers calls → IsAmong desk callers
-    → waves_by opening calls desk ≡ waves_by opening before desk
-waves_later opening desk before calls callers extends among = ap (flat_map released_in) (told_later opening desk before calls callers extends among)
+pub waves_later : (start : History) (desk : ℕ) (before calls : List (ℕ × Entry)) (callers : List ℕ) → Extends before callers calls → IsAmong desk callers
+    → waves_by start calls desk ≡ waves_by start before desk
+waves_later start desk before calls callers extends among = ap (flat_map released_in) (told_later start desk before calls callers extends among)
 
 -- and it has no more refills
-pub refills_later : (opening : Opening) (desk : ℕ) (before calls : List (ℕ × Entry)) (callers : List ℕ) → Extends before callers calls
-    → IsAmong desk callers → refills_by opening calls desk ≡ refills_by opening before desk
-refills_later opening desk before calls callers extends among = ap (flat_map refill_in) (told_later opening desk before calls callers extends among)
+pub refills_later : (start : History) (desk : ℕ) (before calls : List (ℕ × Entry)) (callers : List ℕ) → Extends before callers calls
+    → IsAmong desk callers → refills_by start calls desk ≡ refills_by start before desk
+refills_later start desk before calls callers extends among = ap (flat_map refill_in) (told_later start desk before calls callers extends among)
 
 -- a desk that asks one more command has asked it
 pub asked_more : (history : History) (desk : ℕ) (calls : List (ℕ × Entry)) (commands : List Command) (command : Command) → HasAsked calls desk commands

@@ -9,14 +9,15 @@ use Rattle.std.proofs.lemmas.List.{get_or-map, length-map}
 use Rattle.std.proofs.lemmas.List.Elements.{All-cons, All-contains_itself, All-head, All-nil, All-tail, All-weaker}
 use Rattle.std.proofs.lemmas.List.Sorted.{All-permutation, sum_by-IsPermutation}
 use Rattle.std.proofs.lemmas.List.Sums.{sum_by-cons}
-use Rattle.wp_machine.specs.Outcome.{missing_outcome, outcome_of, outcomes_from, refill_in, refills_of, release_outcome, released_in, released_of}
+use Rattle.wp_desk.specs.GoingOn.{refills_after, released_after}
+use Rattle.wp_machine.specs.Outcome.{missing_outcome, outcome_of, outcomes_from, refill_in, release_outcome, released_in}
 use Rattle.wp_machine.specs.declared.outcome.Outcome.{Outcome}
 use Rattle.wp_machine.specs.declared.outcome.Outcome.TheVariants as outcome
 use Rattle.wp_machine.specs.declared.outcome.Refill.{Refill}
 use Rattle.wp_machine.specs.declared.outcome.WaveHolds.{WaveHolds}
-use Rattle.wp_model.specs.History.{History}
+use Rattle.wp_model.specs.History.{History, state_after}
 use Rattle.wp_model.specs.Opening.{Opening}
-use Rattle.wp_model.specs.State.{State, Wave, opening_state}
+use Rattle.wp_model.specs.State.{State, Wave}
 use Rattle.wp_model.specs.Step.{Stepped, step, wave_from}
 use Rattle.wp_model.specs.declared.command.Command.{Command}
 use Rattle.wp_model.specs.declared.command.Command.TheVariants as command
@@ -188,12 +189,12 @@ one_refill number outcome.Plain is = tt
 one_refill number (outcome.Released wave) is = tt
 one_refill number (outcome.Refilled refill) is = is
 
--- the numbers of the waves that went out rise
-pub waves_rise : (history : History) → Rise (λ (wave : WaveHolds). wave.number) (released_of history)
-waves_rise history =
-    (told_rise (λ (wave : WaveHolds). wave.number) released_in one_wave history.opening 0 (opening_state history.opening) history.entries).1
+-- the numbers of the waves that entries send out after a history rise
+pub waves_rise : (start : History) (entries : List Entry) → Rise (λ (wave : WaveHolds). wave.number) (released_after start entries)
+waves_rise start entries =
+    (told_rise (λ (wave : WaveHolds). wave.number) released_in one_wave start.opening (length start.entries) (state_after start) entries).1
 
--- the numbers of the refills rise
-pub refills_rise : (history : History) → Rise (λ (refill : Refill). refill.number) (refills_of history)
-refills_rise history =
-    (told_rise (λ (refill : Refill). refill.number) refill_in one_refill history.opening 0 (opening_state history.opening) history.entries).1
+-- and the numbers of their refills rise
+pub refills_rise : (start : History) (entries : List Entry) → Rise (λ (refill : Refill). refill.number) (refills_after start entries)
+refills_rise start entries =
+    (told_rise (λ (refill : Refill). refill.number) refill_in one_refill start.opening (length start.entries) (state_after start) entries).1

@@ -9,13 +9,14 @@ use Rattle.std.proofs.lemmas.List.{reverse-append}
 use Rattle.std.proofs.lemmas.List.Elements.{All-cons, All-head, All-nil, All-tail}
 use Rattle.std.proofs.lemmas.List.Sorted.{IsPermutation-append, IsPermutation-append_comm, IsPermutation-append_left, IsPermutation-append_right, IsPermutation-refl, IsPermutation-trans}
 use Rattle.std.proofs.lemmas.Option.{slice_get_within}
-use Rattle.wp_desk.specs.Parts.{HasAsked, history_of, refills_by, told_from, told_to, waves_by}
-use Rattle.wp_machine.specs.Outcome.{outcome_of, outcomes_from, refill_in, refills_of, released_in, released_of}
+use Rattle.wp_desk.specs.GoingOn.{refills_after, released_after, told_after}
+use Rattle.wp_desk.specs.Parts.{HasAsked, refills_by, told_from, told_to, waves_by}
+use Rattle.wp_machine.specs.Outcome.{outcome_of, outcomes_from, refill_in, released_in}
 use Rattle.wp_machine.specs.declared.outcome.Outcome.{Outcome}
 use Rattle.wp_model.proofs.Elements.{at_some, if_some}
-use Rattle.wp_model.specs.History.{Script, part_of, script_of}
+use Rattle.wp_model.specs.History.{History, Script, part_of, script_of, state_after}
 use Rattle.wp_model.specs.Opening.{Opening}
-use Rattle.wp_model.specs.State.{State, opening_state}
+use Rattle.wp_model.specs.State.{State}
 use Rattle.wp_model.specs.Step.{step}
 use Rattle.wp_model.specs.Tables.{AreReadScripts}
 use Rattle.wp_model.specs.declared.command.Command.{Command}
@@ -157,21 +158,20 @@ module _ {A : Type 0} where
       IsPermutation-trans _ _ _ apart (IsPermutation-append _ (g told) _ _ (same_order _ _ own) rest)
 
   -- what all desks are told is what all steps tell
-  pub all_told : (g : Outcome → List A) (opening : Opening) (calls : List (ℕ × Entry)) (desks : List ℕ)
+  pub all_told : (g : Outcome → List A) (start : History) (calls : List (ℕ × Entry)) (desks : List ℕ)
       → All (λ call. total (only call.0) desks ≡ 1) calls
-      → IsPermutation (flat_map (λ desk. flat_map g (told_to desk opening calls)) desks)
-      (flat_map g (outcomes_from opening 0 (opening_state opening) (entries_of calls)))
-  all_told g opening calls desks once = all_told_from g opening 0 (opening_state opening) calls desks once
+      → IsPermutation (flat_map (λ desk. flat_map g (told_to desk start calls)) desks) (flat_map g (told_after start (entries_of calls)))
+  all_told g start calls desks once = all_told_from g start.opening (length start.entries) (state_after start) calls desks once
 
--- the waves of all desks are those that went out
-pub all_waves : (opening : Opening) (calls : List (ℕ × Entry)) (desks : List ℕ) → All (λ call. total (only call.0) desks ≡ 1) calls
-    → IsPermutation (flat_map (waves_by opening calls) desks) (released_of (history_of opening calls))
-all_waves opening calls desks once = all_told released_in opening calls desks once
+-- the waves of all desks are those that their entries sent out
+pub all_waves : (start : History) (calls : List (ℕ × Entry)) (desks : List ℕ) → All (λ call. total (only call.0) desks ≡ 1) calls
+    → IsPermutation (flat_map (waves_by start calls) desks) (released_after start (entries_of calls))
+all_waves start calls desks once = all_told released_in start calls desks once
 
--- the refills of all desks are those of the history
-pub all_refills : (opening : Opening) (calls : List (ℕ × Entry)) (desks : List ℕ) → All (λ call. total (only call.0) desks ≡ 1) calls
-    → IsPermutation (flat_map (refills_by opening calls) desks) (refills_of (history_of opening calls))
-all_refills opening calls desks once = all_told refill_in opening calls desks once
+-- the refills of all desks are those of their entries
+pub all_refills : (start : History) (calls : List (ℕ × Entry)) (desks : List ℕ) → All (λ call. total (only call.0) desks ≡ 1) calls
+    → IsPermutation (flat_map (refills_by start calls) desks) (refills_after start (entries_of calls))
+all_refills start calls desks once = all_told refill_in start calls desks once
 
 -- where no script is a desk's, it has nothing to ask for
 script_of_none : (scripts : List Script) (desk : ℕ) → ((i : ℕ) → IfSome (slice_get scripts i) (λ script. ¬ (script.desk ≡ desk)))

@@ -10,23 +10,23 @@ use Rattle.std.proofs.lemmas.List.Folds.{flat_map-map}
 use Rattle.std.proofs.lemmas.List.Sorted.{IsPermutation-sym}
 use Rattle.std.proofs.lemmas.List.Sums.{sum_by-cons}
 use Rattle.wp_desk.proofs.Asking.{among_own}
+use Rattle.wp_desk.proofs.GoingOn.{new_called}
 use Rattle.wp_desk.proofs.Parts.{asked_later, refills_later, waves_later}
 use Rattle.wp_desk.proofs.Whole.{all_refills, all_waves, count_up, none_else, once_each, parts_are, scripts_of_others, tagged_once}
-use Rattle.wp_desk.specs.Parts.{HasAsked, history_of, refills_by, waves_by}
+use Rattle.wp_desk.specs.GoingOn.{new_entries, refills_after, released_after}
+use Rattle.wp_desk.specs.Parts.{HasAsked, refills_by, waves_by}
 use Rattle.wp_desk.specs.Work.{AreOfDesks, ArePlanned, EndsWith, HasDone, HaveDone, IsOfDesk, Seen, desks_of, waves_of}
 use Rattle.wp_desk.specs.declared.day_run.Planned.{Planned}
 use Rattle.wp_desk.specs.declared.shared.Shared.{Shared}
 use Rattle.wp_desk.specs.declared.told.Told.{Told}
-use Rattle.wp_machine.specs.Outcome.{refills_of, released_of}
 use Rattle.wp_machine.specs.declared.outcome.Refill.{Refill}
 use Rattle.wp_machine.specs.declared.outcome.WaveHolds.{WaveHolds}
 use Rattle.wp_model.specs.History.{History, Script, part_of, script_of}
-use Rattle.wp_model.specs.Opening.{Opening}
 use Rattle.wp_model.specs.Tables.{AreReadScripts}
 use Rattle.wp_model.specs.declared.entry.Entry.{Entry}
 use Rattle.wp_turn.proofs.Closing.{all_snoc}
 use Rattle.wp_turn.proofs.Sums.{only-other}
-use Rattle.wp_turn.specs.Calls.{IsAmong, calls_of}
+use Rattle.wp_turn.specs.Calls.{IsAmong, calls_of, entries_of}
 use Rattle.wp_turn.specs.Promises.{Follow, callers_of, given_by, new_pass, new_passes}
 use Rattle.wp_turn.specs.Promises.{Opening as Begun}
 use Rattle.wp_turn.specs.Told.{Extends}
@@ -51,13 +51,13 @@ module _ {T : Type 0} where
   planned_both Plans some more one two = All-append (λ (planned : Planned T). Plans planned.wave planned.plan) some more one two
 
   -- desks that have done their scripts, and one more that has done its own, have together done all of them
-  pub done_with_one : (opening : Opening) (scripts : List Script) (passes : List Seen) (pass : Seen) (some more both : Told T)
-      → HaveDone opening scripts passes some → HasDone opening (script_of scripts pass.caller) pass more
+  pub done_with_one : (start : History) (scripts : List Script) (passes : List Seen) (pass : Seen) (some more both : Told T)
+      → HaveDone start scripts passes some → HasDone start (script_of scripts pass.caller) pass more
       → both.plans.items ≡ some.plans.items ++ more.plans.items → both.refills.items ≡ some.refills.items ++ more.refills.items
-      → HaveDone opening scripts (passes ++ pass ∷ []) both
-  done_with_one opening scripts passes pass some more both done one plans refills =
-      let waves_of_pass : Seen → List WaveHolds = λ pass. waves_by opening pass.calls pass.caller in
-      let refills_of_pass : Seen → List Refill = λ pass. refills_by opening pass.calls pass.caller in
+      → HaveDone start scripts (passes ++ pass ∷ []) both
+  done_with_one start scripts passes pass some more both done one plans refills =
+      let waves_of_pass : Seen → List WaveHolds = λ pass. waves_by start pass.calls pass.caller in
+      let refills_of_pass : Seen → List Refill = λ pass. refills_by start pass.calls pass.caller in
       record {
         asked = all_snoc (λ (pass : Seen). HasAsked pass.calls pass.caller (script_of scripts pass.caller)) passes pass done.asked one.asked;
         waves = ap waves_of plans
@@ -138,12 +138,12 @@ asked_in_all turn scripts passes calls own asked follow k d inside =
     asked_later pass.caller pass.calls calls pass.callers (script_of scripts pass.caller) (follow k d inside) (own_among turn pass (own k d inside))
     (asked k d inside)
 
--- where the desks of a turn have asked for their scripts and the turn has ended, the part of each desk in the history is its script
-pub parts_whole : (turn : Begun Shared) (opening : Opening) (scripts : List Script) (passes : List Seen) (history : History) → AreReadScripts scripts
+-- where the desks of a turn have asked for their scripts and the turn has ended, the part of each desk in what is new is its script
+pub parts_whole : (turn : Begun Shared) (start : History) (scripts : List Script) (passes : List Seen) (history : History) → AreReadScripts scripts
     → turn.made ≡ length scripts → AreOfDesks turn (desks_of turn) passes
-    → All (λ pass. HasAsked pass.calls pass.caller (script_of scripts pass.caller)) passes → EndsWith opening passes history
-    → (desk : ℕ) → part_of desk history.entries ≡ script_of scripts desk
-parts_whole turn opening scripts passes history read counted of_desks asked ends =
+    → All (λ pass. HasAsked pass.calls pass.caller (script_of scripts pass.caller)) passes → EndsWith start passes history
+    → (desk : ℕ) → part_of desk (new_entries start history) ≡ script_of scripts desk
+parts_whole turn start scripts passes history read counted of_desks asked ends =
     let desks : List ℕ = map (λ (pass : Seen). pass.caller) passes in
     let are : desks ≡ reverse (count_up turn.made) = of_desks.0 ∙ desks_counted turn in
     let all : All (λ desk. HasAsked ends.calls desk (script_of scripts desk)) desks =
@@ -154,7 +154,7 @@ parts_whole turn opening scripts passes history read counted of_desks asked ends
     let unasked : (desk : ℕ) → ¬ IsAmong desk desks → script_of scripts desk ≡ [] = λ desk away. scripts_of_others scripts read desk
     (subst (λ (last : ℕ). (desk ≡ 0) ⊎ (last < desk)) counted
     (beyond_counted turn.made desk (λ among. away (subst (λ (desks : List ℕ). IsAmong desk desks) (sym are) among)))) in
-    λ desk. ap (λ (history : History). part_of desk history.entries) ends.is
+    λ desk. ap (part_of desk) (new_called start passes history ends)
     ∙ parts_are scripts desks ends.calls (holds_among (λ desk. HasAsked ends.calls desk (script_of scripts desk)) desks all) silent unasked desk
 
 -- no number stands more than once among those from 1 to the last
@@ -199,30 +199,32 @@ module _ {A : Type 0} where
       ∙ sym (flat_map-map (had calls) (λ (pass : Seen). pass.caller) passes)
 
 module _ {T : Type 0} where
-  -- where the desks of a turn have done their scripts and the turn has ended, the waves that they kept are those that went out
-  pub waves_whole : (turn : Begun Shared) (opening : Opening) (scripts : List Script) (passes : List Seen) (history : History) (told : Told T)
-      → AreReadScripts scripts → turn.made ≡ length scripts → AreOfDesks turn (desks_of turn) passes → HaveDone opening scripts passes told
-      → EndsWith opening passes history → IsPermutation (released_of history) (waves_of told.plans.items)
-  waves_whole turn opening scripts passes history told read counted of_desks done ends =
+  -- where the desks of a turn have done their scripts and the turn has ended, the waves that they kept are those that new entries sent out
+  pub waves_whole : (turn : Begun Shared) (start : History) (scripts : List Script) (passes : List Seen) (history : History) (told : Told T)
+      → AreReadScripts scripts → turn.made ≡ length scripts → AreOfDesks turn (desks_of turn) passes → HaveDone start scripts passes told
+      → EndsWith start passes history → IsPermutation (released_after start (new_entries start history)) (waves_of told.plans.items)
+  waves_whole turn start scripts passes history told read counted of_desks done ends =
       let desks : List ℕ = map (λ (pass : Seen). pass.caller) passes in
-      let kept : waves_of told.plans.items ≡ flat_map (waves_by opening ends.calls) desks =
-      done.waves ∙ gathered_later (waves_by opening) (waves_later opening) turn passes ends.calls of_desks.1 ends.follow in
-      let all : IsPermutation (flat_map (waves_by opening ends.calls) desks) (released_of (history_of opening ends.calls)) =
-      all_waves opening ends.calls desks (called_once turn passes ends.calls of_desks ends.no_others) in
-      IsPermutation-sym (waves_of told.plans.items) (released_of history)
-      (subst (λ (waves : List WaveHolds). IsPermutation waves (released_of history)) (sym kept)
-      (subst (λ (history : History). IsPermutation (flat_map (waves_by opening ends.calls) desks) (released_of history)) (sym ends.is) all))
+      let kept : waves_of told.plans.items ≡ flat_map (waves_by start ends.calls) desks =
+      done.waves ∙ gathered_later (waves_by start) (waves_later start) turn passes ends.calls of_desks.1 ends.follow in
+      let all : IsPermutation (flat_map (waves_by start ends.calls) desks) (released_after start (entries_of ends.calls)) =
+      all_waves start ends.calls desks (called_once turn passes ends.calls of_desks ends.no_others) in
+      IsPermutation-sym (waves_of told.plans.items) (released_after start (new_entries start history))
+      (subst (λ (waves : List WaveHolds). IsPermutation waves (released_after start (new_entries start history))) (sym kept)
+      (subst (λ (entries : List Entry). IsPermutation (flat_map (waves_by start ends.calls) desks) (released_after start entries))
+      (sym (new_called start passes history ends)) all))
 
-  -- and the refills that they kept are those of all losses
-  pub refills_whole : (turn : Begun Shared) (opening : Opening) (scripts : List Script) (passes : List Seen) (history : History) (told : Told T)
-      → AreReadScripts scripts → turn.made ≡ length scripts → AreOfDesks turn (desks_of turn) passes → HaveDone opening scripts passes told
-      → EndsWith opening passes history → IsPermutation (refills_of history) told.refills.items
-  refills_whole turn opening scripts passes history told read counted of_desks done ends =
+  -- and the refills that they kept are those of all losses in new entries
+  pub refills_whole : (turn : Begun Shared) (start : History) (scripts : List Script) (passes : List Seen) (history : History) (told : Told T)
+      → AreReadScripts scripts → turn.made ≡ length scripts → AreOfDesks turn (desks_of turn) passes → HaveDone start scripts passes told
+      → EndsWith start passes history → IsPermutation (refills_after start (new_entries start history)) told.refills.items
+  refills_whole turn start scripts passes history told read counted of_desks done ends =
       let desks : List ℕ = map (λ (pass : Seen). pass.caller) passes in
-      let kept : told.refills.items ≡ flat_map (refills_by opening ends.calls) desks =
-      done.refills ∙ gathered_later (refills_by opening) (refills_later opening) turn passes ends.calls of_desks.1 ends.follow in
-      let all : IsPermutation (flat_map (refills_by opening ends.calls) desks) (refills_of (history_of opening ends.calls)) =
-      all_refills opening ends.calls desks (called_once turn passes ends.calls of_desks ends.no_others) in
-      IsPermutation-sym told.refills.items (refills_of history)
-      (subst (λ (refills : List Refill). IsPermutation refills (refills_of history)) (sym kept)
-      (subst (λ (history : History). IsPermutation (flat_map (refills_by opening ends.calls) desks) (refills_of history)) (sym ends.is) all))
+      let kept : told.refills.items ≡ flat_map (refills_by start ends.calls) desks =
+      done.refills ∙ gathered_later (refills_by start) (refills_later start) turn passes ends.calls of_desks.1 ends.follow in
+      let all : IsPermutation (flat_map (refills_by start ends.calls) desks) (refills_after start (entries_of ends.calls)) =
+      all_refills start ends.calls desks (called_once turn passes ends.calls of_desks ends.no_others) in
+      IsPermutation-sym told.refills.items (refills_after start (new_entries start history))
+      (subst (λ (refills : List Refill). IsPermutation refills (refills_after start (new_entries start history))) (sym kept)
+      (subst (λ (entries : List Entry). IsPermutation (flat_map (refills_by start ends.calls) desks) (refills_after start entries))
+      (sym (new_called start passes history ends)) all))

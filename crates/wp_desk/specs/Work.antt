@@ -1,4 +1,4 @@
--- What desks have done.
+-- What desks have done, after the history with which their turn began.
 use Rattle.std.specs.Prelude.{◌≡◌, ◌≤◌, ℕ, List, [], ◌∷◌, ◌++◌, length, map, reverse, IfOk}
 use Rattle.std.specs.List.{All, flat_map}
 use Rattle.wp_desk.specs.Parts.{HasAsked, history_of, refills_by, waves_by}
@@ -10,12 +10,12 @@ use Rattle.wp_desk.specs.declared.told.Told.{Told}
 use Rattle.wp_machine.specs.Outcome.{outcome_of, refill_in, released_in}
 use Rattle.wp_machine.specs.declared.outcome.Outcome.{Outcome}
 use Rattle.wp_machine.specs.declared.outcome.WaveHolds.{WaveHolds}
-use Rattle.wp_model.specs.History.{History, Script, next_entry, opened, script_of, state_after}
+use Rattle.wp_model.specs.History.{History, Script, next_entry, script_of, state_after}
 use Rattle.wp_model.specs.Opening.{Opening}
 use Rattle.wp_model.specs.Step.{step}
 use Rattle.wp_model.specs.declared.command.Command.{Command}
 use Rattle.wp_model.specs.declared.entry.Entry.{Entry}
-use Rattle.wp_turn.specs.Calls.{IsAmong, calls_of, entries_of}
+use Rattle.wp_turn.specs.Calls.{IsAmong, calls_of}
 use Rattle.wp_turn.specs.Promises.{Follow, IsOf, Known, callers_of, new_passes, seeing}
 use Rattle.wp_turn.specs.Promises.{Opening as Begun}
 
@@ -23,9 +23,13 @@ use Rattle.wp_turn.specs.Promises.{Opening as Begun}
 abbrev pub Seen : Type 0
 Seen = Known Shared Entry
 
--- the turn began with a machine of this opening that had answered nothing
+-- the history with which a turn began: what its machine had answered by then
+abbrev pub start_of : Begun Shared → History
+start_of turn = turn.start.machine
+
+-- the turn began with a machine of this opening
 abbrev pub BeginsAt : Opening → Begun Shared → Type 0
-BeginsAt opening turn = turn.start.machine ≡ opened opening
+BeginsAt opening turn = (start_of turn).opening ≡ opening
 
 -- a pass of the turn, which stands for this desk alone
 pub record IsOfDesk (turn : Begun Shared) (desk : ℕ) (pass : Seen) : Type 0 where
@@ -49,12 +53,12 @@ pub record IsFresh (turn : Begun Shared) (scripts : List Script) (pass : Seen) :
   pub last : pass.caller ≤ length scripts
 
 -- a desk's command was answered: after the calls that it had seen, with no other of its own between, and this is what the step told
-pub record IsAnswered (opening : Opening) (pass after : Seen) (command : Command) (told : Outcome) : Type 0 where
+pub record IsAnswered (start : History) (pass after : Seen) (command : Command) (told : Outcome) : Type 0 where
   pub before : List (ℕ × Entry)
   pub follow : Follow pass before
-  pub last : after ≡ seeing (before ++ (pass.caller, next_entry (history_of opening before) pass.caller command) ∷ []) pass
-  pub tells : told ≡ outcome_of (length (entries_of before)) (state_after (history_of opening before)) command
-      (step opening (state_after (history_of opening before)) command)
+  pub last : after ≡ seeing (before ++ (pass.caller, next_entry (history_of start before) pass.caller command) ∷ []) pass
+  pub tells : told ≡ outcome_of (length (history_of start before).entries) (state_after (history_of start before)) command
+      (step start.opening (state_after (history_of start before)) command)
 
 module _ {T : Type 0} where
   -- the waves of plans
@@ -72,34 +76,34 @@ module _ {T : Type 0} where
     pub planned : ArePlanned Plans new.plans.items
 
   -- a desk has asked for these commands, and what their steps told is kept
-  pub record HasDone (opening : Opening) (commands : List Command) (pass : Seen) (told : Told T) : Type 0 where
+  pub record HasDone (start : History) (commands : List Command) (pass : Seen) (told : Told T) : Type 0 where
     pub asked : HasAsked pass.calls pass.caller commands
-    pub waves : waves_of told.plans.items ≡ waves_by opening pass.calls pass.caller
-    pub refills : told.refills.items ≡ refills_by opening pass.calls pass.caller
+    pub waves : waves_of told.plans.items ≡ waves_by start pass.calls pass.caller
+    pub refills : told.refills.items ≡ refills_by start pass.calls pass.caller
 
   -- desks have asked for all commands of their scripts, and what their steps told is kept
-  pub record HaveDone (opening : Opening) (scripts : List Script) (passes : List Seen) (told : Told T) : Type 0 where
+  pub record HaveDone (start : History) (scripts : List Script) (passes : List Seen) (told : Told T) : Type 0 where
     pub asked : All (λ pass. HasAsked pass.calls pass.caller (script_of scripts pass.caller)) passes
-    pub waves : waves_of told.plans.items ≡ flat_map (λ pass. waves_by opening pass.calls pass.caller) passes
-    pub refills : told.refills.items ≡ flat_map (λ pass. refills_by opening pass.calls pass.caller) passes
+    pub waves : waves_of told.plans.items ≡ flat_map (λ pass. waves_by start pass.calls pass.caller) passes
+    pub refills : told.refills.items ≡ flat_map (λ pass. refills_by start pass.calls pass.caller) passes
 
   -- what a desk comes back with: its pass and, where there was memory for it, all that it asked for and was told
-  pub record IsDeskWork (turn : Begun Shared) (opening : Opening) (scripts : List Script) (Plans : WaveHolds → T → Type 0) (desk : ℕ) (work : DeskWork T) :
+  pub record IsDeskWork (turn : Begun Shared) (scripts : List Script) (Plans : WaveHolds → T → Type 0) (desk : ℕ) (work : DeskWork T) :
       Type 0 where
     pub own : IsOfDesk turn desk work.desk.pass
-    pub done : IfOk work.told (HasDone opening (script_of scripts desk) work.desk.pass)
+    pub done : IfOk work.told (HasDone (start_of turn) (script_of scripts desk) work.desk.pass)
     pub planned : IfOk work.told (λ told. ArePlanned Plans told.plans.items)
 
   -- what desks come back with
-  pub record IsDesksWork (turn : Begun Shared) (opening : Opening) (scripts : List Script) (Plans : WaveHolds → T → Type 0) (desks : List ℕ)
+  pub record IsDesksWork (turn : Begun Shared) (scripts : List Script) (Plans : WaveHolds → T → Type 0) (desks : List ℕ)
       (work : DesksWork T) : Type 0 where
     pub own : AreOfDesks turn desks work.desks.passes.list
-    pub done : IfOk work.told (HaveDone opening scripts work.desks.passes.list)
+    pub done : IfOk work.told (HaveDone (start_of turn) scripts work.desks.passes.list)
     pub planned : IfOk work.told (λ told. ArePlanned Plans told.plans.items)
 
--- the turn has ended with this history: it has all that each of these desks has done, and nothing else
-pub record EndsWith (opening : Opening) (passes : List Seen) (history : History) : Type 0 where
+-- the turn has ended with this history: after the one to begin with it has all that each of these desks has done, and nothing else
+pub record EndsWith (start : History) (passes : List Seen) (history : History) : Type 0 where
   pub calls : List (ℕ × Entry)
-  pub is : history ≡ history_of opening calls
+  pub is : history ≡ history_of start calls
   pub follow : All (λ pass. Follow pass calls) passes
   pub no_others : (desk : ℕ) → ¬ IsAmong desk (callers_of passes) → calls_of desk calls ≡ []

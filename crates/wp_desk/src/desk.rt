@@ -3,7 +3,7 @@
 //! A pass is never let go: where memory runs out, the desk hands it back with that answer, so that the turn can be ended.
 ghost use Rattle.std.specs.Prelude.{◌≡◌, ◌≤◌, ◌<◌, [], length, IfOk, IsTrue};
 ghost use Rattle.std.specs.List.{All};
-ghost use Rattle.wp_desk.specs.Work.{ArePlanned, BeginsAt, HasDone, IsAnswered, IsDeskWork, IsFresh, IsKept, IsOfDesk};
+ghost use Rattle.wp_desk.specs.Work.{ArePlanned, BeginsAt, HasDone, IsAnswered, IsDeskWork, IsFresh, IsKept, IsOfDesk, start_of};
 ghost use Rattle.wp_machine.specs.declared.outcome.Outcome.{Outcome as OutcomeData};
 ghost use Rattle.wp_model.specs.Limits.{most_commands};
 ghost use Rattle.wp_model.specs.Plain.{is_plain};
@@ -68,7 +68,7 @@ impl<'a> Day<'a> {
         requires own { IsOfDesk self.now.turn desk.pass.caller desk.pass }
         requires same { ready.opening ≡ self.now.opening.now }
         requires few { length (own_calls desk.pass) < most_calls }
-        ensures { IsAnswered self.now.opening.now desk.entry.pass result.0.pass ready.entry.command result.1 }
+        ensures { IsAnswered (start_of self.now.turn) desk.entry.pass result.0.pass ready.entry.command result.1 }
     {
         let Desk { pass } = desk;
         let (pass, receipt) = self.turn.call(rt, pass, ready);
@@ -90,7 +90,7 @@ impl<'a> Day<'a> {
         requires planned { ArePlanned (P.plans run.now.planner.now) told.old.plans.items }
         ensures own { IsOfDesk self.now.turn desk.entry.pass.caller result.0.pass }
         ensures kept { IfOk result.1 (λ _. (outcome : OutcomeData)
-            × IsAnswered self.now.opening.now desk.entry.pass result.0.pass ready.entry.command outcome
+            × IsAnswered (start_of self.now.turn) desk.entry.pass result.0.pass ready.entry.command outcome
             × IsKept (P.plans run.now.planner.now) told.old told.new outcome) }
     {
         let number = desk.pass.caller();
@@ -115,7 +115,7 @@ impl<'a> Day<'a> {
         requires planned { ArePlanned (P.plans run.now.planner.now) told.old.plans.items }
         ensures own { IsOfDesk self.now.turn desk.entry.pass.caller result.0.pass }
         ensures kept { IfOk result.1 (λ _. (outcome : OutcomeData)
-            × IsAnswered self.now.opening.now desk.entry.pass result.0.pass command.now outcome
+            × IsAnswered (start_of self.now.turn) desk.entry.pass result.0.pass command.now outcome
             × IsKept (P.plans run.now.planner.now) told.old told.new outcome) }
     {
         match self.prepare(run.alloc, command) {
@@ -137,7 +137,7 @@ impl<'a> Day<'a> {
         requires plain { All (λ command. IsTrue (is_plain command)) script.now }
         requires few { length script.now ≤ most_commands }
         ensures own { IsOfDesk self.now.turn desk.entry.pass.caller result.desk.pass }
-        ensures done { IfOk result.told (HasDone self.now.opening.now script.now result.desk.pass) }
+        ensures done { IfOk result.told (HasDone (start_of self.now.turn) script.now result.desk.pass) }
         ensures planned { IfOk result.told (λ told. ArePlanned (P.plans run.now.planner.now) told.plans.items) }
     {
         let mut told = nothing_told::<P>(run.alloc);
@@ -166,7 +166,7 @@ impl<'a> Day<'a> {
         requires begins { BeginsAt self.now.opening.now self.now.turn }
         requires read { AreReadScripts run.now.scripts.now }
         requires fresh { IsFresh self.now.turn run.now.scripts.now desk.pass }
-        ensures { IsDeskWork self.now.turn self.now.opening.now run.now.scripts.now (P.plans run.now.planner.now) desk.entry.pass.caller result }
+        ensures { IsDeskWork self.now.turn run.now.scripts.now (P.plans run.now.planner.now) desk.entry.pass.caller result }
     {
         let script = run.scripts.script(desk.pass.caller());
         self.run_desk(run, desk, script)

@@ -54,10 +54,10 @@ fn joined<'a, R, P: Planner, G>(
     one: DeskWork<'a, P::Plan>,
     others: DesksWork<'a, P::Plan>,
 ) -> DesksWork<'a, P::Plan>
-    requires one { IsDeskWork day.now.turn day.now.opening.now run.now.scripts.now (P.plans run.now.planner.now) one.desk.pass.caller one }
-    requires others { IsDesksWork day.now.turn day.now.opening.now run.now.scripts.now (P.plans run.now.planner.now) (map (λ pass. pass.caller) others.desks.passes.list) others }
+    requires one { IsDeskWork day.now.turn run.now.scripts.now (P.plans run.now.planner.now) one.desk.pass.caller one }
+    requires others { IsDesksWork day.now.turn run.now.scripts.now (P.plans run.now.planner.now) (map (λ pass. pass.caller) others.desks.passes.list) others }
     requires room { length others.desks.passes.list < others.desks.passes.room }
-    ensures work { IsDesksWork day.now.turn day.now.opening.now run.now.scripts.now (P.plans run.now.planner.now)
+    ensures work { IsDesksWork day.now.turn run.now.scripts.now (P.plans run.now.planner.now)
         (map (λ pass. pass.caller) others.entry.desks.passes.list ++ one.entry.desk.pass.caller ∷ []) result }
     ensures room { result.desks.passes.room ≡ others.entry.desks.passes.room }
 {
@@ -84,7 +84,7 @@ pub(crate) fn run_all<'a, R: Threads + Wait + Sync, P: Planner, G: Gate>(
     requires begins { BeginsAt day.now.opening.now day.now.turn }
     requires read { AreReadScripts run.now.scripts.now }
     requires fresh { All (IsFresh day.now.turn run.now.scripts.now) desks.passes.list }
-    ensures work { IsDesksWork day.now.turn day.now.opening.now run.now.scripts.now (P.plans run.now.planner.now)
+    ensures work { IsDesksWork day.now.turn run.now.scripts.now (P.plans run.now.planner.now)
         (reverse (map (λ pass. pass.caller) desks.entry.passes.list)) result }
     ensures room { result.desks.passes.room ≡ desks.entry.passes.room }
 {
@@ -105,7 +105,7 @@ pub(crate) fn run_all<'a, R: Threads + Wait + Sync, P: Planner, G: Gate>(
         rt,
         move ||
             requires { BeginsAt day.now.opening.now day.now.turn × AreReadScripts scripts.now × IsFresh day.now.turn scripts.now desk.pass }
-            ensures { IsDeskWork day.entry.now.turn day.entry.now.opening.now scripts.entry.now (P.plans planner.entry.now) desk.entry.pass.caller result }
+            ensures { IsDeskWork day.entry.now.turn scripts.entry.now (P.plans planner.entry.now) desk.entry.pass.caller result }
         {
             let run = DeskRun {
                 rt,
@@ -119,7 +119,7 @@ pub(crate) fn run_all<'a, R: Threads + Wait + Sync, P: Planner, G: Gate>(
         move ||
             requires { IsSync R.row × IsSync P.row × IsSync G.row × BeginsAt day.now.opening.now day.now.turn × AreReadScripts scripts.now
                 × All (IsFresh day.now.turn scripts.now) desks.passes.list }
-            ensures { IsDesksWork day.entry.now.turn day.entry.now.opening.now scripts.entry.now (P.plans planner.entry.now)
+            ensures { IsDesksWork day.entry.now.turn scripts.entry.now (P.plans planner.entry.now)
                 (reverse (map (λ pass. pass.caller) desks.entry.passes.list)) result × (result.desks.passes.room ≡ desks.entry.passes.room) }
         {
             let run = DeskRun {

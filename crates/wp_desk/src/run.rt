@@ -1,11 +1,13 @@
-//! A day: all desks run, and then the machine has what they asked for, in one history.
-ghost use Rattle.std.specs.Prelude.{◌≡◌, ℕ, IfOk, IsOk, map};
+//! A day: all desks run, and then the machine has what they asked for, after what it had answered before, in one history.
+ghost use Rattle.std.specs.Prelude.{◌≡◌, ◌<◌, ℕ, List, IfOk, IsOk, length, map};
 ghost use Rattle.std.specs.List.{All};
 ghost use Rattle.std.specs.List.Sorted.{IsPermutation};
-ghost use Rattle.wp_desk.specs.Work.{AreOfDesks, ArePlanned, BeginsAt, EndsWith, desks_of, waves_of};
+ghost use Rattle.wp_desk.specs.GoingOn.{GoesOnFrom, new_entries, refills_after, released_after};
+ghost use Rattle.wp_desk.specs.Work.{AreOfDesks, ArePlanned, BeginsAt, EndsWith, desks_of, start_of, waves_of};
 ghost use Rattle.wp_model.specs.Sound.{EachStateIsSound};
-ghost use Rattle.wp_machine.specs.Outcome.{refills_of, released_of};
-ghost use Rattle.wp_model.specs.History.{History, IsLegal, opened, part_of, script_of};
+ghost use Rattle.wp_model.specs.History.{History, IsLegal, part_of, script_of};
+ghost use Rattle.wp_model.specs.declared.entry.Entry.{Entry as EntryData};
+ghost use Rattle.wp_turn.specs.Rule.{most_opened};
 
 use crate::day_run::{DayRun, Planned};
 use crate::desk::{Day, DeskRun};
@@ -25,9 +27,8 @@ use wp_turn::Turn;
 impl<'a> Day<'a> {
     // The machine again, once all desks are back.
     fn close(self, desks: Desks<'a>) -> Machine<'a>
-        requires begins { BeginsAt self.opening.now self.turn }
         requires all { AreOfDesks self.turn (desks_of self.turn) desks.passes.list }
-        ensures { EndsWith self.entry.opening.now desks.entry.passes.list result }
+        ensures { EndsWith (start_of self.entry.turn) desks.entry.passes.list result }
     {
         let Day { opening: _, turn } = self;
         let Desks { passes } = desks;
@@ -41,7 +42,8 @@ impl<'a> Day<'a> {
 // Plans in the order of their waves' entries.
 fn sort_plans<P: Planner>(plans: &mut Vec<Planned<P::Plan>>, planner: &P)
     requires planned { ArePlanned (P.plans planner.now) plans.old.items }
-    ensures waves { (machine : History) → IsPermutation (released_of machine) (waves_of plans.old.items) → waves_of plans.new.items ≡ released_of machine }
+    ensures waves { (start : History) (entries : List EntryData) → IsPermutation (released_after start entries) (waves_of plans.old.items)
+        → waves_of plans.new.items ≡ released_after start entries }
     ensures planned { ArePlanned (P.plans planner.now) plans.new.items }
 {
     plans.sort_unstable_by_key(|planned| planned.wave.number);
@@ -49,7 +51,8 @@ fn sort_plans<P: Planner>(plans: &mut Vec<Planned<P::Plan>>, planner: &P)
 
 // Refills in the order of their entries.
 fn sort_refills(refills: &mut Vec<Refill>)
-    ensures { (machine : History) → IsPermutation (refills_of machine) refills.old.items → refills.new.items ≡ refills_of machine }
+    ensures { (start : History) (entries : List EntryData) → IsPermutation (refills_after start entries) refills.old.items
+        → refills.new.items ≡ refills_after start entries }
 {
     refills.sort_unstable_by_key(|refill| refill.number);
 }
@@ -60,16 +63,16 @@ fn day_of<'a, P: Planner>(
     told: Result<Told<P::Plan>, Memory>,
     planner: &P,
 ) -> Result<DayRun<'a, P::Plan>, Memory>
-    requires waves { IfOk told (λ told. IsPermutation (released_of machine) (waves_of told.plans.items)) }
-    requires refills { IfOk told (λ told. IsPermutation (refills_of machine) told.refills.items) }
     requires planned { IfOk told (λ told. ArePlanned (P.plans planner.now) told.plans.items) }
     ensures there { IfOk result (λ _. IsOk told) }
     ensures machine { IfOk result (λ day. day.machine ≡ machine.entry) }
     ensures legal { IfOk result (λ day. IsLegal day.machine) }
     ensures sound { IfOk result (λ day. EachStateIsSound day.machine) }
-    ensures waves { IfOk result (λ day. waves_of day.plans.items ≡ released_of day.machine) }
+    ensures waves { (start : History) → IfOk told (λ told. IsPermutation (released_after start (new_entries start machine.entry)) (waves_of told.plans.items))
+        → IfOk result (λ day. waves_of day.plans.items ≡ released_after start (new_entries start day.machine)) }
     ensures planned { IfOk result (λ day. ArePlanned (P.plans planner.now) day.plans.items) }
-    ensures refills { IfOk result (λ day. day.refills.items ≡ refills_of day.machine) }
+    ensures refills { (start : History) → IfOk told (λ told. IsPermutation (refills_after start (new_entries start machine.entry)) told.refills.items)
+        → IfOk result (λ day. day.refills.items ≡ refills_after start (new_entries start day.machine)) }
 {
     let _legal = machine.count();
     let Told {
@@ -85,11 +88,11 @@ fn day_of<'a, P: Planner>(
     })
 }
 
-/// Runs the scripts of all desks, each in a thread of its own. The machine has answered nothing yet. The machine that comes back has one legal
-/// history, in which each desk's part is its script and there is nothing else, and each state of it is sound. Each wave that went out has one plan,
-/// related to it as the planner says, and each refill is told; both in the order of their entries. An `Err` comes from a want of memory alone,
-/// once all desks have ended, and the machine is then gone. A desk passes the gate before each of its commands, and before and after it plans a
-/// wave that it sent out.
+/// Runs the scripts of all desks, each in a thread of its own. The machine may have answered commands before, fewer than 2,147,483,648. The
+/// machine that comes back has one legal history, and each state of it is sound. It has the entries from before, and after them new ones: of these
+/// each desk's part is its script, and there is nothing else. Each wave that a new entry sent out has one plan, related to it as the planner says,
+/// and each refill of a new entry is told; both in the order of their entries. An `Err` comes from a want of memory alone, once all desks have
+/// ended, and the machine is then gone. A desk passes the gate before each of its commands, and before and after it plans a wave that it sent out.
 pub fn run_desks<'a, R: Threads + Wait + Sync, P: Planner, G: Gate>(
     rt: &R,
     alloc: Global,
@@ -99,14 +102,16 @@ pub fn run_desks<'a, R: Threads + Wait + Sync, P: Planner, G: Gate>(
     planner: &P,
     gate: &G,
 ) -> Result<DayRun<'a, P::Plan>, Memory>
-    requires { machine ≡ opened opening.now }
+    requires opened { machine.opening ≡ opening.now }
+    requires few { length machine.entries < most_opened }
     ensures opening { IfOk result (λ day. day.machine.opening ≡ opening.now) }
+    ensures goes_on { IfOk result (λ day. GoesOnFrom machine.entry day.machine) }
     ensures legal { IfOk result (λ day. IsLegal day.machine) }
-    ensures parts { IfOk result (λ day. (desk : ℕ) → part_of desk day.machine.entries ≡ script_of scripts.now desk) }
+    ensures parts { IfOk result (λ day. (desk : ℕ) → part_of desk (new_entries machine.entry day.machine) ≡ script_of scripts.now desk) }
     ensures sound { IfOk result (λ day. EachStateIsSound day.machine) }
-    ensures waves { IfOk result (λ day. map (λ planned. planned.wave) day.plans.items ≡ released_of day.machine) }
+    ensures waves { IfOk result (λ day. map (λ planned. planned.wave) day.plans.items ≡ released_after machine.entry (new_entries machine.entry day.machine)) }
     ensures plans { IfOk result (λ day. All (λ planned. P.plans planner.now planned.wave planned.plan) day.plans.items) }
-    ensures refills { IfOk result (λ day. day.refills.items ≡ refills_of day.machine) }
+    ensures refills { IfOk result (λ day. day.refills.items ≡ refills_after machine.entry (new_entries machine.entry day.machine)) }
 {
     let (turn, passes) = Turn::open(alloc, Shared { machine }, scripts.desks())?;
     let day = Day { opening, turn };

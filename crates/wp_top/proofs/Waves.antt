@@ -1,9 +1,11 @@
 -- The waves that went out in a day, and their plans.
-use Rattle.std.proofs.Common.{◌≡◌, ℕ, refl, sym, ap, subst, List, [], ◌∷◌, ◌++◌, Option, Some, None, Result, Ok, Err, Contains}
+use Rattle.std.proofs.Common.{◌≡◌, ◌∙◌, ℕ, refl, sym, ap, subst, List, [], ◌∷◌, ◌++◌, Option, Some, None, Result, Ok, Err, Contains}
 use Rattle.std.proofs.lemmas.List.Concat.{flat_map-cons}
 use Rattle.std.proofs.lemmas.List.Elements.{All-append, All-cons, All-contains_itself, All-head, All-nil, All-tail, All-weaker}
 use Rattle.std.specs.List.{All, flat_map}
 use Rattle.std.specs.Prelude.{IfOk}
+use Rattle.wp_desk.proofs.GoingOn.{refills_from_opening, released_from_opening}
+use Rattle.wp_desk.specs.GoingOn.{new_entries, refills_after, released_after}
 use Rattle.wp_desk.specs.declared.day_run.DayRun.{DayRun}
 use Rattle.wp_floor.proofs.Floors.{is_opening}
 use Rattle.wp_machine.specs.Outcome.{released_in}
@@ -11,7 +13,7 @@ use Rattle.wp_machine.specs.declared.outcome.Outcome.{Outcome}
 use Rattle.wp_machine.specs.declared.outcome.Outcome.TheVariants as outcome
 use Rattle.wp_machine.specs.declared.outcome.WaveHolds.{WaveHolds}
 use Rattle.wp_model.proofs.Served.{stock_goes_where_it_covers}
-use Rattle.wp_model.specs.History.{History, IsLegal, Script, part_of, script_of}
+use Rattle.wp_model.specs.History.{History, IsLegal, Script, opened, part_of, script_of}
 use Rattle.wp_model.specs.Opening.{Opening}
 use Rattle.wp_model.specs.Sound.{EachStateIsSound}
 use Rattle.wp_model.specs.Tables.{IsReadOpening}
@@ -88,6 +90,33 @@ history_of opening scripts (Ok day) starts legal parts sound read = record {
   sound = sound;
   stock = stock_goes_where_it_covers day.machine (is_opening day.machine.opening (subst IsReadOpening (sym starts) read));
 }
+
+-- where a day begins with a machine that has answered nothing, the parts of desks in what is new are those in the whole history,
+pub parts_from_start : (opening : Opening) (scripts : List Script) (machine : History) (result : Result (DayRun (Option WavePlan)) Memory)
+    → machine ≡ opened opening → IfOk result (λ day. (desk : ℕ) → part_of desk (new_entries machine day.machine) ≡ script_of scripts desk)
+    → IfOk result (λ day. (desk : ℕ) → part_of desk day.machine.entries ≡ script_of scripts desk)
+parts_from_start opening scripts machine result nothing parts =
+    subst (λ (begun : History). IfOk result (λ day. (desk : ℕ) → part_of desk (new_entries begun day.machine) ≡ script_of scripts desk)) nothing parts
+
+-- the waves that new entries send out are all that go out,
+pub waves_from_start : (opening : Opening) (machine : History) (result : Result (DayRun (Option WavePlan)) Memory) → machine ≡ opened opening
+    → IfOk result (λ day. day.machine.opening ≡ opening)
+    → IfOk result (λ day. waves_of day.plans.items ≡ released_after machine (new_entries machine day.machine))
+    → IfOk result (λ day. waves_of day.plans.items ≡ waves_out day.machine)
+waves_from_start opening machine (Err lack) nothing starts waves = tt
+waves_from_start opening machine (Ok day) nothing starts waves =
+    subst (λ (begun : History). waves_of day.plans.items ≡ released_after begun (new_entries begun day.machine)) nothing waves
+    ∙ released_from_opening opening day.machine starts
+
+-- and their refills are all refills
+pub refills_from_start : (opening : Opening) (machine : History) (result : Result (DayRun (Option WavePlan)) Memory) → machine ≡ opened opening
+    → IfOk result (λ day. day.machine.opening ≡ opening)
+    → IfOk result (λ day. day.refills.items ≡ refills_after machine (new_entries machine day.machine))
+    → IfOk result (λ day. day.refills.items ≡ refills_told day.machine)
+refills_from_start opening machine (Err lack) nothing starts refills = tt
+refills_from_start opening machine (Ok day) nothing starts refills =
+    subst (λ (begun : History). day.refills.items ≡ refills_after begun (new_entries begun day.machine)) nothing refills
+    ∙ refills_from_opening opening day.machine starts
 
 -- a day of an opening that was read tells what the steps of its history tell, where whatever may be made of a wave is a plan for it
 pub told_as : (layout : Layout) (terms : Terms) (opening : Opening) (scripts : List Script) (makes : WaveHolds → Option WavePlan → Type 0)

@@ -1,9 +1,12 @@
-use Rattle.std.proofs.Common.{◌≡◌, ◌∙◌, ℕ, sym, subst, arith}
+use Rattle.std.proofs.Common.{◌≡◌, ◌∙◌, ℕ, IfOk, sym, ap, subst, arith}
 use Rattle.std.proofs.lemmas.Result.{IfOk-weaker}
 use Rattle.std.specs.List.{All}
 use Rattle.wp_desk.proofs.Beginning.{all_back, day_keeps, new_fresh}
+use Rattle.wp_desk.proofs.GoingOn.{ended_goes_on}
 use Rattle.wp_desk.proofs.WholeDay.{parts_whole, refills_whole, waves_whole}
-use Rattle.wp_desk.specs.Work.{HaveDone, IsFresh}
+use Rattle.wp_desk.specs.GoingOn.{GoesOnFrom, new_entries}
+use Rattle.wp_desk.specs.Work.{EndsWith, HaveDone, IsFresh, start_of}
+use Rattle.wp_desk.specs.declared.shared.Shared.{Shared}
 use Rattle.wp_model.specs.History.{part_of, script_of}
 use Rattle.wp_desk.proofs.run.run_desks.Goals as goal
 
@@ -13,39 +16,64 @@ run_all-desks-requires-clause-fresh g c κs within =
     let scripts = c.args.scripts.now in
     subst (All (IsFresh turn scripts)) (sym c.in_ok-turn.ensures.passes) (new_fresh turn scripts c.desks.result (omega (arith, c.desks.ensures.desks)))
 
-pub close-machine-requires-clause-all : goal.close-machine-requires-clause-all
-close-machine-requires-clause-all g c =
-    all_back c.in_ok-turn.turn c.in_ok-turn.passes.list c.run_all-desks.result.desks.passes.list c.desks.result c.in_ok-turn.ensures.passes
-    c.in_ok-turn.ensures.turn.1 c.run_all-desks.ensures.work.own
+pub close-machine-requires : goal.close-machine-requires
+close-machine-requires g c = record {
+  all = all_back c.in_ok-turn.turn c.in_ok-turn.passes.list c.run_all-desks.result.desks.passes.list c.desks.result c.in_ok-turn.ensures.passes
+      c.in_ok-turn.ensures.turn.1 c.run_all-desks.ensures.work.own;
+}
 
-pub day_of-requires-clause-waves : goal.day_of-requires-clause-waves
-day_of-requires-clause-waves g c κs within =
+pub returns-clause-goes_on : goal.returns-clause-goes_on
+returns-clause-goes_on g c =
     let turn = c.in_ok-turn.turn in
     let back = c.run_all-desks.result.desks.passes.list in
-    let all = all_back turn c.in_ok-turn.passes.list back c.desks.result c.in_ok-turn.ensures.passes c.in_ok-turn.ensures.turn.1
-    c.run_all-desks.ensures.work.own in
-    IfOk-weaker c.run_all-desks.result.told (HaveDone c.args.opening.now c.args.scripts.now back) _
-    (λ told done. waves_whole turn c.args.opening.now c.args.scripts.now back c.close-machine.result told c.desks.ensures.read
-    (c.in_ok-turn.ensures.turn.1 ∙ c.desks.ensures.desks) all done c.close-machine.ensures) c.run_all-desks.ensures.work.done
+    let same : start_of turn ≡ c.args.machine = ap (λ (shared : Shared). shared.machine) c.in_ok-turn.ensures.turn.0 in
+    IfOk-weaker c.day_of.result (λ day. day.machine ≡ c.close-machine.result) _
+    (λ day kept. subst (GoesOnFrom c.args.machine) (sym kept)
+    (ended_goes_on c.args.machine back c.close-machine.result (subst (λ start. EndsWith start back c.close-machine.result) same c.close-machine.ensures)))
+    c.day_of.ensures.machine
 
-pub day_of-requires-clause-refills : goal.day_of-requires-clause-refills
-day_of-requires-clause-refills g c κs within =
+pub returns-clause-waves : goal.returns-clause-waves
+returns-clause-waves g c =
     let turn = c.in_ok-turn.turn in
+    let scripts = c.args.scripts.now in
     let back = c.run_all-desks.result.desks.passes.list in
+    let told = c.run_all-desks.result.told in
     let all = all_back turn c.in_ok-turn.passes.list back c.desks.result c.in_ok-turn.ensures.passes c.in_ok-turn.ensures.turn.1
     c.run_all-desks.ensures.work.own in
-    IfOk-weaker c.run_all-desks.result.told (HaveDone c.args.opening.now c.args.scripts.now back) _
-    (λ told done. refills_whole turn c.args.opening.now c.args.scripts.now back c.close-machine.result told c.desks.ensures.read
-    (c.in_ok-turn.ensures.turn.1 ∙ c.desks.ensures.desks) all done c.close-machine.ensures) c.run_all-desks.ensures.work.done
+    let same : start_of turn ≡ c.args.machine = ap (λ (shared : Shared). shared.machine) c.in_ok-turn.ensures.turn.0 in
+    let ends = subst (λ start. EndsWith start back c.close-machine.result) same c.close-machine.ensures in
+    c.day_of.ensures.waves c.args.machine (IfOk-weaker told (HaveDone c.args.machine scripts back) _
+    (λ told done. waves_whole turn c.args.machine scripts back c.close-machine.result told c.desks.ensures.read
+    (c.in_ok-turn.ensures.turn.1 ∙ c.desks.ensures.desks) all done ends)
+    (subst (λ start. IfOk told (HaveDone start scripts back)) same c.run_all-desks.ensures.work.done))
+
+pub returns-clause-refills : goal.returns-clause-refills
+returns-clause-refills g c =
+    let turn = c.in_ok-turn.turn in
+    let scripts = c.args.scripts.now in
+    let back = c.run_all-desks.result.desks.passes.list in
+    let told = c.run_all-desks.result.told in
+    let all = all_back turn c.in_ok-turn.passes.list back c.desks.result c.in_ok-turn.ensures.passes c.in_ok-turn.ensures.turn.1
+    c.run_all-desks.ensures.work.own in
+    let same : start_of turn ≡ c.args.machine = ap (λ (shared : Shared). shared.machine) c.in_ok-turn.ensures.turn.0 in
+    let ends = subst (λ start. EndsWith start back c.close-machine.result) same c.close-machine.ensures in
+    c.day_of.ensures.refills c.args.machine (IfOk-weaker told (HaveDone c.args.machine scripts back) _
+    (λ told done. refills_whole turn c.args.machine scripts back c.close-machine.result told c.desks.ensures.read
+    (c.in_ok-turn.ensures.turn.1 ∙ c.desks.ensures.desks) all done ends)
+    (subst (λ start. IfOk told (HaveDone start scripts back)) same c.run_all-desks.ensures.work.done))
 
 pub returns-clause-parts : goal.returns-clause-parts
 returns-clause-parts g c =
     let turn = c.in_ok-turn.turn in
     let scripts = c.args.scripts.now in
     let back = c.run_all-desks.result.desks.passes.list in
+    let told = c.run_all-desks.result.told in
     let all = all_back turn c.in_ok-turn.passes.list back c.desks.result c.in_ok-turn.ensures.passes c.in_ok-turn.ensures.turn.1
     c.run_all-desks.ensures.work.own in
-    day_keeps (λ history. (desk : ℕ) → part_of desk history.entries ≡ script_of scripts desk) c.close-machine.result c.day_of.result
-    c.run_all-desks.result.told (HaveDone c.args.opening.now scripts back) c.day_of.ensures.there c.run_all-desks.ensures.work.done
-    (λ told done. parts_whole turn c.args.opening.now scripts back c.close-machine.result c.desks.ensures.read
-    (c.in_ok-turn.ensures.turn.1 ∙ c.desks.ensures.desks) all done.asked c.close-machine.ensures) c.day_of.ensures.machine
+    let same : start_of turn ≡ c.args.machine = ap (λ (shared : Shared). shared.machine) c.in_ok-turn.ensures.turn.0 in
+    let ends = subst (λ start. EndsWith start back c.close-machine.result) same c.close-machine.ensures in
+    day_keeps (λ history. (desk : ℕ) → part_of desk (new_entries c.args.machine history) ≡ script_of scripts desk) c.close-machine.result c.day_of.result
+    told (HaveDone c.args.machine scripts back) c.day_of.ensures.there
+    (subst (λ start. IfOk told (HaveDone start scripts back)) same c.run_all-desks.ensures.work.done)
+    (λ told done. parts_whole turn c.args.machine scripts back c.close-machine.result c.desks.ensures.read
+    (c.in_ok-turn.ensures.turn.1 ∙ c.desks.ensures.desks) all done.asked ends) c.day_of.ensures.machine
