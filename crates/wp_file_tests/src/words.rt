@@ -39,13 +39,15 @@ fn plan_text(alloc: Global, words: &PlanWords) -> Result<String, AllocError> {
         workers,
         rules,
         pickers,
+        root,
     } = words;
     let text = format!(in alloc;
         "plan {layout}, {stock}, {orders}, {desks}, {capacity}, {budget}, {workers}"
     )?;
     let text = with_units(alloc, text, *units)?;
     let text = with_switch(alloc, text, "rules", *rules)?;
-    with_switch(alloc, text, "pickers", *pickers)
+    let text = with_switch(alloc, text, "pickers", *pickers)?;
+    with_switch(alloc, text, "root", *root)
 }
 
 fn check_text(alloc: Global, words: &CheckWords) -> Result<String, AllocError> {
@@ -291,6 +293,13 @@ const NUMBERS: &[(&str, &str)] = &[
         " --pickers=8 --workers=4 --rules=1 --units=7 --budget=5 --capacity=6",
         "6, 5, 4, 7 units, 1 rules, 8 pickers",
     ),
+    (" --capacity 2 --root 0", "2, 2000000, 1"),
+    (" --root=1 --capacity 2", "2, 2000000, 1, 1 root"),
+    (" --capacity 2 --root=-0", "2, 2000000, 1"),
+    (
+        " --root +01 --pickers=3 --capacity 2 --rules 1",
+        "2, 2000000, 1, 1 rules, 3 pickers, 1 root",
+    ),
 ];
 
 fn are_read(alloc: Global, words: &str, numbers: &str) -> Result<bool, AllocError> {
@@ -404,6 +413,20 @@ const BAD_SWITCHES: &[&str] = &[
     "--rule 1",
     "--picker 5",
     "-rules 1",
+    "--root 2",
+    "--root=2",
+    "--root=-1",
+    "--root -1",
+    "--root 4294967296",
+    "--root 0.5",
+    "--root x",
+    "--root=",
+    "--root",
+    "--root --rules 1",
+    "--root 1 --root 1",
+    "--root=0 --root 1",
+    "--roots 1",
+    "-root 1",
 ];
 
 /// Switches that a plan takes.
@@ -413,6 +436,8 @@ const GOOD_SWITCHES: &[&str] = &[
     "--pickers 0",
     "--pickers=100",
     "--rules 1 --pickers 5",
+    "--root 0",
+    "--root=1",
 ];
 
 /// The first of some words that a command takes.

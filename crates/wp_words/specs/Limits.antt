@@ -28,6 +28,10 @@ most_rules = 1
 abbrev pub most_pickers : ℕ
 most_pickers = 100
 
+-- what the words may say of the root: that the sheets tell a bracket of the linear bound (1), or not (0)
+abbrev pub most_root : ℕ
+most_root = 1
+
 -- the greatest number from which an input is made: any word of 64 bits is one
 abbrev pub most_number : ℕ
 most_number = 18446744073709551615

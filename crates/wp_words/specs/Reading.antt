@@ -30,6 +30,7 @@ plan_names words = record {
   workers = words.workers;
   rules = words.rules;
   pickers = words.pickers;
+  root = words.root;
 }
 
 -- the names that the words of `check` hold

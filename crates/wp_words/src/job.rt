@@ -32,6 +32,8 @@ pub struct PlanWords {
     pub rules: u32,
     /// To how many pickers the batches of the day are dealt, 1 to 100; 0 where they aren't dealt.
     pub pickers: u32,
+    /// Whether the sheets tell a bracket of the linear bound: 1 where they do, and 0 where they don't.
+    pub root: u32,
 }
 
 /// The names of a certificate, and of the layout that it is for.

@@ -26,6 +26,9 @@ const MOST_WORKERS: i64 = 16;
 /// The greatest number of rules.
 const MOST_RULES: u32 = 1;
 
+/// The greatest number for the root.
+const MOST_ROOT: u32 = 1;
+
 /// The most pickers.
 const MOST_PICKERS: u32 = 100;
 
@@ -131,7 +134,8 @@ pub fn plan_command<'a>(alloc: Global) -> Result<Command<'a>, AllocError>
         .arg(budget_option(alloc))?
         .arg(workers_option(alloc))?
         .arg(switch_option(alloc, "rules", MOST_RULES))?
-        .arg(switch_option(alloc, "pickers", MOST_PICKERS))?;
+        .arg(switch_option(alloc, "pickers", MOST_PICKERS))?
+        .arg(switch_option(alloc, "root", MOST_ROOT))?;
     Ok(command)
 }
 
