@@ -10,7 +10,8 @@ use wp_machine::{Refill, WaveHolds};
 use wp_model::{Holds, Location, Memory, Name, Names, Row, Side};
 use wp_pairs::Batch;
 use wp_sheets::{
-    BatchSheet, print_batch, print_crew, print_heading, print_refill, print_row, print_rules,
+    BatchSheet, RootLine, print_batch, print_crew, print_heading, print_refill, print_root,
+    print_row, print_rules,
 };
 use wp_tables::{RowFault, Stock, read_stock};
 
@@ -213,6 +214,43 @@ fn other_rules_line(alloc: Global) -> Result<Option<&'static str>, Memory> {
 #[test]
 fn rules_have_their_lengths_and_surpluses(rt: HostRuntime) -> Result<(), Fail> {
     assert_eq!(rt; other_rules_line(rt.alloc())?, None);
+    Ok(())
+}
+
+/// The low and the high side of a bracket, the denominator, whether it is narrow, and its line.
+const BRACKETS: &[(i128, i128, i128, bool, &str)] = &[
+    (3060, 3060, 60, true, "root 3060 3060 over 60 narrow\n"),
+    (4320, 6120, 60, false, "root 4320 6120 over 60 open\n"),
+    (0, 0, 1, true, "root 0 0 over 1 narrow\n"),
+    (-1, 12, 0, false, "root -1 12 over 0 open\n"),
+    (
+        i128::MIN,
+        i128::MAX,
+        10_000_000_000_000_000_000,
+        false,
+        "root -170141183460469231731687303715884105728 170141183460469231731687303715884105727 over 10000000000000000000 open\n",
+    ),
+];
+
+/// The first line that brackets have otherwise.
+fn other_bracket(alloc: Global) -> Result<Option<&'static str>, Memory> {
+    for (low, high, denominator, narrow, wanted) in BRACKETS {
+        let root = RootLine {
+            low: *low,
+            high: *high,
+            denominator: *denominator,
+            narrow: *narrow,
+        };
+        if print_root(alloc, &root)?.as_slice() != wanted.as_bytes() {
+            return Ok(Some(*wanted));
+        }
+    }
+    Ok(None)
+}
+
+#[test]
+fn a_bracket_has_both_sides_over_its_denominator(rt: HostRuntime) -> Result<(), Fail> {
+    assert_eq!(rt; other_bracket(rt.alloc())?, None);
     Ok(())
 }
 

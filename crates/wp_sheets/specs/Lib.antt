@@ -3,3 +3,4 @@ pub mod Picks
 pub mod Sheets
 pub mod Rules
 pub mod Crews
+pub mod Roots
