@@ -7,7 +7,8 @@ use Rattle.std.proofs.lemmas.Option.{get_or_from_slice_get, slice_get_within}
 use Rattle.wp_machine.specs.declared.outcome.WaveHolds.{WaveHolds}
 use Rattle.wp_batch.specs.Waves.{WavePicks}
 use Rattle.wp_model.specs.Opening.{Stock}
-use Rattle.wp_planner.specs.Sheets.{AreParts, GrowsBy, IsPart}
+use Rattle.wp_parts.specs.Texts.{GrowsBy}
+use Rattle.wp_planner.specs.Sheets.{AreParts, IsPart}
 
 -- what is added after a part is added makes one longer part
 pub then_more : (old part more mid new : List ℕ) → mid ≡ old ++ part → new ≡ mid ++ more → new ≡ old ++ (part ++ more)
@@ -55,12 +56,11 @@ one_more_item {X} items place item there =
       omega (arith, count),
     )
 
--- a first line, parts, what is shown, and a last line, one behind the other
-pub sheet_grown : (old first parts shown last a b c d : List ℕ) → a ≡ old ++ first → b ≡ a ++ parts → c ≡ b ++ shown → d ≡ c ++ last
-    → d ≡ old ++ ((((first ++ parts) ++ shown) ++ []) ++ last)
-sheet_grown old first parts shown last a b c d one two three four =
-    let so_far : c ≡ old ++ ((first ++ parts) ++ shown) =
-    three ∙ (ap (λ (t : List ℕ). t ++ shown) (two ∙ (ap (λ (t : List ℕ). t ++ parts) one ∙ append_assoc old first parts))
-    ∙ append_assoc old (first ++ parts) shown) in
-    four ∙ (ap (λ (t : List ℕ). t ++ last) so_far ∙ (append_assoc old ((first ++ parts) ++ shown) last
-    ∙ ap (λ (t : List ℕ). old ++ (t ++ last)) (sym (append-nil ((first ++ parts) ++ shown)))))
+-- a first line, parts, what is shown, a bracket, and a last line, one behind the other
+pub sheet_grown : (old first parts shown bracket last a b c d e : List ℕ) → a ≡ old ++ first → b ≡ a ++ parts → c ≡ b ++ shown → d ≡ c ++ bracket
+    → e ≡ d ++ last → e ≡ old ++ ((((first ++ parts) ++ shown) ++ bracket) ++ last)
+sheet_grown old first parts shown bracket last a b c d e one two three four five =
+    let shown_too = then_more old first parts a b one two in
+    let so_far = then_more old (first ++ parts) shown b c shown_too three in
+    let bracketed = then_more old ((first ++ parts) ++ shown) bracket c d so_far four in
+    then_more old (((first ++ parts) ++ shown) ++ bracket) last d e bracketed five

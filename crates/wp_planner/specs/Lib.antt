@@ -2,6 +2,7 @@ pub mod Terms
 pub mod Slots
 pub mod Loads
 pub mod Released
+pub mod Roots
 pub mod Plans
 pub mod Sent
 pub mod Sheets

@@ -5,13 +5,15 @@ use Rattle.wp_model.specs.Warehouse.{Layout}
 use Rattle.wp_machine.specs.declared.outcome.WaveHolds.{WaveHolds}
 use Rattle.wp_search.specs.Plans.{IsGoodPlan}
 use Rattle.wp_planner.specs.Released.{IsReleased, IsWaveOf}
+use Rattle.wp_planner.specs.Roots.{IsRootFor}
 use Rattle.wp_planner.specs.Terms.{Terms}
 use Rattle.wp_planner.specs.declared.planner.WavePlan.{WavePlan}
 
--- a good plan of the wave that picks where the one that went out holds units
+-- a good plan of the wave that picks where the one that went out holds units, with a bracket of its linear bound where the terms ask for one
 pub record IsPlanOf (layout : Layout) (opening : Opening) (released : WaveHolds) (terms : Terms) (plan : WavePlan) : Type 0 where
   pub wave : IsWaveOf layout opening released plan.wave
   pub good : IsGoodPlan plan.wave terms.capacity terms.budget plan.planned
+  pub root : IsRootFor terms plan.wave plan.root
 
 -- there is a plan of a wave exactly where it is one that goes out, and it is a good one
 pub record IsPlanFor (layout : Layout) (opening : Opening) (terms : Terms) (wave : WaveHolds) (plan : Option WavePlan) : Type 0 where

@@ -16,6 +16,7 @@ use Rattle.wp_rules.specs.declared.rule.Rule.{Rule}
 use Rattle.wp_rules.specs.declared.rule.Rule.TheVariants as rule
 use Rattle.wp_sheets.specs.Rules.{rules_line}
 use Rattle.wp_sheets.specs.Sheets.{IsBatchText, end_line, heading_line}
+use Rattle.wp_planner.specs.Roots.{root_text}
 use Rattle.wp_planner.specs.Terms.{Terms}
 use Rattle.wp_planner.specs.declared.planner.WavePlan.{WavePlan}
 
@@ -42,10 +43,6 @@ pub record IsRulesLine (wave : WavePicks) (batch : List ℕ) (total : ℕ) (text
 abbrev pub FollowsPicks : Bool → WavePicks → List ℕ → ℕ → List ℕ → Type 0
 FollowsPicks true wave batch total text = IsRulesLine wave batch total text
 FollowsPicks false wave batch total text = text ≡ []
-
--- what follows a wave's certificate on its sheet: nothing
-abbrev pub after_certificate : WavePicks → Terms → List ℕ
-after_certificate wave terms = []
 
 -- the part of a batch on a wave's sheet: its number, the length of its tour, its orders, a shortest tour, its picks by row, and what follows them
 pub record IsPart (stock : Stock) (released : WaveHolds) (wave : WavePicks) (rules : Bool) (number : ℕ) (batch part : List ℕ) : Type 0 where
@@ -79,14 +76,10 @@ plan_line units released capacity planned cancelled_later =
 abbrev pub certificate_line : WavePicks → ℕ → Planned → List ℕ
 certificate_line wave capacity planned = line (codes "certificate " ++ certificate_text (wave_places wave) wave.cart capacity planned.tree.nodes)
 
--- the sheet of a wave that went out and its plan: a first line, the parts of its batches, numbered from 1, its certificate, what follows it, and a last
--- line
+-- the sheet of a wave that went out and its plan: a first line, the parts of its batches, numbered from 1, its certificate, its bracket of the linear bound, if it
+-- has one, and a last line
 pub record IsSheet (opening : Opening) (released : WaveHolds) (terms : Terms) (plan : WavePlan) (cancelled_later : Bool) (sheet : List ℕ) : Type 0 where
   pub parts : List ℕ
   pub are : AreParts opening.stock released plan.wave terms.rules 1 plan.planned.batching parts
   pub is : sheet ≡ plan_line opening.units released terms.capacity plan.planned cancelled_later ++ parts
-      ++ certificate_line plan.wave terms.capacity plan.planned ++ after_certificate plan.wave terms ++ end_line
-
--- a text has grown by a part
-abbrev pub GrowsBy : (List ℕ → Type 0) → List ℕ → List ℕ → Type 0
-GrowsBy Says old new = (part : List ℕ) × Says part × (new ≡ old ++ part)
+      ++ certificate_line plan.wave terms.capacity plan.planned ++ root_text plan.root ++ end_line

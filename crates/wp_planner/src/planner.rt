@@ -1,6 +1,8 @@
-ghost use Rattle.std.specs.Prelude.{◌≤◌, IfOk};
+ghost use Rattle.std.specs.Prelude.{◌≡◌, ◌≤◌, IfOk};
+ghost use Rattle.wp_search.specs.Plans.{IsGoodPlan};
 ghost use Rattle.wp_planner.specs.Plans.{IsPlanFor, IsPlanOf};
 ghost use Rattle.wp_planner.specs.Released.{IsReleased, LiesIn};
+ghost use Rattle.wp_planner.specs.Roots.{IsRootFor, rounds_of};
 
 use crate::released::is_released;
 use crate::terms::Terms;
@@ -9,9 +11,10 @@ use std::alloc::Global;
 use std::thread::Threads;
 use wp_batch::Wave;
 use wp_graph::Layout;
+use wp_lp::{Root, root_pair};
 use wp_machine::{Opening, WaveHolds};
 use wp_model::Memory;
-use wp_node::pays;
+use wp_node::{pays, price_of};
 use wp_outside::Gate;
 use wp_pairs::Capacity;
 use wp_search::{Planned, plan_wave};
@@ -31,11 +34,19 @@ pub struct Planning<'a, R, G> {
     pub ghost lies: { LiesIn layout.now opening.now.stock },
 }
 
-/// A wave and its plan.
+/// A wave, its plan, and a bracket of its linear bound where the terms ask for one.
 #[derive(Drop)]
 pub struct WavePlan {
     pub wave: Wave,
     pub planned: Planned,
+    pub root: Option<Root>,
+}
+
+// What is searched for while a wave's lengths are kept: its plan, and the bracket.
+#[derive(Drop)]
+struct Found {
+    planned: Planned,
+    root: Option<Root>,
 }
 
 // Up to how many orders the batches have of which no more than so many lengths are to be kept.
@@ -66,9 +77,60 @@ fn kept_orders(wave: &Wave, capacity: Capacity, budget: u64) -> u32
     }
 }
 
+// How many rounds the budget pays for: one for each node with duals of its own for which it would.
+fn rounds_for(wave: &Wave, terms: &Terms) -> u64
+    ensures { result ≡ rounds_of wave.now terms.now }
+{
+    let price = price_of(wave.orders(), terms.capacity());
+    (u128::from(terms.budget()) / price) as u64
+}
+
+// The bracket of a wave's linear bound, where the terms ask for one.
+fn root_of<R: Threads + Sync, G: Gate>(
+    planning: &Planning<'_, R, G>,
+    alloc: Global,
+    wave: &Wave,
+) -> Result<Option<Root>, Memory>
+    ensures { IfOk result (IsRootFor planning.now.terms.now wave.now) }
+{
+    let terms = planning.terms;
+    if !terms.root() {
+        return Ok(None);
+    }
+    let capacity = terms.capacity().most;
+    let rounds = rounds_for(wave, terms);
+    let root = root_pair(planning.rt, alloc, wave, capacity, rounds, terms.workers())?;
+    Ok(Some(root))
+}
+
+// The plan of a wave, and the bracket of its linear bound.
+fn searched<R: Threads + Sync, G: Gate>(
+    planning: &Planning<'_, R, G>,
+    alloc: Global,
+    wave: &Wave,
+) -> Result<Found, Memory>
+    ensures plan { IfOk result (λ found. IsGoodPlan wave.now planning.now.terms.now.capacity planning.now.terms.now.budget found.planned) }
+    ensures root { IfOk result (λ found. IsRootFor planning.now.terms.now wave.now found.root) }
+{
+    let capacity = planning.terms.capacity();
+    let budget = planning.terms.budget();
+    let workers = planning.terms.workers();
+    let planned = plan_wave(
+        planning.rt,
+        alloc,
+        wave,
+        capacity.most,
+        budget,
+        workers,
+        planning.gate,
+    )?;
+    let root = root_of(planning, alloc, wave)?;
+    Ok(Found { planned, root })
+}
+
 /// The plan of a wave that went out: a good plan, for the terms' capacity and budget, of the wave whose orders pick at the slots
-/// of the layout at which they hold units, and whose batches fit a cart of the opening's units, if it has them. The workers that
-/// price it pass the gate.
+/// of the layout at which they hold units, and whose batches fit a cart of the opening's units, if it has them; and a bracket of its
+/// linear bound, where the terms ask for one. The workers that price it pass the gate.
 pub fn plan_of<R: Threads + Sync, G: Gate>(
     planning: &Planning<'_, R, G>,
     alloc: Global,
@@ -78,22 +140,15 @@ pub fn plan_of<R: Threads + Sync, G: Gate>(
     ensures { IfOk result (IsPlanOf planning.now.layout.now planning.now.opening.now released.now planning.now.terms.now) }
 {
     let mut wave = wave_of(alloc, planning.layout, planning.opening, released)?;
-    let capacity = planning.terms.capacity();
-    let budget = planning.terms.budget();
-    let workers = planning.terms.workers();
-    let kept = kept_orders(&wave, capacity, budget);
-    wave.keep_lengths(alloc, kept)?;
-    let planned = plan_wave(
-        planning.rt,
-        alloc,
-        &wave,
-        capacity.most,
-        budget,
-        workers,
-        planning.gate,
-    )?;
+    let kept = kept_orders(&wave, planning.terms.capacity(), planning.terms.budget());
+    wave.keep_lengths_by(planning.rt, alloc, kept, planning.terms.workers())?;
+    let Found { planned, root } = searched(planning, alloc, &wave)?;
     wave.keep_lengths(alloc, 0)?;
-    Ok(WavePlan { wave, planned })
+    Ok(WavePlan {
+        wave,
+        planned,
+        root,
+    })
 }
 
 /// The plan of a wave that goes out. None comes exactly where a wave isn't one that does. The workers that price it pass the gate.

@@ -5,7 +5,9 @@ ghost use Rattle.wp_cert.specs.TextData.{HaveDualsWithin};
 ghost use Rattle.wp_sheets.specs.Picks.{AreSingle};
 ghost use Rattle.wp_planner.specs.Plans.{IsPlanOf};
 ghost use Rattle.wp_planner.specs.Released.{IsReleased};
-ghost use Rattle.wp_planner.specs.Sheets.{AreParts, FollowsPicks, GrowsBy, IsPart, IsRulesLine, IsSheet, IsShortestTour, certificate_line};
+ghost use Rattle.wp_parts.specs.Texts.{GrowsBy};
+ghost use Rattle.wp_planner.specs.Sheets.{AreParts, FollowsPicks, IsPart, IsRulesLine, IsSheet, IsShortestTour, certificate_line};
+ghost use Rattle.wp_planner.specs.Roots.{is_narrow as is_narrow_state, root_text};
 ghost use Rattle.wp_planner.specs.Sheets.{is_open as is_open_state, plan_line};
 
 use crate::planner::WavePlan;
@@ -14,12 +16,13 @@ use crate::tours::tour_of;
 use std::alloc::Global;
 use wp_batch::Wave;
 use wp_cert::print_certificate;
+use wp_lp::{Root, RootState};
 use wp_machine::{Opening, WaveHolds};
 use wp_model::Memory;
 use wp_pairs::Batch;
 use wp_rules::{Rule, rule_length};
 use wp_search::{Planned, State};
-use wp_sheets::{BatchSheet, print_batch, print_heading, print_rules};
+use wp_sheets::{BatchSheet, RootLine, print_batch, print_heading, print_root, print_rules};
 
 /// A wave that went out, as its sheet tells of it: the opening in whose stock it holds units, the terms of its plan, the plan, and whether
 /// a later entry cancels the wave.
@@ -169,9 +172,38 @@ fn print_shown(alloc: Global, text: &mut Vec<u8>, sent: &SentWave<'_>) -> Result
     Ok(())
 }
 
+// Whether the sides of a bracket are near each other.
+fn is_narrow(root: &Root) -> bool
+    ensures { result ≡ is_narrow_state root.now.state }
+{
+    match root.state {
+        RootState::Narrow => true,
+        _ => false,
+    }
+}
+
+// Adds the line of the bracket of the linear bound, if there is one.
+fn print_bracket(alloc: Global, text: &mut Vec<u8>, root: &Option<Root>) -> Result<(), Memory>
+    ensures { IfOk result (λ _. text.new.items ≡ text.old.items ++ root_text root.now) }
+{
+    let Some(root) = root else {
+        return Ok(());
+    };
+    let told = RootLine {
+        low: root.low,
+        high: root.high,
+        denominator: root.denominator,
+        narrow: is_narrow(root),
+    };
+    let line = print_root(alloc, &told)?;
+    text.extend_from_slice(&line)?;
+    Ok(())
+}
+
 /// Adds the sheet of a wave that went out and its plan to a text: a line of the wave, its cost and its bound; for each batch, numbered
 /// from 1, the length of its tour, its orders, the tour point by point and its picks by row, and, where the terms say so, what three usual
-/// rules would walk past them; the certificate; and a last line. The heading says `cancelled later` where a later entry cancels the wave. Tours are made one batch at a time. An `Err` comes from a want of memory
+/// rules would walk past them; the certificate; the bracket of the linear bound, where the plan has one; and a last line. The heading
+/// says `cancelled later` where a later entry cancels the wave. Tours are made one batch at a time. An `Err` comes from a want of memory
 /// alone, and the text may then have some of the sheet.
 pub fn print_sheet(alloc: Global, text: &mut Vec<u8>, sent: &SentWave<'_>) -> Result<(), Memory>
     requires released { IsReleased sent.now.opening.now sent.now.released.now }
@@ -182,6 +214,7 @@ pub fn print_sheet(alloc: Global, text: &mut Vec<u8>, sent: &SentWave<'_>) -> Re
     print_plan(alloc, text, sent)?;
     print_parts(alloc, text, sent)?;
     print_shown(alloc, text, sent)?;
+    print_bracket(alloc, text, &sent.plan.root)?;
     text.extend_from_slice(b"end wave\n")?;
     Ok(())
 }

@@ -14,6 +14,7 @@ pub struct Terms {
     workers: u32,
     rules: bool,
     pickers: u32,
+    root: bool,
 }
 
 impl Model for Terms {
@@ -21,18 +22,18 @@ impl Model for Terms {
 
     ghost Value = { Numbers };
 
-    ghost view = { λ t. record { capacity = t.capacity; budget = t.budget; workers = t.workers; rules = t.rules; pickers = t.pickers } };
+    ghost view = { λ t. record { capacity = t.capacity; budget = t.budget; workers = t.workers; rules = t.rules; pickers = t.pickers; root = t.root } };
 
-    ghost invariant = { λ t. AreTerms (record { capacity = t.capacity; budget = t.budget; workers = t.workers; rules = t.rules; pickers = t.pickers }) };
+    ghost invariant = { λ t. AreTerms (record { capacity = t.capacity; budget = t.budget; workers = t.workers; rules = t.rules; pickers = t.pickers; root = t.root }) };
 
-    ghost inverse = { λ t. record { capacity = t.capacity; budget = t.budget; workers = t.workers; rules = t.rules; pickers = t.pickers } };
+    ghost inverse = { λ t. record { capacity = t.capacity; budget = t.budget; workers = t.workers; rules = t.rules; pickers = t.pickers; root = t.root } };
 }
 
 impl Terms {
     /// The terms of three numbers within their ranges, with nothing told besides.
     pub fn of(capacity: u32, budget: u64, workers: u32) -> Terms
-        requires { AreTerms (record { capacity = capacity; budget = budget; workers = workers; rules = false; pickers = 0 }) }
-        ensures { result ≡ record { capacity = capacity; budget = budget; workers = workers; rules = false; pickers = 0 } }
+        requires { AreTerms (record { capacity = capacity; budget = budget; workers = workers; rules = false; pickers = 0; root = false }) }
+        ensures { result ≡ record { capacity = capacity; budget = budget; workers = workers; rules = false; pickers = 0; root = false } }
     {
         Terms {
             capacity,
@@ -40,18 +41,20 @@ impl Terms {
             workers,
             rules: false,
             pickers: 0,
+            root: false,
         }
     }
 
-    /// The same with what is told besides: whether sheets tell what three usual rules would walk, and to how many pickers all batches
-    /// are dealt, 0 to 100.
-    pub fn telling(self, rules: bool, pickers: u32) -> Terms
+    /// The same with what is told besides: whether sheets tell what three usual rules would walk, to how many pickers all batches are
+    /// dealt, 0 to 100, and whether sheets tell a bracket of the linear bound.
+    pub fn telling(self, rules: bool, pickers: u32, root: bool) -> Terms
         requires { pickers ≤ 100 }
-        ensures { result ≡ record self { rules = rules; pickers = pickers } }
+        ensures { result ≡ record self { rules = rules; pickers = pickers; root = root } }
     {
         Terms {
             rules,
             pickers,
+            root,
             ..self
         }
     }
@@ -95,5 +98,12 @@ impl Terms {
         ensures most { result ≤ 100 }
     {
         self.pickers
+    }
+
+    /// Whether sheets tell a bracket of the linear bound.
+    pub fn root(&self) -> bool
+        ensures { result ≡ self.now.root }
+    {
+        self.root
     }
 }

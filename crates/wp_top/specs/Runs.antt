@@ -43,10 +43,11 @@ pub record IsPlan (names : PlanNames) (said : Said) (output : List ℕ) : Type 0
   -- its output is the text of one history of the opening and of the scripts that the files say, for carts of the units that the words say;
   pub history : History
   pub answers : IsHistoryOf (opening_with said.opening names.units) said.scripts history
-  -- each released wave has a good plan: every released order lies in one batch within capacity; no batching costs less than the bound;
+  -- each released wave has a good plan: every released order lies in one batch within capacity; no batching costs less than the bound; and where the words
+  -- say so a bracket of its linear bound;
   pub plans : List WavePlan
   pub planned : AreGoodPlans said.layout history.opening (terms_of names) (waves_out history) plans
-  -- and its sheet, on which every tour is a shortest closed walk, with what three usual rules would walk where the words say so;
+  -- and its sheet, on which every tour is a shortest closed walk, with what three usual rules would walk and the bracket where the words say so;
   pub sheets : List ℕ
   pub printed : AreSheets history (terms_of names) (waves_out history) plans sheets
   -- where the words have pickers, all batches of the sheets are dealt to them, and the longest load is near the least that it can be

@@ -16,6 +16,7 @@ terms_of names = record {
   workers = names.workers;
   rules = names.rules == 1;
   pickers = names.pickers;
+  root = names.root == 1;
 }
 
 -- the sheet of a wave that went out in a history and of its plan

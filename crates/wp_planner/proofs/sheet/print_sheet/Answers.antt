@@ -11,6 +11,6 @@ returns c =
     let parts = c.in_ok-print_parts.ensures in (
       _,
       record { parts = parts.0; are = parts.1; is = refl },
-      sheet_grown c.args.text.now.items _ parts.0 _ _ _ _ _ _ c.in_ok-print_plan.ensures parts.2 c.in_ok-print_shown.ensures
-          c.in_ok-extend_from_slice.ensures.items,
+      sheet_grown c.args.text.now.items _ parts.0 _ _ _ _ _ _ _ _ c.in_ok-print_plan.ensures parts.2 c.in_ok-print_shown.ensures
+          c.in_ok-print_bracket.ensures c.in_ok-extend_from_slice.ensures.items,
     )
