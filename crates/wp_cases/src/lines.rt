@@ -6,7 +6,7 @@ use std::alloc::Global;
 use wp_model::Memory;
 
 /// How each line of a case begins, where it isn't empty.
-const BEGINNINGS: [&str; 19] = [
+const BEGINNINGS: [&str; 20] = [
     "#",
     "words ",
     "file ",
@@ -22,6 +22,7 @@ const BEGINNINGS: [&str; 19] = [
     "passes are counted",
     "plans meet",
     "no memory for the plan of W1",
+    "after a day of ",
     "runs ",
     "audit ",
     "certificates",

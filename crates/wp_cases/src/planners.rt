@@ -1,7 +1,7 @@
 //! Planners that cases have in place of the program's.
 ghost use Rattle.std.specs.Prelude.{⊤};
 
-use crate::lines::has_line;
+use crate::lines::{has_line, rest_of};
 use crate::meeting::Meeting;
 use std::alloc::Global;
 use wp_desk::Planner;
@@ -11,6 +11,8 @@ use wp_model::Memory;
 /// Plans each wave by a number of its own.
 #[derive(Drop)]
 pub enum CasePlanner {
+    /// Holds nobody.
+    Numbering,
     /// Has no memory for the plan of the wave W1.
     Wanting,
     /// Holds the plan of the wave W1 until that of another has begun, and that one until the plan of W1 has.
@@ -33,6 +35,8 @@ impl CasePlanner {
             Some(CasePlanner::Wanting)
         } else if has_line(lines, "plans meet") {
             Some(CasePlanner::Holding(Meeting::new()))
+        } else if rest_of(lines, "after a day of ").is_some() {
+            Some(CasePlanner::Numbering)
         } else {
             None
         }
@@ -41,7 +45,7 @@ impl CasePlanner {
     /// What it tells, in a line, where it holds plans.
     pub fn told(&self) -> &'static str {
         match self {
-            CasePlanner::Wanting => "",
+            CasePlanner::Numbering | CasePlanner::Wanting => "",
             CasePlanner::Holding(meeting) => meeting.told(),
         }
     }
@@ -56,7 +60,7 @@ impl Planner for CasePlanner {
         let number = number_of(wave);
         match self {
             CasePlanner::Wanting if number == 1 => Err(Memory),
-            CasePlanner::Wanting => Ok(number),
+            CasePlanner::Numbering | CasePlanner::Wanting => Ok(number),
             CasePlanner::Holding(meeting) => {
                 meeting.come(number);
                 Ok(number)

@@ -1,22 +1,26 @@
 //! Days that desks run with a planner of a case's own.
-ghost use Rattle.std.specs.Prelude.{IfOk};
+ghost use Rattle.std.specs.Prelude.{◌≡◌, ◌<◌, length, IfOk};
 ghost use Rattle.wp_model.specs.Tables.{AreReadOrders};
 
 use crate::fault::CaseFault;
 use crate::gates::CaseGate;
 use crate::host::Host;
+use crate::lines::rest_of;
 use crate::planners::{CasePlanner, number_of};
 use crate::print_end;
 use std::alloc::Global;
 use std::sync::Wait;
 use std::thread::Threads;
-use wp_desk::{Planned, run_desks};
+use wp_desk::{DayRun, Planned, run_desks};
 use wp_graph::Layout;
 use wp_layout::read_layout;
 use wp_machine::{Machine, Opening};
 use wp_model::Memory;
 use wp_outside::{Files, Sink};
 use wp_tables::{Orders, Scripts, Stock, read_desks, read_orders, read_stock};
+
+/// How many entries there may be before a day.
+const MOST_ENTRIES: u64 = 10_000;
 
 fn layout_of<F: Files>(alloc: Global, files: &mut F) -> Result<Layout, CaseFault> {
     match read_layout(alloc, &files.read(alloc, "layout.json")?) {
@@ -48,26 +52,83 @@ fn opening_of<F: Files>(alloc: Global, files: &mut F) -> Result<Opening, CaseFau
     Ok(Opening::of(stock, orders))
 }
 
-fn scripts_of<F: Files>(alloc: Global, files: &mut F) -> Result<Scripts, CaseFault> {
-    match read_desks(alloc, &files.read(alloc, "desks.csv")?) {
+fn scripts_of<F: Files>(alloc: Global, files: &mut F, name: &str) -> Result<Scripts, CaseFault> {
+    match read_desks(alloc, &files.read(alloc, name)?) {
         Ok(scripts) => Ok(scripts),
         Err(_) => Err(CaseFault::File),
     }
 }
 
-/// How many waves go out of a day, and how many of them have plans of their own, where there is memory for the day.
-fn run_day<R: Threads + Wait + Sync>(
+/// The scripts of the day before, where a case has one.
+fn scripts_before<F: Files>(
+    alloc: Global,
+    lines: &str,
+    files: &mut F,
+) -> Result<Option<Scripts>, CaseFault> {
+    match rest_of(lines, "after a day of ") {
+        Some(name) => Ok(Some(scripts_of(alloc, files, name)?)),
+        None => Ok(None),
+    }
+}
+
+/// The machine as a day finds it: as the day before left it, where there was one.
+fn machine_for<'a, R: Threads + Wait + Sync>(
     host: &Host<'_, R>,
-    opening: &Opening,
-    scripts: &Scripts,
+    opening: &'a Opening,
+    before: &Option<Scripts>,
     planner: &CasePlanner,
     gate: &CaseGate,
-) -> Result<(usize, usize), Memory> {
+) -> Result<Machine<'a>, Memory>
+    ensures { IfOk result (λ machine. machine.opening ≡ opening.now) }
+{
     let machine = Machine::open(host.alloc, opening)?;
+    match before {
+        None => Ok(machine),
+        Some(scripts) => {
+            let DayRun {
+                machine,
+                plans: _,
+                refills: _,
+            } = run_desks(
+                host.rt, host.alloc, opening, machine, scripts, planner, gate,
+            )?;
+            Ok(machine)
+        }
+    }
+}
+
+/// How many waves go out of a day that begins with this machine, and how many of them have plans of their own.
+fn run_day<'a, R: Threads + Wait + Sync>(
+    host: &Host<'_, R>,
+    opening: &'a Opening,
+    machine: Machine<'a>,
+    scripts: &Scripts,
+    planner_and_gate: (&CasePlanner, &CaseGate),
+) -> Result<(usize, usize), Memory>
+    requires opened { machine.opening ≡ opening.now }
+    requires few { length machine.entries < 2147483648 }
+{
+    let (planner, gate) = planner_and_gate;
     let day = run_desks(
         host.rt, host.alloc, opening, machine, scripts, planner, gate,
     )?;
     Ok((day.plans.len(), own_plans(day.plans.as_slice())))
+}
+
+/// The same of a day after another one, where there was one and there is memory for both.
+fn run_after<R: Threads + Wait + Sync>(
+    host: &Host<'_, R>,
+    opening: &Opening,
+    (before, scripts): (&Option<Scripts>, &Scripts),
+    planner: &CasePlanner,
+    gate: &CaseGate,
+) -> Result<(usize, usize), Memory> {
+    let machine = machine_for(host, opening, before, planner, gate)?;
+    if machine.count() < MOST_ENTRIES {
+        run_day(host, opening, machine, scripts, (planner, gate))
+    } else {
+        Err(Memory)
+    }
 }
 
 fn own_plans(planned: &[Planned<u32>]) -> usize {
@@ -88,13 +149,16 @@ fn told_of(alloc: Global, day: Result<(usize, usize), Memory>) -> Result<(u8, St
 /// The status of the day in the files of a case, and the text that tells of its waves.
 fn day_of<R: Threads + Wait + Sync, F: Files>(
     host: &Host<'_, R>,
+    lines: &str,
     files: &mut F,
     planner: &CasePlanner,
     gate: &CaseGate,
 ) -> Result<(u8, String), CaseFault> {
     let opening = opening_of(host.alloc, files)?;
-    let scripts = scripts_of(host.alloc, files)?;
-    let told = told_of(host.alloc, run_day(host, &opening, &scripts, planner, gate))?;
+    let before = scripts_before(host.alloc, lines, files)?;
+    let scripts = scripts_of(host.alloc, files, "desks.csv")?;
+    let day = run_after(host, &opening, (&before, &scripts), planner, gate);
+    let told = told_of(host.alloc, day)?;
     Ok(told)
 }
 
@@ -114,7 +178,7 @@ pub fn run_planner<R: Threads + Wait + Sync, F: Files, K: Sink>(
     out: &mut K,
 ) -> Result<(), CaseFault> {
     let gate = CaseGate::of(lines);
-    let (status, waves) = day_of(host, files, planner, &gate)?;
+    let (status, waves) = day_of(host, lines, files, planner, &gate)?;
     let text = joined(host.alloc, waves.as_str(), planner.told(), &gate)?;
     print_end(host.alloc, name, status, text.as_bytes(), out)
 }
