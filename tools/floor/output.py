@@ -9,6 +9,7 @@ Pick = namedtuple('Pick', 'location article quantity order')
 Refill = namedtuple('Refill', 'entry wave order location quantity')
 Row = namedtuple('Row', 'location article on_hand free held')
 Rule = namedtuple('Rule', 'name length surplus')  # what a usual rule walks past a batch's picks, and how much longer that is than its tour
+Root = namedtuple('Root', 'low high over state')  # the bracket of a wave's linear bound: both sides are over one number
 Picker = namedtuple('Picker', 'number load batches')
 Crew = namedtuple('Crew', 'longest least pickers')
 
@@ -35,7 +36,7 @@ class Batch:
 
 
 class Wave:
-    """A wave's sheet. `units` is the size of its carts, where they have one, and `root` the words of its bracket, if any."""
+    """A wave's sheet. `units` is the size of its carts, where they have one, and `root` the bracket of its linear bound, if it has one."""
 
     def __init__(self, name, facts, state):
         self.name, self.state = name, state[0] if state else ''
@@ -138,7 +139,7 @@ class _Reader:
         elif words[0] == 'certificate':
             wave.certificate = words[1]
         elif words[0] == 'root':
-            wave.root = words[1:]
+            wave.root = Root(int(words[1]), int(words[2]), int(words[4]), words[5])
 
     def refills(self, text, words):
         if words[0] == 'refill':

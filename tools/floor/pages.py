@@ -79,6 +79,18 @@ def of_rules(day):
     return '<h2>By usual rules</h2>' + table(('rule', '>length of all walks', '>longer than the tours by', '>that is'), rows) if rows else ''
 
 
+def hundredths(value):
+    """A number of hundredths as a decimal with its thousands set apart."""
+    return cell('{:,}.{:02}'.format(*divmod(value, 100)).replace(',', '&#8239;'), 'right')
+
+
+def of_roots(day):
+    """Between what the linear bound of each wave lies, from its low side rounded down to its high side rounded up."""
+    rows = [(cell(escape(wave.name)), hundredths(100 * wave.root.low // wave.root.over), hundredths(-(-100 * wave.root.high // wave.root.over)),
+             cell(escape(wave.root.state))) for wave in day.waves if wave.root]
+    return '<h2>Linear bounds</h2>' + table(('wave', '>at least', '>at most', 'state'), rows) if rows else ''
+
+
 def of_refused(day):
     rows = [(number(entry.number), number(entry.desk), cell(escape(' '.join(entry.command))), cell(escape(' '.join(entry.reply[1:]))),
              cell(REASONS.get(entry.reply[1], ''))) for entry in day.refused()]
@@ -96,7 +108,7 @@ def of_short(day):
 def of_planner(day):
     """The first page."""
     waves = of_waves(day) if day.waves else '<p>No wave went out.</p>'
-    return '<section><h1>The day</h1>%s%s%s%s</section>' % (waves, of_rules(day), of_refused(day), of_short(day))
+    return '<section><h1>The day</h1>%s%s%s%s%s</section>' % (waves, of_roots(day), of_rules(day), of_refused(day), of_short(day))
 
 
 def of_picks(walk, places):

@@ -5,7 +5,7 @@ import re
 from . import certificates, days, journals, layouts, making, tables
 from .refusals import Refusal, whole
 from .stock_book import Book
-from .words import read_words
+from .words import SHOWN_NUMBERS, read_words
 
 # What a program knows: the versions of layouts, and whether orders may be too much for a cart.
 FULL = {'versions': (1, 2), 'over_cart': True}
@@ -35,7 +35,8 @@ def opening_of(files):
     layout, stock, orders = files.opening()
     scripts = tables.read_desks(files.bytes('desks'))
     numbers = files.job.numbers
-    return days.Opening(layout, stock, orders, scripts, numbers['capacity'], numbers.get('units'), numbers.get('rules', 0), numbers.get('pickers', 0))
+    shown = {name: numbers.get(name, 0) for name in SHOWN_NUMBERS}
+    return days.Opening(layout, stock, orders, scripts, numbers['capacity'], numbers.get('units'), **shown)
 
 
 def check_of(files):

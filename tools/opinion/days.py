@@ -4,18 +4,19 @@ import re
 from collections import namedtuple
 
 from . import json_text, tours
-from .certificates import PARTS, Wave as CertifiedWave, bound_of, read_certificate
+from .certificates import Wave as CertifiedWave, bound_of, read_certificate
 from .crews import judge_crew
 from .journals import read_entry
 from .refusals import Refusal
+from .roots import judge_root
 from .rules import judge_rules
 from .stock_book import Book, command_text
 
 SMALL = 9  # so few slots that every order of them is tried
 COMPACT = re.compile(rb'[ \t\r\n]')
 
-# What the files of a day say, and what its words do: the units of a cart may be None, and rules and pickers are 0 where nothing is told of them.
-Opening = namedtuple('Opening', 'layout stock orders scripts capacity units rules pickers', defaults=(0, 0))
+# What the files of a day say, and what its words do: the units of a cart may be None, and rules, pickers and root are 0 where nothing is told of them.
+Opening = namedtuple('Opening', 'layout stock orders scripts capacity units rules pickers root', defaults=(0, 0, 0))
 
 # A wave that went out: its name, the number of the entry, its orders, and what it holds then, as (row, order, units).
 Released = namedtuple('Released', 'name entry orders held')
@@ -125,9 +126,11 @@ class Judge:
         self.lines.test(self.opening.capacity in (None, capacity), 'the capacity is %d where %s was asked for' % (capacity, self.opening.capacity))
         batches, lengths = self.batches_of(wave, capacity)
         self.test_numbers(wave, batches, sum(lengths), (cost, bound, state))
-        self.certificate(wave, batches, capacity, bound)
+        certified, duals = self.certificate(wave, batches, capacity, bound)
         self.waves.append((wave, capacity, cost, bound, state))
-        self.root(wave, capacity, cost)
+        if self.opening.root:
+            judge_root(self.lines, wave.name, certified, cost, duals)
+        self.test_no_further('root')
         self.lines.is_due('end wave')
 
     def test_numbers(self, wave, batches, total, numbers):
@@ -195,6 +198,7 @@ class Judge:
     # The certificate
 
     def certificate(self, wave, batches, capacity, bound):
+        """The wave of a sheet's certificate, and what the duals of its root come to."""
         line = self.lines.next()
         self.lines.test(line.startswith('certificate '), 'no certificate: %r' % shortened(line))
         text = line[len('certificate '):].encode()
@@ -211,7 +215,9 @@ class Judge:
         self.lines.test((found.units, found.loads) == ((None, None) if self.opening.units is None else (self.opening.units, loads)),
                         'the certificate is of another cart')
         self.lines.test(shown == bound, 'the certificate shows the bound %s where %d is printed' % (shown, bound))
-        self.test_joins(wave, batches, found)
+        certified = CertifiedWave(self.opening.layout, found)
+        self.test_joins(wave, batches, certified)
+        return certified, sum(found.nodes[0].get('duals', certified.shares()))
 
     def is_compact(self, text):
         """Whether a text is JSON as it is printed: nothing between its parts, keys in order, slots of each order in order and once."""
@@ -224,32 +230,14 @@ class Judge:
                 return False
         return json_text.compact(value) == text
 
-    def test_joins(self, wave, batches, found):
+    def test_joins(self, wave, batches, certified):
         """No two batches whose orders fit into one cost more than that one."""
-        certified = CertifiedWave(self.opening.layout, found)
         places = [tuple(wave.orders.index(order) for order in batch) for batch in batches]
         for number, left in enumerate(places):
             for right in places[number + 1:]:
                 both = tuple(sorted(left + right))
                 if certified.fits(both) and certified.length(both) < certified.length(left) + certified.length(right):
                     self.lines.fail('two batches of %s cost more than the one of their orders %s' % (wave.name, both))
-        self.root_sum = None
-        node = found.nodes[0]
-        if 'duals' in node:
-            self.root_sum = sum(node['duals'])
-
-    def root(self, wave, capacity, cost):
-        """The bracket of the linear bound, where there is one: what it says together with the cost and the root's duals."""
-        if not self.lines.peek().startswith('root '):
-            return
-        found = re.fullmatch(r'root (0|[1-9][0-9]*) (0|[1-9][0-9]*) over ([1-9][0-9]*) (narrow|open)', self.lines.next())
-        self.lines.test(found, 'no bracket')
-        low, high, over = (int(found[place]) for place in (1, 2, 3))
-        self.lines.test(low <= high, 'the bracket of %s is empty' % wave.name)
-        self.lines.test(low <= cost * over, 'the bracket of %s is above its cost' % wave.name)
-        self.lines.test(self.root_sum is None or self.root_sum * over <= PARTS * high, 'the bracket of %s is below the duals of its root' % wave.name)
-        narrow = PARTS * (high - low) < len(wave.orders) * over
-        self.lines.test(found[4] != 'narrow' or narrow, 'the bracket of %s is not narrow' % wave.name)
 
     # What follows the sheets
 

@@ -77,7 +77,14 @@ WORDS = [
     ('plan --layout layout.json --stock stock.csv --orders orders.csv --desks desks.csv --capacity 2 --pickers 101', 'words bad-words', 'from 0 to 100'),
     ('plan --layout layout.json --stock stock.csv --orders orders.csv --desks desks.csv --capacity 2 --pickers', 'words bad-words', 'it is left out, or has no value'),
     ('plan --layout layout.json --stock stock.csv --orders orders.csv --desks desks.csv --capacity 2 --picker 4', 'words bad-words', 'perhaps --pickers'),
+    ('plan --layout layout.json --stock stock.csv --orders orders.csv --desks desks.csv --capacity 2 --root 2', 'words bad-words', 'from 0 to 1'),
+    ('plan --layout layout.json --stock stock.csv --orders orders.csv --desks desks.csv --capacity 2 --root', 'words bad-words', 'it is left out, or has no value'),
+    ('plan --layout layout.json --stock stock.csv --orders orders.csv --desks desks.csv --capacity 2 --root 1 --root=0', 'words bad-words', 'it stands twice'),
+    ('plan --layout layout.json --stock stock.csv --orders orders.csv --desks desks.csv --capacity 2 --roots 1', 'words bad-words', 'perhaps --root'),
     ('check --layout layout.json --certificate stock.csv --rules 1', 'words bad-words', 'no option of check'),
+    ('check --layout layout.json --certificate stock.csv --root 1', 'words bad-words', 'no option of check'),
+    ('audit --layout layout.json --stock stock.csv --orders orders.csv --journal stock.csv --root 0', 'words bad-words', 'no option of audit'),
+    ('make --number 1 --aisles 2 --orders 5 --desks 1 --wave 1 --capacity 1 --root 1', 'words bad-words', 'no option of make'),
     ('audit --layout layout.json --stock stock.csv --orders orders.csv --journal stock.csv --pickers 4', 'words bad-words', 'no option of audit'),
     ('make --number 1 --aisles 2 --orders 5 --desks 1 --wave 1 --capacity 1 --pickers 0', 'words bad-words', 'no option of make'),
     ('plan --layout layout.json --stok stock.csv --orders orders.csv --desks desks.csv --capacity 2', 'words bad-words', 'perhaps --stock'),
@@ -142,7 +149,7 @@ class Explaining(unittest.TestCase):
         self.assertEqual((0, 'audit 2 entries\n'), (done.status, run.output))
 
     def test_what_is_right_is_told(self):
-        for more in ((), ('--rules', '1', '--pickers', '100'), ('--rules', '0', '--pickers', '0')):
+        for more in ((), ('--rules', '1', '--pickers', '100', '--root', '1'), ('--rules', '0', '--pickers', '0', '--root', '0')):
             done, _ = self.explained({}, [*PLAN, *more])
             self.assertEqual((0, 'nothing in these words and files is refused\n'), (done.status, done.output))
 

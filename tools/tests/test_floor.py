@@ -155,7 +155,8 @@ class Tables(unittest.TestCase):
         self.assertEqual([12, 3, 1], [len(found[name]) for name in ('journal', 'waves', 'refills')])
         self.assertEqual({'place': 1, 'location': '14-5-L', 'article': 'PAPER-A3-80G', 'quantity': 12, 'order': 'SO-10235'}, found['waves'][0]['batches'][0]['picks'][0])
         later = json.loads(runs.script('to-json', '-', given=LATER.encode()).output)
-        self.assertEqual((8, '1 2 over 1 open', 2), (later['waves'][0]['units'], later['waves'][0]['root'], len(later['crew']['pickers'])))
+        self.assertEqual((8, 2), (later['waves'][0]['units'], len(later['crew']['pickers'])))
+        self.assertEqual({'low': 1, 'high': 2, 'over': 1, 'state': 'open'}, later['waves'][0]['root'])
 
     def test_two_plans_are_compared(self):
         one = runs.example_day()
@@ -174,7 +175,7 @@ class Tables(unittest.TestCase):
 
 
 class Shown(unittest.TestCase):
-    """What the scripts make of lines of rules and of a crew: of outputs that were written by hand, so that no program is run."""
+    """What the scripts make of lines of rules, brackets and a crew: of outputs that were written by hand, so that no program is run."""
 
     def test_rules_and_pickers_are_shown(self):
         folder = runs.put(Path(runs.shelf().name) / 'shown', {'day.txt': '\n'.join(by_hand.PAIR), 'layout.json': by_hand.LAYOUT})
@@ -187,7 +188,26 @@ class Shown(unittest.TestCase):
         day = runs.put(folder, {'alone.txt': '\n'.join(by_hand.ALONE)}) / 'alone.txt'
         self.assertIn('<a href="#cart-W1-2">W1/2</a>, W2/1 (cancelled later)', sheets(day, folder / 'layout.json').output)
         day = runs.put(folder, {'plain.txt': '\n'.join(by_hand.plain(by_hand.PAIR))}) / 'plain.txt'
-        self.assertNotRegex(sheets(day, folder / 'layout.json').output, 'picker|usual rules')
+        self.assertNotRegex(sheets(day, folder / 'layout.json').output, 'picker|usual rules|Linear bounds')
+
+    def test_brackets_are_shown(self):
+        thirds = '\n'.join(by_hand.PAIR).replace('1800 2880 over 60 open', '290000 290001 over 3 narrow')
+        folder = runs.put(Path(runs.shelf().name) / 'brackets', {'day.txt': '\n'.join(by_hand.PAIR), 'thirds.txt': thirds, 'layout.json': by_hand.LAYOUT})
+        for name, sides, state in (('day.txt', ('30.00', '48.00'), 'open'), ('thirds.txt', ('96&#8239;666.66', '96&#8239;667.00'), 'narrow')):
+            page = sheets(folder / name, folder / 'layout.json').output
+            self.assertIn('<tr><td>W1</td>%s<td>%s</td></tr>' % (''.join('<td class="right">%s</td>' % side for side in sides), state), page.split('<h2>Linear bounds</h2>')[1])
+
+    def test_brackets_are_told_and_compared(self):
+        for lines, due in ((by_hand.PAIR, ['1800', '2880', '60', 'open']), (by_hand.plain(by_hand.PAIR), [''] * 4)):
+            folder = Path(runs.shelf().name) / 'bracket-tables'
+            self.assertEqual(0, runs.script('to-csv', '-', folder, given='\n'.join(lines).encode()).status)
+            waves = list(csv.DictReader(io.StringIO((folder / 'waves.csv').read_text())))
+            self.assertEqual([due], [[row['root_' + name] for name in ('low', 'high', 'over', 'state')] for row in waves])
+        one = '\n'.join(by_hand.PAIR)
+        for other, told in ((one, 'no difference'), ('\n'.join(by_hand.without(by_hand.PAIR, 'root ')), 'brackets: told only in the first\n'),
+                            (one.replace('1800 2880 over 60 open', '2880 2880 over 60 narrow'), 'W1 bracket: 1800 to 2880 over 60, open, and 2880 to 2880 over 60, narrow\n')):
+            folder = runs.put(Path(runs.shelf().name) / 'brackets', {'one.txt': one, 'other.txt': other})
+            self.assertIn(told, runs.script('compare', folder / 'one.txt', folder / 'other.txt').output)
 
     def test_the_tables_have_rules_and_pickers(self):
         for lines, batches, pickers in ((by_hand.PAIR, [['26', '26', '38', '26', '1'], ['22', '22', '22', '22', '2']], [['1', '26', 'W1/1'], ['2', '22', 'W1/2']]),
@@ -199,19 +219,20 @@ class Shown(unittest.TestCase):
             self.assertEqual(batches, [[row[name] for name in ('length', 's_shape', 'return', 'largest_gap', 'picker')] for row in tables['batches']])
             self.assertEqual(pickers, [[row[name] for name in ('picker', 'load', 'batches')] for row in tables['pickers']])
 
-    def test_the_object_has_rules_and_pickers(self):
+    def test_the_object_has_rules_pickers_and_brackets(self):
         shown = json.loads(runs.script('to-json', '-', given='\n'.join(by_hand.PAIR).encode()).output)
         self.assertEqual({'name': 'return', 'length': 38, 'surplus': 12}, shown['waves'][0]['batches'][0]['rules'][1])
         self.assertEqual({'longest': 26, 'least': 26, 'pickers': [{'number': 1, 'load': 26, 'batches': ['W1/1']}, {'number': 2, 'load': 22, 'batches': ['W1/2']}]}, shown['crew'])
         plain = json.loads(runs.script('to-json', '-', given='\n'.join(by_hand.plain(by_hand.PAIR)).encode()).output)
-        self.assertEqual(set(), {'rules', 'crew'} & {*plain, *plain['waves'][0]['batches'][0]})
+        self.assertEqual({'low': 1800, 'high': 2880, 'over': 60, 'state': 'open'}, shown['waves'][0]['root'])
+        self.assertEqual(set(), {'rules', 'root', 'crew'} & {*plain, *plain['waves'][0], *plain['waves'][0]['batches'][0]})
 
     def test_crews_are_compared(self):
         lines = by_hand.ALONE
         place = lines.index('crew longest 36 least 31')
         other = ['crew longest 38 least 31', 'picker 1 load 38 batches W1/1 W1/2', 'picker 2 load 24 batches W1/3 W2/1']
         one = ['crew longest 62 least 62', 'picker 1 load 62 batches W1/1 W1/2 W1/3 W2/1']
-        for changed, told in ((lines, 'no difference'), (by_hand.plain(lines), 'rules: told only in the first\ncrew: only in the first, 2 pickers with a longest load of 36\n'),
+        for changed, told in ((lines, 'no difference'), (by_hand.plain(lines), 'rules: told only in the first\nbrackets: told only in the first\ncrew: only in the first, 2 pickers with a longest load of 36\n'),
                               (lines[:place] + other + lines[place + 3:], 'crew longest load: 36, and 38 (+5.56 %)\ncrew picker 1: W1/1 W1/3, and W1/1 W1/2\n'),
                               (lines[:place] + one + lines[place + 3:], 'crew pickers: 2, and 1 (-50.00 %)\n')):
             folder = runs.put(Path(runs.shelf().name) / 'crews', {'one.txt': '\n'.join(lines), 'other.txt': '\n'.join(changed)})

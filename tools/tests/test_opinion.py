@@ -4,10 +4,11 @@ planted in right outputs."""
 import random
 import re
 import unittest
+from fractions import Fraction
 
 import by_hand
 import runs
-from opinion import certificates, days, journals, json_text, layouts, making, rules, tables, tours, words
+from opinion import certificates, days, journals, json_text, layouts, making, roots, rules, tables, tours, words
 from opinion.refusals import Refusal
 from opinion.stock_book import Book, by_overlap
 
@@ -175,7 +176,7 @@ class Files(unittest.TestCase):
 
     def test_words_are_read_as_documented(self):
         job = words.read_words('plan --layout=l --stock s --orders o --desks d --capacity +03'.split())
-        self.assertEqual(({'capacity': 3, 'budget': 2000000, 'workers': 1, 'units': None, 'rules': 0, 'pickers': 0}, 'l'), (job.numbers, job.files['layout']))
+        self.assertEqual(({'capacity': 3, 'budget': 2000000, 'workers': 1, 'units': None, 'rules': 0, 'pickers': 0, 'root': 0}, 'l'), (job.numbers, job.files['layout']))
         for units, due in (('1', 1), ('=40000000', 40000000), ('=+007', 7)):
             for mode in ('plan --desks d --capacity 3', 'audit --journal j'):
                 asked = '%s --layout l --stock s --orders o --units%s%s' % (mode, '' if '=' in units else ' ', units)
@@ -185,15 +186,17 @@ class Files(unittest.TestCase):
                 asked = '%s --layout l --stock s --orders o --units %s' % (mode, units)
                 self.assertEqual('refused words bad-words', refused(words.read_words, asked.split()), asked)
         self.assertEqual('refused words bad-words', refused(words.read_words, 'check --layout l --certificate c --units 5'.split()))
-        for word, due in (('--rules 0', 0), ('--rules=1', 1), ('--rules +01', 1), ('--rules=-0', 0), ('--pickers 0', 0), ('--pickers 100', 100), ('--pickers=007', 7)):
+        for word, due in (('--rules 0', 0), ('--rules=1', 1), ('--rules +01', 1), ('--rules=-0', 0), ('--pickers 0', 0), ('--pickers 100', 100), ('--pickers=007', 7),
+                          ('--root 0', 0), ('--root=1', 1), ('--root +01', 1), ('--root=-0', 0)):
             job = words.read_words(['plan', *'--layout l --stock s --orders o --desks d --capacity 3'.split(), *word.split()])
-            self.assertEqual(due, job.numbers['rules' if 'rules' in word else 'pickers'], word)
+            self.assertEqual(due, job.numbers[re.match('--([a-z]+)', word)[1]], word)
         for word in ('--rules 2', '--rules -0', '--rules=-1', '--rules', '--rules=', '--rules 1 --rules 1', '--rules 1.0', '--pickers 101', '--pickers=-1', '--pickers',
-                     '--pickers x', '--pickers 3 --pickers 3', '--pickers 1 --rules', '--budget=-0'):
+                     '--pickers x', '--pickers 3 --pickers 3', '--pickers 1 --rules', '--budget=-0', '--root 2', '--root -0', '--root=-1', '--root', '--root=',
+                     '--root 1 --root 1', '--root=0 --root=1', '--root yes', '--root --rules 1', '--roots 1'):
             asked = ['plan', *'--layout l --stock s --orders o --desks d --capacity 3'.split(), *word.split()]
             self.assertEqual('refused words bad-words', refused(words.read_words, asked), word)
         for asked in ('check --layout l --certificate c', 'audit --layout l --stock s --orders o --journal j', 'make --number 1 --aisles 2 --orders 5 --desks 1 --wave 1 --capacity 1'):
-            for word in ('--rules 1', '--rules 0', '--pickers 2', '--pickers 0'):
+            for word in ('--rules 1', '--rules 0', '--pickers 2', '--pickers 0', '--root 1', '--root 0'):
                 self.assertIsNone(refused(words.read_words, asked.split()), asked)
                 self.assertEqual('refused words bad-words', refused(words.read_words, [*asked.split(), *word.split()]), (asked, word))
         for text, why in (('', 'no-mode'), ('plann', 'unknown-mode'), ('check --layout l', 'bad-words'), ('check --layout l --certificate --x', 'bad-words'),
@@ -385,7 +388,7 @@ class Carts(unittest.TestCase):
 
 
 class Crews(unittest.TestCase):
-    """What a plan prints with --rules and --pickers, and what may be wrong with it."""
+    """What a plan prints with --rules, --pickers and --root, and what may be wrong with it."""
 
     STOCK = tables.Stock([tables.StockRow(tables.Location(aisle, slot, 'L'), article, 5) for aisle, slot, article in (
         (1, 1, 'D'), (1, 4, 'A'), (2, 4, 'B'), (3, 1, 'C'))], list('DABC'))
@@ -394,9 +397,9 @@ class Crews(unittest.TestCase):
     PAIR_SCRIPT = {1: [('submit', 'W1', 'O1', 'O2', 'O3'), ('release', 'W1')]}
     ALONE_SCRIPT = {1: [*PAIR_SCRIPT[1], ('submit', 'W2', 'O4'), ('release', 'W2'), ('cancel', 'W2')]}
 
-    def fault(self, lines, scripts, capacity, rules=1, pickers=2):
+    def fault(self, lines, scripts, capacity, rules=1, pickers=2, root=1):
         try:
-            days.judge(days.Opening(SMALL, self.STOCK, self.ORDERS, scripts, capacity, None, rules, pickers), '\n'.join(lines).encode())
+            days.judge(days.Opening(SMALL, self.STOCK, self.ORDERS, scripts, capacity, None, rules, pickers, root), '\n'.join(lines).encode())
         except days.Fault as why:
             return str(why)
         return None
@@ -412,13 +415,14 @@ class Crews(unittest.TestCase):
         self.assertIsNone(self.of_alone(self.ALONE))
         self.assertIsNone(self.fault(by_hand.NOBODY, {}, 1, pickers=1))
 
-    def test_neither_stands_there_where_it_is_not_asked_for(self):
-        plain, no_rules = by_hand.plain(self.ALONE), by_hand.without(self.ALONE, 'rules ')
+    def test_none_stands_there_where_it_is_not_asked_for(self):
+        plain, no_rules, no_roots = by_hand.plain(self.ALONE), by_hand.without(self.ALONE, 'rules '), by_hand.without(self.ALONE, 'root ')
         no_crew = by_hand.without(self.ALONE, 'crew ', 'picker ', 'end crew')
-        for lines, asked in ((plain, {'rules': 0, 'pickers': 0}), (no_crew, {'pickers': 0}), (no_rules, {'rules': 0})):
+        for lines, asked in ((plain, {'rules': 0, 'pickers': 0, 'root': 0}), (no_crew, {'pickers': 0}), (no_rules, {'rules': 0}), (no_roots, {'root': 0})):
             self.assertIsNone(self.of_alone(lines, **asked))
         for lines, asked, words in ((self.ALONE, {'rules': 0}, 'line 11: a line `rules'), (self.ALONE, {'pickers': 0}, 'a line `crew'), (no_crew, {}, 'no heading of a crew'),
-                                    (plain, {'pickers': 0}, 'no line of rules'), (no_rules, {}, 'no line of rules')):
+                                    (plain, {'pickers': 0}, 'no line of rules'), (no_rules, {}, 'no line of rules'), (no_roots, {}, 'no bracket of W1'),
+                                    (self.ALONE, {'root': 0}, 'line 21: a line `root'), (plain, {'rules': 0, 'pickers': 0}, 'no bracket of W1')):
             self.assertRegex(self.of_alone(lines, **asked) or 'nothing found', words)
 
     def test_what_is_wrong_with_the_rules_is_found(self):
@@ -429,6 +433,36 @@ class Crews(unittest.TestCase):
         self.assertRegex(self.of_pair(self.PAIR[:last] + self.PAIR[last + 1:]), 'no line of rules')
         self.assertRegex(self.of_pair(self.PAIR[:last] + self.PAIR[last:last + 1] + self.PAIR[last:]), 'a line `rules')
         self.assertRegex(self.of_pair(self.PAIR[:last - 1] + [self.PAIR[last], self.PAIR[last - 1]] + self.PAIR[last + 1:]), 'pick')
+
+    def test_what_is_wrong_with_a_bracket_is_found(self):
+        place = self.PAIR.index('root 1800 2880 over 60 open')
+        before, line, after = self.PAIR[:place], self.PAIR[place], self.PAIR[place + 1:]
+        self.assertIsNone(self.of_pair([*before, 'root 2880 2880 over 60 narrow', *after]))
+        for told, words in ((['root 2880 1800 over 60 open'], 'is empty'), (['root 1800 2880 over 60 narrow'], 'not narrow'), (['root 2881 2881 over 60 open'], 'above its cost'),
+                            (['root 2878 2879 over 60 narrow'], 'below its linear bound, which is 48'), (['root 1799 1799 over 60 open'], 'below the duals of its root'),
+                            ([], 'line 16: no bracket of W1'), ([line, line], 'line 16: a line `root'), ([line.replace('root', 'roots')], 'no bracket of W1')):
+            self.assertRegex(self.of_pair([*before, *told, *after]) or 'nothing found', words, told)
+        for lines, words in (([*before[:-1], line, before[-1], *after], 'line 15: no certificate'), ([*before, after[0], line, *after[1:]], 'line 16: no bracket of W1'),
+                             ([*before[:4], line, *before[4:], *after], 'heading')):
+            self.assertRegex(self.of_pair(lines) or 'nothing found', words)
+
+    def test_a_bracket_may_lie_above_the_bound_of_duals_of_its_own_alone(self):
+        own = '{"duals":[840,720,1320],"kind":"leaf","marks":"1100100","tight":[[0],[0,1],[0,2]]}'
+        proven = [line.replace('{"kind":"kept"}', own).replace('bound 30 open', 'bound 48 proven') for line in self.PAIR]
+        self.assertIsNone(self.of_pair(proven))
+        self.assertRegex(self.of_pair([line.replace('root 1800 2880', 'root 2820 2879') for line in proven]) or 'nothing found', 'below the duals of its root')
+
+    def test_the_script_judges_what_was_asked_for(self):
+        head = 'desk,command,arguments\n'
+        folder = runs.put(runs.Path(runs.shelf().name) / 'judged', {
+            'layout.json': by_hand.LAYOUT, 'stock.csv': 'location,article,on_hand\n1-1-L,D,5\n1-4-L,A,5\n2-4-L,B,5\n3-1-L,C,5\n',
+            'orders.csv': 'order,article,quantity\nO1,A,1\nO2,B,1\nO3,C,1\nO4,D,1\n', 'desks.csv': head + '1,submit,W1,O1,O2,O3\n1,release,W1\n'})
+        output = '\n'.join(by_hand.PAIR).encode()
+        for asked, status, told in (('--rules 1 --pickers 2 --root 1', 0, 'right: 2 entries, 1 sheets and their brackets with 2 batches'),
+                                    ('--rules 1 --pickers 2', 1, 'wrong: line 15: a line `root'), ('--rules 1 --pickers 2 --root 2', 2, '')):
+            done = runs.script('second-opinion', *runs.options(folder), *asked.split(), '-', given=output)
+            self.assertEqual(status, done.status, done.errors)
+            self.assertIn(told, done.output)
 
     def test_what_is_wrong_with_a_crew_is_found(self):
         heading, first, second = 'crew longest 36 least 31', 'picker 1 load 36 batches W1/1 W1/3', 'picker 2 load 26 batches W1/2 W2/1'
@@ -482,12 +516,92 @@ class Crews(unittest.TestCase):
         self.assertRegex(self.of_alone(self.ALONE[:place] + crew + crew + self.ALONE[place + 4:]), 'a line `crew')
 
 
+class Brackets(unittest.TestCase):
+    """Linear bounds, and what may be wrong with the line of a bracket."""
+
+    @staticmethod
+    def wave(orders, capacity, units=None, loads=None, layout=SMALL):
+        return certificates.Wave(layout, certificates.Certificate(list(map(tours.gathered, orders)), capacity, units, loads, []))
+
+    @staticmethod
+    def cover(wave):
+        return roots.cheapest_cover(wave, roots.permitted(wave))
+
+    def fault(self, line, wave=None, cost=68, duals=3060):
+        """What is wrong with a line of three orders at one place, two to a cart, whose linear bound is 51."""
+        try:
+            roots.judge_root(days.Lines(line.encode() + b'\n'), 'W1', wave or self.wave([[(3, 4)]] * 3, 2), cost, duals)
+        except days.Fault as why:
+            return str(why)
+        return None
+
+    def test_linear_bounds_worked_by_hand(self):
+        three = [[(1, 4)], [(2, 4)], [(3, 1)]]
+        for orders, capacity, cart, due in ((three, 1, (), 60), (three, 2, (), 48), (three, 3, (), 38), ([[(3, 4)]] * 3, 2, (5, [3, 3, 3]), 102),
+                                            ([[(3, 4)]] * 3, 3, (5, [3, 2, 4]), 68), ([[(3, 4)]] * 3, 3, (5, [3, 2, 2]), 51), ([[]], 1, (), 0)):
+            self.assertEqual(due, self.cover(self.wave(orders, capacity, *cart)).cost(), (orders, capacity, cart))
+
+    def test_orders_at_one_place_share_a_cart_evenly(self):
+        for orders in range(1, 9):
+            for capacity in range(1, 9):
+                self.assertEqual(max(Fraction(34), Fraction(34 * orders, capacity)), self.cover(self.wave([[(3, 4)]] * orders, capacity)).cost())
+
+    def test_duals_show_that_no_cover_is_cheaper(self):
+        dice = random.Random(3)
+        for _ in range(300):
+            orders, capacity, units = dice.randint(1, 7), dice.randint(1, 8), dice.choice((None, 5))
+            lines = [[(dice.randint(1, 3), dice.randint(1, 4), 1) for _ in range(dice.randint(1, 3))] for _ in range(orders)]
+            loads = units and [dice.randint(0, 5) for _ in lines]
+            wave = self.wave([[line[:2] for line in some] for some in lines], capacity, units, loads)
+            cover = self.cover(wave)
+            duals, weights = cover.duals(), {cover.batches[place]: weight for place, weight in cover.weights().items()}
+            self.assertGreaterEqual(min(weights.values()), 0)
+            for order in range(orders):
+                self.assertEqual(cover.over, sum(weight for batch, weight in weights.items() if order in batch))
+            for batch in roots.permitted(wave):
+                self.assertLessEqual(sum(duals[order] for order in batch), cover.over * wave.length(batch))
+            self.assertEqual(cover.cost(), Fraction(sum(duals), cover.over))
+            if units is None:
+                self.assertLessEqual(cover.cost(), making.cheapest(SMALL, lines, capacity))
+
+    def test_all_batches_that_a_cart_takes_are_permitted(self):
+        self.assertEqual([(0,), (1,), (2,), (0, 1), (0, 2), (1, 2)], roots.permitted(self.wave([[(1, 1)]] * 3, 2)))
+        self.assertEqual([(0,), (1,), (2,), (0, 1)], roots.permitted(self.wave([[(1, 1)]] * 3, 3, 5, [3, 2, 4])))
+        many = self.wave([[(3, 4)]] * 19, 3)
+        self.assertEqual((None, 1159), (roots.permitted(many), len(roots.permitted(many, 1159))))
+
+    def test_a_right_line(self):
+        for line in ('6120 6120 over 120 narrow', '6120 6120 over 120 open', '51 51 over 1 narrow', '6115 6120 over 120 narrow', '0 4080 over 60 open', '3060 4080 over 60 open',
+                     '%d %d over %d narrow' % (51 * 10 ** 30, 51 * 10 ** 30 + 1, 10 ** 30)):
+            self.assertIsNone(self.fault('root ' + line), line)
+
+    def test_what_is_wrong_with_a_line_is_found(self):
+        for line, words in (('6120 6119 over 120 narrow', 'is empty'), ('4080 3060 over 60 open', 'is empty'), ('6114 6120 over 120 narrow', 'not narrow'),
+                            ('3060 4080 over 60 narrow', 'not narrow'), ('6121 6121 over 120 narrow', 'above its linear bound, which is 51'),
+                            ('52 68 over 1 open', 'above its linear bound'), ('69 69 over 1 open', 'above its cost'), ('50 50 over 1 open', 'below the duals of its root')):
+            self.assertRegex(self.fault('root ' + line) or 'nothing found', words, line)
+        self.assertRegex(self.fault('root 6119 6119 over 120 narrow', duals=0), 'below its linear bound, which is 51')
+
+    def test_a_line_of_another_form_is_found(self):
+        for line in ('6120 6120 over 0 narrow', '-1 6120 over 120 open', '6120 -6120 over 120 open', '6120 6120 over -120 open', '06120 6120 over 120 open', '6120 6120 over 120',
+                     '6120 6120 over 120 wide', '6120 6120 over 120 narrow ', '6120 6120 120 narrow', '6120 over 120 narrow', '6120.0 6120 over 120 open', ''):
+            self.assertRegex(self.fault('root ' + line) or 'nothing found', 'no bracket of W1', line)
+        self.assertRegex(self.fault('end wave'), 'no bracket of W1')
+
+    def test_of_a_large_wave_the_plain_relations_are_judged(self):
+        large = self.wave([[(3, 4)]] * 64, 3)
+        for line, words in (('43520 43520 over 60 narrow', None), ('44880 44880 over 60 narrow', None), ('44881 44881 over 60 open', 'above its cost'),
+                            ('43519 43519 over 60 open', 'below the duals'), ('43520 43584 over 60 narrow', 'not narrow'), ('43520 43583 over 60 narrow', None)):
+            found = self.fault('root ' + line, large, 22 * 34, 64 * 680)
+            self.assertTrue(found is None if words is None else words in str(found), (line, found))
+
+
 class LaterLines(unittest.TestCase):
-    """Lines that the program is to print one day are judged already: brackets and stored entries, beside carts, rules and pickers."""
+    """Brackets beside carts, rules and pickers; and stored entries, which the program is to print one day and which are judged already."""
 
     STOCK = tables.Stock([tables.StockRow(tables.Location(1, 1, 'L'), 'A', 5)], ['A'])
 
-    def fault(self, output, scripts=None, units=2, shown=(1, 2), stored=False):
+    def fault(self, output, scripts=None, units=2, shown=(1, 2, 1), stored=False):
         scripts = scripts or {1: [('submit', 'W1', 'O1'), ('release', 'W1')]}
         try:
             days.judge(days.Opening(SMALL, self.STOCK, {'O1': [('A', 2)]}, scripts, 1, units, *shown), output.encode(), stored)
@@ -507,14 +621,14 @@ class LaterLines(unittest.TestCase):
 
     def test_an_order_over_the_cart_is_refused(self):
         output = 'journal\n0 1 submit W1 O1 -> refused over-cart O1 2\n1 1 release W1 -> refused unknown-wave\nend journal\n' + STORED.split('end journal\n')[1]
-        self.assertIsNone(self.fault(output, units=1, shown=(0, 0)))
-        self.assertRegex(self.fault(output, units=2, shown=(0, 0)), 'reply')
+        self.assertIsNone(self.fault(output, units=1, shown=()))
+        self.assertRegex(self.fault(output, units=2, shown=()), 'reply')
 
     def test_stored_entries_have_no_sheets(self):
         new = {1: [('cancel', 'W1')]}
-        self.assertIsNone(self.fault(STORED, new, None, (0, 0), stored=True))
-        self.assertRegex(self.fault(STORED, new, None, (0, 0)), '2 commands more')
-        self.assertRegex(self.fault(STORED, {1: [('allot', 'W1')]}, None, (0, 0), stored=True), 'desk 1')
+        self.assertIsNone(self.fault(STORED, new, None, (), stored=True))
+        self.assertRegex(self.fault(STORED, new, None, ()), '2 commands more')
+        self.assertRegex(self.fault(STORED, {1: [('allot', 'W1')]}, None, (), stored=True), 'desk 1')
 
 
 class Books(unittest.TestCase):

@@ -36,13 +36,24 @@ CART_FAULTS = [
     ('a cart of one unit more', 'plan', rb'^(certificate .*"units":)(\d+)', 'b"%s%d" % (found[1], int(found[2]) + 1)', 'done.returncode'),
 ]
 
-# Those that only plans with rules or pickers show.
+# Those that only plans with rules, pickers or brackets show.
 SHOWN_FAULTS = [
     ('a surplus of one more', 'plan', rb'^(rules s-shape \d+) (\d+)', 'b"%s %d" % (found[1], int(found[2]) + 1)', 'done.returncode'),
     ('a walk that is longer by one', 'plan', rb'^(rules s-shape) (\d+) (\d+)', 'b"%s %d %d" % (found[1], int(found[2]) + 1, int(found[3]) + 1)', 'done.returncode'),
     ('a load of one more', 'plan', rb'^(picker 1 load) (\d+)', 'b"%s %d" % (found[1], int(found[2]) + 1)', 'done.returncode'),
     ('a crew without its last picker', 'plan', rb'^picker .*\n(end crew\n)', 'found[1]', 'done.returncode'),
+    ('brackets whose sides change places', 'plan', rb'^root (\d+) (\d+)', 'b"root %s %s" % (found[2], found[1])', 'done.returncode'),
+    ('brackets that are all narrow', 'plan', rb'^(root .*) open', 'b"%s narrow" % found[1]', 'done.returncode'),
+    ('brackets that lie higher by one', 'plan', rb'^root (\d+) (\d+) over (\d+)',
+     'b"root %d %d over %s" % (int(found[1]) + int(found[3]), int(found[2]) + int(found[3]), found[3])', 'done.returncode'),
+    ('brackets that lie lower by one', 'plan', rb'^root (\d+) (\d+) over (\d+)',
+     'b"root %d %d over %s" % (max(0, int(found[1]) - int(found[3])), max(0, int(found[2]) - int(found[3])), found[3])', 'done.returncode'),
+    ('brackets before their certificates', 'plan', rb'^(certificate .*\n)(root .*\n)', 'found[2] + found[1]', 'done.returncode'),
+    ('sheets without their brackets', 'plan', rb'^root .*\n', 'b""', 'done.returncode'),
 ]
+
+
+SHOWN_DAY = ('--capacity', '2', '--rules', '1', '--pickers', '4', '--root', '1')
 
 
 class Days(unittest.TestCase):
@@ -52,10 +63,16 @@ class Days(unittest.TestCase):
     def test_example_days_are_right(self):
         for example, *words in (('one-day', '--capacity', '3'), ('one-wave', '--capacity', '2'), ('three-desks', '--capacity', '2'),
                                 ('three-desks', '--capacity', '2', '--units', '12'), ('small-carts', '--capacity', '3', '--units', '30'),
-                                ('four-pickers', '--capacity', '2', '--rules', '1', '--pickers', '4'), ('one-day', '--capacity', '3', '--rules', '1', '--pickers', '3'),
-                                ('three-desks', '--capacity', '2', '--pickers', '100'), ('packing-at-the-back', '--capacity', '2', '--rules', '1')):
+                                ('four-pickers', *SHOWN_DAY), ('one-day', '--capacity', '3', '--rules', '1', '--pickers', '3', '--root', '1'),
+                                ('three-desks', '--capacity', '2', '--pickers', '100'), ('packing-at-the-back', '--capacity', '2', '--rules', '1', '--root', '1'),
+                                ('small-carts', '--capacity', '3', '--units', '30', '--root', '1')):
             done = self.judged(runs.EXAMPLES / example, runs.day_of(example, *words), *words)
             self.assertEqual((0, ''), (done.status, done.errors), done.output)
+
+    def test_brackets_without_a_round_are_right(self):
+        words = ('--capacity', '3', '--root', '1')
+        done = self.judged(runs.EXAMPLES / 'one-day', runs.day_of('one-day', *words, '--budget', '0'), *words)
+        self.assertEqual((0, ''), (done.status, done.errors), done.output)
 
     def test_the_plan_of_other_carts_is_wrong(self):
         day = runs.day_of('small-carts', '--capacity', '3', '--units', '30')
@@ -71,26 +88,33 @@ class Days(unittest.TestCase):
         self.assertIn('"units":30,"version":2}\n', day)
         self.assertEqual(['SO-30101 SO-30105', 'SO-30102', 'SO-30103 SO-30106 SO-30107'], re.findall('^batch .* orders (.*)$', day, re.MULTILINE))
 
-    def test_rules_and_pickers_add_their_lines_and_change_no_other(self):
+    def test_what_is_told_besides_adds_its_lines_and_changes_no_other(self):
         plain = runs.example_day().read_text().split('\n')
-        for rules, pickers in (('0', '0'), ('1', '0'), ('0', '3'), ('1', '3')):
-            shown = runs.day_of('one-day', '--capacity', '3', '--rules', rules, '--pickers', pickers).read_text().split('\n')
+        for rules, pickers, root in ('000', '100', '030', '001', '131'):
+            shown = runs.day_of('one-day', '--capacity', '3', '--rules', rules, '--pickers', pickers, '--root', root).read_text().split('\n')
             self.assertEqual(plain, by_hand.plain(shown))
-            batches, pickers_told = (sum(line.startswith(word) for line in shown) for word in ('batch ', 'picker '))
-            self.assertEqual((int(rules) * batches, int(pickers)), (sum(line.startswith('rules ') for line in shown), pickers_told))
+            batches, waves, *told = (sum(line.startswith(word + ' ') for line in shown) for word in ('batch', 'wave', 'rules', 'picker', 'root'))
+            self.assertEqual([int(rules) * batches, int(pickers), int(root) * waves], told)
 
-    def test_rules_and_pickers_of_the_day_by_hand(self):
+    def test_each_sheet_has_its_bracket_behind_its_certificate(self):
+        day = runs.day_of('one-day', '--capacity', '3', '--rules', '1', '--pickers', '3', '--root', '1').read_text()
+        found = re.findall('(?m)^wave .* orders ([0-9]+) .*\n(?:(?!end wave).*\n)*certificate .*\nroot ([0-9]+) ([0-9]+) over ([0-9]+) narrow\nend wave$', day)
+        self.assertEqual(3, len(found))
+        for orders, low, high, over in (map(int, each) for each in found):
+            self.assertLess(60 * (high - low), orders * over)
+
+    def test_what_is_told_of_the_day_by_hand(self):
         files = {'layout.json': by_hand.LAYOUT, 'stock.csv': 'location,article,on_hand\n1-1-L,D,5\n1-4-L,A,5\n2-4-L,B,5\n3-1-L,C,5\n',
                  'orders.csv': 'order,article,quantity\nO1,A,1\nO2,B,1\nO3,C,1\nO4,D,1\n'}
         head, first, second = 'desk,command,arguments\n', '1,submit,W1,O1,O2,O3\n1,release,W1\n', '1,submit,W2,O4\n1,release,W2\n1,cancel,W2\n'
         for lines, desks, capacity, pickers in ((by_hand.PAIR, first, '2', '2'), (by_hand.ALONE, first + second, '1', '2'), (by_hand.NOBODY, '', '1', '1')):
             folder = runs.put(Path(runs.shelf().name) / 'by-hand', {**files, 'desks.csv': head + desks})
-            done = runs.planned(folder, '--capacity', capacity, '--budget', '0', '--rules', '1', '--pickers', pickers)
-            kinds = ('batch ', 'tour ', 'pick ', 'rules ', 'crew ', 'picker ', 'end')
+            done = runs.planned(folder, '--capacity', capacity, '--budget', '0', '--rules', '1', '--pickers', pickers, '--root', '1')
+            kinds = ('batch ', 'tour ', 'pick ', 'rules ', 'root ', 'crew ', 'picker ', 'end')
             self.assertEqual([line for line in lines if line.startswith(kinds)], [line for line in done.output.split('\n') if line.startswith(kinds)])
 
     def test_a_day_with_a_crew_is_audited_and_checked(self):
-        folder, day = runs.EXAMPLES / 'four-pickers', runs.day_of('four-pickers', '--capacity', '2', '--rules', '1', '--pickers', '4')
+        folder, day = runs.EXAMPLES / 'four-pickers', runs.day_of('four-pickers', *SHOWN_DAY)
         self.assertEqual('audit 4 entries\n', runs.waveplan('audit', *runs.options(folder, runs.FILES[:3]), '--journal', day).output)
         self.assertRegex(day.read_text(), '(?m)^crew longest 10960 least 10830$')
         certificates = re.findall('^wave .* bound ([0-9]+) (?:.*\n)*?certificate (.*)$', day.read_text(), re.MULTILINE)
