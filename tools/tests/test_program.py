@@ -187,8 +187,8 @@ class Days(unittest.TestCase):
 
 
 class Fuzzing(unittest.TestCase):
-    def fuzzed(self, program, mode, count):
-        return runs.script('fuzz', program, '--mode', mode, '--runs', count)
+    def fuzzed(self, program, mode, count, *more):
+        return runs.script('fuzz', program, '--mode', mode, '--runs', count, *more)
 
     def test_nothing_is_wrong_with_the_program(self):
         for mode in ('plan', 'check', 'audit', 'make', 'words'):
@@ -201,7 +201,7 @@ class Fuzzing(unittest.TestCase):
                 program = Path(runs.shelf().name) / ('planted-%d' % place)
                 program.write_text(PLANTED % {'python': sys.executable, 'program': runs.PROGRAM, 'pattern': pattern, 'new': new, 'status': status})
                 program.chmod(0o755)
-                done = self.fuzzed(program, mode, 80 if place < len(FAULTS) else 400)
+                done = self.fuzzed(program, mode, 80 if place < len(FAULTS) else 400, '--to-wrong')
                 self.assertEqual(1, done.status, done.output + done.errors)
                 self.assertRegex(done.output, 'wrong: %s run' % mode)
 
