@@ -32,7 +32,7 @@ pub another_number : (history : History) (text : List ℕ) (e : Entry) → IsOnl
     → IsLineOf text other → other.number ≢ length history.entries
 another_number history text e only another other is number = another (sym (ap (λ (x : Entry). x.number) (only other is)) ∙ number)
 
-longer : (history : History) (right : Entry) (others : List (List ℕ))
+pub longer : (history : History) (right : Entry) (others : List (List ℕ))
     → map entry_line history.entries ++ entry_line right ∷ others ≡ map entry_line (history.entries ++ right ∷ []) ++ others
 longer history right others =
     sym (append_assoc (map entry_line history.entries) (entry_line right ∷ []) others)

@@ -7,6 +7,7 @@ pub mod Candidates
 pub mod Lines
 pub mod Findings
 pub mod OneFinding
+pub mod Replayed
 pub mod JournalLines
 pub mod NamedStates
 pub mod DemandBounds
@@ -14,3 +15,4 @@ pub mod SubmitFaults
 pub mod ReplyBounds
 pub mod DayEntries
 pub mod DayJournals
+pub mod LineLengths

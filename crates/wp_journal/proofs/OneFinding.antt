@@ -26,10 +26,10 @@ use Rattle.wp_journal.specs.declared.verdict.AuditFault.TheVariants as fault
 use Rattle.wp_journal.proofs.Candidates.{one_entry, within}
 
 -- an entry of the journal
-abbrev IsWithin : Entry → Type 0
+abbrev pub IsWithin : Entry → Type 0
 IsWithin entry = IsTrue (is_line_entry entry)
 
-its_line : (e : Entry) → IsWithin e → IsLineOf (entry_line e) e
+pub its_line : (e : Entry) → IsWithin e → IsLineOf (entry_line e) e
 its_line e is = record { within = is; written = refl }
 
 clash : true ≡ false → ⊥
@@ -83,13 +83,13 @@ ends_differently e is ends =
     ]
 
 -- two lists of entries whose lines begin alike: the same, or one goes on where the other ends
-abbrev GoesOn : List Entry → List Entry → List (List ℕ) → List (List ℕ) → Type 0
+abbrev pub GoesOn : List Entry → List Entry → List (List ℕ) → List (List ℕ) → Type 0
 GoesOn xs ys left more = (e : Entry) × (es : List Entry) × (ys ≡ xs ++ e ∷ es) × (left ≡ entry_line e ∷ (map entry_line es ++ more))
 
-abbrev Aligned : List Entry → List Entry → List (List ℕ) → List (List ℕ) → Type 0
+abbrev pub Aligned : List Entry → List Entry → List (List ℕ) → List (List ℕ) → Type 0
 Aligned xs ys left more = ((xs ≡ ys) × (left ≡ more)) ⊎ GoesOn xs ys left more ⊎ GoesOn ys xs more left
 
-same_heads : (a b : List ℕ) (xs ys : List (List ℕ)) → ◌≡◌ {A = List (List ℕ)} (a ∷ xs) (b ∷ ys) → a ≡ b
+pub same_heads : (a b : List ℕ) (xs ys : List (List ℕ)) → ◌≡◌ {A = List (List ℕ)} (a ∷ xs) (b ∷ ys) → a ≡ b
 same_heads a b xs ys e = cc e
 
 same_tails : (a b : List ℕ) (xs ys : List (List ℕ)) → ◌≡◌ {A = List (List ℕ)} (a ∷ xs) (b ∷ ys) → xs ≡ ys
@@ -103,7 +103,7 @@ one_more x y xs ys left more same (inl (tails, lefts)) = inl (ap₂ (λ (e : Ent
 one_more x y xs ys left more same (inr (inl (e, es, is, lefts))) = inr (inl (e, es, ap₂ (λ (e : Entry) (es : List Entry). e ∷ es) (sym same) is, lefts))
 one_more x y xs ys left more same (inr (inr (e, es, is, lefts))) = inr (inr (e, es, ap₂ (λ (e : Entry) (es : List Entry). e ∷ es) same is, lefts))
 
-align : (xs ys : List Entry) (left more : List (List ℕ)) → All IsWithin xs → All IsWithin ys → map entry_line xs ++ left ≡ map entry_line ys ++ more
+pub align : (xs ys : List Entry) (left more : List (List ℕ)) → All IsWithin xs → All IsWithin ys → map entry_line xs ++ left ≡ map entry_line ys ++ more
     → Aligned xs ys left more
 align [] [] left more p q same = inl (refl, same)
 align [] (y ∷ ys) left more p q same = inr (inl (y, ys, refl, same))
@@ -125,10 +125,10 @@ state_is opening number state (first ∷ before) e after legal =
     (omega (arith, later.0), later.1)
 
 -- no entry of a legal history follows where a journal stops
-abbrev Follows : History → Entry → Type 0
+abbrev pub Follows : History → Entry → Type 0
 Follows history e = (e.number ≡ length history.entries) × (e.reply ≡ (next_entry history e.desk e.command).reply)
 
-follows : (opening : Opening) (one other : History) (e : Entry) (es : List Entry) → one.opening ≡ opening → other.opening ≡ opening → IsLegal other
+pub follows : (opening : Opening) (one other : History) (e : Entry) (es : List Entry) → one.opening ≡ opening → other.opening ≡ opening → IsLegal other
     → other.entries ≡ one.entries ++ e ∷ es → Follows one e
 follows opening one other e es starts begun legal entries =
     let moved = subst (λ (o : Opening). IsLegalFrom o 0 (opening_state o) other.entries) (begun ∙ sym starts) legal in
@@ -246,10 +246,10 @@ placed opening text (Err (fault.WrongReply number printed right)) shows =
     })
 placed opening text (Err fault.Memory) shows = absurd shows
 
-same_history : (opening : Opening) (a b : History) → a.opening ≡ opening → b.opening ≡ opening → a.entries ≡ b.entries → a ≡ b
+pub same_history : (opening : Opening) (a b : History) → a.opening ≡ opening → b.opening ≡ opening → a.entries ≡ b.entries → a ≡ b
 same_history opening a b p q r = ap₂ (λ (o : Opening) (es : List Entry). let h : History = record { opening = o; entries = es } in h) (p ∙ sym q) r
 
-within_at : (xs : List Entry) (e : Entry) (es : List Entry) → All IsWithin (xs ++ e ∷ es) → IsWithin e
+pub within_at : (xs : List Entry) (e : Entry) (es : List Entry) → All IsWithin (xs ++ e ∷ es) → IsWithin e
 within_at [] e es all = All-head IsWithin e es all
 within_at (x ∷ xs) e es all = within_at xs e es (All-tail IsWithin x (xs ++ e ∷ es) all)
 

@@ -1,10 +1,9 @@
 -- How a journal is audited, line by line.
-use Rattle.std.specs.Prelude.{◌≡◌, ℕ, ◌+◌, ◌≤◌, ⊤, Bool, List, length, take, drop, codes, Result, Ok, Err}
+use Rattle.std.specs.Prelude.{◌≡◌, ℕ, ◌+◌, ⊤, Bool, List, take, drop, codes, Result, Ok, Err}
 use Rattle.std.specs.List.{position_or_len}
 use Rattle.std.specs.Str.{bytes_eq}
 use Rattle.wp_model.specs.History.{History, answered, next_entry}
 use Rattle.wp_model.specs.Journal.{line}
-use Rattle.wp_model.specs.Limits.{most_entries}
 use Rattle.wp_model.specs.Opening.{Opening}
 use Rattle.wp_model.specs.declared.command.Command.{Command}
 use Rattle.wp_journal.specs.Grammar.{IsLineOf}
@@ -31,12 +30,6 @@ Judges before next after (Ok done) = (desk : ℕ) × (command : Command) × IsLi
 Judges before next after (Err (fault.BadLine number)) = (number ≡ line_number_after before) × IsNotNext before next
 Judges before next after (Err (fault.WrongReply number printed right)) = IsMisanswered before next number printed right
 Judges before next after (Err fault.Memory) = ⊤
-
--- the machine may go on after a line: it is of the same opening, and has as many entries as a journal may have, or
--- fewer
-pub record MayGoOn (before after : History) : Type 0 where
-  pub opening : after.opening ≡ before.opening
-  pub few : length after.entries ≤ most_entries
 
 -- an audit tells what the journal shows; but there may be no memory
 abbrev pub Tells : Opening → List ℕ → Result Audit AuditFault → Type 0

@@ -7,4 +7,5 @@ pub mod Reading
 pub mod Auditing
 pub mod FaultTexts
 pub mod Journals
+pub mod Replays
 pub mod Days

@@ -1,5 +1,5 @@
-//! The journal as text: an entry as its line, a line as its entry, and the audit of a journal, which lets the machine
-//! answer every command again.
+//! The journal as text: an entry as its line, a line as its entry, the replay of a line, for which the machine answers its
+//! command again, and the audit of a journal, which replays every line.
 #![tactic(auto)]
 
 mod bounds;
@@ -18,5 +18,5 @@ pub use fault::EntryFault;
 pub use laws::printed_journals_are_right;
 pub use print::print_entry;
 pub use read::read_entry;
-pub use replay::audit;
-pub use verdict::{Audit, AuditFault};
+pub use replay::{audit, replay_line};
+pub use verdict::{Audit, AuditFault, ReplayFault};

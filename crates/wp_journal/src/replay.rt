@@ -7,16 +7,17 @@ ghost use Rattle.wp_model.specs.Journal.{entry_line, line};
 ghost use Rattle.wp_model.specs.declared.entry.Entry.{Entry as EntryData};
 ghost use Rattle.wp_model.specs.Limits.{most_entries};
 ghost use Rattle.wp_model.specs.Plain.{is_plain};
-ghost use Rattle.wp_journal.specs.Auditing.{Judges, MayGoOn, Tells, after_line, first_line, is_head};
+ghost use Rattle.wp_journal.specs.Auditing.{Judges, Tells, after_line, first_line, is_head};
 ghost use Rattle.wp_journal.specs.Grammar.{IsLineOf, IsOnlyLineOf, is_line_entry};
 ghost use Rattle.wp_journal.specs.Journals.{Shows, is_end, is_feed, line_number_after, lines_of};
+ghost use Rattle.wp_journal.specs.Replays.{MayGoOn, Replays};
 ghost use Rattle.wp_journal.specs.declared.verdict.Audit.{Audit};
 ghost use Rattle.wp_journal.specs.declared.verdict.AuditFault.{AuditFault};
 ghost use Rattle.wp_journal.specs.declared.verdict.AuditFault.TheVariants as fault;
 
 use crate::fault::EntryFault;
 use crate::read::{has_line, read_entry};
-use crate::verdict::{Audit, AuditFault};
+use crate::verdict::{Audit, AuditFault, ReplayFault};
 use std::alloc::Global;
 use wp_machine::{Machine, Opening};
 use wp_model::{Command, Entry, Memory, Reply};
@@ -98,12 +99,12 @@ fn judge(
     machine: &mut Machine<'_>,
     line: &[u8],
     entry: Entry,
-) -> Result<(), AuditFault>
+) -> Result<(), ReplayFault>
     requires few { length machine.old.entries < 4294967295 }
     requires plain { IsTrue (is_plain entry.command) }
     requires number { entry.number ≡ length machine.old.entries }
     requires is { IsLineOf line.now entry }
-    ensures judges { Judges machine.old line.now machine.new result }
+    ensures replays { Replays machine.old line.now machine.new result }
     ensures history { IfOk result (λ _. machine.new ≡ answered machine.old entry.desk entry.command) }
 {
     let Entry {
@@ -117,7 +118,7 @@ fn judge(
     if is_right {
         Ok(())
     } else {
-        Err(AuditFault::WrongReply {
+        Err(ReplayFault::WrongReply {
             number,
             printed: reply,
             right,
@@ -131,32 +132,59 @@ fn take_entry(
     machine: &mut Machine<'_>,
     line: &[u8],
     entry: Entry,
-) -> Result<(), AuditFault>
+) -> Result<(), ReplayFault>
     requires few { length machine.old.entries < 4294967295 }
     requires plain { IsTrue (is_plain entry.command) }
     requires number { entry.number < most_entries }
     requires is { IsLineOf line.now entry }
     requires only { IsOnlyLineOf line.now entry }
-    ensures judges { Judges machine.old line.now machine.new result }
+    ensures replays { Replays machine.old line.now machine.new result }
     ensures next { IfOk result (λ _. MayGoOn machine.old machine.new) }
 {
     if entry.number == machine.count() {
         judge(alloc, machine, line, entry)
     } else {
-        Err(bad_line(machine))
+        Err(ReplayFault::NotNext)
     }
 }
 
-// Takes a line in as the next entry.
+/// Replays one line, its line feed with it, against a machine: what an audit does with each line of a journal, and a run with each record of its
+/// store. Where it is the line of an entry of the next number, the machine answers the entry's command again, and its own entry has to have this line.
+/// `NotNext` comes exactly where it is the line of no entry of the next number, and then the machine has answered nothing more; `WrongReply` comes
+/// exactly where it is, and the entry's reply isn't the machine's.
+pub fn replay_line(alloc: Global, machine: &mut Machine<'_>, line: &[u8]) -> Result<(), ReplayFault>
+    requires few { length machine.old.entries < 4294967295 }
+    ensures replays { Replays machine.old line.now machine.new result }
+    ensures next { IfOk result (λ _. MayGoOn machine.old machine.new) }
+{
+    match read_entry(alloc, line) {
+        Ok(entry) => take_entry(alloc, machine, line, entry),
+        Err(EntryFault::NotEntry) => Err(ReplayFault::NotNext),
+        Err(EntryFault::Memory) => Err(ReplayFault::Memory),
+    }
+}
+
+// Takes a line of a journal in as the next entry.
 fn take_line(alloc: Global, machine: &mut Machine<'_>, line: &[u8]) -> Result<(), AuditFault>
     requires few { length machine.old.entries < 4294967295 }
     ensures judges { Judges machine.old line.now machine.new result }
     ensures next { IfOk result (λ _. MayGoOn machine.old machine.new) }
 {
-    match read_entry(alloc, line) {
-        Ok(entry) => take_entry(alloc, machine, line, entry),
-        Err(EntryFault::NotEntry) => Err(bad_line(machine)),
-        Err(EntryFault::Memory) => Err(AuditFault::Memory),
+    match replay_line(alloc, machine, line) {
+        Ok(()) => Ok(()),
+        Err(ReplayFault::NotNext) => Err(bad_line(machine)),
+        Err(
+            ReplayFault::WrongReply {
+                number,
+                printed,
+                right,
+            },
+        ) => Err(AuditFault::WrongReply {
+            number,
+            printed,
+            right,
+        }),
+        Err(ReplayFault::Memory) => Err(AuditFault::Memory),
     }
 }
 

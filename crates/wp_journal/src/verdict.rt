@@ -1,6 +1,7 @@
 ghost use Rattle.std.specs.Prelude.{◌≡◌, Some};
-ghost use Rattle.wp_journal.specs.FaultTexts.{audit_fault_text};
+ghost use Rattle.wp_journal.specs.FaultTexts.{audit_fault_text, replay_fault_text};
 ghost use Rattle.wp_journal.specs.declared.verdict.AuditFault.TheVariants as fault;
+ghost use Rattle.wp_journal.specs.declared.verdict.ReplayFault.TheVariants as replay_fault;
 
 use std::alloc::{AllocError, AllocFailed};
 use std::error::Error;
@@ -11,6 +12,47 @@ use wp_model::{Memory, Reply};
 #[derive(Clone, Copy, PartialEq, Eq)]
 pub struct Audit {
     pub entries: u64,
+}
+
+/// Why a line isn't taken in as the next entry.
+#[derive(Clone, Copy, Debug, PartialEq, Eq)]
+pub enum ReplayFault {
+    /// It is not the line of an entry of the next number.
+    NotNext,
+    /// It is, and the entry has another reply than the machine's.
+    WrongReply {
+        number: u64,
+        printed: Reply,
+        right: Reply,
+    },
+    /// There was no memory for the replay.
+    Memory,
+}
+
+impl fmt::Display for ReplayFault {
+    ghost output = { λ found. Some (replay_fault_text found) };
+
+    fn fmt<W: fmt::Write>(&self, f: &mut fmt::Formatter<W>) -> fmt::Result {
+        match self {
+            ReplayFault::NotNext => f.write_str("not-next"),
+            ReplayFault::WrongReply {
+                number,
+                printed,
+                right,
+            } => write!(f, "entry {number} printed {printed} right {right}"),
+            ReplayFault::Memory => f.write_str("memory"),
+        }
+    }
+}
+
+impl Error for ReplayFault {}
+
+impl From<Memory> for ReplayFault {
+    ghost from_gives = { λ _ e. e ≡ replay_fault.Memory };
+
+    fn from(_error: Memory) -> ReplayFault {
+        ReplayFault::Memory
+    }
 }
 
 /// The first line of a journal that isn't right.

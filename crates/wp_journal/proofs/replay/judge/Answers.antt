@@ -3,8 +3,8 @@ use Rattle.wp_model.specs.History.{History, next_entry}
 use Rattle.wp_journal.proofs.Candidates.{is_line}
 use Rattle.wp_journal.proofs.replay.judge.Goals as goal
 
-pub returns-then-is_right-clause-judges : goal.returns-then-is_right-clause-judges
-returns-then-is_right-clause-judges c =
+pub returns-then-is_right-clause-replays : goal.returns-then-is_right-clause-replays
+returns-then-is_right-clause-replays c =
     let before = c.args.machine.now in
     let entry = next_entry before c.args.entry.desk c.args.entry.command in
     let entries = ap (λ (h : History). h.entries) c.in_ok-right.ensures.history in (
