@@ -56,6 +56,21 @@ impl<'a, D: Disk> Store<'a, D> {
         }
     }
 
+    /// The disk again, for whoever is done with the store.
+    pub fn into_disk(self) -> &'a mut D
+        ensures same_reference { result.ghost_name ≡ self.entry.disk.ghost_name }
+        ensures disk { result.now ≡ self.entry.disk.now }
+    {
+        let Store {
+            disk,
+            place: _,
+            count: _,
+            room: _,
+            is_broken: _,
+        } = self;
+        disk
+    }
+
     /// How many records it has.
     pub fn count(&self) -> u32
         ensures count { result ≡ self.now.count }

@@ -51,7 +51,7 @@ impl<'a, R: FileSystem> RealDisk<'a, R> {
     {
         match self.file.take() {
             Some(file) => Ok(file),
-            None => open_or_make(self.rt),
+            None => open_apart(self.rt),
         }
     }
 
@@ -149,6 +149,14 @@ impl<'a, R: FileSystem> Disk for RealDisk<'a, R> {
             Err(_) => Err(self.fault()),
         }
     }
+}
+
+// A caller may have closed standard input and output, and then the first files that are opened get their numbers. So the file is opened three times and
+// only the third is kept: what is written to a closed standard output fails, and never comes to stand in the store.
+fn open_apart<R: FileSystem>(rt: &R) -> io::Result<R::File> {
+    let _first = open_or_make(rt)?;
+    let _second = open_or_make(rt)?;
+    open_or_make(rt)
 }
 
 fn open_or_make<R: FileSystem>(rt: &R) -> io::Result<R::File> {

@@ -120,6 +120,23 @@ impl Recovered {
         &self.bodies
     }
 
+    /// A store over the disk that these records were found on.
+    pub fn into_store<'a, D: Disk>(self, disk: &'a mut D) -> Store<'a, D>
+        requires settled { WhereTold (D.holds disk.old) (λ now. IsSettled now (D.images disk.old) self.place) }
+        requires same { WhereTold (D.holds disk.old) (StandsFor self.bodies) }
+        ensures same_reference { result.disk.ghost_name ≡ disk.entry.ghost_name }
+        ensures disk { result.disk.now ≡ disk.old }
+        ensures count { result.count ≡ length self.bodies }
+        ensures sound { result.is_broken ≡ false }
+    {
+        let Recovered {
+            bodies,
+            place,
+            room,
+        } = self;
+        Store::over(disk, place, bodies.len(), room)
+    }
+
     /// A store over the disk that these records were found on, and the records.
     pub fn open<'a, D: Disk>(self, disk: &'a mut D) -> Opened<'a, D>
         requires settled { WhereTold (D.holds disk.old) (λ now. IsSettled now (D.images disk.old) self.place) }
