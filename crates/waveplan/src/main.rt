@@ -9,6 +9,7 @@ ghost use Rattle.std.specs.declared.io.ErrorKind.TheVariants.{InvalidData};
 ghost use Rattle.waveplan.specs.Given.{EndsFor, LacksWords};
 ghost use Rattle.wp_top.specs.Ends.{asked_by};
 ghost use Rattle.wp_top.specs.Promise.{Keeps, course};
+ghost use Rattle.wp_top.specs.Stores.{disk_course};
 ghost use Rattle.wp_words.specs.Words.{job_said};
 
 use std::alloc::{AllocError, Global};
@@ -18,6 +19,7 @@ use std::sync::Wait;
 use std::thread::Threads;
 use std::{env, io};
 use wp_outside::{Files, Gate, OpenGate, RealFiles, Sink, StdSink, SystemFiles, SystemWriter};
+use wp_store::{Disk, RealDisk};
 use wp_top::{Resources, run};
 
 // Words that stand for those of which one isn't UTF-8: a mode without its options, which is refused as bad words.
@@ -61,20 +63,23 @@ fn words_given(alloc: Global, given: io::Result<Args>) -> Result<Vec<String>, Al
 }
 
 // The end of a run of these words, where there was memory for them.
-fn end_of<R: Threads + Wait + Sync, F: Files, K: Sink, G: Gate>(
+fn end_of<R: Threads + Wait + Sync, F: Files, K: Sink, G: Gate, D: Disk>(
     resources: &Resources<'_, R, G>,
     words: Result<Vec<String>, AllocError>,
     files: &mut F,
     out: &mut K,
+    disk: &mut D,
 ) -> ExitCode
-    ensures runs { IfOk words (λ words. Keeps (asked_by words.items)
-        (course (F.told files.old) (K.told out.old) (F.told files.new) (K.told out.new)) (exit_status result)) }
-    ensures lacks { OnErr words (LacksWords (course (F.told files.old) (K.told out.old) (F.told files.new) (K.told out.new)) (exit_status result)) }
+    ensures runs { IfOk words (λ words. Keeps (asked_by words.items) (course (F.told files.old) (K.told out.old) (F.told files.new) (K.told out.new)
+        (disk_course D.holds D.moment D.images_since D.synced D.faults disk.old disk.new)) (exit_status result)) }
+    ensures lacks { OnErr words (LacksWords (course (F.told files.old) (K.told out.old) (F.told files.new) (K.told out.new)
+        (disk_course D.holds D.moment D.images_since D.synced D.faults disk.old disk.new)) (exit_status result)) }
+    ensures untouched { OnErr words (disk.new ≡ disk.old) }
 {
     match words {
         Ok(words) => {
             let Resources { rt, alloc, gate } = *resources;
-            ExitCode::from(run(rt, alloc, &words, files, out, gate))
+            ExitCode::from(run(rt, alloc, &words, files, out, gate, disk))
         }
         Err(AllocError) => ExitCode::from(5),
     }
@@ -82,29 +87,40 @@ fn end_of<R: Threads + Wait + Sync, F: Files, K: Sink, G: Gate>(
 
 // The end of the run that the system's words ask for: as `run` promises for the words after the program's name, or for
 // bad words where one isn't UTF-8; or 5, and nothing done, where there is no memory for the words.
-fn run_given<R: Threads + Wait + Sync, F: Files, K: Sink, G: Gate>(
+fn run_given<R: Threads + Wait + Sync, F: Files, K: Sink, G: Gate, D: Disk>(
     resources: &Resources<'_, R, G>,
     given: io::Result<Args>,
     files: &mut F,
     out: &mut K,
+    disk: &mut D,
 ) -> ExitCode
     ensures given { IfOk given (λ given. EndsFor (asked_by (drop 1 (into_iter_items given)))
-        (course (F.told files.old) (K.told out.old) (F.told files.new) (K.told out.new)) (exit_status result)) }
+        (course (F.told files.old) (K.told out.old) (F.told files.new) (K.told out.new)
+        (disk_course D.holds D.moment D.images_since D.synced D.faults disk.old disk.new)) (exit_status result)) }
     ensures bad { OnErr given (EndsFor (job_said (codes "plan" ∷ []))
-        (course (F.told files.old) (K.told out.old) (F.told files.new) (K.told out.new)) (exit_status result)) }
+        (course (F.told files.old) (K.told out.old) (F.told files.new) (K.told out.new)
+        (disk_course D.holds D.moment D.images_since D.synced D.faults disk.old disk.new)) (exit_status result)) }
     ensures lacks { IfErr given (λ fault. error_kind fault ≢ InvalidData → LacksWords
-        (course (F.told files.old) (K.told out.old) (F.told files.new) (K.told out.new)) (exit_status result)) }
+        (course (F.told files.old) (K.told out.old) (F.told files.new) (K.told out.new)
+        (disk_course D.holds D.moment D.images_since D.synced D.faults disk.old disk.new)) (exit_status result)) }
 {
-    end_of(resources, words_given(resources.alloc, given), files, out)
+    end_of(
+        resources,
+        words_given(resources.alloc, given),
+        files,
+        out,
+        disk,
+    )
 }
 
 fn main(rt: HostRuntime) -> ExitCode {
     let mut files = RealFiles::new(SystemFiles::of(&rt));
     let mut out = StdSink::new(SystemWriter::of(io::writer(&rt)));
+    let mut disk = RealDisk::of(&rt);
     let resources = Resources {
         rt: &rt,
         alloc: rt.alloc(),
         gate: &OpenGate,
     };
-    run_given(&resources, env::args(&rt), &mut files, &mut out)
+    run_given(&resources, env::args(&rt), &mut files, &mut out, &mut disk)
 }

@@ -1,31 +1,19 @@
 //! Cases whose output may differ from run to run. They are run so many times, and each output is judged.
 
+use crate::ended::{Ended, run_words};
 use crate::fault::CaseFault;
 use crate::gates::CaseGate;
-use crate::given::{bytes_of, files_of, text_of};
 use crate::host::Host;
 use crate::judging::{audit_words, audit_writes, is_among};
 use crate::lines::{has_line, line_of, rest_of, words_of};
 use crate::print_end;
 use crate::sheets::is_certified;
+use crate::stores::{disk_of, goes_on, is_journal};
 use std::alloc::Global;
 use std::sync::Wait;
 use std::thread::Threads;
 use wp_model::Memory;
-use wp_outside::{MemFiles, MemSink, Sink};
-use wp_top::run;
-
-/// How a run ended, and what it wrote.
-#[derive(Drop)]
-struct Ended {
-    status: u8,
-    text: String,
-}
-
-fn ended_so(alloc: Global, status: u8, out: &MemSink) -> Result<Ended, CaseFault> {
-    let text = text_of(bytes_of(alloc, out.taken())?)?;
-    Ok(Ended { status, text })
-}
+use wp_outside::{MemFiles, Sink};
 
 /// One run of a case.
 fn run_once<R: Threads + Wait + Sync>(
@@ -35,9 +23,8 @@ fn run_once<R: Threads + Wait + Sync>(
     gate: &CaseGate,
 ) -> Result<Ended, CaseFault> {
     let words = words_of(host.alloc, lines)?;
-    let mut out = MemSink::of(host.alloc, Vec::new(host.alloc));
-    let status = run(host.rt, host.alloc, &words, files, &mut out, gate);
-    ended_so(host.alloc, status, &out)
+    let mut disk = disk_of(host.alloc, lines)?;
+    run_words(host, &words, files, gate, &mut disk)
 }
 
 /// Whether the audit of an output writes what a line `audit` says, where there is one. It is given the units of the words.
@@ -55,6 +42,15 @@ fn is_audited(
     audit_writes(alloc, words.as_str(), files, output, text.as_str())
 }
 
+/// Whether the store goes on to the journal of the output, where a line says that it does.
+fn is_stored(alloc: Global, lines: &str, ended: &Ended) -> Result<bool, CaseFault> {
+    let store = ended.store.as_slice();
+    Ok(
+        !has_line(lines, "store goes on")
+            || is_journal(alloc, store, ended.text.as_str())? && goes_on(alloc, lines, store)?,
+    )
+}
+
 /// Whether a run ended well, and its output is as the lines of the case say.
 fn is_right(
     alloc: Global,
@@ -68,6 +64,7 @@ fn is_right(
         ended.status == 0
             && is_among(alloc, lines, files, output)?
             && is_audited(alloc, lines, files, output)?
+            && is_stored(alloc, lines, ended)?
             && (!certificates || is_certified(alloc, files, output)?),
     )
 }

@@ -6,7 +6,7 @@ use std::alloc::Global;
 use wp_model::Memory;
 
 /// How each line of a case begins, where it isn't empty.
-const BEGINNINGS: [&str; 20] = [
+const BEGINNINGS: [&str; 27] = [
     "#",
     "words ",
     "file ",
@@ -27,6 +27,13 @@ const BEGINNINGS: [&str; 20] = [
     "audit ",
     "certificates",
     "output ",
+    "store before ",
+    "store after ",
+    "store fails ",
+    "store stops ",
+    "store goes on",
+    "next ",
+    "drawn ",
 ];
 
 fn is_known(line: &str) -> bool {
@@ -52,15 +59,20 @@ fn add_words(words: &mut Vec<String>, alloc: Global, more: &str) -> Result<(), M
     Ok(())
 }
 
-/// The words of the command line.
-pub fn words_of(alloc: Global, lines: &str) -> Result<Vec<String>, Memory> {
+/// The words of the lines that begin so, behind that.
+pub fn words_in(alloc: Global, lines: &str, beginning: &str) -> Result<Vec<String>, Memory> {
     let mut words = Vec::new(alloc);
     for line in lines.lines() {
-        if let Some(more) = line.strip_prefix("words ") {
+        if let Some(more) = line.strip_prefix(beginning) {
             add_words(&mut words, alloc, more)?;
         }
     }
     Ok(words)
+}
+
+/// The words of the command line.
+pub fn words_of(alloc: Global, lines: &str) -> Result<Vec<String>, Memory> {
+    words_in(alloc, lines, "words ")
 }
 
 fn add_number(numbers: &mut Vec<u64>, digits: &str) -> Result<(), CaseFault> {
@@ -111,6 +123,17 @@ pub fn rest_of<'a>(lines: &'a str, beginning: &str) -> Option<&'a str> {
         }
     }
     None
+}
+
+/// The number in the first line that begins so, where there is such a line.
+pub fn number_in(lines: &str, beginning: &str) -> Result<Option<u64>, CaseFault> {
+    match rest_of(lines, beginning) {
+        None => Ok(None),
+        Some(digits) => match digits.parse::<u64>() {
+            Ok(number) => Ok(Some(number)),
+            Err(_) => Err(CaseFault::Line),
+        },
+    }
 }
 
 /// A line of a word and a text.

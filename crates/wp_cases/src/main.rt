@@ -3,6 +3,8 @@
 #![tactic(auto)]
 
 mod counting;
+mod crashes;
+mod ended;
 mod fault;
 mod gates;
 mod given;
@@ -15,7 +17,9 @@ mod narrow;
 mod planners;
 mod scripts;
 mod sheets;
+mod stores;
 
+use crate::crashes::tell_next;
 use crate::fault::CaseFault;
 use crate::gates::CaseGate;
 use crate::given::{files_of, text_of};
@@ -26,6 +30,7 @@ use crate::lines::{has_line, rest_of, sink_of, test_lines, words_of};
 use crate::narrow::NarrowSink;
 use crate::planners::CasePlanner;
 use crate::scripts::run_planner;
+use crate::stores::{disk_of, tell_store};
 use std::alloc::Global;
 use std::process::ExitCode;
 use std::sync::Wait;
@@ -65,17 +70,22 @@ pub fn print_end<K: Sink>(
     Ok(())
 }
 
-/// The status of a run whose desks and workers pass a gate. What the gate tells follows the output.
+/// The status of a run whose desks and workers pass a gate, over the disk of the case. What the gate tells follows the output, and then
+/// whether the store is as the lines say, and how the next run ends.
 fn run_at_gate<R: Threads + Wait + Sync, F: Files, K: Sink>(
     host: &Host<'_, R>,
     words: &Vec<String>,
+    lines: &str,
     files: &mut F,
     out: &mut K,
-    gate: &CaseGate,
 ) -> Result<u8, CaseFault> {
-    let status = run(host.rt, host.alloc, words, files, out, gate);
+    let gate = CaseGate::of(lines);
+    let mut disk = disk_of(host.alloc, lines)?;
+    let status = run(host.rt, host.alloc, words, files, out, &gate, &mut disk);
     let told = gate.told(host.alloc)?;
     write_text(out, told.as_bytes())?;
+    tell_store(host.alloc, lines, &disk, out)?;
+    tell_next(host, lines, files, &disk, out)?;
     Ok(status)
 }
 
@@ -90,7 +100,7 @@ fn status_of<R: Threads + Wait + Sync, F: Files, K: Sink>(
     if has_line(lines, "by itself") {
         own_status(host.alloc, &words, files, out)
     } else {
-        run_at_gate(host, &words, files, out, &CaseGate::of(lines))
+        run_at_gate(host, &words, lines, files, out)
     }
 }
 

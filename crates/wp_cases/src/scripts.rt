@@ -59,6 +59,34 @@ fn scripts_of<F: Files>(alloc: Global, files: &mut F, name: &str) -> Result<Scri
     }
 }
 
+/// The scripts of a day, and those of the day before, where there was one.
+#[derive(Drop)]
+struct Days {
+    before: Option<Scripts>,
+    scripts: Scripts,
+}
+
+/// Who plans the waves of a day, and what desks pass on their way.
+#[derive(Drop)]
+struct Way<'a> {
+    planner: &'a CasePlanner,
+    gate: &'a CaseGate,
+}
+
+/// How many waves went out of a day, and how many of them have plans of their own.
+#[derive(Drop)]
+struct Waves {
+    all: usize,
+    planned: usize,
+}
+
+/// How a day ended, and the text that tells of its waves.
+#[derive(Drop)]
+struct Told {
+    status: u8,
+    text: String,
+}
+
 /// The scripts of the day before, where a case has one.
 fn scripts_before<F: Files>(
     alloc: Global,
@@ -76,8 +104,7 @@ fn machine_for<'a, R: Threads + Wait + Sync>(
     host: &Host<'_, R>,
     opening: &'a Opening,
     before: &Option<Scripts>,
-    planner: &CasePlanner,
-    gate: &CaseGate,
+    way: &Way<'_>,
 ) -> Result<Machine<'a>, Memory>
     ensures { IfOk result (λ machine. machine.opening ≡ opening.now) }
 {
@@ -90,7 +117,13 @@ fn machine_for<'a, R: Threads + Wait + Sync>(
                 plans: _,
                 refills: _,
             } = run_desks(
-                host.rt, host.alloc, opening, machine, scripts, planner, gate,
+                host.rt,
+                host.alloc,
+                opening,
+                machine,
+                scripts,
+                way.planner,
+                way.gate,
             )?;
             Ok(machine)
         }
@@ -103,29 +136,36 @@ fn run_day<'a, R: Threads + Wait + Sync>(
     opening: &'a Opening,
     machine: Machine<'a>,
     scripts: &Scripts,
-    planner_and_gate: (&CasePlanner, &CaseGate),
-) -> Result<(usize, usize), Memory>
+    way: &Way<'_>,
+) -> Result<Waves, Memory>
     requires opened { machine.opening ≡ opening.now }
     requires few { length machine.entries < 2147483648 }
 {
-    let (planner, gate) = planner_and_gate;
     let day = run_desks(
-        host.rt, host.alloc, opening, machine, scripts, planner, gate,
+        host.rt,
+        host.alloc,
+        opening,
+        machine,
+        scripts,
+        way.planner,
+        way.gate,
     )?;
-    Ok((day.plans.len(), own_plans(day.plans.as_slice())))
+    Ok(Waves {
+        all: day.plans.len(),
+        planned: own_plans(day.plans.as_slice()),
+    })
 }
 
 /// The same of a day after another one, where there was one and there is memory for both.
 fn run_after<R: Threads + Wait + Sync>(
     host: &Host<'_, R>,
     opening: &Opening,
-    (before, scripts): (&Option<Scripts>, &Scripts),
-    planner: &CasePlanner,
-    gate: &CaseGate,
-) -> Result<(usize, usize), Memory> {
-    let machine = machine_for(host, opening, before, planner, gate)?;
+    days: &Days,
+    way: &Way<'_>,
+) -> Result<Waves, Memory> {
+    let machine = machine_for(host, opening, &days.before, way)?;
     if machine.count() < MOST_ENTRIES {
-        run_day(host, opening, machine, scripts, (planner, gate))
+        run_day(host, opening, machine, &days.scripts, way)
     } else {
         Err(Memory)
     }
@@ -139,10 +179,16 @@ fn own_plans(planned: &[Planned<u32>]) -> usize {
 }
 
 /// The status of a day, and the text that tells of its waves.
-fn told_of(alloc: Global, day: Result<(usize, usize), Memory>) -> Result<(u8, String), Memory> {
+fn told_of(alloc: Global, day: Result<Waves, Memory>) -> Result<Told, Memory> {
     match day {
-        Ok((waves, plans)) => Ok((0, format!(in alloc; "waves {waves} with plans {plans}\n")?)),
-        Err(Memory) => Ok((5, String::new(alloc))),
+        Ok(Waves { all, planned }) => Ok(Told {
+            status: 0,
+            text: format!(in alloc; "waves {all} with plans {planned}\n")?,
+        }),
+        Err(Memory) => Ok(Told {
+            status: 5,
+            text: String::new(alloc),
+        }),
     }
 }
 
@@ -151,14 +197,14 @@ fn day_of<R: Threads + Wait + Sync, F: Files>(
     host: &Host<'_, R>,
     lines: &str,
     files: &mut F,
-    planner: &CasePlanner,
-    gate: &CaseGate,
-) -> Result<(u8, String), CaseFault> {
+    way: &Way<'_>,
+) -> Result<Told, CaseFault> {
     let opening = opening_of(host.alloc, files)?;
-    let before = scripts_before(host.alloc, lines, files)?;
-    let scripts = scripts_of(host.alloc, files, "desks.csv")?;
-    let day = run_after(host, &opening, (&before, &scripts), planner, gate);
-    let told = told_of(host.alloc, day)?;
+    let days = Days {
+        before: scripts_before(host.alloc, lines, files)?,
+        scripts: scripts_of(host.alloc, files, "desks.csv")?,
+    };
+    let told = told_of(host.alloc, run_after(host, &opening, &days, way))?;
     Ok(told)
 }
 
@@ -178,7 +224,11 @@ pub fn run_planner<R: Threads + Wait + Sync, F: Files, K: Sink>(
     out: &mut K,
 ) -> Result<(), CaseFault> {
     let gate = CaseGate::of(lines);
-    let (status, waves) = day_of(host, lines, files, planner, &gate)?;
-    let text = joined(host.alloc, waves.as_str(), planner.told(), &gate)?;
-    print_end(host.alloc, name, status, text.as_bytes(), out)
+    let way = Way {
+        planner,
+        gate: &gate,
+    };
+    let told = day_of(host, lines, files, &way)?;
+    let text = joined(host.alloc, told.text.as_str(), planner.told(), &gate)?;
+    print_end(host.alloc, name, told.status, text.as_bytes(), out)
 }

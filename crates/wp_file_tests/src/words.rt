@@ -40,6 +40,7 @@ fn plan_text(alloc: Global, words: &PlanWords) -> Result<String, AllocError> {
         rules,
         pickers,
         root,
+        store,
     } = words;
     let text = format!(in alloc;
         "plan {layout}, {stock}, {orders}, {desks}, {capacity}, {budget}, {workers}"
@@ -47,7 +48,8 @@ fn plan_text(alloc: Global, words: &PlanWords) -> Result<String, AllocError> {
     let text = with_units(alloc, text, *units)?;
     let text = with_switch(alloc, text, "rules", *rules)?;
     let text = with_switch(alloc, text, "pickers", *pickers)?;
-    with_switch(alloc, text, "root", *root)
+    let text = with_switch(alloc, text, "root", *root)?;
+    with_switch(alloc, text, "store", *store)
 }
 
 fn check_text(alloc: Global, words: &CheckWords) -> Result<String, AllocError> {
@@ -300,6 +302,13 @@ const NUMBERS: &[(&str, &str)] = &[
         " --root +01 --pickers=3 --capacity 2 --rules 1",
         "2, 2000000, 1, 1 rules, 3 pickers, 1 root",
     ),
+    (" --capacity 2 --store 0", "2, 2000000, 1"),
+    (" --store=1 --capacity 2", "2, 2000000, 1, 1 store"),
+    (" --capacity 2 --store=-0", "2, 2000000, 1"),
+    (
+        " --store +01 --root=1 --capacity 2 --units 9",
+        "2, 2000000, 1, 9 units, 1 root, 1 store",
+    ),
 ];
 
 fn are_read(alloc: Global, words: &str, numbers: &str) -> Result<bool, AllocError> {
@@ -427,6 +436,20 @@ const BAD_SWITCHES: &[&str] = &[
     "--root=0 --root 1",
     "--roots 1",
     "-root 1",
+    "--store 2",
+    "--store=2",
+    "--store=-1",
+    "--store -1",
+    "--store 4294967296",
+    "--store 0.5",
+    "--store x",
+    "--store=",
+    "--store",
+    "--store --root 1",
+    "--store 1 --store 1",
+    "--store=0 --store 1",
+    "--stores 1",
+    "-store 1",
 ];
 
 /// Switches that a plan takes.
@@ -438,6 +461,8 @@ const GOOD_SWITCHES: &[&str] = &[
     "--rules 1 --pickers 5",
     "--root 0",
     "--root=1",
+    "--store 0",
+    "--store=1",
 ];
 
 /// The first of some words that a command takes.

@@ -16,6 +16,7 @@ use Rattle.wp_outside.specs.Outside.{FilesTold, NoneFalls, SameBytes}
 use Rattle.wp_top.proofs.FilesRead.{HaveRead, WasRead, after_layout, layout_file, nothing_read, read_next, stops_there}
 use Rattle.wp_top.proofs.Jobs.{has_read, stop_at_last, stop_of}
 use Rattle.wp_top.specs.Ends.{IsOutput, of_run}
+use Rattle.wp_top.specs.Stores.{DiskCourse}
 use Rattle.wp_top.specs.Runs.{IsRefusedCertificate, IsWrong, ShowsBound, TellsBound, bound_line}
 use Rattle.wp_top.specs.Stops.{HasRightText, IsRead, IsSaid, StopsAt, StopsFor, is_memory, of_certificate, of_file, stop_at_certificate}
 use Rattle.wp_top.specs.Texts.{Said, file_of, files_of, layout_in, nothing_said, text_in}
@@ -67,10 +68,10 @@ abbrev with_certificate : Layout → List ℕ → Said
 with_certificate layout text = record (of_layout layout) { certificate = text }
 
 -- nothing came of the layout file
-pub stop_at_layout : (old new : FilesTold) (names : CheckNames) (s : Stop) → StopsFor (of_file layout_in old new names.layout input.Layout) s
-    → StopsFor (of_run (Ok (check names)) old new) s
-stop_at_layout old new names s nothing =
-    stop_of old new (check names) s
+pub stop_at_layout : (disk : DiskCourse) (old new : FilesTold) (names : CheckNames) (s : Stop) → StopsFor (of_file layout_in old new names.layout input.Layout) s
+    → StopsFor (of_run (Ok (check names)) disk old new) s
+stop_at_layout disk old new names s nothing =
+    stop_of disk old new (check names) s
     (stops_there layout_in old old new [] (file_of input.Certificate names.certificate ∷ []) nothing_said input.Layout names.layout s
     (λ text why none. rw none refl) (nothing_read old) nothing)
 
@@ -82,31 +83,32 @@ check_files old mid new names layout text first said was read =
     (after_layout old mid names.layout layout first said) was read.held (rw read.short refl)
 
 -- the certificate isn't right
-stop_at_fault : (old mid new : FilesTold) (names : CheckNames) (layout : Layout) (text : List ℕ) (s : Stop) → WasRead old mid
+stop_at_fault : (disk : DiskCourse) (old mid new : FilesTold) (names : CheckNames) (layout : Layout) (text : List ℕ) (s : Stop) → WasRead old mid
     → IsSaid layout_in old.holds names.layout layout → WasRead mid new → IsRead mid.holds names.certificate text
-    → StopsFor (of_certificate layout text) s → StopsFor (of_run (Ok (check names)) old new) s
-stop_at_fault old mid new names layout text (stop.Complaint (complaint.Words why)) first said was read wrong = absurd wrong
-stop_at_fault old mid new names layout text (stop.Complaint (complaint.Refused f why)) first said was read wrong = absurd wrong
-stop_at_fault old mid new names layout text (stop.Complaint (complaint.Fault f)) first said was read wrong = absurd wrong
-stop_at_fault old mid new names layout text (stop.Complaint (complaint.Wrong found)) first said was read (fault, is, refused) =
+    → StopsFor (of_certificate layout text) s → StopsFor (of_run (Ok (check names)) disk old new) s
+stop_at_fault disk old mid new names layout text (stop.Complaint (complaint.Words why)) first said was read wrong = absurd wrong
+stop_at_fault disk old mid new names layout text (stop.Complaint (complaint.Refused f why)) first said was read wrong = absurd wrong
+stop_at_fault disk old mid new names layout text (stop.Complaint (complaint.Fault f)) first said was read wrong = absurd wrong
+stop_at_fault disk old mid new names layout text (stop.Complaint (complaint.Wrong found)) first said was read (fault, is, refused) =
     has_read old new (check names) (with_certificate layout text) _ (check_files old mid new names layout text first said was read)
-    (subst (IsWrong (check names) (with_certificate layout text)) (sym is) refused)
-stop_at_fault old mid new names layout text stop.Memory first said was read wrong = tt
+    (subst (IsWrong disk (check names) (with_certificate layout text)) (sym is) refused)
+stop_at_fault disk old mid new names layout text (stop.Complaint complaint.Store) first said was read wrong = absurd wrong
+stop_at_fault disk old mid new names layout text stop.Memory first said was read wrong = tt
 
 -- the certificate shows no bound
-pub stop_at_showing : (old mid new : FilesTold) (names : CheckNames) (layout : Layout) (s : Stop) → WasRead old mid
+pub stop_at_showing : (disk : DiskCourse) (old mid new : FilesTold) (names : CheckNames) (layout : Layout) (s : Stop) → WasRead old mid
     → IsSaid layout_in old.holds names.layout layout → SameBytes mid.holds new.holds → NoneFalls mid.faults new.faults
-    → StopsAt (of_certificate layout) mid new names.certificate input.Certificate s → StopsFor (of_run (Ok (check names)) old new) s
-stop_at_showing old mid new names layout s first said same counts (inl nothing) =
-    stop_at_last text_in old mid new (check names) (layout_file names.layout) (of_layout layout) input.Certificate names.certificate s refl
+    → StopsAt (of_certificate layout) mid new names.certificate input.Certificate s → StopsFor (of_run (Ok (check names)) disk old new) s
+stop_at_showing disk old mid new names layout s first said same counts (inl nothing) =
+    stop_at_last disk text_in old mid new (check names) (layout_file names.layout) (of_layout layout) input.Certificate names.certificate s refl
     (λ text why none. rw none refl) (after_layout old mid names.layout layout first said) nothing
-stop_at_showing old mid new names layout s first said same counts (inr (text, read, next, wrong)) =
-    stop_at_fault old mid new names layout text s first said (record { same = same; counts = counts; reads = next }) read wrong
+stop_at_showing disk old mid new names layout s first said same counts (inr (text, read, next, wrong)) =
+    stop_at_fault disk old mid new names layout text s first said (record { same = same; counts = counts; reads = next }) read wrong
 
 -- the output of a check
-pub check_is : (old mid new : FilesTold) (names : CheckNames) (layout : Layout) (bound : ℕ) (output : List ℕ) → WasRead old mid
+pub check_is : (disk : DiskCourse) (old mid new : FilesTold) (names : CheckNames) (layout : Layout) (bound : ℕ) (output : List ℕ) → WasRead old mid
     → IsSaid layout_in old.holds names.layout layout → WasRead mid new → HasRightText mid.holds names.certificate (λ text. ShowsBound layout text bound)
-    → output ≡ bound_line bound → IsOutput (Ok (check names)) old new output
-check_is old mid new names layout bound output first said was right is =
+    → output ≡ bound_line bound → IsOutput (Ok (check names)) disk old new output
+check_is disk old mid new names layout bound output first said was right is =
     has_read old new (check names) (with_certificate layout right.text) _ (check_files old mid new names layout right.text first said was right.read)
     (record { bound = bound; shows = right.shows; is = is })

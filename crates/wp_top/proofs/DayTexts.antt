@@ -1,7 +1,8 @@
 -- The text of a day, section by section.
-use Rattle.std.proofs.Common.{◌≡◌, ◌∙◌, refl, sym, subst, ℕ, List, ◌++◌, Option, append_assoc}
+use Rattle.std.proofs.Common.{◌≡◌, ◌∙◌, refl, sym, ap, subst, ℕ, List, ◌++◌, Option, append_assoc}
 use Rattle.std.specs.Prelude.{codes}
 use Rattle.wp_desk.specs.declared.day_run.DayRun.{DayRun}
+use Rattle.wp_machine.specs.declared.outcome.Refill.{Refill}
 use Rattle.wp_machine.specs.declared.outcome.WaveHolds.{WaveHolds}
 use Rattle.wp_model.specs.History.{History, state_after}
 use Rattle.wp_model.specs.Journal.{journal, line}
@@ -14,17 +15,17 @@ use Rattle.wp_top.proofs.MadeDays.{good_plans}
 use Rattle.wp_top.proofs.SectionTexts.{any_sheets}
 use Rattle.wp_planner.specs.Sent.{plans_of, waves_of}
 use Rattle.wp_top.specs.Planned.{HasCrew, IsToldOf}
-use Rattle.wp_top.specs.Sections.{output_of, refills_and_end, refills_section, refills_told, stock_section}
+use Rattle.wp_top.specs.Sections.{output_of, refills_and_end, refills_section, stock_section}
 use Rattle.wp_top.specs.Sheets.{AreSheets}
 use Rattle.wp_top.specs.Stops.{IsTextOf}
 use Rattle.wp_top.specs.Summaries.{AreGoodPlans}
 
 -- the journal, then the sheets, and then all that comes after them
-in_order : (history : History) (sheets crew : List ℕ)
-    → journal history.entries ++ (sheets ++ refills_and_end history crew) ≡ output_of history sheets crew
-in_order history sheets crew =
+in_order : (history : History) (sheets : List ℕ) (told : List Refill) (crew : List ℕ)
+    → journal history.entries ++ (sheets ++ refills_and_end history told crew) ≡ output_of history sheets told crew
+in_order history sheets told crew =
     let first = journal history.entries in
-    let refills = refills_section history.opening.stock (refills_told history) in
+    let refills = refills_section history.opening.stock told in
     let stock = stock_section history.opening.stock (state_after history).rows in
     let last = line (codes "end") in
     sym (append_assoc (((first ++ sheets) ++ refills) ++ crew) stock last
@@ -33,11 +34,12 @@ in_order history sheets crew =
     ∙ append_assoc first sheets (refills ++ (crew ++ (stock ++ last))))))
 
 -- this is the text of a day
-pub text_is : (layout : Layout) (terms : Terms) (day : DayRun (Option WavePlan)) (crew : Option DayCrew) (sheets text : List ℕ)
-    → IsToldOf layout terms day → HasCrew terms day crew
+pub text_is : (layout : Layout) (terms : Terms) (start : History) (day : DayRun (Option WavePlan)) (crew : Option DayCrew) (sheets text : List ℕ)
+    → IsToldOf layout terms start day → HasCrew terms day crew
     → AreSheets day.machine terms (waves_of day.plans.items) (plans_of day.plans.items) sheets
-    → text ≡ journal day.machine.entries ++ (sheets ++ refills_and_end day.machine (crew_text crew)) → IsTextOf layout terms day.machine text
-text_is layout terms day crew sheets text told dealt are is =
+    → text ≡ journal day.machine.entries ++ (sheets ++ refills_and_end day.machine day.refills.items (crew_text crew))
+    → IsTextOf layout terms start day.machine text
+text_is layout terms start day crew sheets text told dealt are is =
     let history = day.machine in
     let plans = plans_of day.plans.items in
     record {
@@ -48,12 +50,13 @@ text_is layout terms day crew sheets text told dealt are is =
       printed = subst (λ (waves : List WaveHolds). AreSheets history terms waves plans sheets) told.waves are;
       crew = crew;
       dealt = subst (λ (waves : List WaveHolds). IsCrewFor terms.pickers (day_batches waves plans) crew) told.waves dealt;
-      is = is ∙ in_order history sheets (crew_text crew);
+      is = is ∙ in_order history sheets day.refills.items (crew_text crew)
+          ∙ ap (λ (refills : List Refill). output_of history sheets refills (crew_text crew)) told.refills;
     }
 
 -- some text of a day begins with the journal
-pub any_text : (layout : Layout) (terms : Terms) (day : DayRun (Option WavePlan)) (crew : Option DayCrew) → IsToldOf layout terms day
-    → HasCrew terms day crew → (more : List ℕ) × IsTextOf layout terms day.machine (journal day.machine.entries ++ more)
-any_text layout terms day crew told dealt =
+pub any_text : (layout : Layout) (terms : Terms) (start : History) (day : DayRun (Option WavePlan)) (crew : Option DayCrew) → IsToldOf layout terms start day
+    → HasCrew terms day crew → (more : List ℕ) × IsTextOf layout terms start day.machine (journal day.machine.entries ++ more)
+any_text layout terms start day crew told dealt =
     let sheets = any_sheets layout day.machine terms day.plans.items told.planned in
-    (sheets.0 ++ refills_and_end day.machine (crew_text crew), text_is layout terms day crew sheets.0 _ told dealt sheets.1 refl)
+    (sheets.0 ++ refills_and_end day.machine day.refills.items (crew_text crew), text_is layout terms start day crew sheets.0 _ told dealt sheets.1 refl)

@@ -63,12 +63,12 @@ abbrev Lines : List Entry → ℕ → List ℕ → Type 0
 Lines entries count text = IsSection (line (codes "journal")) count (IsTextAt entry_line entries) (line (codes "end journal")) text
 
 -- the journal of a day fails, and some text of the day begins with it
-pub day_fails : (layout : Layout) (terms : Terms) (day : DayRun (Option WavePlan)) (crew : Option DayCrew) (entries : List Entry) (count : ℕ) (waited : List ℕ) (fault : SinkFault)
-    (old new : SinkTold) → IsToldOf layout terms day → HasCrew terms day crew → entries ≡ day.machine.entries → count ≡ length entries → waited ≡ []
+pub day_fails : (layout : Layout) (terms : Terms) (start : History) (day : DayRun (Option WavePlan)) (crew : Option DayCrew) (entries : List Entry) (count : ℕ) (waited : List ℕ) (fault : SinkFault)
+    (old new : SinkTold) → IsToldOf layout terms start day → HasCrew terms day crew → entries ≡ day.machine.entries → count ≡ length entries → waited ≡ []
     → (text : List ℕ) × Lines entries count text × Fails fault old new (waited ++ text)
-    → (text : List ℕ) × IsTextOf layout terms day.machine text × Fails fault old new text
-day_fails layout terms day crew entries count waited fault old new told dealt all count_is none section =
-    let whole = any_text layout terms day crew told dealt in
+    → (text : List ℕ) × IsTextOf layout terms start day.machine text × Fails fault old new text
+day_fails layout terms start day crew entries count waited fault old new told dealt all count_is none section =
+    let whole = any_text layout terms start day crew told dealt in
     let fails = lines_fail entry_line entries count (line (codes "journal")) (line (codes "end journal")) (journal entries) whole.0 waited fault old new
     count_is refl section in (
       journal day.machine.entries ++ whole.0,
@@ -78,41 +78,41 @@ day_fails layout terms day crew entries count waited fault old new told dealt al
     )
 
 -- it is written, and then all that comes after it
-pub day_then : (layout : Layout) (terms : Terms) (day : DayRun (Option WavePlan)) (crew : Option DayCrew) (entries : List Entry) (count : ℕ) (waited between : List ℕ)
-    (old mid new : SinkTold) → IsToldOf layout terms day → HasCrew terms day crew → entries ≡ day.machine.entries → count ≡ length entries → waited ≡ []
+pub day_then : (layout : Layout) (terms : Terms) (start : History) (day : DayRun (Option WavePlan)) (crew : Option DayCrew) (entries : List Entry) (count : ℕ) (waited between : List ℕ)
+    (old mid new : SinkTold) → IsToldOf layout terms start day → HasCrew terms day crew → entries ≡ day.machine.entries → count ≡ length entries → waited ≡ []
     → (text : List ℕ) × Lines entries count text × Writes old mid waited between text
     → (sheets : List ℕ) × AreSheets day.machine terms (waves_of day.plans.items) (plans_of day.plans.items) sheets
-    × Writes mid new between [] (sheets ++ refills_and_end day.machine (crew_text crew))
-    → (text : List ℕ) × IsTextOf layout terms day.machine text × Writes old new [] [] text
-day_then layout terms day crew entries count waited between old mid new told dealt all count_is none section (sheets, are, rest) =
-    let more = sheets ++ refills_and_end day.machine (crew_text crew) in
+    × Writes mid new between [] (sheets ++ refills_and_end day.machine day.refills.items (crew_text crew))
+    → (text : List ℕ) × IsTextOf layout terms start day.machine text × Writes old new [] [] text
+day_then layout terms start day crew entries count waited between old mid new told dealt all count_is none section (sheets, are, rest) =
+    let more = sheets ++ refills_and_end day.machine day.refills.items (crew_text crew) in
     let writes = lines_then entry_line entries count (line (codes "journal")) (line (codes "end journal")) (journal entries) more waited between [] old mid new
     count_is refl section rest in (
       journal day.machine.entries ++ more,
-      text_is layout terms day crew sheets _ told dealt are refl,
+      text_is layout terms start day crew sheets _ told dealt are refl,
       subst (λ (es : List Entry). Writes old new [] [] (journal es ++ more)) all
           (subst (λ (w : List ℕ). Writes old new w [] (journal entries ++ more)) none writes),
     )
 
 -- it is written, and then something fails
-pub day_then_fails : (layout : Layout) (terms : Terms) (day : DayRun (Option WavePlan)) (crew : Option DayCrew) (entries : List Entry) (count : ℕ) (waited between : List ℕ)
-    (fault : SinkFault) (old mid new : SinkTold) → IsToldOf layout terms day → HasCrew terms day crew → entries ≡ day.machine.entries → count ≡ length entries → waited ≡ []
+pub day_then_fails : (layout : Layout) (terms : Terms) (start : History) (day : DayRun (Option WavePlan)) (crew : Option DayCrew) (entries : List Entry) (count : ℕ) (waited between : List ℕ)
+    (fault : SinkFault) (old mid new : SinkTold) → IsToldOf layout terms start day → HasCrew terms day crew → entries ≡ day.machine.entries → count ≡ length entries → waited ≡ []
     → (text : List ℕ) × Lines entries count text × Writes old mid waited between text
     → (sheets : List ℕ) × AreSheets day.machine terms (waves_of day.plans.items) (plans_of day.plans.items) sheets
-    × Fails fault mid new (between ++ (sheets ++ refills_and_end day.machine (crew_text crew)))
-    → (text : List ℕ) × IsTextOf layout terms day.machine text × Fails fault old new text
-day_then_fails layout terms day crew entries count waited between fault old mid new told dealt all count_is none section (sheets, are, rest) =
-    let more = sheets ++ refills_and_end day.machine (crew_text crew) in
+    × Fails fault mid new (between ++ (sheets ++ refills_and_end day.machine day.refills.items (crew_text crew)))
+    → (text : List ℕ) × IsTextOf layout terms start day.machine text × Fails fault old new text
+day_then_fails layout terms start day crew entries count waited between fault old mid new told dealt all count_is none section (sheets, are, rest) =
+    let more = sheets ++ refills_and_end day.machine day.refills.items (crew_text crew) in
     let fails = lines_then_fail entry_line entries count (line (codes "journal")) (line (codes "end journal")) (journal entries) more waited between fault
     old mid new count_is refl section rest in (
       journal day.machine.entries ++ more,
-      text_is layout terms day crew sheets _ told dealt are refl,
+      text_is layout terms start day crew sheets _ told dealt are refl,
       subst (λ (es : List Entry). Fails fault old new (journal es ++ more)) all
           (subst (λ (w : List ℕ). Fails fault old new (w ++ (journal entries ++ more))) none fails),
     )
 
 -- where nothing is written some text of the day isn't
-pub day_unwritten : (layout : Layout) (terms : Terms) (day : DayRun (Option WavePlan)) (crew : Option DayCrew) (fault : SinkFault) (told : SinkTold) → IsToldOf layout terms day → HasCrew terms day crew
-    → ((text : List ℕ) → Fails fault told told text) → (text : List ℕ) × IsTextOf layout terms day.machine text × Fails fault told told text
-day_unwritten layout terms day crew fault told is dealt none =
-    let whole = any_text layout terms day crew is dealt in (journal day.machine.entries ++ whole.0, whole.1, none (journal day.machine.entries ++ whole.0))
+pub day_unwritten : (layout : Layout) (terms : Terms) (start : History) (day : DayRun (Option WavePlan)) (crew : Option DayCrew) (fault : SinkFault) (told : SinkTold) → IsToldOf layout terms start day → HasCrew terms day crew
+    → ((text : List ℕ) → Fails fault told told text) → (text : List ℕ) × IsTextOf layout terms start day.machine text × Fails fault told told text
+day_unwritten layout terms start day crew fault told is dealt none =
+    let whole = any_text layout terms start day crew is dealt in (journal day.machine.entries ++ whole.0, whole.1, none (journal day.machine.entries ++ whole.0))

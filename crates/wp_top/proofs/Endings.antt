@@ -9,7 +9,8 @@ use Rattle.wp_outside.specs.declared.sink.SinkFault.TheVariants as sink_fault
 use Rattle.wp_parts.proofs.Steps.{Writes-whole}
 use Rattle.wp_parts.specs.Writing.{Fails, Writes}
 use Rattle.wp_top.specs.Ends.{Asked, IsOutput, of_run}
-use Rattle.wp_top.specs.Stops.{Finishes, HasEnded, IsEndOf, IsEnding, StopsFor, end_of, gives, status_when}
+use Rattle.wp_top.specs.Stops.{Finishes, FinishesJob, HasEnded, IsEndOf, IsEnding, StopsFor, end_of, gives, status_when}
+use Rattle.wp_top.specs.Stores.{DiskCourse}
 use Rattle.wp_top.specs.declared.complaint.Stop.{Stop}
 use Rattle.wp_top.specs.declared.complaint.Stop.TheVariants as stop
 use Rattle.wp_top.specs.declared.ending.Ending.{Ending}
@@ -17,35 +18,45 @@ use Rattle.wp_top.specs.declared.status.Status.{Status}
 use Rattle.wp_top.specs.declared.status.Status.TheVariants as status
 
 -- the ending of an output, or of a stop, has its cause
-caused : (asked : Asked) (old new : FilesTold) (output : Result (Vec ℕ Global) Stop) (end : Ending) → IsEndOf output end
-    → IfOk output (λ text. IsOutput asked old new text.items) → IfErr output (StopsFor (of_run asked old new)) → IsEnding asked old new (end_of end)
-caused asked old new (Ok text) end is given stops = subst (λ (e : Ending). IsEnding asked old new (end_of e)) (sym is) given
-caused asked old new (Err (stop.Complaint why)) end is given stops = subst (λ (e : Ending). IsEnding asked old new (end_of e)) (sym is) stops
-caused asked old new (Err stop.Memory) end is given stops = absurd is
+caused : (asked : Asked) (disk : DiskCourse) (old new : FilesTold) (output : Result (Vec ℕ Global) Stop) (end : Ending) → IsEndOf output end
+    → IfOk output (λ text. IsOutput asked disk old new text.items) → IfErr output (StopsFor (of_run asked disk old new)) → IsEnding asked disk old new (end_of end)
+caused asked disk old new (Ok text) end is given stops = subst (λ (e : Ending). IsEnding asked disk old new (end_of e)) (sym is) given
+caused asked disk old new (Err (stop.Complaint why)) end is given stops = subst (λ (e : Ending). IsEnding asked disk old new (end_of e)) (sym is) stops
+caused asked disk old new (Err stop.Memory) end is given stops = absurd is
+
+-- a job whose ending was made finishes with it
+pub job_finishes : (sink sink' : SinkTold) (output : Result (Vec ℕ Global) Stop) (made : Result Ending Memory) (ended : Status) → IfOk made (IsEndOf output)
+    → IfOk made (λ e. Finishes (end_of e) sink sink' ended) → OnErr made ((ended ≡ status.OutOfMemory) × (sink' ≡ sink)) → FinishesJob output sink sink' ended
+job_finishes sink sink' output (Ok end) ended is finishes nothing = inl (end, is, finishes)
+job_finishes sink sink' output (Err memory) ended is finishes nothing = inr nothing
 
 -- a run ends with the output of a job, or with why it stopped
-pub job_ended : (asked : Asked) (old new : FilesTold) (sink sink' : SinkTold) (output : Result (Vec ℕ Global) Stop) (made : Result Ending Memory)
-    (ended : Status) → IfOk made (IsEndOf output) → IfOk made (λ e. Finishes (end_of e) sink sink' ended)
-    → OnErr made ((ended ≡ status.OutOfMemory) × (sink' ≡ sink)) → IfOk output (λ text. IsOutput asked old new text.items)
-    → IfErr output (StopsFor (of_run asked old new)) → HasEnded asked old new sink sink' ended
-job_ended asked old new sink sink' output (Ok end) ended is finishes nothing given stops =
-    inl (end_of end, caused asked old new output end is given stops, finishes)
-job_ended asked old new sink sink' output (Err memory) ended is finishes nothing given stops = inr nothing
+pub job_ended : (asked : Asked) (disk : DiskCourse) (old new : FilesTold) (sink sink' : SinkTold) (output : Result (Vec ℕ Global) Stop) (ended : Status)
+    → FinishesJob output sink sink' ended → IfOk output (λ text. IsOutput asked disk old new text.items)
+    → IfErr output (StopsFor (of_run asked disk old new)) → HasEnded asked disk old new sink sink' ended
+job_ended asked disk old new sink sink' output ended (inl (end, is, finishes)) given stops =
+    inl (end_of end, caused asked disk old new output end is given stops, finishes)
+job_ended asked disk old new sink sink' output ended (inr nothing) given stops = inr nothing
+
+-- and with why a job stopped that gave nothing
+pub stopped_ended : (asked : Asked) (disk : DiskCourse) (old new : FilesTold) (sink sink' : SinkTold) (why : Stop) (ended : Status)
+    → FinishesJob (Err why) sink sink' ended → StopsFor (of_run asked disk old new) why → HasEnded asked disk old new sink sink' ended
+stopped_ended asked disk old new sink sink' why ended finishes stops = job_ended asked disk old new sink sink' (Err why) ended finishes tt stops
 
 -- a run whose output was written so
-pub written_ended : (asked : Asked) (old new : FilesTold) (sink sink' : SinkTold) (written : Result Unit SinkFault) (ended : Status)
-    (IsText : List ℕ → Type 0) → ((text : List ℕ) → IsText text → IsOutput asked old new text) → ended ≡ status_when written
+pub written_ended : (asked : Asked) (disk : DiskCourse) (old new : FilesTold) (sink sink' : SinkTold) (written : Result Unit SinkFault) (ended : Status)
+    (IsText : List ℕ → Type 0) → ((text : List ℕ) → IsText text → IsOutput asked disk old new text) → ended ≡ status_when written
     → OnOk written ((text : List ℕ) × IsText text × Writes sink sink' [] [] text)
     → IfErr written (λ fault. ((text : List ℕ) × IsText text × Fails fault sink sink' text) ⊎ ((fault ≡ sink_fault.Memory) × (sink' ≡ sink)))
-    → HasEnded asked old new sink sink' ended
-written_ended asked old new sink sink' (Ok done) ended IsText comes is (text, said, writes) fails =
+    → HasEnded asked disk old new sink sink' ended
+written_ended asked disk old new sink sink' (Ok done) ended IsText comes is (text, said, writes) fails =
     inl (gives text, comes text said, inl (is, Writes-whole sink sink' text writes, writes.faults, writes.stopped))
-written_ended asked old new sink sink' (Err sink_fault.Failed) ended IsText comes is writes (inl (text, said, fails)) =
+written_ended asked disk old new sink sink' (Err sink_fault.Failed) ended IsText comes is writes (inl (text, said, fails)) =
     inl (gives text, comes text said, inr (inl (is, fails.counted refl, fails.part refl)))
-written_ended asked old new sink sink' (Err sink_fault.Failed) ended IsText comes is writes (inr (none, same)) = absurd (cc none)
-written_ended asked old new sink sink' (Err sink_fault.Memory) ended IsText comes is writes (inl (text, said, fails)) =
+written_ended asked disk old new sink sink' (Err sink_fault.Failed) ended IsText comes is writes (inr (none, same)) = absurd (cc none)
+written_ended asked disk old new sink sink' (Err sink_fault.Memory) ended IsText comes is writes (inl (text, said, fails)) =
     inl (gives text, comes text said, inr (inr (is, fails.uncounted (λ failed. absurd (cc failed)), fails.prefix)))
-written_ended asked old new sink sink' (Err sink_fault.Memory) ended IsText comes is writes (inr (none, same)) = inr (is, same)
+written_ended asked disk old new sink sink' (Err sink_fault.Memory) ended IsText comes is writes (inr (none, same)) = inr (is, same)
 
 -- what is written of an output leaves a sink that wasn't stopped with no late write
 pub written_early : (sink sink' : SinkTold) (written : Result Unit SinkFault) (IsText : List ℕ → Type 0)

@@ -6,9 +6,10 @@ use Rattle.wp_desk.specs.declared.day_run.DayRun.{DayRun}
 use Rattle.wp_machine.specs.Outcome.{outcome_of, outcomes_from, released_in}
 use Rattle.wp_machine.specs.declared.outcome.Outcome.{Outcome}
 use Rattle.wp_machine.specs.declared.outcome.Outcome.TheVariants as outcome
-use Rattle.wp_model.specs.History.{Script}
+use Rattle.wp_desk.specs.GoingOn.{new_entries}
+use Rattle.wp_model.specs.History.{History, Script, state_after}
 use Rattle.wp_model.specs.Opening.{Opening}
-use Rattle.wp_model.specs.State.{State, opening_state}
+use Rattle.wp_model.specs.State.{State}
 use Rattle.wp_model.specs.Step.{step}
 use Rattle.wp_model.specs.Tables.{AreReadScripts}
 use Rattle.wp_model.specs.Warehouse.{Layout}
@@ -37,15 +38,15 @@ few_out opening number state (entry ∷ entries) =
     omega (arith, length-append (released_in told) more, one_out told, few_out opening (number + 1) next.state entries)
 
 -- a day of scripts that were read sends out 10,000 waves at most
-pub few_waves : (layout : Layout) (terms : Terms) (opening : Opening) (scripts : List Script) (day : DayRun (Option WavePlan)) → AreReadScripts scripts
-    → IsHistoryOf opening scripts day.machine → IsToldOf layout terms day → length day.plans.items ≤ 10000
-few_waves layout terms opening scripts day read answers told =
+pub few_waves : (layout : Layout) (terms : Terms) (opening : Opening) (scripts : List Script) (start : History) (day : DayRun (Option WavePlan))
+    → AreReadScripts scripts → IsHistoryOf opening scripts start day.machine → IsToldOf layout terms start day → length day.plans.items ≤ 10000
+few_waves layout terms opening scripts start day read answers told =
     let history = day.machine in
     omega (
       arith,
       length-map day.plans.items (λ (s : Sent). s.wave),
       ap length told.waves,
-      few_out history.opening 0 (opening_state history.opening) history.entries,
-      history_count opening scripts history read answers,
+      few_out start.opening (length start.entries) (state_after start) (new_entries start history),
+      history_count opening scripts start history read answers,
       read.most,
     )

@@ -116,6 +116,7 @@ stops_among_more old new files more (stop.Complaint (complaint.Words why)) stops
 stops_among_more old new files more (stop.Complaint (complaint.Refused kind why)) stops = ends_at_more old new files more kind _ stops
 stops_among_more old new files more (stop.Complaint (complaint.Fault kind)) stops = ends_at_more old new files more kind _ stops
 stops_among_more old new files more (stop.Complaint (complaint.Wrong found)) stops = absurd stops
+stops_among_more old new files more (stop.Complaint complaint.Store) stops = absurd stops
 stops_among_more old new files more stop.Memory stops = tt
 
 last_of : (old mid new : ℕ) (files : List File) → mid ≡ old + length files → new ≡ mid + 1 → new ≡ old + (length files + 1)
@@ -148,6 +149,7 @@ stops_there says old mid new files later said kind name (stop.Complaint (complai
   why = omega (arith, less, so_far.counts name);
 }
 stops_there says old mid new files later said kind name (stop.Complaint (complaint.Wrong found)) refuses so_far nothing = absurd nothing
+stops_there says old mid new files later said kind name (stop.Complaint complaint.Store) refuses so_far nothing = absurd nothing
 stops_there says old mid new files later said kind name stop.Memory refuses so_far nothing = tt
 
 -- the layout file was read

@@ -21,3 +21,5 @@ pub mod KeptPromise
 pub mod LongTexts
 pub mod PlanJournals
 pub mod FewWaves
+pub mod Storing
+pub mod DaysOver

@@ -121,4 +121,5 @@ wants_memory_alone old new files all (stop.Complaint (complaint.Refused kind why
 wants_memory_alone old new files all (stop.Complaint (complaint.Fault kind)) told stand stops =
     let ends : EndsAt old new files kind (HasRisen old new) = stops in absurd (omega (arith, ends.why, stand ends.name))
 wants_memory_alone old new files all (stop.Complaint (complaint.Wrong found)) told stand stops = absurd stops
+wants_memory_alone old new files all (stop.Complaint complaint.Store) told stand stops = absurd stops
 wants_memory_alone old new files all stop.Memory told stand stops = refl

@@ -1,15 +1,20 @@
 -- The journal of a plan is right: each of its entries answers what a desk's script asks, within the bounds of a journal.
-use Rattle.std.proofs.Common.{◌≡◌, ◌≢◌, ◌∙◌, refl, sym, ap, subst, ℕ, suc, ◌+◌, ◌<◌, ◌≤◌, ◌==◌, List, [], ◌∷◌, ◌++◌, Option, length, inl, inr, arith, eq-eqb, ne_eqb}
-use Rattle.std.proofs.Common.{append_assoc}
+use Rattle.std.proofs.Common.{◌≡◌, ◌≢◌, ◌∙◌, refl, sym, ap, subst, ℕ, zero, suc, ◌+◌, ◌<◌, ◌≤◌, ◌==◌, List, [], ◌∷◌, ◌++◌, Option, length, inl, inr, arith, eq-eqb, leb-true, ne_eqb}
+use Rattle.std.proofs.Common.{append_assoc, length-append}
 use Rattle.std.proofs.lemmas.Bool.{cases_eq, cond-false, cond-true}
-use Rattle.std.proofs.lemmas.List.Elements.{All-cons, All-head, All-nil, All-tail, All-weaker}
-use Rattle.std.proofs.lemmas.List.Sums.{sum_by-cons}
-use Rattle.std.proofs.lemmas.Option.{IfSome_then}
+use Rattle.std.proofs.lemmas.List.Elements.{All-append, All-cons, All-head, All-nil, All-tail, All-weaker}
+use Rattle.std.proofs.lemmas.List.{take-append-drop}
+use Rattle.std.proofs.lemmas.List.Sums.{sum_by-append, sum_by-cons}
+use Rattle.std.proofs.lemmas.Option.{IfSome_then, slice_get_cases}
 use Rattle.std.specs.List.{All, sum_by}
-use Rattle.std.specs.Prelude.{⊤, IfSome, IsTrue, codes, slice_get}
+use Rattle.std.specs.Prelude.{⊤, ◌&&◌, IfSome, IsTrue, Some, codes, drop, nat_le, nat_lt, slice_get, take}
+use Rattle.wp_desk.specs.GoingOn.{new_entries}
 use Rattle.wp_floor.proofs.Floors.{is_opening}
 use Rattle.wp_journal.proofs.DayJournals.{day_journal}
+use Rattle.wp_journal.proofs.Phrases.{both}
+use Rattle.wp_journal.proofs.Replayed.{lines_count}
 use Rattle.wp_journal.specs.Days.{IsAsked, IsDay}
+use Rattle.wp_journal.specs.Grammar.{is_line_entry, is_line_reply}
 use Rattle.wp_journal.specs.Journals.{IsJournalOf}
 use Rattle.wp_model.specs.History.{History, Script, part_of, script_of, state_after}
 use Rattle.wp_model.specs.Journal.{journal, line}
@@ -23,7 +28,9 @@ use Rattle.wp_planner.specs.Crews.{crew_text}
 use Rattle.wp_top.specs.Runs.{IsHistoryOf, IsPlan, command_count}
 use Rattle.wp_words.specs.Words.{PlanNames}
 use Rattle.wp_top.specs.Sections.{output_of, refills_section, refills_told, stock_section}
+use Rattle.wp_top.specs.Stores.{DiskCourse, IsBegun}
 use Rattle.wp_top.specs.Texts.{Said, opening_with}
+use Rattle.wp_top.proofs.Writing.{take_more}
 
 -- scripts of desks that are numbered on from the one after this
 abbrev AreNumbered : ℕ → List Script → Type 0
@@ -205,61 +212,148 @@ commands_count before entries (script ∷ scripts) (own, more) parts =
 same_opening : (opening : Opening) (units : Option ℕ) → IsOpening opening → IsOpening (opening_with opening units)
 same_opening opening units is = record { rows = is.rows; orders = is.orders }
 
--- each entry of a history is of a desk that may ask its command
-history_asks : (opening : Opening) (scripts : List Script) (history : History) → AreReadScripts scripts → IsHistoryOf opening scripts history
-    → All (MayBe (length scripts)) history.entries
-history_asks opening scripts history are answers =
+-- each new entry of a history is of a desk that may ask its command
+history_asks : (opening : Opening) (scripts : List Script) (start history : History) → AreReadScripts scripts → IsHistoryOf opening scripts start history
+    → All (MayBe (length scripts)) (new_entries start history)
+history_asks opening scripts start history are answers =
     let last = length scripts in
-    each_may_be last history.entries (λ desk. subst (All (MayAsk 0 last desk)) (sym (answers.parts desk))
+    each_may_be last (new_entries start history) (λ desk. subst (All (MayAsk 0 last desk)) (sym (answers.parts desk))
     (scripts_may 0 last scripts desk (numbered_from_1 scripts are) (omega arith) are.plain are.named))
 
--- and it has an entry for each command of the scripts
-pub history_count : (opening : Opening) (scripts : List Script) (history : History) → AreReadScripts scripts → IsHistoryOf opening scripts history
-    → length history.entries ≡ command_count scripts
-history_count opening scripts history are answers =
+-- and it has a new entry for each command of the scripts
+pub history_count : (opening : Opening) (scripts : List Script) (start history : History) → AreReadScripts scripts
+    → IsHistoryOf opening scripts start history → length (new_entries start history) ≡ command_count scripts
+history_count opening scripts start history are answers =
     let numbered = numbered_from_1 scripts are in
-    entries_count history.entries scripts numbered (history_asks opening scripts history are answers)
-    ∙ commands_count 0 history.entries scripts numbered (λ desk after. answers.parts desk)
+    entries_count (new_entries start history) scripts numbered (history_asks opening scripts start history are answers)
+    ∙ commands_count 0 (new_entries start history) scripts numbered (λ desk after. answers.parts desk)
 
--- the history of a plan is that of a day, with an entry for each command
-plan_is_day : (names : PlanNames) (said : Said) (output : List ℕ) → IsReadOpening said.opening → AreReadScripts said.scripts
-    → (plan : IsPlan names said output) → IsDay plan.history × (length plan.history.entries ≡ command_count said.scripts)
-plan_is_day names said output read are plan =
-    let count = history_count (opening_with said.opening names.units) said.scripts plan.history are plan.answers in (
+is_first : (first script : Script) → Some first ≡ Some script → first ≡ script
+is_first first script is = cc is
+
+from_none : (i : ℕ) → i + 1 ≡ 0 + i + 1
+from_none i = omega arith
+
+-- the script at a place is that of the next desk
+script_at : (before : ℕ) (scripts : List Script) (i : ℕ) (script : Script) → AreNumbered before scripts → slice_get scripts i ≡ Some script
+    → script_of scripts (before + i + 1) ≡ script.commands
+script_at before [] i script numbered is = absurd (cc is)
+script_at before (first ∷ scripts) zero script (own, more) is =
+    own_script (before + 0 + 1) first scripts (omega (arith, own)) ∙ ap (λ (s : Script). s.commands) (is_first first script is)
+script_at before (first ∷ scripts) (suc i) script (own, more) is =
+    other_script (before + suc i + 1) first scripts (λ same. omega (arith, own, same))
+    ∙ (ap (script_of scripts) (next before i) ∙ script_at (before + 1) scripts i script more is)
+  where
+    next : (b i : ℕ) → b + suc i + 1 ≡ (b + 1) + i + 1
+    next b i = omega arith
+
+-- so the commands of the first desks and of the next one are those of one desk more
+pub commands_more : (scripts : List Script) (i : ℕ) → AreReadScripts scripts → i < length scripts
+    → command_count (take (i + 1) scripts) ≡ command_count (take i scripts) + length (script_of scripts (i + 1))
+commands_more scripts i are there =
+    elim (slice_get_cases scripts i).1 [
+      | inl (script, within, is, at) ↦
+          ap command_count (take_more scripts i script is) ∙ (sum_by-append (λ (s : Script). length s.commands) (take i scripts) (script ∷ [])
+          ∙ omega (
+            arith,
+            sum_by-cons (λ (s : Script). length s.commands) script [],
+            ap length (ap (script_of scripts) (from_none i) ∙ script_at 0 scripts i script (numbered_from_1 scripts are) is),
+          ))
+      | inr (past, none) ↦ absurd (omega (arith, past, there))
+    ]
+
+-- and the first desks have no more than all
+pub most_commands_up_to : (scripts : List Script) (i : ℕ) → AreReadScripts scripts → command_count (take i scripts) ≤ 10000
+most_commands_up_to scripts i are =
+    omega (
+      arith,
+      are.most,
+      ap command_count (sym (take-append-drop i scripts)),
+      sum_by-append (λ (s : Script). length s.commands) (take i scripts) (drop i scripts),
+    )
+
+-- an entry of a journal answers what a desk may ask
+line_asked : (e : Entry) → IsTrue (is_line_entry e) → IsAsked e
+line_asked e is =
+    let halves = both (nat_lt e.number 10000 && (nat_le 1 e.desk && nat_le e.desk 8))
+    ((is_plain e.command && has_names e.command) && is_line_reply e.reply) is in
+    let desks = both (nat_le 1 e.desk) (nat_le e.desk 8) (both (nat_lt e.number 10000) (nat_le 1 e.desk && nat_le e.desk 8) halves.0).1 in
+    let commands = both (is_plain e.command) (has_names e.command) (both (is_plain e.command && has_names e.command) (is_line_reply e.reply) halves.1).0 in
+    record { desk = (leb-true 1 e.desk desks.0, leb-true e.desk 8 desks.1); plain = commands.0; names = commands.1 }
+
+-- a history that goes on from entries of a journal with those of scripts that were read, and isn't too long, is that of a day
+pub day_is : (opening : Opening) (scripts : List Script) (start history : History) → IsOpening opening
+    → All (λ article. IsTrue (is_name article)) opening.stock.articles → AreReadScripts scripts
+    → All (λ entry. IsTrue (is_line_entry entry)) start.entries → length start.entries + command_count scripts ≤ 10000
+    → IsHistoryOf opening scripts start history → IsDay history × (length history.entries ≡ length start.entries + command_count scripts)
+day_is opening scripts start history is named are within few answers =
+    let new = new_entries start history in
+    let entries : history.entries ≡ start.entries ++ new = ap (λ (h : History). h.entries) answers.goes_on in
+    let count : length history.entries ≡ length start.entries + command_count scripts =
+    omega (arith, ap length entries, length-append start.entries new, history_count opening scripts start history are answers) in
+    let new_asked = All-weaker (MayBe (length scripts)) IsAsked (λ e may. record {
+      desk = (omega (arith, may.after), omega (arith, may.within, are.few));
+      plain = may.plain;
+      names = may.names;
+    }) new (history_asks opening scripts start history are answers) in (
       record {
-        opening = subst IsOpening (sym plan.answers.starts) (same_opening said.opening names.units (is_opening said.opening read));
-        articles = subst (λ (o : Opening). All (λ article. IsTrue (is_name article)) o.stock.articles) (sym plan.answers.starts) read.stock.named;
-        legal = plan.answers.legal;
-        few = omega (arith, count, are.most);
-        asked = All-weaker (MayBe (length said.scripts)) IsAsked (λ e is. record {
-          desk = (omega (arith, is.after), omega (arith, is.within, are.few));
-          plain = is.plain;
-          names = is.names;
-        }) plan.history.entries (history_asks (opening_with said.opening names.units) said.scripts plan.history are plan.answers);
+        opening = subst IsOpening (sym answers.starts) is;
+        articles = subst (λ (o : Opening). All (λ article. IsTrue (is_name article)) o.stock.articles) (sym answers.starts) named;
+        legal = answers.legal;
+        few = omega (arith, count, few);
+        asked = subst (All IsAsked) (sym entries) (All-append IsAsked start.entries new
+            (All-weaker (λ e. IsTrue (is_line_entry e)) IsAsked line_asked start.entries within) new_asked);
       },
       count,
     )
 
+-- the history with which a day begins has entries of a journal, which with those of the scripts aren't too many
+record BeginsWell (commands : ℕ) (start : History) : Type 0 where
+  within : All (λ entry. IsTrue (is_line_entry entry)) start.entries
+  few : length start.entries + commands ≤ 10000
+
+begun_well : (disk : DiskCourse) (store : ℕ) (opening : Opening) (commands : ℕ) (start : History) → commands ≤ 10000
+    → IsBegun disk store opening commands start → BeginsWell commands start
+begun_well disk store opening commands start few begun = elim (cases_eq store 1) [
+  | inl uses ↦
+      let from = begun.stored uses in
+      record { within = from.begins.within; few = omega (arith, lines_count opening from.bodies start [] from.begins, from.few) }
+  | inr fresh ↦
+      subst (BeginsWell commands) (sym (begun.without fresh))
+      (record { within = All-nil (λ (entry : Entry). IsTrue (is_line_entry entry)); few = omega (arith, few) })
+]
+
+-- the history of a plan is that of a day, with an entry for each of the history with which it began and for each command
+plan_is_day : (disk : DiskCourse) (names : PlanNames) (said : Said) (output : List ℕ) → IsReadOpening said.opening → AreReadScripts said.scripts
+    → (plan : IsPlan disk names said output) → IsDay plan.history × (length plan.history.entries ≡ length plan.start.entries + command_count said.scripts)
+plan_is_day disk names said output read are plan =
+    let opening = opening_with said.opening names.units in
+    let well = begun_well disk names.store opening (command_count said.scripts) plan.start are.most plan.begun in
+    day_is opening said.scripts plan.start plan.history (same_opening said.opening names.units (is_opening said.opening read)) read.stock.named are
+    well.within well.few plan.answers
+
 -- the output of a plan is a right journal
-pub plan_journal : (names : PlanNames) (said : Said) (output : List ℕ) → IsReadOpening said.opening → AreReadScripts said.scripts → IsPlan names said output
-    → IsJournalOf (opening_with said.opening names.units) output (command_count said.scripts)
-plan_journal names said output read are plan =
-    let day = plan_is_day names said output read are plan in
+pub plan_journal : (disk : DiskCourse) (names : PlanNames) (said : Said) (output : List ℕ) → IsReadOpening said.opening → AreReadScripts said.scripts
+    → (plan : IsPlan disk names said output)
+    → IsJournalOf (opening_with said.opening names.units) output (length plan.start.entries + command_count said.scripts)
+plan_journal disk names said output read are plan =
+    let day = plan_is_day disk names said output read are plan in
     let history = plan.history in
+    let entries = length plan.start.entries + command_count said.scripts in
     let first = journal history.entries in
     let sheets = plan.sheets in
     let crew = crew_text plan.crew in
-    let refills = refills_section history.opening.stock (refills_told history) ++ crew in
+    let told = refills_told plan.start history in
+    let refills = refills_section history.opening.stock told ++ crew in
     let stock = stock_section history.opening.stock (state_after history).rows in
     let last = line (codes "end") in
     let more = sheets ++ refills ++ stock ++ last in
-    let parts : output_of history sheets crew ≡ first ++ more =
+    let parts : output_of history sheets told crew ≡ first ++ more =
     ap (λ text. text ++ last) (ap (λ text. text ++ stock) (append_assoc (first ++ sheets) _ crew ∙ append_assoc first sheets refills)
     ∙ append_assoc first (sheets ++ refills) stock)
     ∙ append_assoc first (sheets ++ refills ++ stock) last in
     let right : IsJournalOf history.opening (first ++ more) (length history.entries) = day_journal history more day.0 in
-    let counted : IsJournalOf history.opening (first ++ more) (command_count said.scripts) =
-    subst (λ n. IsJournalOf history.opening (first ++ more) n) day.1 right in
-    let opened : IsJournalOf (opening_with said.opening names.units) (first ++ more) (command_count said.scripts) =
-    subst (λ (o : Opening). IsJournalOf o (first ++ more) (command_count said.scripts)) plan.answers.starts counted in
-    subst (λ text. IsJournalOf (opening_with said.opening names.units) text (command_count said.scripts)) (sym (plan.is ∙ parts)) opened
+    let counted : IsJournalOf history.opening (first ++ more) entries = subst (λ n. IsJournalOf history.opening (first ++ more) n) day.1 right in
+    let opened : IsJournalOf (opening_with said.opening names.units) (first ++ more) entries =
+    subst (λ (o : Opening). IsJournalOf o (first ++ more) entries) plan.answers.starts counted in
+    subst (λ text. IsJournalOf (opening_with said.opening names.units) text entries) (sym (plan.is ∙ parts)) opened

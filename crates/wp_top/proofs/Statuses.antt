@@ -14,18 +14,19 @@ use Rattle.wp_top.specs.declared.status.Status.TheVariants as status
 use Rattle.wp_words.specs.declared.fault.WordsFault.{WordsFault}
 
 -- the status of an ending is its own
-own : (e : End) → (number_of (status_of e) < 4) ⊎ (number_of (status_of e) ≡ 6)
+own : (e : End) → (number_of (status_of e) < 4) ⊎ (5 < number_of (status_of e))
 own (gives text) = inl (omega arith)
 own (complains (complaint.Words why)) = inl (omega arith)
 own (complains (complaint.Refused f why)) = inl (omega arith)
 own (complains (complaint.Fault f)) = inl (omega arith)
-own (complains (complaint.Wrong found)) = inr refl
+own (complains (complaint.Wrong found)) = inr (omega arith)
+own (complains complaint.Store) = inr (omega arith)
 
-neither : (n : ℕ) → (n < 4) ⊎ (n ≡ 6) → (n ≡ 4) ⊎ (n ≡ 5) → ⊥
+neither : (n : ℕ) → (n < 4) ⊎ (5 < n) → (n ≡ 4) ⊎ (n ≡ 5) → ⊥
 neither n (inl few) (inl is) = omega (arith, few, is)
 neither n (inl few) (inr is) = omega (arith, few, is)
-neither n (inr six) (inl is) = omega (arith, six, is)
-neither n (inr six) (inr is) = omega (arith, six, is)
+neither n (inr more) (inl is) = omega (arith, more, is)
+neither n (inr more) (inr is) = omega (arith, more, is)
 
 -- the whole text of an ending was taken, and no write was answered with an error
 pub record IsWhole (run : Course) (e : End) (n : ℕ) : Type 0 where
@@ -37,56 +38,71 @@ pub record IsWhole (run : Course) (e : End) (n : ℕ) : Type 0 where
 -- so it is with another status than 4 and 5
 pub whole : (asked : Asked) (run : Course) (ended : Status) (n : ℕ) (e : End) → Finishes e run.sink run.sink' ended
     → number_of ended ≡ n
-    → (n < 4) ⊎ (n ≡ 6) → IsWhole run e n
+    → (n < 4) ⊎ (5 < n) → IsWhole run e n
 whole asked run ended n e (inl (is, grows, stands, sound)) same other =
     record { is = ap number_of (sym is) ∙ same; took = grows; stands = stands; sound = sound }
 whole asked run ended n e (inr (inl (is, rose, took))) same other = absurd (neither n other (inl (sym same ∙ ap number_of is)))
 whole asked run ended n e (inr (inr (is, stands, took))) same other = absurd (neither n other (inr (sym same ∙ ap number_of is)))
 
 -- a run that ended with 0 gave its output
-pub when_done : (asked : Asked) (run : Course) (e : End) → IsEnding asked run.files run.files' e → number_of (status_of e) ≡ 0
-    → Took run (text_of e) → (output : List ℕ) × IsOutput asked run.files run.files' output × Took run output
+pub when_done : (asked : Asked) (run : Course) (e : End) → IsEnding asked run.disk run.files run.files' e → number_of (status_of e) ≡ 0
+    → Took run (text_of e) → (output : List ℕ) × IsOutput asked run.disk run.files run.files' output × Took run output
 when_done asked run (gives text) is status took = (text, is, took)
 when_done asked run (complains (complaint.Words why)) is status took = absurd (omega (arith, status))
 when_done asked run (complains (complaint.Refused f why)) is status took = absurd (omega (arith, status))
 when_done asked run (complains (complaint.Fault f)) is status took = absurd (omega (arith, status))
 when_done asked run (complains (complaint.Wrong found)) is status took = absurd (omega (arith, status))
+when_done asked run (complains complaint.Store) is status took = absurd (omega (arith, status))
 
 -- one that ended with 1 complained of its words
-pub when_words : (asked : Asked) (run : Course) (e : End) → IsEnding asked run.files run.files' e → number_of (status_of e) ≡ 1
+pub when_words : (asked : Asked) (run : Course) (e : End) → IsEnding asked run.disk run.files run.files' e → number_of (status_of e) ≡ 1
     → Took run (text_of e) → (why : WordsFault) × Complains asked run (complaint.Words why)
 when_words asked run (gives text) is status took = absurd (omega (arith, status))
 when_words asked run (complains (complaint.Words why)) is status took = (why, (is, took))
 when_words asked run (complains (complaint.Refused f why)) is status took = absurd (omega (arith, status))
 when_words asked run (complains (complaint.Fault f)) is status took = absurd (omega (arith, status))
 when_words asked run (complains (complaint.Wrong found)) is status took = absurd (omega (arith, status))
+when_words asked run (complains complaint.Store) is status took = absurd (omega (arith, status))
 
 -- one that ended with 2 complained of a refused file
-pub when_refused : (asked : Asked) (run : Course) (e : End) → IsEnding asked run.files run.files' e → number_of (status_of e) ≡ 2
+pub when_refused : (asked : Asked) (run : Course) (e : End) → IsEnding asked run.disk run.files run.files' e → number_of (status_of e) ≡ 2
     → Took run (text_of e) → (file : Input) × (why : Refusal) × Complains asked run (complaint.Refused file why)
 when_refused asked run (gives text) is status took = absurd (omega (arith, status))
 when_refused asked run (complains (complaint.Words why)) is status took = absurd (omega (arith, status))
 when_refused asked run (complains (complaint.Refused f why)) is status took = (f, why, (is, took))
 when_refused asked run (complains (complaint.Fault f)) is status took = absurd (omega (arith, status))
 when_refused asked run (complains (complaint.Wrong found)) is status took = absurd (omega (arith, status))
+when_refused asked run (complains complaint.Store) is status took = absurd (omega (arith, status))
 
 -- one that ended with 3 complained of a file that could not be read
-pub when_fault : (asked : Asked) (run : Course) (e : End) → IsEnding asked run.files run.files' e → number_of (status_of e) ≡ 3
+pub when_fault : (asked : Asked) (run : Course) (e : End) → IsEnding asked run.disk run.files run.files' e → number_of (status_of e) ≡ 3
     → Took run (text_of e) → (file : Input) × Complains asked run (complaint.Fault file)
 when_fault asked run (gives text) is status took = absurd (omega (arith, status))
 when_fault asked run (complains (complaint.Words why)) is status took = absurd (omega (arith, status))
 when_fault asked run (complains (complaint.Refused f why)) is status took = absurd (omega (arith, status))
 when_fault asked run (complains (complaint.Fault f)) is status took = (f, (is, took))
 when_fault asked run (complains (complaint.Wrong found)) is status took = absurd (omega (arith, status))
+when_fault asked run (complains complaint.Store) is status took = absurd (omega (arith, status))
 
 -- one that ended with 6 complained of what it found
-pub when_wrong : (asked : Asked) (run : Course) (e : End) → IsEnding asked run.files run.files' e → number_of (status_of e) ≡ 6
+pub when_wrong : (asked : Asked) (run : Course) (e : End) → IsEnding asked run.disk run.files run.files' e → number_of (status_of e) ≡ 6
     → Took run (text_of e) → (found : Finding) × Complains asked run (complaint.Wrong found)
 when_wrong asked run (gives text) is status took = absurd (omega (arith, status))
 when_wrong asked run (complains (complaint.Words why)) is status took = absurd (omega (arith, status))
 when_wrong asked run (complains (complaint.Refused f why)) is status took = absurd (omega (arith, status))
 when_wrong asked run (complains (complaint.Fault f)) is status took = absurd (omega (arith, status))
 when_wrong asked run (complains (complaint.Wrong found)) is status took = (found, (is, took))
+when_wrong asked run (complains complaint.Store) is status took = absurd (omega (arith, status))
+
+-- one that ended with 7 complained of its disk
+pub when_store : (asked : Asked) (run : Course) (e : End) → IsEnding asked run.disk run.files run.files' e → number_of (status_of e) ≡ 7
+    → Took run (text_of e) → Complains asked run complaint.Store
+when_store asked run (gives text) is status took = absurd (omega (arith, status))
+when_store asked run (complains (complaint.Words why)) is status took = absurd (omega (arith, status))
+when_store asked run (complains (complaint.Refused f why)) is status took = absurd (omega (arith, status))
+when_store asked run (complains (complaint.Fault f)) is status took = absurd (omega (arith, status))
+when_store asked run (complains (complaint.Wrong found)) is status took = absurd (omega (arith, status))
+when_store asked run (complains complaint.Store) is status took = (is, took)
 
 -- with 4 the sink failed, once, after a part of the text
 pub sink_rose : (asked : Asked) (run : Course) (ended : Status) (e : End) → Finishes e run.sink run.sink' ended → number_of ended ≡ 4
@@ -109,7 +125,7 @@ sink_sound run ended e (inr (inl (is, rose, took))) other another = absurd (othe
 sink_sound run ended e (inr (inr (is, stands, took))) other another = absurd (another (ap number_of is))
 
 -- the text of an ending is one that was due
-pub due : (asked : Asked) (run : Course) (e : End) → IsEnding asked run.files run.files' e → IsDue asked run (text_of e)
+pub due : (asked : Asked) (run : Course) (e : End) → IsEnding asked run.disk run.files run.files' e → IsDue asked run (text_of e)
 due asked run (gives text) is = inl is
 due asked run (complains why) is = inr (why, is, refl)
 
@@ -120,8 +136,8 @@ part_taken run ended e (inl (is, grows, stands, sound)) same = absurd (neither (
 part_taken run ended e (inr (inl (is, rose, took))) same = absurd (omega (arith, ap number_of is, same))
 part_taken run ended e (inr (inr (is, stands, took))) same = took
 
--- there is no status above 6
-pub few_statuses : (s : Status) → number_of s ≤ 6
+-- there is no status above 7
+pub few_statuses : (s : Status) → number_of s ≤ 7
 few_statuses status.Done = omega arith
 few_statuses status.BadWords = omega arith
 few_statuses status.Refused = omega arith
@@ -129,6 +145,7 @@ few_statuses status.ReadFault = omega arith
 few_statuses status.WriteFault = omega arith
 few_statuses status.OutOfMemory = omega arith
 few_statuses status.Wrong = omega arith
+few_statuses status.StoreFault = omega arith
 
 -- while the sink's count stands the status is the ending's, or memory ran out
 pub stands : (run : Course) (ended : Status) (n : ℕ) (e : End) → Finishes e run.sink run.sink' ended → SinkStands run

@@ -1,11 +1,11 @@
 -- The waves that went out in a day, and their plans.
-use Rattle.std.proofs.Common.{◌≡◌, ◌∙◌, ℕ, refl, sym, ap, subst, List, [], ◌∷◌, ◌++◌, Option, Some, None, Result, Ok, Err, Contains}
+use Rattle.std.proofs.Common.{◌≡◌, ℕ, refl, sym, ap, subst, List, [], ◌∷◌, ◌++◌, Option, Some, None, Result, Ok, Err, Contains}
 use Rattle.std.proofs.lemmas.List.Concat.{flat_map-cons}
 use Rattle.std.proofs.lemmas.List.Elements.{All-append, All-cons, All-contains_itself, All-head, All-nil, All-tail, All-weaker}
 use Rattle.std.specs.List.{All, flat_map}
 use Rattle.std.specs.Prelude.{IfOk}
-use Rattle.wp_desk.proofs.GoingOn.{refills_from_opening, released_from_opening}
-use Rattle.wp_desk.specs.GoingOn.{new_entries, refills_after, released_after}
+use Rattle.wp_desk.proofs.GoingOn.{told_apart}
+use Rattle.wp_desk.specs.GoingOn.{GoesOnFrom, new_entries, told_after}
 use Rattle.wp_desk.specs.declared.day_run.DayRun.{DayRun}
 use Rattle.wp_floor.proofs.Floors.{is_opening}
 use Rattle.wp_machine.specs.Outcome.{released_in}
@@ -51,14 +51,23 @@ each_filled opening (told ∷ more) all =
     (All-append (IsReleased opening) (released_in told) (flat_map released_in more) (All-head P told more all)
     (each_filled opening more (All-tail P told more all)))
 
--- each wave that goes out in a history goes out filled
-pub released_each : (history : History) → IsReadOpening history.opening → All (IsReleased history.opening) (waves_out history)
-released_each history read =
-    let outcomes = told_of history in
-    each_filled history.opening outcomes
-    (All-weaker (Contains outcomes) (λ told. All (IsReleased history.opening) (released_in told)) (λ told among.
+-- what holds of each of a list holds of each of its end
+each_later : {A : Type 0} (P : A → Type 0) (xs ys : List A) → All P (xs ++ ys) → All P ys
+each_later P [] ys all = all
+each_later P (x ∷ xs) ys all = each_later P xs ys (All-tail P x (xs ++ ys) all)
+
+-- each wave that a new entry sends out goes out filled, where a history goes on from another
+pub released_each : (start history : History) → IsReadOpening history.opening → GoesOnFrom start history
+    → All (IsReleased history.opening) (waves_out start history)
+released_each start history read goes_on =
+    let P : Outcome → Type 0 = λ told. All (IsReleased history.opening) (released_in told) in
+    let outcomes = told_after (opened history.opening) history.entries in
+    let new = new_entries start history in
+    let all : All P outcomes = All-weaker (Contains outcomes) P (λ told among.
     sent_filled history.opening told (λ out is. (each_wave_out_is_filled history out read (subst (Contains outcomes) is among)).released))
-    outcomes (All-contains_itself outcomes))
+    outcomes (All-contains_itself outcomes) in
+    let apart = subst (All P) (told_apart start new) (subst (λ (h : History). All P (told_after (opened h.opening) h.entries)) goes_on all) in
+    each_filled history.opening (told_of start history) (each_later P (told_after (opened start.opening) start.entries) (told_of start history) apart)
 
 -- a wave that went out filled has a plan
 one_planned : (layout : Layout) (opening : Opening) (terms : Terms) (sent : Sent) (plan : Option WavePlan) → sent.plan ≡ plan
@@ -78,62 +87,37 @@ each_planned layout opening terms (one ∷ sent) plans released =
     (each_planned layout opening terms sent (All-tail P one sent plans) (All-tail R one.wave (waves_of sent) released))
 
 -- what the desks of an opening that was read answer is its day's history
-pub history_of : (opening : Opening) (scripts : List Script) (result : Result (DayRun (Option WavePlan)) Memory)
-    → IfOk result (λ day. day.machine.opening ≡ opening) → IfOk result (λ day. IsLegal day.machine)
-    → IfOk result (λ day. (desk : ℕ) → part_of desk day.machine.entries ≡ script_of scripts desk) → IfOk result (λ day. EachStateIsSound day.machine)
-    → IsReadOpening opening → IfOk result (λ day. IsHistoryOf opening scripts day.machine)
-history_of opening scripts (Err lack) starts legal parts sound read = tt
-history_of opening scripts (Ok day) starts legal parts sound read = record {
+pub history_of : (opening : Opening) (scripts : List Script) (start : History) (result : Result (DayRun (Option WavePlan)) Memory)
+    → IfOk result (λ day. day.machine.opening ≡ opening) → IfOk result (λ day. GoesOnFrom start day.machine) → IfOk result (λ day. IsLegal day.machine)
+    → IfOk result (λ day. (desk : ℕ) → part_of desk (new_entries start day.machine) ≡ script_of scripts desk)
+    → IfOk result (λ day. EachStateIsSound day.machine) → IsReadOpening opening → IfOk result (λ day. IsHistoryOf opening scripts start day.machine)
+history_of opening scripts start (Err lack) starts goes_on legal parts sound read = tt
+history_of opening scripts start (Ok day) starts goes_on legal parts sound read = record {
   starts = starts;
   legal = legal;
+  goes_on = goes_on;
   parts = parts;
   sound = sound;
   stock = stock_goes_where_it_covers day.machine (is_opening day.machine.opening (subst IsReadOpening (sym starts) read));
 }
 
--- where a day begins with a machine that has answered nothing, the parts of desks in what is new are those in the whole history,
-pub parts_from_start : (opening : Opening) (scripts : List Script) (machine : History) (result : Result (DayRun (Option WavePlan)) Memory)
-    → machine ≡ opened opening → IfOk result (λ day. (desk : ℕ) → part_of desk (new_entries machine day.machine) ≡ script_of scripts desk)
-    → IfOk result (λ day. (desk : ℕ) → part_of desk day.machine.entries ≡ script_of scripts desk)
-parts_from_start opening scripts machine result nothing parts =
-    subst (λ (begun : History). IfOk result (λ day. (desk : ℕ) → part_of desk (new_entries begun day.machine) ≡ script_of scripts desk)) nothing parts
-
--- the waves that new entries send out are all that go out,
-pub waves_from_start : (opening : Opening) (machine : History) (result : Result (DayRun (Option WavePlan)) Memory) → machine ≡ opened opening
-    → IfOk result (λ day. day.machine.opening ≡ opening)
-    → IfOk result (λ day. waves_of day.plans.items ≡ released_after machine (new_entries machine day.machine))
-    → IfOk result (λ day. waves_of day.plans.items ≡ waves_out day.machine)
-waves_from_start opening machine (Err lack) nothing starts waves = tt
-waves_from_start opening machine (Ok day) nothing starts waves =
-    subst (λ (begun : History). waves_of day.plans.items ≡ released_after begun (new_entries begun day.machine)) nothing waves
-    ∙ released_from_opening opening day.machine starts
-
--- and their refills are all refills
-pub refills_from_start : (opening : Opening) (machine : History) (result : Result (DayRun (Option WavePlan)) Memory) → machine ≡ opened opening
-    → IfOk result (λ day. day.machine.opening ≡ opening)
-    → IfOk result (λ day. day.refills.items ≡ refills_after machine (new_entries machine day.machine))
-    → IfOk result (λ day. day.refills.items ≡ refills_told day.machine)
-refills_from_start opening machine (Err lack) nothing starts refills = tt
-refills_from_start opening machine (Ok day) nothing starts refills =
-    subst (λ (begun : History). day.refills.items ≡ refills_after begun (new_entries begun day.machine)) nothing refills
-    ∙ refills_from_opening opening day.machine starts
-
 -- a day of an opening that was read tells what the steps of its history tell, where whatever may be made of a wave is a plan for it
-pub told_as : (layout : Layout) (terms : Terms) (opening : Opening) (scripts : List Script) (makes : WaveHolds → Option WavePlan → Type 0)
-    (result : Result (DayRun (Option WavePlan)) Memory) → IsReadOpening opening → IfOk result (λ day. IsHistoryOf opening scripts day.machine)
-    → IfOk result (λ day. waves_of day.plans.items ≡ waves_out day.machine) → IfOk result (λ day. day.refills.items ≡ refills_told day.machine)
+pub told_as : (layout : Layout) (terms : Terms) (opening : Opening) (scripts : List Script) (start : History) (makes : WaveHolds → Option WavePlan → Type 0)
+    (result : Result (DayRun (Option WavePlan)) Memory) → IsReadOpening opening → IfOk result (λ day. IsHistoryOf opening scripts start day.machine)
+    → IfOk result (λ day. waves_of day.plans.items ≡ waves_out start day.machine) → IfOk result (λ day. day.refills.items ≡ refills_told start day.machine)
     → IfOk result (λ day. AreMadeBy makes day.plans.items)
     → ((wave : WaveHolds) (plan : Option WavePlan) → makes wave plan → IsPlanFor layout opening terms wave plan)
-    → IfOk result (IsToldOf layout terms)
-told_as layout terms opening scripts makes (Err lack) read history waves refills plans good = tt
-told_as layout terms opening scripts makes (Ok day) read history waves refills plans good =
+    → IfOk result (IsToldOf layout terms start)
+told_as layout terms opening scripts start makes (Err lack) read history waves refills plans good = tt
+told_as layout terms opening scripts start makes (Ok day) read history waves refills plans good =
     let begun = day.machine.opening in
     let P : Opening → Sent → Type 0 = λ o sent. IsPlanFor layout o terms sent.wave sent.plan in
     let plans_for : All (P opening) day.plans.items
     = All-weaker (λ sent. makes sent.wave sent.plan) (P opening) (λ sent. good sent.wave sent.plan) day.plans.items plans.each in
     record {
+      goes_on = history.goes_on;
       waves = waves;
       planned = each_planned layout begun terms day.plans.items (subst (λ (o : Opening). All (P o) day.plans.items) (sym history.starts) plans_for)
-          (subst (All (IsReleased begun)) (sym waves) (released_each day.machine (subst IsReadOpening (sym history.starts) read)));
+          (subst (All (IsReleased begun)) (sym waves) (released_each start day.machine (subst IsReadOpening (sym history.starts) read) history.goes_on));
       refills = refills;
     }

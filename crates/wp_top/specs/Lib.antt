@@ -5,5 +5,6 @@ pub mod Sections
 pub mod Sheets
 pub mod Planned
 pub mod Stops
+pub mod Stores
 pub mod Summaries
 pub mod Texts

@@ -1,11 +1,16 @@
 -- What a day tells, the plans of its waves, and its crew.
 use Rattle.std.specs.Prelude.{◌≡◌, ℕ, List, Option, Some, slice_get}
 use Rattle.std.specs.List.{All}
+use Rattle.wp_desk.specs.GoingOn.{GoesOnFrom}
 use Rattle.wp_desk.specs.declared.day_run.DayRun.{DayRun}
+use Rattle.wp_top.specs.Runs.{IsHistoryOf, command_count}
 use Rattle.wp_top.specs.Sections.{refills_told, waves_out}
+use Rattle.wp_top.specs.Stores.{AreAllKept, DiskCourse, IsBegun}
+use Rattle.wp_top.specs.declared.day.DayPlans.{DayPlans}
 use Rattle.wp_top.specs.Sheets.{IsSheetOf}
 use Rattle.wp_machine.specs.declared.outcome.WaveHolds.{WaveHolds}
-use Rattle.wp_model.specs.History.{History}
+use Rattle.wp_model.specs.History.{History, Script}
+use Rattle.wp_model.specs.Opening.{Opening}
 use Rattle.wp_model.specs.Warehouse.{Layout}
 use Rattle.wp_planner.specs.Crews.{IsCrewFor, day_batches}
 use Rattle.wp_planner.specs.Sent.{ArePlanned, Sent, plans_of, waves_of}
@@ -25,12 +30,23 @@ IsSheetAt history terms sent number sheet = (one : Sent) × (slice_get sent numb
 pub record AreMadeBy (makes : WaveHolds → Option WavePlan → Type 0) (sent : List Sent) : Type 0 where
   pub each : All (λ s. makes s.wave s.plan) sent
 
--- what a day tells is what the steps of its history tell, and each wave that went out has a good plan
-pub record IsToldOf (layout : Layout) (terms : Terms) (day : DayRun (Option WavePlan)) : Type 0 where
-  pub waves : waves_of day.plans.items ≡ waves_out day.machine
+-- what a day tells is what the steps of its new entries tell, after the history with which it began, and each wave that went out has a good plan
+pub record IsToldOf (layout : Layout) (terms : Terms) (start : History) (day : DayRun (Option WavePlan)) : Type 0 where
+  pub goes_on : GoesOnFrom start day.machine
+  pub waves : waves_of day.plans.items ≡ waves_out start day.machine
   pub planned : ArePlanned layout day.machine.opening terms day.plans.items
-  pub refills : day.refills.items ≡ refills_told day.machine
+  pub refills : day.refills.items ≡ refills_told start day.machine
 
 -- and where the terms have pickers, all batches of a day are dealt to them
 abbrev pub HasCrew : Terms → DayRun (Option WavePlan) → Option DayCrew → Type 0
 HasCrew terms day crew = IsCrewFor terms.pickers (day_batches (waves_of day.plans.items) (plans_of day.plans.items)) crew
+
+-- a day that is planned and was run over a disk: it began as the words say, answers the scripts, tells what its new entries tell, its batches are dealt,
+-- and where the words have a store all its new entries are there
+pub record IsDayOver (disk : DiskCourse) (store : ℕ) (layout : Layout) (opening : Opening) (terms : Terms) (scripts : List Script) (day : DayPlans) : Type 0 where
+  pub start : History
+  pub begun : IsBegun disk store opening (command_count scripts) start
+  pub answers : IsHistoryOf opening scripts start day.run.machine
+  pub told : IsToldOf layout terms start day.run
+  pub dealt : HasCrew terms day.run day.crew
+  pub kept : store ≡ 1 → AreAllKept disk start day.run.machine

@@ -16,18 +16,24 @@ use Rattle.wp_outside.specs.Outside.{FilesTold, Grows, SinkTold, TookPart, TookP
 use Rattle.wp_outside.specs.declared.sink.SinkFault.{SinkFault}
 use Rattle.wp_outside.specs.declared.sink.SinkFault.TheVariants as sink_fault
 use Rattle.wp_top.specs.Ends.{Asked, Causes, HasCause, IsOutput, complaint_line, no_cause, of_run}
-use Rattle.wp_top.specs.Runs.{IsHistoryOf, IsRefusedCertificate}
+use Rattle.wp_store.specs.declared.faults.OpenFault.{OpenFault}
+use Rattle.wp_store.specs.declared.faults.OpenFault.TheVariants as open_fault
+use Rattle.wp_top.specs.Runs.{IsRefusedCertificate}
 use Rattle.wp_planner.specs.Crews.{IsCrewFor, crew_text, day_batches}
 use Rattle.wp_planner.specs.Terms.{Terms}
 use Rattle.wp_planner.specs.declared.crew.DayCrew.{DayCrew}
 use Rattle.wp_planner.specs.declared.planner.WavePlan.{WavePlan}
-use Rattle.wp_top.specs.Sections.{output_of, waves_out}
+use Rattle.wp_top.specs.Sections.{output_of, refills_told, waves_out}
 use Rattle.wp_top.specs.Sheets.{AreSheets}
+use Rattle.wp_store.specs.Disk.{Rose}
+use Rattle.wp_top.specs.Stores.{AreRefused, DiskCourse, HasFailed, IsRefusedStore}
 use Rattle.wp_top.specs.Summaries.{AreGoodPlans, made_files, size_of}
-use Rattle.wp_top.specs.Texts.{File, HaveSaid, IsHeld, IsTold, ReadFile, Said, Say, file_of, nothing_said, opening_with, text_in}
+use Rattle.wp_top.specs.Texts.{File, HaveSaid, IsHeld, IsTold, ReadFile, Said, Say, file_of, files_of, nothing_said, opening_with, text_in}
 use Rattle.wp_top.specs.declared.complaint.Complaint.{Complaint}
 use Rattle.wp_top.specs.declared.complaint.Complaint.TheVariants as complaint
 use Rattle.wp_top.specs.declared.complaint.Finding.TheVariants as finding
+use Rattle.wp_top.specs.declared.complaint.StoreFinding.{StoreFinding}
+use Rattle.wp_top.specs.declared.complaint.StoreFinding.TheVariants as store_finding
 use Rattle.wp_top.specs.declared.complaint.Stop.{Stop}
 use Rattle.wp_top.specs.declared.complaint.Stop.TheVariants as stop
 use Rattle.wp_top.specs.declared.ending.Ending.{Ending}
@@ -38,7 +44,7 @@ use Rattle.wp_top.specs.declared.input.Refusal.{Refusal}
 use Rattle.wp_top.specs.declared.status.Status.{Status}
 use Rattle.wp_top.specs.declared.status.Status.TheVariants as status
 use Rattle.wp_words.specs.Reading.{wants_memory}
-use Rattle.wp_words.specs.Words.{MakeNumbers}
+use Rattle.wp_words.specs.Words.{MakeNumbers, PlanNames, plan}
 use Rattle.wp_words.specs.declared.fault.WordsFault.{WordsFault}
 
 -- the text of a file that isn't too long
@@ -65,6 +71,29 @@ of_file says old new name file = record no_cause {
 -- why a journal stops a run: it isn't right
 abbrev pub of_journal : Opening → List ℕ → Causes
 of_journal opening text = record no_cause { wrong = λ found. (fault : AuditFault) × (found ≡ finding.Journal fault) × Shows opening text (Err fault) }
+
+-- why a store does, before desks that have so many commands: the disk failed, or what the store has is refused
+abbrev pub of_store : DiskCourse → Opening → ℕ → Causes
+of_store disk opening commands = record no_cause {
+  wrong = λ found. (refused : StoreFinding) × (found ≡ finding.Store refused) × IsRefusedStore disk opening commands refused;
+  store = HasFailed disk;
+}
+
+-- why its records do
+abbrev pub of_records : Opening → List (List ℕ) → ℕ → Causes
+of_records opening bodies commands = record no_cause {
+  wrong = λ found. (refused : StoreFinding) × (found ≡ finding.Store refused) × AreRefused opening bodies commands refused;
+}
+
+-- why adding entries to a store does, by the disk's counts of faults before and after it
+abbrev pub of_appends : ℕ → ℕ → Causes
+of_appends before after = record no_cause { store = Rose before after }
+
+-- what opening a store stops a run with
+abbrev pub stop_at_open : OpenFault → Stop
+stop_at_open open_fault.Disk = stop.Complaint complaint.Store
+stop_at_open open_fault.TooLong = stop.Complaint (complaint.Wrong (finding.Store store_finding.TooLong))
+stop_at_open open_fault.Memory = stop.Memory
 
 -- why a certificate does
 abbrev pub of_certificate : Layout → List ℕ → Causes
@@ -126,21 +155,21 @@ pub record HoldMadeDay (holds : List ℕ → Option (List ℕ)) (numbers : MakeN
   pub made : IsMadeDay numbers day
   pub told : HaveSaid (IsTold holds) day_files day
 
--- the output of a history, of good plans of the waves that went out in it, of their sheets, and of the crew of their batches
-pub record IsTextOf (layout : Layout) (terms : Terms) (history : History) (output : List ℕ) : Type 0 where
+-- the output of a history that goes on from one, of good plans of the waves that its new entries sent out, of their sheets, and of the crew of their batches
+pub record IsTextOf (layout : Layout) (terms : Terms) (start history : History) (output : List ℕ) : Type 0 where
   pub plans : List WavePlan
-  pub planned : AreGoodPlans layout history.opening terms (waves_out history) plans
+  pub planned : AreGoodPlans layout history.opening terms (waves_out start history) plans
   pub sheets : List ℕ
-  pub printed : AreSheets history terms (waves_out history) plans sheets
+  pub printed : AreSheets history terms (waves_out start history) plans sheets
   pub crew : Option DayCrew
-  pub dealt : IsCrewFor terms.pickers (day_batches (waves_out history) plans) crew
-  pub is : output ≡ output_of history sheets (crew_text crew)
+  pub dealt : IsCrewFor terms.pickers (day_batches (waves_out start history) plans) crew
+  pub is : output ≡ output_of history sheets (refills_told start history) (crew_text crew)
 
--- the output of a layout, of an opening and of scripts: that of one such history, whatever order the desks came in
-pub record IsDayOf (layout : Layout) (opening : Opening) (terms : Terms) (scripts : List Script) (output : List ℕ) : Type 0 where
-  pub history : History
-  pub answers : IsHistoryOf opening scripts history
-  pub text : IsTextOf layout terms history output
+-- the four files of a plan were read once each, between these two states of files, none is refused, and together they say this
+pub record IsReadDay (names : PlanNames) (layout : Layout) (opening : Opening) (scripts : List Script) (old new : FilesTold) : Type 0 where
+  pub said : HaveSaid (IsHeld old.holds) (files_of (plan names)) (day_said layout (opening_with opening None) scripts)
+  pub units : opening.units ≡ names.units
+  pub all : new.reads ≡ old.reads + 4
 
 -- there was no memory for the check of a certificate
 abbrev pub is_memory : CertWhy → Bool
@@ -179,6 +208,7 @@ status_of (complains (complaint.Words why)) = status.BadWords
 status_of (complains (complaint.Refused file why)) = status.Refused
 status_of (complains (complaint.Fault file)) = status.ReadFault
 status_of (complains (complaint.Wrong found)) = status.Wrong
+status_of (complains complaint.Store) = status.StoreFault
 
 -- the number of a status
 abbrev pub number_of : Status → ℕ
@@ -189,6 +219,7 @@ number_of status.ReadFault = 3
 number_of status.WriteFault = 4
 number_of status.OutOfMemory = 5
 number_of status.Wrong = 6
+number_of status.StoreFault = 7
 
 -- the status of a run whose output was written with this result
 abbrev pub status_when : Result Unit SinkFault → Status
@@ -197,9 +228,9 @@ status_when (Err sink_fault.Failed) = status.WriteFault
 status_when (Err sink_fault.Memory) = status.OutOfMemory
 
 -- an end has its cause
-abbrev pub IsEnding : Asked → FilesTold → FilesTold → End → Type 0
-IsEnding asked old new (gives text) = IsOutput asked old new text
-IsEnding asked old new (complains why) = HasCause (of_run asked old new) why
+abbrev pub IsEnding : Asked → DiskCourse → FilesTold → FilesTold → End → Type 0
+IsEnding asked disk old new (gives text) = IsOutput asked disk old new text
+IsEnding asked disk old new (complains why) = HasCause (of_run asked disk old new) why
 
 -- the text of an end was taken, or the sink failed, once, after a part of it, or memory ran out
 abbrev pub Finishes : End → SinkTold → SinkTold → Status → Type 0
@@ -208,7 +239,12 @@ Finishes end old new ended =
     ⊎ ((ended ≡ status.WriteFault) × (new.faults ≡ old.faults + 1) × TookPart old.taken new.taken (text_of end))
     ⊎ ((ended ≡ status.OutOfMemory) × (new.faults ≡ old.faults) × TookPrefix old.taken new.taken (text_of end))
 
+-- a job that gave this output, or stopped, has ended so: its ending finished, or memory ran out before there was one
+abbrev pub FinishesJob : Result (Vec ℕ Global) Stop → SinkTold → SinkTold → Status → Type 0
+FinishesJob output sink sink' ended =
+    ((end : Ending) × IsEndOf output end × Finishes (end_of end) sink sink' ended) ⊎ ((ended ≡ status.OutOfMemory) × (sink' ≡ sink))
+
 -- a run that was asked for this has ended so: some end of it has its cause and finished, or memory ran out before there was one
-abbrev pub HasEnded : Asked → FilesTold → FilesTold → SinkTold → SinkTold → Status → Type 0
-HasEnded asked old new sink sink' ended =
-    ((end : End) × IsEnding asked old new end × Finishes end sink sink' ended) ⊎ ((ended ≡ status.OutOfMemory) × (sink' ≡ sink))
+abbrev pub HasEnded : Asked → DiskCourse → FilesTold → FilesTold → SinkTold → SinkTold → Status → Type 0
+HasEnded asked disk old new sink sink' ended =
+    ((end : End) × IsEnding asked disk old new end × Finishes end sink sink' ended) ⊎ ((ended ≡ status.OutOfMemory) × (sink' ≡ sink))

@@ -5,6 +5,7 @@ ghost use Rattle.wp_outside.specs.Outside.{NoneFalls, SameBytes};
 ghost use Rattle.wp_top.specs.Ends.{IsOutput, ReadsWithin, audit_job, of_run};
 ghost use Rattle.wp_top.specs.Stops.{HasRightText, StopsAt, StopsFor, of_journal};
 ghost use Rattle.wp_top.specs.Runs.{audit_line};
+ghost use Rattle.wp_top.specs.Stores.{no_disk};
 
 use crate::complaint::{Complaint, Finding, Stop};
 use crate::input::Input;
@@ -61,8 +62,8 @@ pub fn audit_output<F: Files>(
     files: &mut F,
     words: &AuditWords,
 ) -> Result<Vec<u8>, Stop>
-    ensures output { IfOk result (λ text. IsOutput (Ok (audit_job words.now)) (F.told files.old) (F.told files.new) text.items) }
-    ensures stops { IfErr result (StopsFor (of_run (Ok (audit_job words.now)) (F.told files.old) (F.told files.new))) }
+    ensures output { IfOk result (λ text. IsOutput (Ok (audit_job words.now)) no_disk (F.told files.old) (F.told files.new) text.items) }
+    ensures stops { IfErr result (StopsFor (of_run (Ok (audit_job words.now)) no_disk (F.told files.old) (F.told files.new))) }
     ensures same { SameBytes (F.told files.old).holds (F.told files.new).holds }
     ensures counts { NoneFalls (F.told files.old).faults (F.told files.new).faults }
     ensures reads { ReadsWithin (F.told files.old) (F.told files.new) 4 }

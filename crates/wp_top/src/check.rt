@@ -5,6 +5,7 @@ ghost use Rattle.wp_outside.specs.Outside.{NoneFalls, SameBytes};
 ghost use Rattle.wp_top.specs.Ends.{IsOutput, ReadsWithin, check_job, of_run};
 ghost use Rattle.wp_top.specs.Runs.{IsRefusedCertificate, ShowsBound, bound_line};
 ghost use Rattle.wp_top.specs.Stops.{HasRightText, StopsAt, StopsFor, of_certificate, stop_at_certificate};
+ghost use Rattle.wp_top.specs.Stores.{no_disk};
 
 use crate::complaint::{Complaint, Finding, Stop};
 use crate::input::Input;
@@ -78,8 +79,8 @@ pub fn check_output<F: Files>(
     files: &mut F,
     words: &CheckWords,
 ) -> Result<Vec<u8>, Stop>
-    ensures output { IfOk result (λ text. IsOutput (Ok (check_job words.now)) (F.told files.old) (F.told files.new) text.items) }
-    ensures stops { IfErr result (StopsFor (of_run (Ok (check_job words.now)) (F.told files.old) (F.told files.new))) }
+    ensures output { IfOk result (λ text. IsOutput (Ok (check_job words.now)) no_disk (F.told files.old) (F.told files.new) text.items) }
+    ensures stops { IfErr result (StopsFor (of_run (Ok (check_job words.now)) no_disk (F.told files.old) (F.told files.new))) }
     ensures same { SameBytes (F.told files.old).holds (F.told files.new).holds }
     ensures counts { NoneFalls (F.told files.old).faults (F.told files.new).faults }
     ensures reads { ReadsWithin (F.told files.old) (F.told files.new) 2 }

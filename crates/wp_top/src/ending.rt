@@ -1,9 +1,9 @@
-ghost use Rattle.std.specs.Prelude.{◌≡◌, ◌+◌, false, IfOk, IfErr, OnOk, OnErr, IsErrOf, string_bytes};
-ghost use Rattle.wp_outside.specs.Outside.{FilesTold, Grows, TookPart, TookPrefix};
+ghost use Rattle.std.specs.Prelude.{◌≡◌, ◌+◌, false, Err, IfOk, OnOk, OnErr, IsErrOf, string_bytes};
+ghost use Rattle.wp_outside.specs.Outside.{Grows, TookPart, TookPrefix};
 ghost use Rattle.wp_outside.specs.declared.sink.SinkFault.TheVariants as sink_fault;
-ghost use Rattle.wp_top.specs.Ends.{Asked, IsOutput, complaint_line, of_run};
+ghost use Rattle.wp_top.specs.Ends.{complaint_line};
 ghost use Rattle.wp_top.specs.declared.status.Status.TheVariants as status;
-ghost use Rattle.wp_top.specs.Stops.{Finishes, HasEnded, IsEndOf, StopsFor, end_of, status_of, text_of};
+ghost use Rattle.wp_top.specs.Stops.{Finishes, FinishesJob, IsEndOf, end_of, status_of, text_of};
 
 use crate::complaint::{Complaint, Stop};
 use crate::status::Status;
@@ -31,6 +31,7 @@ impl Ending {
             Ending::Complaint(Complaint::Refused(..)) => Status::Refused,
             Ending::Complaint(Complaint::Fault(_)) => Status::ReadFault,
             Ending::Complaint(Complaint::Wrong(_)) => Status::Wrong,
+            Ending::Complaint(Complaint::Store) => Status::StoreFault,
         }
     }
 }
@@ -107,8 +108,7 @@ fn finish<K: Sink>(alloc: Global, ending: Result<Ending, Memory>, out: &mut K) -
 
 /// Writes the output of a job, or why it stopped, and gives the status.
 pub fn end_job<K: Sink>(alloc: Global, output: Result<Vec<u8>, Stop>, out: &mut K) -> Status
-    ensures ended { (asked : Asked) (old new : FilesTold) → IfOk output (λ text. IsOutput asked old new text.items)
-        → IfErr output (StopsFor (of_run asked old new)) → HasEnded asked old new (K.told out.old) (K.told out.new) result }
+    ensures ended { FinishesJob output (K.told out.old) (K.told out.new) result }
     ensures early { (K.told out.old).stopped ≡ false → (K.told out.new).late ≡ (K.told out.old).late }
 {
     finish(alloc, ending_with(output), out)
@@ -116,8 +116,7 @@ pub fn end_job<K: Sink>(alloc: Global, output: Result<Vec<u8>, Stop>, out: &mut 
 
 /// Writes why a job stopped, and gives the status.
 pub fn end_stopped<K: Sink>(alloc: Global, why: Stop, out: &mut K) -> Status
-    ensures ended { (asked : Asked) (old new : FilesTold) → StopsFor (of_run asked old new) why
-        → HasEnded asked old new (K.told out.old) (K.told out.new) result }
+    ensures ended { FinishesJob (Err why) (K.told out.old) (K.told out.new) result }
     ensures early { (K.told out.old).stopped ≡ false → (K.told out.new).late ≡ (K.told out.old).late }
 {
     end_job(alloc, Err(why), out)

@@ -17,6 +17,7 @@ use crate::summary::summary_text;
 use std::alloc::Global;
 use std::sync::Wait;
 use std::thread::Threads;
+use wp_machine::Machine;
 use wp_make::{Input, Size, make};
 use wp_model::Memory;
 use wp_outside::{Files, Gate, NeverFails};
@@ -108,7 +109,8 @@ fn summary_of_day<R: Threads + Wait + Sync, G: Gate>(
     requires made { IsMadeDay (make_numbers words.now) (day_said warehouse.now.layout warehouse.now.opening scripts.now) }
     ensures { IfOk result (λ text. IsSummary (make_numbers words.now) text.items) }
 {
-    let day = run_day(resources, warehouse, &terms_of(words), scripts)?;
+    let machine = Machine::open(resources.alloc, &warehouse.opening)?;
+    let day = run_day(resources, warehouse, machine, &terms_of(words), scripts)?;
     summary_text(resources.alloc, words, &day)
 }
 

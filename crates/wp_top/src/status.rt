@@ -13,6 +13,7 @@ pub enum Status {
     WriteFault = 4,
     OutOfMemory = 5,
     Wrong = 6,
+    StoreFault = 7,
 }
 
 impl Status {

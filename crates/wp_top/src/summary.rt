@@ -1,8 +1,8 @@
 //! The summary of a made day.
 ghost use Rattle.std.specs.Prelude.{◌≡◌, ◌<◌, ◌≤◌, ◌+◌, ◌-◌, ◌^◌, ◌∷◌, ◌++◌, [], IfOk, string_bytes};
+ghost use Rattle.wp_machine.specs.Outcome.{released_of};
 ghost use Rattle.wp_model.specs.History.{IsLegal, state_after};
 ghost use Rattle.wp_planner.specs.Sent.{plans_of, waves_of};
-ghost use Rattle.wp_top.specs.Sections.{waves_out};
 ghost use Rattle.wp_top.specs.Summaries.{commands_line, held_units, is_proven, made_line, plans_line, proven_plans, releases, size_words, summary_of, total_bound, total_cost};
 ghost use Rattle.wp_words.specs.Reading.{make_numbers};
 
@@ -147,7 +147,7 @@ pub fn summary_text(
     day: &DayRun<'_, Option<WavePlan>>,
 ) -> Result<Vec<u8>, Memory>
     requires legal { IsLegal day.now.machine }
-    requires waves { waves_of day.now.plans.items ≡ waves_out day.now.machine }
+    requires waves { waves_of day.now.plans.items ≡ released_of day.now.machine }
     ensures { IfOk result (λ text. text.items ≡ summary_of (make_numbers words.now) day.now.machine (plans_of day.now.plans.items)) }
 {
     let planned = day.plans.as_slice();

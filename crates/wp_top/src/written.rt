@@ -1,5 +1,6 @@
 //! The output of a day, written section by section.
 ghost use Rattle.std.specs.Prelude.{◌≡◌, ◌++◌, [], List, ℕ, IfErr, OnOk, map};
+ghost use Rattle.wp_model.specs.History.{History};
 ghost use Rattle.wp_model.specs.Journal.{journal};
 ghost use Rattle.wp_model.specs.Warehouse.{Layout as Block};
 ghost use Rattle.wp_parts.specs.Writing.{Fails, Writes};
@@ -83,12 +84,12 @@ fn write_refills<K: Sink>(
     waiting: &mut Vec<u8>,
     day: &PlannedDay<'_, '_>,
 ) -> Result<(), SinkFault>
-    requires told { (layout : Block) × IsToldOf layout day.now.terms.now day.now.run.now }
+    requires told { (layout : Block) × (start : History) × IsToldOf layout day.now.terms.now start day.now.run.now }
     requires dealt { HasCrew day.now.terms.now day.now.run.now day.now.crew.now }
     ensures writes { OnOk result (Writes (K.told out.old) (K.told out.new) waiting.old.items []
-        (refills_and_end day.now.run.now.machine (crew_text day.now.crew.now))) }
+        (refills_and_end day.now.run.now.machine day.now.run.now.refills.items (crew_text day.now.crew.now))) }
     ensures fails { IfErr result (λ fault. Fails fault (K.told out.old) (K.told out.new)
-        (waiting.old.items ++ refills_and_end day.now.run.now.machine (crew_text day.now.crew.now))) }
+        (waiting.old.items ++ refills_and_end day.now.run.now.machine day.now.run.now.refills.items (crew_text day.now.crew.now))) }
 {
     let lines = RefillLines {
         stock: day.opening.stock(),
@@ -110,16 +111,16 @@ fn write_sheets<K: Sink>(
     waiting: &mut Vec<u8>,
     day: &PlannedDay<'_, '_>,
 ) -> Result<(), SinkFault>
-    requires told { (layout : Block) × IsToldOf layout day.now.terms.now day.now.run.now }
+    requires told { (layout : Block) × (start : History) × IsToldOf layout day.now.terms.now start day.now.run.now }
     requires dealt { HasCrew day.now.terms.now day.now.run.now day.now.crew.now }
     ensures writes { OnOk result ((sheets : List ℕ) × AreSheets day.now.run.now.machine day.now.terms.now (waves_of day.now.run.now.plans.items)
         (plans_of day.now.run.now.plans.items) sheets
         × Writes (K.told out.old) (K.told out.new) waiting.old.items []
-        (sheets ++ refills_and_end day.now.run.now.machine (crew_text day.now.crew.now))) }
+        (sheets ++ refills_and_end day.now.run.now.machine day.now.run.now.refills.items (crew_text day.now.crew.now))) }
     ensures fails { IfErr result (λ fault. (sheets : List ℕ) × AreSheets day.now.run.now.machine day.now.terms.now
         (waves_of day.now.run.now.plans.items) (plans_of day.now.run.now.plans.items) sheets
         × Fails fault (K.told out.old) (K.told out.new)
-        (waiting.old.items ++ (sheets ++ refills_and_end day.now.run.now.machine (crew_text day.now.crew.now)))) }
+        (waiting.old.items ++ (sheets ++ refills_and_end day.now.run.now.machine day.now.run.now.refills.items (crew_text day.now.crew.now)))) }
 {
     let sheets = DaySheets {
         opening: day.opening,
@@ -145,13 +146,13 @@ fn write_entries<K: Sink>(
     entries: &[&Entry],
 ) -> Result<(), SinkFault>
     requires none { waiting.old.items ≡ [] }
-    requires told { (layout : Block) × IsToldOf layout day.now.terms.now day.now.run.now }
+    requires told { (layout : Block) × (start : History) × IsToldOf layout day.now.terms.now start day.now.run.now }
     requires all { map (λ entry. entry.now) entries.now ≡ day.now.run.now.machine.entries }
     requires dealt { HasCrew day.now.terms.now day.now.run.now day.now.crew.now }
-    ensures writes { (layout : Block) → IsToldOf layout day.now.terms.now day.now.run.now → OnOk result ((text : List ℕ)
-        × IsTextOf layout day.now.terms.now day.now.run.now.machine text × Writes (K.told out.old) (K.told out.new) [] [] text) }
-    ensures fails { (layout : Block) → IsToldOf layout day.now.terms.now day.now.run.now → IfErr result (λ fault. (text : List ℕ)
-        × IsTextOf layout day.now.terms.now day.now.run.now.machine text × Fails fault (K.told out.old) (K.told out.new) text) }
+    ensures writes { (layout : Block) (start : History) → IsToldOf layout day.now.terms.now start day.now.run.now → OnOk result ((text : List ℕ)
+        × IsTextOf layout day.now.terms.now start day.now.run.now.machine text × Writes (K.told out.old) (K.told out.new) [] [] text) }
+    ensures fails { (layout : Block) (start : History) → IsToldOf layout day.now.terms.now start day.now.run.now → IfErr result (λ fault. (text : List ℕ)
+        × IsTextOf layout day.now.terms.now start day.now.run.now.machine text × Fails fault (K.told out.old) (K.told out.new) text) }
 {
     let lines = JournalLines { entries };
     let section = Section {
@@ -163,20 +164,20 @@ fn write_entries<K: Sink>(
     write_sheets(alloc, out, waiting, day)
 }
 
-/// Writes the output of a day: the journal of all that the desks asked, in the order in which it was answered, a sheet for each wave that
-/// went out, the refills, the crew where there is one, and the stock as they leave it. The room in which parts wait is taken before the first is written. After
+/// Writes the output of a day: the journal of all that was ever asked, in the order in which it was answered, a sheet for each wave that
+/// went out on this day, its refills, the crew where there is one, and the stock as it stands at the end. The room in which parts wait is taken before the first is written. After
 /// an `Err` the sink took a beginning of such an output: `Failed` comes from the sink, and `Memory` from it or from a want of memory.
 pub fn write_day<K: Sink>(
     alloc: Global,
     out: &mut K,
     day: &PlannedDay<'_, '_>,
 ) -> Result<(), SinkFault>
-    requires told { (layout : Block) × IsToldOf layout day.now.terms.now day.now.run.now }
+    requires told { (layout : Block) × (start : History) × IsToldOf layout day.now.terms.now start day.now.run.now }
     requires dealt { HasCrew day.now.terms.now day.now.run.now day.now.crew.now }
-    ensures writes { (layout : Block) → IsToldOf layout day.now.terms.now day.now.run.now → OnOk result ((text : List ℕ)
-        × IsTextOf layout day.now.terms.now day.now.run.now.machine text × Writes (K.told out.old) (K.told out.new) [] [] text) }
-    ensures fails { (layout : Block) → IsToldOf layout day.now.terms.now day.now.run.now → IfErr result (λ fault. (text : List ℕ)
-        × IsTextOf layout day.now.terms.now day.now.run.now.machine text × Fails fault (K.told out.old) (K.told out.new) text) }
+    ensures writes { (layout : Block) (start : History) → IsToldOf layout day.now.terms.now start day.now.run.now → OnOk result ((text : List ℕ)
+        × IsTextOf layout day.now.terms.now start day.now.run.now.machine text × Writes (K.told out.old) (K.told out.new) [] [] text) }
+    ensures fails { (layout : Block) (start : History) → IsToldOf layout day.now.terms.now start day.now.run.now → IfErr result (λ fault. (text : List ℕ)
+        × IsTextOf layout day.now.terms.now start day.now.run.now.machine text × Fails fault (K.told out.old) (K.told out.new) text) }
 {
     let mut waiting = room(alloc)?;
     let entries = day.run.machine.journal(alloc)?;

@@ -15,7 +15,7 @@ use Rattle.clap.specs.Walk.{Text, rows_of}
 use Rattle.clap.specs.declared.builder.value_parser.ValueParser.TheVariants as vp
 use Rattle.clap.specs.declared.parser.matches.ArgMatches.{ArgMatches}
 use Rattle.wp_model.specs.Limits.{greatest_desk, most_aisles, most_cart_units, most_file_orders, most_wave_orders}
-use Rattle.wp_words.specs.Limits.{AreUnits, most_budget, most_capacity, most_pickers, most_root, most_rules, most_workers}
+use Rattle.wp_words.specs.Limits.{AreUnits, most_budget, most_capacity, most_pickers, most_root, most_rules, most_store, most_workers}
 use Rattle.wp_words.specs.Options.{IsMatchOf, audit_command, make_command, plan_command}
 use Rattle.wp_words.specs.Words.{AreMakeValues, ArePlanValues, HasMakeRanges, HasRanges, MakeNumbers, PlanNames, number_read, number_said}
 use Rattle.wp_words.proofs.Passing.{HasOption, passed}
@@ -110,6 +110,7 @@ in_ranges m names match values =
       rules = (number_within plan_command m (codes "rules") 0 most_rules names.rules match refl values.rules).1;
       pickers = (number_within plan_command m (codes "pickers") 0 most_pickers names.pickers match refl values.pickers).1;
       root = (number_within plan_command m (codes "root") 0 most_root names.root match refl values.root).1;
+      store = (number_within plan_command m (codes "store") 0 most_store names.store match refl values.store).1;
     }
 
 -- and the units that were matched for `audit`

@@ -9,7 +9,7 @@ use Rattle.clap.specs.declared.builder.value_parser.ValueParser.{ValueParser}
 use Rattle.clap.specs.declared.builder.value_parser.ValueParser.TheVariants as vp
 use Rattle.clap.specs.declared.parser.matches.ArgMatches.{ArgMatches}
 use Rattle.wp_model.specs.Limits.{greatest_desk, most_aisles, most_cart_units, most_file_orders, most_wave_orders}
-use Rattle.wp_words.specs.Limits.{most_budget, most_capacity, most_number, most_pickers, most_root, most_rules, most_workers, usual_budget, usual_switch, usual_workers}
+use Rattle.wp_words.specs.Limits.{most_budget, most_capacity, most_number, most_pickers, most_root, most_rules, most_store, most_workers, usual_budget, usual_switch, usual_workers}
 
 -- an option `--name VALUE` or `--name=VALUE` that may be given, and at most once
 abbrev pub named_rule : Text → Rule
@@ -56,13 +56,14 @@ number_rule = record (required_rule (codes "number")) { parser = Some (vp.Unsign
 abbrev pub count_rule : Text → ℕ → Rule
 count_rule name most = record (required_rule name) { parser = Some (count_up_to most) }
 
--- `plan` takes the names of a layout, a stock file, an order file and a desk file, and seven numbers
+-- `plan` takes the names of a layout, a stock file, an order file and a desk file, and eight numbers
 unfoldable pub plan_command : App
 plan_command =
     let files = map required_rule (codes "layout" ∷ codes "stock" ∷ codes "orders" ∷ codes "desks" ∷ []) in
     let switches = switch_rule (codes "rules") most_rules
     ∷ switch_rule (codes "pickers") most_pickers
     ∷ switch_rule (codes "root") most_root
+    ∷ switch_rule (codes "store") most_store
     ∷ [] in
     command_with (codes "plan") (files ++ capacity_rule ∷ units_rule ∷ budget_rule ∷ workers_rule ∷ switches)
 

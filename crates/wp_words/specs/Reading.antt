@@ -31,6 +31,7 @@ plan_names words = record {
   rules = words.rules;
   pickers = words.pickers;
   root = words.root;
+  store = words.store;
 }
 
 -- the names that the words of `check` hold

@@ -6,7 +6,7 @@ use Rattle.std.specs.Str.Parse.{digits_value, without_leading_plus}
 use Rattle.clap.specs.Words.{App, Kinds, Row, Text, fault_of, first_of, matches_of, one_of}
 use Rattle.wp_model.specs.Limits.{greatest_desk, most_aisles, most_file_orders, most_submissions, most_wave_orders}
 use Rattle.wp_model.specs.Outcomes.{and_then}
-use Rattle.wp_words.specs.Limits.{AreUnits, most_budget, most_capacity, most_pickers, most_root, most_rules, most_workers}
+use Rattle.wp_words.specs.Limits.{AreUnits, most_budget, most_capacity, most_pickers, most_root, most_rules, most_store, most_workers}
 use Rattle.wp_words.specs.Options.{audit_command, check_command, make_command, plan_command}
 use Rattle.wp_words.specs.declared.fault.WordsFault.{WordsFault}
 use Rattle.wp_words.specs.declared.fault.WordsFault.TheVariants as fault
@@ -26,6 +26,7 @@ pub record PlanNames : Type 0 where
   pub rules : ℕ
   pub pickers : ℕ
   pub root : ℕ
+  pub store : ℕ
 
 -- each number of `plan` lies in its range
 pub record HasRanges (names : PlanNames) : Type 0 where
@@ -38,6 +39,7 @@ pub record HasRanges (names : PlanNames) : Type 0 where
   pub rules : names.rules ≤ most_rules
   pub pickers : names.pickers ≤ most_pickers
   pub root : names.root ≤ most_root
+  pub store : names.store ≤ most_store
 
 -- the names that the options of `check` give
 pub record CheckNames : Type 0 where
@@ -146,6 +148,7 @@ plan_names_of rows = record {
   rules = number_of rows (codes "rules");
   pickers = number_of rows (codes "pickers");
   root = number_of rows (codes "root");
+  store = number_of rows (codes "store");
 }
 
 -- the names that were matched for `check`
@@ -227,6 +230,7 @@ pub record ArePlanValues (rows : List Row) (names : PlanNames) : Type 0 where
   pub rules : number_read (codes "rules") rows ≡ Some names.rules
   pub pickers : number_read (codes "pickers") rows ≡ Some names.pickers
   pub root : number_read (codes "root") rows ≡ Some names.root
+  pub store : number_read (codes "store") rows ≡ Some names.store
 
 -- clap states these values for the options of `check`
 pub record AreCheckValues (rows : List Row) (names : CheckNames) : Type 0 where

@@ -29,6 +29,9 @@ const MOST_RULES: u32 = 1;
 /// The greatest number for the root.
 const MOST_ROOT: u32 = 1;
 
+/// The greatest number for the store.
+const MOST_STORE: u32 = 1;
+
 /// The most pickers.
 const MOST_PICKERS: u32 = 100;
 
@@ -135,7 +138,8 @@ pub fn plan_command<'a>(alloc: Global) -> Result<Command<'a>, AllocError>
         .arg(workers_option(alloc))?
         .arg(switch_option(alloc, "rules", MOST_RULES))?
         .arg(switch_option(alloc, "pickers", MOST_PICKERS))?
-        .arg(switch_option(alloc, "root", MOST_ROOT))?;
+        .arg(switch_option(alloc, "root", MOST_ROOT))?
+        .arg(switch_option(alloc, "store", MOST_STORE))?;
     Ok(command)
 }
 

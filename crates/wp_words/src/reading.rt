@@ -25,6 +25,7 @@ fn plan_words(alloc: Global, matches: &ArgMatches<'_>) -> Result<PlanWords, Memo
     let rules = number_of::<u32>(matches, "rules")?;
     let pickers = number_of::<u32>(matches, "pickers")?;
     let root = number_of::<u32>(matches, "root")?;
+    let store = number_of::<u32>(matches, "store")?;
     let layout = value_of(alloc, matches, "layout")?;
     let stock = value_of(alloc, matches, "stock")?;
     let orders = value_of(alloc, matches, "orders")?;
@@ -41,6 +42,7 @@ fn plan_words(alloc: Global, matches: &ArgMatches<'_>) -> Result<PlanWords, Memo
         rules,
         pickers,
         root,
+        store,
     })
 }
 
@@ -160,7 +162,8 @@ fn read_make(alloc: Global, words: &[String]) -> Result<MakeWords, WordsFault>
 /// exactly where the words after it aren't accepted for the mode's command, and TooManyWaves exactly where they are a good
 /// `make` whose orders are cut into more than 500 waves, with their number. Of a plan and of a made day the capacity is 1
 /// to 8, the budget 0 to 1,000,000,000,000,000,000 and the workers 1 to 16. Of a plan and of an audit the units, where they are
-/// given, are 1 to 40,000,000. Of a plan the rules are 0 or 1, the pickers 0 to 100, and the root 0 or 1.
+/// given, are 1 to 40,000,000. Of a plan the rules are 0 or 1, the pickers 0 to 100, and the root and the
+/// store 0 or 1.
 #[tactic(auto, unfolding(crate::specs::Words::job_said))]
 pub fn read_words(alloc: Global, words: &Vec<String>) -> Result<Job, WordsFault>
     ensures job { IfOk result (λ job. job_said (texts_of words.now.items) ≡ Ok (job_names job)) }

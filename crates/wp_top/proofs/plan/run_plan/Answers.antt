@@ -1,20 +1,51 @@
-use Rattle.wp_top.proofs.Endings.{written_ended}
-use Rattle.wp_top.proofs.Jobs.{plan_is}
+use Rattle.std.proofs.Common.{[], Ok, inl, refl}
+use Rattle.wp_store.specs.Records.{records_of}
+use Rattle.wp_top.proofs.Endings.{stopped_ended}
+use Rattle.wp_top.proofs.Jobs.{new_in_plan, some_kept_as, stop_of}
+use Rattle.wp_top.proofs.Storing.{untouched_kept}
 use Rattle.wp_top.proofs.plan.run_plan.Goals as goal
-use Rattle.wp_top.specs.Stops.{IsDayOf}
+use Rattle.wp_top.specs.Ends.{AreNewIn}
+use Rattle.wp_top.specs.Runs.{AreNewOf}
+use Rattle.wp_top.specs.Stores.{disk_course}
 use Rattle.wp_words.specs.Reading.{plan_names}
+use Rattle.wp_words.specs.Words.{plan}
 
 pub returns-in-Ok-clause-ended : goal.returns-in-Ok-clause-ended
 returns-in-Ok-clause-ended g c =
-    let old = g.F.Files.told c.args.files.now in
-    let new = g.F.Files.told c.read_day.new.files in
-    let names = plan_names c.args.words.now in
-    let day = c.in-Ok.day in
-    written_ended _ old new _ _ c.write_planned.result c.status_of.result
-    (IsDayOf day.warehouse.layout day.warehouse.opening c.terms_of-terms.result day.scripts)
-    (λ text is. plan_is old new names day.warehouse.layout day.warehouse.opening day.scripts text c.in-Ok.ensures.units c.in-Ok.ensures.said
-    c.in-Ok.ensures.all (rw c.terms_of-terms.ensures at is))
-    c.status_of.ensures c.write_planned.ensures.writes c.write_planned.ensures.fails
+    let read = c.in-Ok.ensures in
+    c.end_day.ensures.ended _ _ (record { said = read.said; units = read.units; all = read.all })
 
 pub returns-in-Err-clause-ended : goal.returns-in-Err-clause-ended
-returns-in-Err-clause-ended g c = c.end_stopped.ensures.ended _ _ _ c.in-Err.ensures.stops
+returns-in-Err-clause-ended g c =
+    let D = g.D.Disk in
+    let disk = disk_course D.holds D.moment D.images_since D.synced D.faults c.args.disk.now c.args.disk.now in
+    let told = g.F.Files.told in
+    let names = plan_names c.args.words.now in
+    stopped_ended (Ok (plan names)) disk (told c.args.files.now) (told c.read_day.new.files) _ _ c.in-Err.why c.end_stopped.result c.end_stopped.ensures.ended
+    (stop_of disk (told c.args.files.now) (told c.read_day.new.files) (plan names) c.in-Err.why c.in-Err.ensures.stops)
+
+-- where a file isn't read the disk is as it was
+pub returns-in-Err-clause-kept : goal.returns-in-Err-clause-kept
+returns-in-Err-clause-kept g c = λ uses.
+    let D = g.D.Disk in record {
+      entries = [];
+      new = inl refl;
+      kept = λ bytes told. (
+        0,
+        untouched_kept D.holds D.moment D.images_since D.synced D.faults c.args.disk.now (records_of bytes) []
+            (λ t at. g.met.D.Disk.no_later_sync c.args.disk.now t at),
+      );
+    }
+
+pub returns-in-Ok-clause-kept : goal.returns-in-Ok-clause-kept
+returns-in-Ok-clause-kept g c = λ uses.
+    let D = g.D.Disk in
+    let disk = disk_course D.holds D.moment D.images_since D.synced D.faults c.args.disk.now c.end_day.new.disk in
+    let told = g.F.Files.told in
+    let names = plan_names c.args.words.now in
+    let day = c.in-Ok.day in
+    let read = c.in-Ok.ensures in
+    some_kept_as disk (AreNewOf disk day.warehouse.opening day.scripts) (AreNewIn (Ok (plan names)) disk (told c.args.files.now) (told c.read_day.new.files))
+    (λ entries are. new_in_plan disk (told c.args.files.now) (told c.read_day.new.files) names day.warehouse.layout day.warehouse.opening day.scripts entries
+    (record { said = read.said; units = read.units; all = read.all }) are)
+    (c.end_day.ensures.kept uses)

@@ -15,4 +15,5 @@ returns c =
     let eight = one_more _ _ _ _ _ c.in_ok-arg-8.ensures seven c.workers_option.ensures.rule c.workers_option.ensures.local in
     let nine = one_more _ _ _ _ _ c.in_ok-arg-9.ensures eight c.switch_option.ensures.rule c.switch_option.ensures.local in
     let ten = one_more _ _ _ _ _ c.in_ok-arg-10.ensures nine c.switch_option-2.ensures.rule c.switch_option-2.ensures.local in
-    one_more _ _ _ _ _ c.in_ok-command.ensures ten c.switch_option-3.ensures.rule c.switch_option-3.ensures.local
+    let eleven = one_more _ _ _ _ _ c.in_ok-arg-11.ensures ten c.switch_option-3.ensures.rule c.switch_option-3.ensures.local in
+    one_more _ _ _ _ _ c.in_ok-command.ensures eleven c.switch_option-4.ensures.rule c.switch_option-4.ensures.local

@@ -1,0 +1,52 @@
+use Rattle.std.proofs.Common.{inl, inr, subst, sym, Ok}
+use Rattle.std.proofs.lemmas.Bool.{cases_eq}
+use Rattle.std.proofs.lemmas.Result.{IfErr-weaker}
+use Rattle.wp_top.proofs.Endings.{stopped_ended, written_early, written_ended}
+use Rattle.wp_top.proofs.Jobs.{plan_is, stop_at_store}
+use Rattle.wp_top.proofs.plan.end_day.Goals as goal
+use Rattle.wp_top.specs.Ends.{of_run, plan_job}
+use Rattle.wp_top.specs.Stops.{IsTextOf, StopsFor}
+use Rattle.wp_top.specs.Stores.{disk_course}
+use Rattle.wp_words.specs.Reading.{plan_names}
+
+pub write_plans-requires-clause-own : goal.write_plans-requires-clause-own
+write_plans-requires-clause-own g c = c.in-Ok.ensures.day.answers.starts
+
+pub write_plans-requires-clause-told : goal.write_plans-requires-clause-told
+write_plans-requires-clause-told g c = (c.args.files.now.warehouse.layout, c.in-Ok.ensures.day.start, c.in-Ok.ensures.day.told)
+
+pub write_plans-requires-clause-dealt : goal.write_plans-requires-clause-dealt
+write_plans-requires-clause-dealt g c = c.in-Ok.ensures.day.dealt
+
+pub returns-in-Ok-clause-ended : goal.returns-in-Ok-clause-ended
+returns-in-Ok-clause-ended g c = λ old new read.
+    let D = g.D.Disk in
+    let disk = disk_course D.holds D.moment D.images_since D.synced D.faults c.args.disk.now c.day_of.new.disk in
+    let files = c.args.files.now in
+    let names = plan_names c.args.words.now in
+    let over = c.in-Ok.ensures.day in
+    let history = c.in-Ok.day.run.machine in
+    written_ended _ disk old new _ _ c.write_plans.result c.status_of.result
+    (IsTextOf files.warehouse.layout c.terms_of-terms.result over.start history)
+    (λ text is. plan_is disk old new names files.warehouse.layout files.warehouse.opening files.scripts over.start history text read over.begun over.answers
+    over.kept (rw c.terms_of-terms.ensures at is))
+    c.status_of.ensures (c.write_plans.ensures.writes files.warehouse.layout over.start over.told)
+    (IfErr-weaker c.write_plans.result _ _ (λ fault fails. inl fails) (c.write_plans.ensures.fails files.warehouse.layout over.start over.told))
+
+pub returns-in-Ok-clause-early : goal.returns-in-Ok-clause-early
+returns-in-Ok-clause-early g c =
+    let over = c.in-Ok.ensures.day in
+    let layout = c.args.files.now.warehouse.layout in
+    written_early _ _ c.write_plans.result _ (c.write_plans.ensures.writes layout over.start over.told) (c.write_plans.ensures.fails layout over.start over.told)
+
+pub returns-in-Err-clause-ended : goal.returns-in-Err-clause-ended
+returns-in-Err-clause-ended g c = λ old new read.
+    let D = g.D.Disk in
+    let disk = disk_course D.holds D.moment D.images_since D.synced D.faults c.args.disk.now c.day_of.new.disk in
+    let files = c.args.files.now in
+    let names = plan_names c.args.words.now in
+    let why = c.in-Err.ensures in
+    stopped_ended (Ok (plan_job c.args.words.now)) disk old new _ _ c.in-Err.why c.end_stopped.result c.end_stopped.ensures.ended (elim (cases_eq names.store 1) [
+      | inl uses ↦ stop_at_store disk old new names files.warehouse.layout files.warehouse.opening files.scripts c.in-Err.why uses read (why.stops uses)
+      | inr other ↦ subst (StopsFor (of_run (Ok (plan_job c.args.words.now)) disk old new)) (sym (why.memory other)) tt
+    ])
