@@ -33,7 +33,9 @@ LINES = {
     rb"|(stock|orders|desks) row \d+ (%s))\n" % (KEY, FILE, ROW_WHY),
     3: rb"read fault %s\n" % FILE,
     6: rb"refused (certificate (not-json|bad-shape|out-of-range|node \d+ (%s))"
-    rb"|journal (line \d+|entry \d+ printed [^\n]+ right [^\n]+))\n" % NODE_WHY,
+    rb"|journal (line \d+|entry \d+ printed [^\n]+ right [^\n]+)"
+    rb"|store (too-long|record \d+|entry \d+ printed [^\n]+ right [^\n]+|entries \d+))\n" % NODE_WHY,
+    7: rb"store fault\n",
 }
 
 # What the whole output of each mode is, where the status is 0.

@@ -1,4 +1,5 @@
-"""What a plan printed, part by part. Lines of kinds that aren't known here are passed over, so that later kinds break nothing."""
+"""What a plan printed, part by part. Lines of kinds that aren't known here are passed over, so that later kinds break nothing. Of a day that goes on from
+a store the journal and the stock are of the whole history, and sheets, refills and crew of the last run alone."""
 
 from collections import namedtuple
 
@@ -62,6 +63,16 @@ class Output:
     def refused(self):
         return [entry for entry in self.entries if entry.reply[0] == 'refused']
 
+    def earlier(self):
+        """The waves that went out in an earlier run over the same store, whose sheets that run has printed, and whether each was cancelled later."""
+        sheets, found = {wave.name for wave in self.waves}, {}
+        for entry in self.entries:
+            if entry.reply == ['released'] and entry.command[1] not in sheets:
+                found[entry.command[1]] = False
+            elif entry.reply == ['cancelled'] and entry.command[1] in found:
+                found[entry.command[1]] = True
+        return found
+
     def picker_of(self):
         """The number of the picker of each batch, by the names that the crew has for batches; none where there is no crew."""
         return {name: picker.number for picker in self.crew.pickers for name in picker.batches} if self.crew else {}
@@ -70,6 +81,8 @@ class Output:
         for wave in self.waves:
             if wave.name == name:
                 return wave
+        if name in self.earlier():
+            raise Trouble('wave %s went out in an earlier run, and its sheet stands in the output of that' % name)
         raise Trouble('no wave %s went out in this day; %s did' % (name, ', '.join(wave.name for wave in self.waves) or 'none'))
 
 
@@ -171,3 +184,16 @@ def read_output(path):
         except (ValueError, IndexError, KeyError, TypeError):
             raise Trouble('line %d of %s is not as a plan prints it: %s' % (number, path, line[:80])) from None
     return reader.day
+
+
+def with_earlier(day, paths):
+    """A day with the sheets and refills that earlier runs over the same store have printed."""
+    cancelled = day.earlier()
+    for path in paths:
+        other = read_output(path)
+        if other.entries != day.entries[:len(other.entries)]:
+            raise Trouble('%s is of no earlier run of this day: its journal is not the beginning of the later one' % path)
+        for wave in other.waves:
+            wave.cancelled = cancelled.get(wave.name, wave.cancelled)
+        day.waves, day.refills = other.waves + day.waves, other.refills + day.refills
+    return day

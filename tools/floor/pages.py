@@ -105,10 +105,16 @@ def of_short(day):
     return '<h2>Short articles</h2>' + table(('wave', 'article', '>wanted', '>free', '>lacking'), rows) if rows else ''
 
 
+def of_earlier(day):
+    """The waves that went out in earlier runs over the same store."""
+    names = ['%s%s' % (escape(name), ' (<b>cancelled later</b>)' if cancelled else '') for name, cancelled in day.earlier().items()]
+    return '<p class="facts">Went out in earlier runs, which have printed their sheets: %s.</p>' % ', '.join(names) if names else ''
+
+
 def of_planner(day):
     """The first page."""
-    waves = of_waves(day) if day.waves else '<p>No wave went out.</p>'
-    return '<section><h1>The day</h1>%s%s%s%s%s</section>' % (waves, of_roots(day), of_rules(day), of_refused(day), of_short(day))
+    waves = of_waves(day) if day.waves else '<p>No wave went out%s.</p>' % (' in this run' if day.earlier() else '')
+    return '<section><h1>The day</h1>%s%s%s%s%s%s</section>' % (waves, of_earlier(day), of_roots(day), of_rules(day), of_refused(day), of_short(day))
 
 
 def of_picks(walk, places):

@@ -2,7 +2,7 @@
 
 import re
 
-from . import certificates, days, journals, layouts, making, tables
+from . import certificates, days, journals, layouts, making, stores, tables
 from .refusals import Refusal, whole
 from .stock_book import Book
 from .words import SHOWN_NUMBERS, read_words
@@ -12,10 +12,11 @@ FULL = {'versions': (1, 2), 'over_cart': True}
 
 
 class Files:
-    """The files of a run, by the names that the words give: `read` gives the bytes of a name, None where it can't be read."""
+    """The files of a run, by the names that the words give: `read` gives the bytes of a name, None where it can't be read. `before` has the bytes of
+    the store before the run, none where there was no such file, and is None where it can't be read or written."""
 
-    def __init__(self, job, read, knows):
-        self.job, self.reader, self.knows = job, read, knows
+    def __init__(self, job, read, knows, before=b''):
+        self.job, self.reader, self.knows, self.before = job, read, knows, before
 
     def bytes(self, name):
         return whole(name, lambda: self.reader(self.job.files[name]))
@@ -29,14 +30,22 @@ class Files:
         stock = tables.read_stock(self.bytes('stock'), layout)
         return layout, stock, tables.read_orders(self.bytes('orders'), stock)
 
+    def stored(self, stock, orders, scripts):
+        """The lines of the entries with which a day begins. The store is tested after the four files."""
+        if not self.job.numbers.get('store'):
+            return ()
+        book = Book(stock, orders, self.job.numbers.get('units'))
+        return stores.entries(self.before, book, sum(map(len, scripts.values())), self.knows['over_cart'])
+
 
 def opening_of(files):
-    """What the four files of a plan say. Fails with the first that is refused."""
+    """What the four files of a plan and its store say. Fails with the first that is refused."""
     layout, stock, orders = files.opening()
     scripts = tables.read_desks(files.bytes('desks'))
     numbers = files.job.numbers
     shown = {name: numbers.get(name, 0) for name in SHOWN_NUMBERS}
-    return days.Opening(layout, stock, orders, scripts, numbers['capacity'], numbers.get('units'), **shown)
+    stored = files.stored(stock, orders, scripts)
+    return days.Opening(layout, stock, orders, scripts, numbers['capacity'], numbers.get('units'), **shown, stored=stored)
 
 
 def check_of(files):
@@ -53,23 +62,23 @@ def audit_of(files):
     return b'audit %d entries\n' % journals.audit(files.bytes('journal'), book, files.knows['over_cart'])
 
 
-def refusal_of(words, read, knows=None):
-    """The first thing that is wrong with the words and files of a run, None where nothing is."""
+def refusal_of(words, read, knows=None, before=b''):
+    """The first thing that is wrong with the words and files of a run, and with its store before it, None where nothing is."""
     try:
         job = read_words(words)
-        files = Files(job, read, knows or FULL)
+        files = Files(job, read, knows or FULL, before)
         {'plan': opening_of, 'check': check_of, 'audit': audit_of, 'make': lambda files: None}[job.mode](files)
     except Refusal as why:
         return why
     return None
 
 
-def faults(words, read, status, output, knows=None):
+def faults(words, read, status, output, knows=None, before=b''):
     """What is wrong with the status and the output of a run, one text for each fault: none where it is right."""
     knows = knows or FULL
     try:
         job = read_words(words)
-        files = Files(job, read, knows)
+        files = Files(job, read, knows, before)
         if job.mode == 'plan':
             return _faults_of_plan(files, status, output)
         if job.mode == 'make':

@@ -16,7 +16,8 @@ SMALL = 9  # so few slots that every order of them is tried
 COMPACT = re.compile(rb'[ \t\r\n]')
 
 # What the files of a day say, and what its words do: the units of a cart may be None, and rules, pickers and root are 0 where nothing is told of them.
-Opening = namedtuple('Opening', 'layout stock orders scripts capacity units rules pickers root', defaults=(0, 0, 0))
+# `stored` has the lines of the entries with which the day begins.
+Opening = namedtuple('Opening', 'layout stock orders scripts capacity units rules pickers root stored', defaults=(0, 0, 0, ()))
 
 # A wave that went out: its name, the number of the entry, its orders, and what it holds then, as (row, order, units).
 Released = namedtuple('Released', 'name entry orders held')
@@ -87,6 +88,8 @@ class Judge:
         found = read_entry(line.encode())
         self.lines.test(found is not None, 'no entry: %r' % shortened(line))
         self.lines.test(found.number == len(self.entries), 'the number of an entry is %d where %d is due' % (found.number, len(self.entries)))
+        for due in self.opening.stored[found.number:found.number + 1]:
+            self.lines.test(line == due, 'entry %d is %r where %r was stored' % (found.number, shortened(line), due))
         step = self.book.step(found.command)
         self.lines.test(found.reply == step.reply, 'the reply to %r is %r where %r is right' % (command_text(found.command), found.reply, step.reply))
         if step.reply == 'released':
@@ -98,8 +101,9 @@ class Judge:
     def test_parts(self):
         """Each desk's commands stand in the journal once and in order, and no others, behind those that were stored."""
         scripts = self.opening.scripts
-        old = len(self.entries) - sum(map(len, scripts.values()))
-        self.lines.test(old == 0 or old > 0 and self.stored, 'the journal has %d commands more than the desks gave' % old)
+        old, due = len(self.entries) - sum(map(len, scripts.values())), len(self.opening.stored)
+        told = ' and the store had' if due else ''
+        self.lines.test(old == due or old > 0 and self.stored, 'the journal has %d commands more than the desks gave%s' % (old - due, told))
         self.old = old
         for desk in range(1, 9):
             part = [entry.command for entry in self.entries[old:] if entry.desk == desk]
@@ -267,7 +271,7 @@ class Judge:
 
 
 def judge(opening, data, stored=False):
-    """Judges an output. Gives what was seen of it, or fails with the first fault."""
+    """Judges an output. Gives what was seen of it, or fails with the first fault. With `stored` it may begin with entries that nobody tells."""
     found = Judge(opening, data, stored)
     found.all()
     return found

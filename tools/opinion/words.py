@@ -14,16 +14,17 @@ FILES = {
 PLAN_NUMBERS = {'capacity': (1, 8), 'budget': (0, 10 ** 18), 'workers': (1, 16)}
 CART_NUMBERS = {'units': (1, 40000000)}
 SHOWN_NUMBERS = {'rules': (0, 1), 'pickers': (0, 100), 'root': (0, 1)}  # what a plan tells besides
+STORE_NUMBERS = {'store': (0, 1)}
 NUMBERS = {
-    'plan': {**PLAN_NUMBERS, **CART_NUMBERS, **SHOWN_NUMBERS},
+    'plan': {**PLAN_NUMBERS, **CART_NUMBERS, **SHOWN_NUMBERS, **STORE_NUMBERS},
     'check': {},
     'audit': CART_NUMBERS,
     'make': {'number': (0, 2 ** 64 - 1), 'aisles': (1, 64), 'orders': (1, 10000), 'desks': (1, 8), 'wave': (1, 64), **PLAN_NUMBERS},
 }
-GIVEN = {'budget': 2000000, 'workers': 1, 'units': None, 'rules': 0, 'pickers': 0, 'root': 0}  # where they are left out
+GIVEN = {'budget': 2000000, 'workers': 1, 'units': None, 'rules': 0, 'pickers': 0, 'root': 0, 'store': 0}  # where they are left out
 MOST_WAVES = 500
 NUMBER = re.compile(r'\+?[0-9]+|-0+')
-SIGNED = ('rules', 'pickers', 'root')  # whose 0 may have a minus
+SIGNED = ('rules', 'pickers', 'root', 'store')  # whose 0 may have a minus
 
 # A mode with the names of its files and its numbers, by their options.
 Job = namedtuple('Job', 'mode files numbers')

@@ -176,7 +176,7 @@ class Files(unittest.TestCase):
 
     def test_words_are_read_as_documented(self):
         job = words.read_words('plan --layout=l --stock s --orders o --desks d --capacity +03'.split())
-        self.assertEqual(({'capacity': 3, 'budget': 2000000, 'workers': 1, 'units': None, 'rules': 0, 'pickers': 0, 'root': 0}, 'l'), (job.numbers, job.files['layout']))
+        self.assertEqual(({'capacity': 3, 'budget': 2000000, 'workers': 1, 'units': None, 'rules': 0, 'pickers': 0, 'root': 0, 'store': 0}, 'l'), (job.numbers, job.files['layout']))
         for units, due in (('1', 1), ('=40000000', 40000000), ('=+007', 7)):
             for mode in ('plan --desks d --capacity 3', 'audit --journal j'):
                 asked = '%s --layout l --stock s --orders o --units%s%s' % (mode, '' if '=' in units else ' ', units)
@@ -187,16 +187,17 @@ class Files(unittest.TestCase):
                 self.assertEqual('refused words bad-words', refused(words.read_words, asked.split()), asked)
         self.assertEqual('refused words bad-words', refused(words.read_words, 'check --layout l --certificate c --units 5'.split()))
         for word, due in (('--rules 0', 0), ('--rules=1', 1), ('--rules +01', 1), ('--rules=-0', 0), ('--pickers 0', 0), ('--pickers 100', 100), ('--pickers=007', 7),
-                          ('--root 0', 0), ('--root=1', 1), ('--root +01', 1), ('--root=-0', 0)):
+                          ('--root 0', 0), ('--root=1', 1), ('--root +01', 1), ('--root=-0', 0), ('--store 0', 0), ('--store=1', 1), ('--store +01', 1), ('--store=-0', 0)):
             job = words.read_words(['plan', *'--layout l --stock s --orders o --desks d --capacity 3'.split(), *word.split()])
             self.assertEqual(due, job.numbers[re.match('--([a-z]+)', word)[1]], word)
         for word in ('--rules 2', '--rules -0', '--rules=-1', '--rules', '--rules=', '--rules 1 --rules 1', '--rules 1.0', '--pickers 101', '--pickers=-1', '--pickers',
                      '--pickers x', '--pickers 3 --pickers 3', '--pickers 1 --rules', '--budget=-0', '--root 2', '--root -0', '--root=-1', '--root', '--root=',
-                     '--root 1 --root 1', '--root=0 --root=1', '--root yes', '--root --rules 1', '--roots 1'):
+                     '--root 1 --root 1', '--root=0 --root=1', '--root yes', '--root --rules 1', '--roots 1', '--store 2', '--store -0', '--store=-1', '--store', '--store=',
+                     '--store 1 --store 1', '--store=0 --store=1', '--store waveplan.store', '--stor 1'):
             asked = ['plan', *'--layout l --stock s --orders o --desks d --capacity 3'.split(), *word.split()]
             self.assertEqual('refused words bad-words', refused(words.read_words, asked), word)
         for asked in ('check --layout l --certificate c', 'audit --layout l --stock s --orders o --journal j', 'make --number 1 --aisles 2 --orders 5 --desks 1 --wave 1 --capacity 1'):
-            for word in ('--rules 1', '--rules 0', '--pickers 2', '--pickers 0', '--root 1', '--root 0'):
+            for word in ('--rules 1', '--rules 0', '--pickers 2', '--pickers 0', '--root 1', '--root 0', '--store 1', '--store 0'):
                 self.assertIsNone(refused(words.read_words, asked.split()), asked)
                 self.assertEqual('refused words bad-words', refused(words.read_words, [*asked.split(), *word.split()]), (asked, word))
         for text, why in (('', 'no-mode'), ('plann', 'unknown-mode'), ('check --layout l', 'bad-words'), ('check --layout l --certificate --x', 'bad-words'),
@@ -597,7 +598,7 @@ class Brackets(unittest.TestCase):
 
 
 class LaterLines(unittest.TestCase):
-    """Brackets beside carts, rules and pickers; and stored entries, which the program is to print one day and which are judged already."""
+    """Brackets beside carts, rules and pickers; and entries that were stored before, which nobody tells."""
 
     STOCK = tables.Stock([tables.StockRow(tables.Location(1, 1, 'L'), 'A', 5)], ['A'])
 

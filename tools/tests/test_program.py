@@ -53,6 +53,18 @@ SHOWN_FAULTS = [
 ]
 
 
+# Those that only days with a store show: in what is printed of it, and in what is left of it.
+LEFT = '(__import__("os").path.exists("waveplan.store") and __import__("os").truncate("waveplan.store", %s)) or done.returncode'
+STORE_FAULTS = [
+    ('journals without their first entry', 'store', rb'^journal\n0 .*\n', 'b"journal\\n"', 'done.returncode'),
+    ('records that are refused one too late', 'store', rb'^refused store record (\d+)', 'b"refused store record %d" % (int(found[1]) + 1)', 'done.returncode'),
+    ('stored replies that are right whatever they are', 'store', rb'^(refused store entry \d+ printed) (.*) right (.*)$', 'b"%s %s right %s" % (found[1], found[3], found[2])', 'done.returncode'),
+    ('refused stores that are told as a fault', 'store', rb'^refused store .*$', 'b"store fault"', '7 if done.stdout.startswith(b"refused store") else done.returncode'),
+    ('a store that loses what is there', 'store', rb'^never$', 'b""', LEFT % '0'),
+    ('a store without its closed byte', 'store', rb'^never$', 'b""', LEFT % 'max(0, __import__("os").path.getsize("waveplan.store") - 1)'),
+]
+
+
 SHOWN_DAY = ('--capacity', '2', '--rules', '1', '--pickers', '4', '--root', '1')
 
 
@@ -191,12 +203,12 @@ class Fuzzing(unittest.TestCase):
         return runs.script('fuzz', program, '--mode', mode, '--runs', count, *more)
 
     def test_nothing_is_wrong_with_the_program(self):
-        for mode in ('plan', 'check', 'audit', 'make', 'words'):
+        for mode in ('plan', 'check', 'audit', 'make', 'store', 'words'):
             done = self.fuzzed(runs.PROGRAM, mode, 60)
             self.assertEqual(0, done.status, done.output + done.errors)
 
     def test_each_planted_fault_is_found(self):
-        for place, (name, mode, pattern, new, status) in enumerate(FAULTS + CART_FAULTS + SHOWN_FAULTS):
+        for place, (name, mode, pattern, new, status) in enumerate(FAULTS + CART_FAULTS + SHOWN_FAULTS + STORE_FAULTS):
             with self.subTest(name):
                 program = Path(runs.shelf().name) / ('planted-%d' % place)
                 program.write_text(PLANTED % {'python': sys.executable, 'program': runs.PROGRAM, 'pattern': pattern, 'new': new, 'status': status})
