@@ -1,7 +1,8 @@
 -- How runs end.
-use Rattle.std.proofs.Common.{◌≡◌, refl, sym, subst, ℕ, inl, inr, ◌⊎◌, List, [], Result, Ok, Err, false}
+use Rattle.std.proofs.Common.{◌≡◌, ◌≤◌, arith, refl, sym, subst, ℕ, inl, inr, ◌⊎◌, List, [], Result, Ok, Err, false}
 use Rattle.std.specs.Prelude.{IfErr, IfOk, OnErr, OnOk, Vec}
 use Rattle.std.specs.declared.alloc.Global.{Global}
+use Rattle.wp_model.specs.Opening.{Opening}
 use Rattle.wp_model.specs.declared.memory.Memory.{Memory}
 use Rattle.wp_outside.specs.Outside.{FilesTold, SinkTold}
 use Rattle.wp_outside.specs.declared.sink.SinkFault.{SinkFault}
@@ -9,8 +10,9 @@ use Rattle.wp_outside.specs.declared.sink.SinkFault.TheVariants as sink_fault
 use Rattle.wp_parts.proofs.Steps.{Writes-whole}
 use Rattle.wp_parts.specs.Writing.{Fails, Writes}
 use Rattle.wp_top.specs.Ends.{Asked, IsOutput, of_run}
-use Rattle.wp_top.specs.Stops.{Finishes, FinishesJob, HasEnded, IsEndOf, IsEnding, StopsFor, end_of, gives, status_when}
+use Rattle.wp_top.specs.Stops.{Finishes, FinishesJob, HasEnded, IsEndOf, IsEnding, IsOfInput, StopsFor, end_of, gives, number_of, of_store, status_of, status_when}
 use Rattle.wp_top.specs.Stores.{DiskCourse}
+use Rattle.wp_top.specs.declared.complaint.Complaint.TheVariants as complaint
 use Rattle.wp_top.specs.declared.complaint.Stop.{Stop}
 use Rattle.wp_top.specs.declared.complaint.Stop.TheVariants as stop
 use Rattle.wp_top.specs.declared.ending.Ending.{Ending}
@@ -57,6 +59,45 @@ written_ended asked disk old new sink sink' (Err sink_fault.Failed) ended IsText
 written_ended asked disk old new sink sink' (Err sink_fault.Memory) ended IsText comes is writes (inl (text, said, fails)) =
     inl (gives text, comes text said, inr (inr (is, fails.uncounted (λ failed. absurd (cc failed)), fails.prefix)))
 written_ended asked disk old new sink sink' (Err sink_fault.Memory) ended IsText comes is writes (inr (none, same)) = inr (is, same)
+
+-- a run whose output was written doesn't complain of its input
+pub written_not_of_input : (written : Result Unit SinkFault) (ended : Status) → ended ≡ status_when written → IsOfInput ended → ⊥
+written_not_of_input (Ok done) ended is of = subst IsOfInput is of
+written_not_of_input (Err sink_fault.Failed) ended is of = subst IsOfInput is of
+written_not_of_input (Err sink_fault.Memory) ended is of = subst IsOfInput is of
+
+-- nor does one that finishes with an ending which doesn't
+finished_not_of_input : (e : Ending) (sink sink' : SinkTold) (ended : Status) → (IsOfInput (status_of (end_of e)) → ⊥) → Finishes (end_of e) sink sink' ended
+    → IsOfInput ended → ⊥
+finished_not_of_input e sink sink' ended other (inl (is, took, counts, sound)) of = other (subst IsOfInput is of)
+finished_not_of_input e sink sink' ended other (inr (inl (is, counts, part))) of = subst IsOfInput is of
+finished_not_of_input e sink sink' ended other (inr (inr (is, counts, prefix))) of = subst IsOfInput is of
+
+-- nor one that stops at its store
+pub stopped_not_of_input : (disk : DiskCourse) (opening : Opening) (commands : ℕ) (sink sink' : SinkTold) (why : Stop) (ended : Status)
+    → StopsFor (of_store disk opening commands) why → FinishesJob (Err why) sink sink' ended → IsOfInput ended → ⊥
+stopped_not_of_input disk opening commands sink sink' (stop.Complaint (complaint.Words why)) ended stops finishes of = stops
+stopped_not_of_input disk opening commands sink sink' (stop.Complaint (complaint.Refused f why)) ended stops finishes of = stops
+stopped_not_of_input disk opening commands sink sink' (stop.Complaint (complaint.Fault f)) ended stops finishes of = stops
+stopped_not_of_input disk opening commands sink sink' (stop.Complaint (complaint.Wrong found)) ended stops (inl (e, is, finishes)) of =
+    finished_not_of_input e sink sink' ended (λ was. subst (λ (x : Ending). IsOfInput (status_of (end_of x))) is was) finishes of
+stopped_not_of_input disk opening commands sink sink' (stop.Complaint (complaint.Wrong found)) ended stops (inr (is, same)) of = subst IsOfInput is of
+stopped_not_of_input disk opening commands sink sink' (stop.Complaint complaint.Store) ended stops (inl (e, is, finishes)) of =
+    finished_not_of_input e sink sink' ended (λ was. subst (λ (x : Ending). IsOfInput (status_of (end_of x))) is was) finishes of
+stopped_not_of_input disk opening commands sink sink' (stop.Complaint complaint.Store) ended stops (inr (is, same)) of = subst IsOfInput is of
+stopped_not_of_input disk opening commands sink sink' stop.Memory ended stops (inl (e, is, finishes)) of = is
+stopped_not_of_input disk opening commands sink sink' stop.Memory ended stops (inr (is, same)) of = subst IsOfInput is of
+
+-- a number from 1 to 3 is that of such a complaint
+pub is_of_input : (ended : Status) → 1 ≤ number_of ended → number_of ended ≤ 3 → IsOfInput ended
+is_of_input status.Done some few = absurd (omega (arith, some))
+is_of_input status.BadWords some few = tt
+is_of_input status.Refused some few = tt
+is_of_input status.ReadFault some few = tt
+is_of_input status.WriteFault some few = absurd (omega (arith, few))
+is_of_input status.OutOfMemory some few = absurd (omega (arith, few))
+is_of_input status.Wrong some few = absurd (omega (arith, few))
+is_of_input status.StoreFault some few = absurd (omega (arith, few))
 
 -- what is written of an output leaves a sink that wasn't stopped with no late write
 pub written_early : (sink sink' : SinkTold) (written : Result Unit SinkFault) (IsText : List ℕ → Type 0)

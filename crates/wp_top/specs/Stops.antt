@@ -221,6 +221,13 @@ number_of status.OutOfMemory = 5
 number_of status.Wrong = 6
 number_of status.StoreFault = 7
 
+-- the status is that of a complaint of words, of a refused file or of one that couldn't be read
+abbrev pub IsOfInput : Status → Type 0
+IsOfInput status.BadWords = ⊤
+IsOfInput status.Refused = ⊤
+IsOfInput status.ReadFault = ⊤
+IsOfInput other = ⊥
+
 -- the status of a run whose output was written with this result
 abbrev pub status_when : Result Unit SinkFault → Status
 status_when (Ok done) = status.Done

@@ -23,11 +23,11 @@ mod store;
 mod summary;
 mod written;
 
-ghost use Rattle.std.specs.Prelude.{◌≡◌, false, Ok};
+ghost use Rattle.std.specs.Prelude.{◌≡◌, ◌≤◌, false, Ok};
 ghost use Rattle.wp_outside.specs.Outside.{NoneFalls, SameBytes};
 ghost use Rattle.wp_top.specs.Ends.{AreNewIn, ReadsWithin, asked_by, audit_job, check_job, most_reads};
 ghost use Rattle.wp_top.specs.Promise.{AsksForStore, Keeps, course};
-ghost use Rattle.wp_top.specs.Stops.{HasEnded};
+ghost use Rattle.wp_top.specs.Stops.{HasEnded, IsOfInput};
 ghost use Rattle.wp_top.specs.Stores.{AreSomeKept, disk_course, no_disk};
 
 use crate::audit::audit_output;
@@ -60,6 +60,7 @@ fn run_job<R: Threads + Wait + Sync, F: Files, K: Sink, G: Gate, D: Disk>(
         (AreNewIn (asked_by words.now.items) (disk_course D.holds D.moment D.images_since D.synced D.faults disk.old disk.new)
         (F.told files.old) (F.told files.new)) }
     ensures untouched { ¬ AsksForStore (asked_by words.now.items) → disk.new ≡ disk.old }
+    ensures unopened { IsOfInput result → disk.new ≡ disk.old }
     ensures same { SameBytes (F.told files.old).holds (F.told files.new).holds }
     ensures counts { NoneFalls (F.told files.old).faults (F.told files.new).faults }
     ensures reads { ReadsWithin (F.told files.old) (F.told files.new) (most_reads (asked_by words.now.items)) }
@@ -79,7 +80,7 @@ fn run_job<R: Threads + Wait + Sync, F: Files, K: Sink, G: Gate, D: Disk>(
 /// 2 a file is refused; 3 a file could not be read; 4 the output could not be written; 5 memory ran out; 6 the
 /// certificate, the journal or the store isn't right; 7 the disk of the store failed. With 1, 2, 3, 6 and 7 one line was written; with 4 and 5 a
 /// beginning of the text, or nothing. The desks of a plan and the workers that price its waves pass the gate, and what is promised doesn't hang on when it
-/// lets them. Where the words have no store no call is made on the disk. Where they have one, each image of it that a crash leaves at some moment since the
+/// lets them. Where the words have no store no call is made on the disk, nor with 1, 2 and 3. Where they have one, each image of it that a crash leaves at some moment since the
 /// run's first sync has the records that there were and a beginning of the new entries, with all that were acknowledged; and all are, before anything of
 /// the output is written.
 pub fn run<R: Threads + Wait + Sync, F: Files, K: Sink, G: Gate, D: Disk>(
@@ -94,6 +95,7 @@ pub fn run<R: Threads + Wait + Sync, F: Files, K: Sink, G: Gate, D: Disk>(
     ensures keeps { Keeps (asked_by words.now.items) (course (F.told files.old) (K.told out.old) (F.told files.new) (K.told out.new)
         (disk_course D.holds D.moment D.images_since D.synced D.faults disk.old disk.new)) result }
     ensures untouched { ¬ AsksForStore (asked_by words.now.items) → disk.new ≡ disk.old }
+    ensures unopened { 1 ≤ result → result ≤ 3 → disk.new ≡ disk.old }
 {
     run_job(&Resources { rt, alloc, gate }, words, files, out, disk).number()
 }

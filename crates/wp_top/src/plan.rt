@@ -9,7 +9,7 @@ ghost use Rattle.wp_top.specs.Ends.{AreNewIn, ReadsWithin, among, plan_job};
 ghost use Rattle.wp_top.specs.Planned.{HasCrew, IsDayOver, IsToldOf};
 ghost use Rattle.wp_top.specs.Runs.{AreNewOf, IsHistoryOf, command_count};
 ghost use Rattle.wp_top.specs.Sheets.{terms_of};
-ghost use Rattle.wp_top.specs.Stops.{HasEnded, IsReadDay, IsTextOf, StopsFor, day_said, of_store};
+ghost use Rattle.wp_top.specs.Stops.{HasEnded, IsOfInput, IsReadDay, IsTextOf, StopsFor, day_said, of_store};
 ghost use Rattle.wp_top.specs.Stores.{AreSomeKept, disk_course};
 ghost use Rattle.wp_top.specs.Texts.{HaveSaid, IsHeld, files_of, opening_with};
 ghost use Rattle.wp_top.specs.declared.complaint.Stop.TheVariants as stop;
@@ -151,6 +151,7 @@ fn end_day<R: Threads + Wait + Sync, K: Sink, G: Gate, D: Disk>(
     ensures kept { words.now.store ≡ 1 → AreSomeKept (disk_course D.holds D.moment D.images_since D.synced D.faults disk.old disk.new)
         (AreNewOf (disk_course D.holds D.moment D.images_since D.synced D.faults disk.old disk.new) files.now.warehouse.opening files.now.scripts) }
     ensures untouched { words.now.store ≢ 1 → disk.new ≡ disk.old }
+    ensures read_all { ¬ IsOfInput result }
     ensures early { (K.told out.old).stopped ≡ false → (K.told out.new).late ≡ (K.told out.old).late }
 {
     let terms = terms_of(words);
@@ -176,6 +177,7 @@ pub fn run_plan<R: Threads + Wait + Sync, F: Files, K: Sink, G: Gate, D: Disk>(
         (AreNewIn (Ok (plan_job words.now)) (disk_course D.holds D.moment D.images_since D.synced D.faults disk.old disk.new)
         (F.told files.old) (F.told files.new)) }
     ensures untouched { words.now.store ≢ 1 → disk.new ≡ disk.old }
+    ensures unopened { IsOfInput result → disk.new ≡ disk.old }
     ensures same { SameBytes (F.told files.old).holds (F.told files.new).holds }
     ensures counts { NoneFalls (F.told files.old).faults (F.told files.new).faults }
     ensures reads { ReadsWithin (F.told files.old) (F.told files.new) 4 }

@@ -1,4 +1,5 @@
-use Rattle.std.proofs.Common.{subst, sym}
+use Rattle.std.proofs.Common.{arith, subst, sym}
+use Rattle.wp_top.proofs.Endings.{is_of_input}
 use Rattle.wp_top.proofs.KeptPromise.{run_keeps}
 use Rattle.wp_top.proofs.run.Goals as goal
 use Rattle.wp_top.specs.Ends.{asked_by}
@@ -17,3 +18,7 @@ returns-clause-keeps g c =
     subst (Keeps asked went) (sym c.number.ensures)
     (run_keeps asked went c.run_job.result (record { same = job.same; counts = job.counts; reads = job.reads; no_more = job.early; stored = job.stored })
     job.ended)
+
+pub returns-clause-unopened : goal.returns-clause-unopened
+returns-clause-unopened g c = λ some few.
+    c.run_job.ensures.unopened (is_of_input c.run_job.result (omega (arith, some, c.number.ensures)) (omega (arith, few, c.number.ensures)))

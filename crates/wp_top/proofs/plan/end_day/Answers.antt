@@ -1,11 +1,12 @@
 use Rattle.std.proofs.Common.{inl, inr, subst, sym, Ok}
 use Rattle.std.proofs.lemmas.Bool.{cases_eq}
 use Rattle.std.proofs.lemmas.Result.{IfErr-weaker}
-use Rattle.wp_top.proofs.Endings.{stopped_ended, written_early, written_ended}
+use Rattle.wp_top.proofs.Endings.{stopped_ended, stopped_not_of_input, written_early, written_ended, written_not_of_input}
 use Rattle.wp_top.proofs.Jobs.{plan_is, stop_at_store}
 use Rattle.wp_top.proofs.plan.end_day.Goals as goal
 use Rattle.wp_top.specs.Ends.{of_run, plan_job}
-use Rattle.wp_top.specs.Stops.{IsTextOf, StopsFor}
+use Rattle.wp_top.specs.Runs.{command_count}
+use Rattle.wp_top.specs.Stops.{IsTextOf, StopsFor, of_store}
 use Rattle.wp_top.specs.Stores.{disk_course}
 use Rattle.wp_words.specs.Reading.{plan_names}
 
@@ -50,3 +51,18 @@ returns-in-Err-clause-ended g c = λ old new read.
       | inl uses ↦ stop_at_store disk old new names files.warehouse.layout files.warehouse.opening files.scripts c.in-Err.why uses read (why.stops uses)
       | inr other ↦ subst (StopsFor (of_run (Ok (plan_job c.args.words.now)) disk old new)) (sym (why.memory other)) tt
     ])
+
+pub returns-in-Ok-clause-read_all : goal.returns-in-Ok-clause-read_all
+returns-in-Ok-clause-read_all g c = written_not_of_input c.write_plans.result c.status_of.result c.status_of.ensures
+
+pub returns-in-Err-clause-read_all : goal.returns-in-Err-clause-read_all
+returns-in-Err-clause-read_all g c =
+    let D = g.D.Disk in
+    let disk = disk_course D.holds D.moment D.images_since D.synced D.faults c.args.disk.now c.day_of.new.disk in
+    let files = c.args.files.now in
+    let names = plan_names c.args.words.now in
+    let why = c.in-Err.ensures in
+    stopped_not_of_input disk files.warehouse.opening (command_count files.scripts) _ _ c.in-Err.why c.end_stopped.result (elim (cases_eq names.store 1) [
+      | inl uses ↦ why.stops uses
+      | inr other ↦ subst (StopsFor (of_store disk files.warehouse.opening (command_count files.scripts))) (sym (why.memory other)) tt
+    ]) c.end_stopped.ensures.ended

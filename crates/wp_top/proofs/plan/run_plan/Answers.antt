@@ -49,3 +49,6 @@ returns-in-Ok-clause-kept g c = λ uses.
     (λ entries are. new_in_plan disk (told c.args.files.now) (told c.read_day.new.files) names day.warehouse.layout day.warehouse.opening day.scripts entries
     (record { said = read.said; units = read.units; all = read.all }) are)
     (c.end_day.ensures.kept uses)
+
+pub returns-in-Ok-clause-unopened : goal.returns-in-Ok-clause-unopened
+returns-in-Ok-clause-unopened g c = λ of. absurd (c.end_day.ensures.read_all of)
