@@ -9,6 +9,7 @@ mod draws;
 mod duals;
 mod improve;
 mod instance;
+mod last_places;
 mod lengths;
 mod listing;
 mod marks;

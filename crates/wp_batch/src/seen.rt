@@ -68,7 +68,11 @@ impl<'a> SeenLengths<'a> {
     // The entry that a batch may lie in.
     fn entry_of(&self, batch: Batch) -> usize {
         let place = self.places.place_of(batch).unwrap_or(0);
-        place.checked_rem(self.entries.len() as u64).unwrap_or(0) as usize
+        let count = self.entries.len() as u64;
+        if place < count {
+            return place as usize;
+        }
+        place.checked_rem(count).unwrap_or(0) as usize
     }
 
     /// The length of a batch.

@@ -5,6 +5,7 @@ ghost use Rattle.wp_batch.specs.Walks.{IsWalk};
 
 use crate::draws::Draws;
 use crate::instance::Instance;
+use crate::last_places::LastPlaces;
 use crate::listing::listed;
 use crate::merge::merge;
 use crate::near::Nearness;
@@ -58,6 +59,7 @@ fn mover_of<'a>(alloc: Global, instance: &Instance<'a>) -> Result<Mover<'a>, Mem
         seen,
         nearness,
         draws: Draws::from_state(FIRST_STATE),
+        found: LastPlaces::none(),
     })
 }
 
@@ -82,6 +84,11 @@ fn cost_at_least(alloc: Global, instance: &Instance<'_>) -> Result<u64, Memory> 
         }
     }
     Ok(sum)
+}
+
+// After how many rounds in vain, one after the other, no further one is walked: the more, the more orders a batch may have.
+fn most_in_vain(instance: &Instance<'_>) -> u32 {
+    instance.capacity.saturating_add(1)
 }
 
 // The batches of a walk once more, but that those are joined of which two together cost less.
@@ -142,8 +149,9 @@ fn best_of_round(
 }
 
 /// The cheapest of some batches and of those that a walk comes past, in so many rounds: simulated annealing (Kirkpatrick, Gelatt
-/// and Vecchi, 1983), each round from the best so far on. The batches stay where none is cheaper, and no round is walked where
-/// the lengths of single orders show that. The draws are the same on every call.
+/// and Vecchi, 1983), each round from the best so far on. No further one is walked after one round in vain more, in a row, than a batch
+/// may have orders. The batches stay where none is cheaper, and no round is walked where the lengths of single orders show that. The
+/// draws are the same on every call.
 pub fn best_of_walks(
     alloc: Global,
     instance: &Instance<'_>,
@@ -161,12 +169,18 @@ pub fn best_of_walks(
         return Ok(best);
     }
     let mut mover = mover_of(alloc, instance)?;
+    let mut left = most_in_vain(instance);
     for _ in 0..rounds {
+        if left == 0 {
+            return Ok(best);
+        }
         let other = best_of_round(alloc, instance, &mut mover, best.as_slice())?;
         let total = cost_of(instance.wave, other.as_slice());
+        left -= 1;
         if total < least {
             least = total;
             best = other;
+            left = most_in_vain(instance);
         }
     }
     Ok(best)

@@ -4,6 +4,7 @@ ghost use Rattle.wp_batch.specs.Walks.{IsWalk};
 
 use crate::draws::Draws;
 use crate::instance::Instance;
+use crate::last_places::LastPlaces;
 use crate::moves::least_and_rest;
 use crate::near::Nearness;
 use crate::seen::SeenLengths;
@@ -34,12 +35,13 @@ pub struct Walk {
     pub least: u64,
 }
 
-/// What moves are drawn and weighed with: lengths, what orders have to do with each other, and draws.
+/// What moves are drawn and weighed with: lengths, what orders have to do with each other, draws, and where orders were found last.
 #[derive(Drop)]
 pub struct Mover<'a> {
     pub seen: SeenLengths<'a>,
     pub nearness: Nearness,
     pub draws: Draws,
+    pub found: LastPlaces,
 }
 
 /// A move between the batches at two places: an order of the first goes to the second, and one of the second goes back, or none.
@@ -55,18 +57,6 @@ struct Move {
     // the two batches after the move
     left: Batch,
     right: Batch,
-}
-
-// The place of the batch with an order.
-fn place_with(batches: &[Batch], order: u32) -> Option<usize>
-    ensures { IfSome result (λ place. place < length batches.now) }
-{
-    for (place, batch) in batches.iter().enumerate() {
-        if batch.has(order) {
-            return Some(place);
-        }
-    }
-    None
 }
 
 // The order of a batch that so many others come before.
@@ -184,8 +174,8 @@ impl Mover<'_> {
         let order = self.draws.below(instance.wave.orders());
         let choice = self.draws.below(self.nearness.count().max(1));
         let beside = self.nearness.near(order, choice)?;
-        let first = place_with(batches, order)?;
-        let second = place_with(batches, beside)?;
+        let first = self.found.place_with(batches, order)?;
+        let second = self.found.place_with(batches, beside)?;
         if first == second {
             return None;
         }

@@ -219,8 +219,17 @@ impl Wave {
     {
         match self.kept_length(batch) {
             Some(length) => length,
-            None => tour_length(&self.layout, &self.union_of(batch)),
+            None => self.found_length(batch),
         }
+    }
+
+    // The same, found by a tour.
+    fn found_length(&self, batch: Batch) -> u64
+        requires { All (λ order. order < length self.now.orders) batch }
+        ensures is { IsLengthOf self.now batch result }
+        ensures small { result < 2 ^ 28 }
+    {
+        tour_length(&self.layout, &self.union_of(batch))
     }
 
     /// Keeps the lengths of all batches of at most so many orders: from then on the length of such a batch is looked up. The

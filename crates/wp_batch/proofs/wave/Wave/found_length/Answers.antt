@@ -4,10 +4,10 @@ use Rattle.wp_model.specs.Warehouse.{Layout}
 use Rattle.wp_batch.specs.Lengths.{batch_picks}
 use Rattle.wp_batch.specs.Waves.{WavePicks}
 use Rattle.wp_batch.proofs.Unions.{same_shortest}
-use Rattle.wp_batch.proofs.wave.Wave.batch_length.Goals as goal
+use Rattle.wp_batch.proofs.wave.Wave.found_length.Goals as goal
 
-pub returns-in-None-clause-is : goal.returns-in-None-clause-is
-returns-in-None-clause-is c =
+pub returns-clause-is : goal.returns-clause-is
+returns-clause-is c =
     subst (λ (layout : Layout). IsShortest layout (batch_picks c.args.self.now c.args.batch) c.tour_length.result)
     (ap (λ (w : WavePicks). w.layout) c.self.view_is)
     (same_shortest _ _ _ _ c.union_of.ensures.points c.tour_length.ensures.shortest)
