@@ -1,6 +1,6 @@
 -- Reaches: the most in duals of each number of orders, and the reach of a place.
-use Rattle.std.proofs.Common.{◌≡◌, ◌≢◌, ℕ, ◌+◌, ◌<◌, List, length, arith, sym, subst, ⊎_elim, set, ◌∙◌}
-use Rattle.std.specs.Prelude.{slice_index}
+use Rattle.std.proofs.Common.{◌≡◌, ◌≢◌, ℕ, ◌+◌, ◌<◌, List, [], length, arith, refl, sym, subst, ⊎_elim, set, ◌∙◌}
+use Rattle.std.specs.Prelude.{replicate, slice_index}
 use Rattle.std.proofs.lemmas.Bool.{cases_eq}
 use Rattle.std.proofs.lemmas.Grind.{get_or-set_at}
 use Rattle.std.proofs.lemmas.List.{get_or-set_other}
@@ -8,8 +8,20 @@ use Rattle.wp_pairs.specs.Permitted.{Pairing}
 use Rattle.wp_batch.specs.Duals.{duals_of}
 use Rattle.wp_batch.specs.Reaches.{HaveMost}
 use Rattle.wp_batch.specs.Visits.{IsReach}
-use Rattle.wp_batch.proofs.Further.{reach_from}
+use Rattle.wp_batch.proofs.Further.{most_of_none, reach_from}
 use Rattle.wp_price.specs.Items.{AreReachesBelow, IsMost}
+
+-- no order has the most of none: nothing
+pub reaches_of_none : (pairing : Pairing) (duals : List ℕ) (from : ℕ) → AreReachesBelow pairing duals from 1 (replicate 9 0)
+reaches_of_none pairing duals from = λ room low. let e : room ≡ 0 = omega (arith, low) in
+    subst (λ (r : ℕ). IsMost pairing duals from r (slice_index (replicate 9 0) r)) (sym e) ([], most_of_none pairing duals from, refl)
+
+-- what takes the best of those that are left takes it under equal duals
+pub taken_more : (pairing : Pairing) (duals equal : List ℕ) (from room : ℕ) (taken more : List ℕ) → equal ≡ duals
+    → ((count : ℕ) → HaveMost pairing equal from count taken → HaveMost pairing equal from (count + 1) more) → HaveMost pairing duals from room taken
+    → HaveMost pairing duals from (room + 1) more
+taken_more pairing duals equal from room taken more e takes have =
+    subst (λ (d : List ℕ). HaveMost pairing d from room taken → HaveMost pairing d from (room + 1) more) e (takes room) have
 
 -- one more number of orders
 pub more_reaches : (pairing : Pairing) (duals : List ℕ) (from room most : ℕ) (reaches taken : List ℕ) → room < length reaches

@@ -1,4 +1,4 @@
-ghost use Rattle.std.specs.Prelude.{◌≡◌, [], ◌+◌, ◌<◌, ◌≤◌, length};
+ghost use Rattle.std.specs.Prelude.{◌≡◌, [], ◌+◌, ◌<◌, ◌≤◌, replicate};
 ghost use Rattle.wp_batch.specs.Visits.{IsReach};
 ghost use Rattle.wp_price.specs.Items.{AreReachesBelow, IsItemOf};
 
@@ -20,8 +20,9 @@ pub struct Item {
     pub reach: [u64; 9],
 }
 
+// Nothing for any number of orders.
 fn no_reaches() -> [u64; 9]
-    ensures { length result ≡ 9 }
+    ensures { result ≡ replicate 9 0 }
 {
     [0; 9]
 }
@@ -34,9 +35,9 @@ fn reaches_of(given: &DualWave<'_>, from: u32) -> [u64; 9]
     let duals = given.duals.as_slice();
     let mut reaches = no_reaches();
     let mut taken = Batch::empty();
-    for room in 0..given.pairs.capacity() + 1 {
-        reaches[room as usize] = given.duals.sum_of(taken);
+    for room in 0..given.pairs.capacity() {
         taken = take_best(given.pairs, duals, taken, from);
+        reaches[room as usize + 1] = given.duals.sum_of(taken);
     }
     reaches
 }
