@@ -1,0 +1,143 @@
+"""What the scripts of the gate take of the kit: its own modules, and the libraries that `rt ci` has proved."""
+import contextlib
+import importlib.machinery
+import importlib.util
+import os
+import shutil
+import sys
+import tempfile
+
+sys.dont_write_bytecode = True
+
+
+# The folder of the copy of the repository that all checks of one gate share, which the first of them makes.
+SHARED = 'WAVEPLAN_GATE_COPY'
+
+
+class Missing(Exception):
+    """Why nothing can be judged."""
+
+
+class NotProved(Missing):
+    """What stands in the way where a check of the gate stands on what `rt ci` has not proved."""
+
+
+def module(folder, name, known_as):
+    loader = importlib.machinery.SourceFileLoader(known_as, f'{folder}/{name}')
+    spec = importlib.util.spec_from_loader(known_as, loader)
+    made = importlib.util.module_from_spec(spec)
+    sys.modules[known_as] = made
+    loader.exec_module(made)
+    return made
+
+
+def folder():
+    """The folder of the kit's commands."""
+    command = shutil.which('rt')
+    if not command:
+        raise Missing('there is no rt on the path')
+    return os.path.dirname(os.path.realpath(command))
+
+
+def identity():
+    with open(f'{folder()}/../KIT-ID', encoding='utf-8') as it:
+        return it.read().strip()
+
+
+def load():
+    """The kit's rt, and its module that reads functions from the tokens of a crate."""
+    return module(folder(), 'rt', 'rt_of_kit'), module(folder(), 'rt-plant-bodies', 'bodies_of_kit')
+
+
+def passed_commit():
+    """The file that notes the last commit which the whole gate passed on this machine, and the last line of that gate."""
+    cache = os.environ.get('XDG_CACHE_HOME') or os.path.join(os.path.expanduser('~'), '.cache')
+    return f'{cache}/waveplan/passed'
+
+
+def top():
+    """The top of this repository."""
+    return os.path.dirname(os.path.dirname(os.path.dirname(os.path.realpath(__file__))))
+
+
+@contextlib.contextmanager
+def room_of_copy():
+    """Gives the folder for a copy of the repository: that which the checks of one gate share, or one of its own."""
+    if os.environ.get(SHARED):
+        yield os.environ[SHARED]
+    else:
+        with tempfile.TemporaryDirectory(prefix=f'rt-copy-{os.getpid()}-') as room:
+            yield room
+
+
+@contextlib.contextmanager
+def copied(rt):
+    """Gives the crates of a copy of this repository, lowest first, and what rt ci has kept of them. The copy is the current folder meanwhile."""
+    here = os.getcwd()
+    with room_of_copy() as room:
+        if not os.path.isdir(f'{room}/repository'):
+            rt.copy_crates(top(), f'{room}/repository')
+            # (it is the top of a repository)
+            os.mkdir(f'{room}/repository/.git')
+        os.chdir(f'{room}/repository')
+        try:
+            rt.Crate.cuts_libraries = True
+            rt.Crate.allowed = rt.handles_of(os.getcwd())
+            rt.rtlib.guarded()
+            crates = rt.crates_of(os.getcwd())
+            yield crates, rt.Kept(crates)
+        finally:
+            os.chdir(here)
+
+
+def take(kept, crate):
+    """Puts what `rt ci` has proved of the crate into the copy's out/, where an earlier check of the gate hasn't, and returns whether it is there."""
+    key, taken = kept.key(crate), f'{crate.folder}/out/taken'
+    if os.path.isfile(taken):
+        with open(taken, encoding='utf-8') as it:
+            return it.read() == key
+    os.makedirs(f'{crate.folder}/out', exist_ok=True)
+    if kept.give(crate, False, key):
+        with open(taken, 'w', encoding='utf-8') as it:
+            it.write(key)
+        return True
+    return False
+
+
+def take_library(rt, kept, crate, jobs):
+    """Puts the crate's library, as rt ci has proved it of these files, into the copy's out/. Where rt ci has kept none it is proved here."""
+    if not take(kept, crate):
+        if os.environ.get(SHARED):
+            raise NotProved(crate.name)
+        print(f'{crate.name}: proved first, since rt ci has kept no library of these files', flush=True)
+        with tempfile.TemporaryFile('w+', errors='replace') as crate.out:
+            status = crate.ci(['--jobs', str(jobs)], False)
+            crate.out.seek(0)
+            said = crate.out.read()
+        crate.out = sys.stdout
+        if status:
+            raise Missing(f'{crate.name} is not proved:\n{said[-2000:]}')
+    kept.is_built(crate)
+
+
+def take_libraries(rt, kept, crates):
+    """Puts the library of each of these crates, which are listed lowest first, into the copy's out/. Returns the names of those that aren't proved,
+    which there are only within a gate, where `rt ci` has told of them."""
+    lacking = []
+    for it in crates:
+        try:
+            if not {low.name for low in it.below()} & {*lacking}:
+                take_library(rt, kept, it, min(4, rt.processors()))
+                continue
+        except NotProved:
+            pass
+        lacking.append(it.name)
+    return lacking
+
+
+def judged(crates, lacking):
+    """Those of the crates that stand on nothing which isn't proved; the others are told."""
+    left = [it for it in crates if {it.name, *[low.name for low in it.below()]} & {*lacking}]
+    for it in left:
+        print(f'{it.name}: left out, since it or what it stands on is not proved', flush=True)
+    return [it for it in crates if it not in left]
