@@ -7,7 +7,7 @@ import sys
 from collections import namedtuple
 from pathlib import Path
 
-REPOSITORY = Path(__file__).resolve().parent.parent
+REPOSITORY = Path(__file__).resolve().parent.parent.parent
 CASES = REPOSITORY / "crates" / "wp_cases" / "data"
 EXAMPLES = REPOSITORY / "examples"
 
