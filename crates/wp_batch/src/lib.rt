@@ -29,13 +29,12 @@ mod wave;
 
 pub use batching::Batching;
 pub use duals::{GREATEST_DUAL, OrderDuals, SIXTIETHS, units_of};
+pub use lengths::Later;
 pub use marks::Marks;
 pub use merge::{improved, joined, merged_start, start_after};
 pub use paired::{DualWave, PairedWave};
+pub use places::{Part, Places, Span};
 pub use reach::{is_later, reach_of, take_best};
 pub use shares::{share_of, shares_of};
 pub use sums::{sum_of, total_of};
 pub use wave::Wave;
-
-#[cfg(test)]
-mod tests;

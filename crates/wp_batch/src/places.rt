@@ -1,4 +1,4 @@
-ghost use Rattle.std.specs.Prelude.{◌≡◌, ◌-◌, ◌<◌, ◌≤◌, ◌^◌, ◌↔◌, IsSome, length};
+ghost use Rattle.std.specs.Prelude.{◌≡◌, ◌+◌, ◌-◌, ◌<◌, ◌≤◌, ◌^◌, ◌↔◌, IfSome, IsNone, IsSome, IsTrue, length};
 
 use wp_pairs::Batch;
 
@@ -139,12 +139,17 @@ impl Places {
 
 impl Part<'_> {
     /// The first place of a span, counted from where the part begins. None comes where it lies before the part.
-    pub fn place_of(&self, span: Span) -> Option<u64> {
+    pub fn place_of(&self, span: Span) -> Option<u64>
+        ensures some { IfSome result (λ place. self.now.start + place ≡ span.first) }
+        ensures none { IsNone result ↔ span.first < self.now.start }
+    {
         span.first.checked_sub(self.start)
     }
 
     /// Whether the part, with so many places, has one of a span.
-    pub fn meets(&self, span: Span, count: usize) -> bool {
+    pub fn meets(&self, span: Span, count: usize) -> bool
+        ensures { self.now.start + count < 2 ^ 64 → (IsTrue result ↔ ((self.now.start ≤ span.last) × (span.first < self.now.start + count))) }
+    {
         self.start <= span.last && span.first < self.start.saturating_add(count as u64)
     }
 }

@@ -8,7 +8,7 @@ use wp_model::Memory;
 
 /// Why a search ends without a narrow bracket.
 #[derive(Clone, Copy)]
-pub(crate) enum Halt {
+pub enum Halt {
     /// Memory is wanting.
     Memory,
     /// The state with which it ends.

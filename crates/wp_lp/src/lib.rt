@@ -14,7 +14,6 @@ mod trim;
 mod whole;
 
 pub use bracket::root_pair;
+pub use halt::Halt;
 pub use root::{Root, RootState};
-
-#[cfg(test)]
-mod tests;
+pub use round::{scalable, solved};

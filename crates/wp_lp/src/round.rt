@@ -25,8 +25,8 @@ const MOST_TURNS: u64 = 100_000;
 /// A number above all by which a denominator is scaled in a bracket.
 const SCALE: i128 = 4_398_046_511_104;
 
-// That a denominator times 2 ^ 42 stays within an `i128`. An `Err` names the two.
-pub(crate) fn scalable(denominator: i128) -> Result<(), Halt>
+/// That a denominator times 2 ^ 42 stays within an `i128`. Else the state of an `Err` names the two.
+pub fn scalable(denominator: i128) -> Result<(), Halt>
     ensures small { IfOk result (λ _. denominator <ℤ pos (2 ^ 86)) }
     ensures wide { IfErr result (IsUnscalable denominator) }
 {
@@ -39,8 +39,9 @@ pub(crate) fn scalable(denominator: i128) -> Result<(), Halt>
     }
 }
 
-// A pool's solution whose denominator times 2 ^ 42 stays within an `i128`.
-pub(crate) fn solved(alloc: Global, pool: &Pool) -> Result<Pair, Halt>
+/// A pool's solution whose denominator times 2 ^ 42 stays within an `i128`. An `Err` comes where the pool needs more pivots than it is given, where
+/// numbers leave an `i128`, or where memory is wanting.
+pub fn solved(alloc: Global, pool: &Pool) -> Result<Pair, Halt>
     ensures answer { IfOk result (λ pair. IsAnswer pool.now pair.weights.items pair.duals.items pair.denominator) }
     ensures small { IfOk result (λ pair. pair.denominator <ℤ pos (2 ^ 86)) }
     ensures halt { IfErr result (IsPoolHalt pool.now) }

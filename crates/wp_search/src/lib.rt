@@ -11,8 +11,8 @@ mod search;
 mod turn;
 mod whole;
 
+pub use branch::{Branch, Cut};
+pub use cost::cost_of;
+pub use listing::list_nodes;
 pub use plan::{Planned, State};
 pub use planning::plan_wave;
-
-#[cfg(test)]
-mod tests;

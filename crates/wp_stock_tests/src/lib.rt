@@ -1,4 +1,4 @@
-//! Tests of the stock book, of allotment and of the machine, by their public calls alone.
+//! Tests of the stock book, of allotment, of the machine, and of the planner for waves that never go out, by their public calls alone.
 //!
 //! That waves hold what the rules say is shown by cases of whole runs. Here stands what no run tells: calls that the program
 //! makes otherwise or not at all, as a hold of no units or wants beside an excepted row, and what the calls give back before it
@@ -15,3 +15,5 @@ mod carts;
 mod given;
 #[cfg(test)]
 mod machine;
+#[cfg(test)]
+mod planner;

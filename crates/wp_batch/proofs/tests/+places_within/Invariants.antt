@@ -1,4 +1,0 @@
-use Rattle.wp_batch.proofs.tests.+places_within.Given as goal
-
-abbrev pub decreases-places_within : goal.decreases-places_within
-decreases-places_within l = l.later.most

@@ -1,4 +1,0 @@
-use Rattle.wp_batch.proofs.tests.+visited_places.Given as goal
-
-abbrev pub decreases-visited_places : goal.decreases-visited_places
-decreases-visited_places l = l.later.most

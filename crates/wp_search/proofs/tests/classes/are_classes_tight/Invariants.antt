@@ -1,6 +1,0 @@
-use Rattle.std.proofs.Common.{◌<◌, ℕ, List}
-use Rattle.wp_batch.specs.Duals.{IsTightFor}
-use Rattle.wp_search.proofs.tests.classes.are_classes_tight.Given as goal
-
-abbrev pub invariant-loop-order : goal.invariant-loop-order
-invariant-loop-order l = (lower : ℕ) → lower < l.order → (batch : List ℕ) × IsTightFor l.given.wave.now l.given.pairs.now l.given.duals.now lower batch

@@ -1,2 +1,0 @@
-mod classes;
-mod deep;
