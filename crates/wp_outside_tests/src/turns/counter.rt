@@ -1,5 +1,5 @@
 ghost use Rattle.std.specs.Prelude.{◌≡◌, ◌≤◌, ℕ, List, length, IfOk, []};
-ghost use Rattle.wp_base_tests.specs.declared.turns.counter.Added.{Added};
+ghost use Rattle.wp_outside_tests.specs.declared.turns.counter.Added.{Added};
 
 use std::alloc::Global;
 use std::marker::Model;
