@@ -1,14 +1,23 @@
-"""What the scripts of the gate take of the kit: its own modules, and the libraries that `rt ci` has proved."""
+"""What the scripts of the gate take of the kit: its own modules, the libraries that `rt ci` has proved, and the sentences of its prover.
+
+All that is tied to one kit stands here. When the kit changes, look at: IDENTITY; `load`, which takes `rt` and `rt-plant-bodies` as modules; what is used
+of them (`crates_of`, `copy_crates`, `Kept.give` and `Kept.key`, `Crate.words`, `must_fail`, `in_lanes`, `need`, `Source`); and the prover's sentences
+below. `tools/refuse --unedited` over all crates and `tools/tests/run -k test_gate` show whether they still hold.
+"""
 import contextlib
 import importlib.machinery
 import importlib.util
 import os
+import re
 import shutil
 import sys
 import tempfile
 
 sys.dont_write_bytecode = True
 
+
+# The kit whose sentences stand below.
+IDENTITY = 'rattle-kit-13f logic dac8208d650f15bf'
 
 # The folder of the copy of the repository that all checks of one gate share, which the first of them makes.
 SHARED = 'WAVEPLAN_GATE_COPY'
@@ -47,6 +56,30 @@ def identity():
 def load():
     """The kit's rt, and its module that reads functions from the tokens of a crate."""
     return module(folder(), 'rt', 'rt_of_kit'), module(folder(), 'rt-plant-bodies', 'bodies_of_kit')
+
+
+def has_ended(said):
+    """Whether the prover came to its end, and didn't stop early."""
+    return bool(re.search(r'^(only|holes)=', said, re.M))
+
+
+def lines_named(said, pattern):
+    """The prover's lines of the functions whose paths have this pattern: the path, and what is said of it."""
+    return re.findall(rf'^fn ({pattern}): (.*)', said, re.M)
+
+
+def is_unproved(line):
+    return line.startswith(('not proved', 'no proof'))
+
+
+def lacks_a_goal(line):
+    """Whether a function isn't proved since a goal of its own wasn't found."""
+    return line.startswith('no proof') and '`search` did not prove' in line
+
+
+def refused_declarations(line):
+    """The declarations because of which a function isn't proved, but for those of what it calls."""
+    return re.findall(r'`([^`]+)`', line.partition('it calls')[0]) if line.startswith('not proved') else []
 
 
 def passed_commit():
