@@ -1,30 +1,29 @@
 //! Where all pairs of orders are decided, the classes are the batches. A search comes there only where a node's linear program has no
 //! answer.
-ghost use Rattle.std.specs.Prelude.{◌≡◌, ◌<◌, ℕ, List, All, IfSome, IsTrue, length};
-ghost use Rattle.wp_model.specs.Warehouse.{IsSlot};
+ghost use Rattle.std.specs.Prelude.{◌≡◌, ℕ, List, IfSome, IsTrue, length};
 ghost use Rattle.wp_pairs.specs.Permitted.{AllDecided};
 ghost use Rattle.wp_batch.specs.Batchings.{IsBatching};
 ghost use Rattle.wp_batch.specs.Duals.{AreTight, IsTightFor};
 
 use std::alloc::Global;
 use wp_batch::{Batching, DualWave, OrderDuals, SIXTIETHS, Wave};
-use wp_graph::{Layout, Picks, Point};
 use wp_node::class_batching;
-use wp_pairs::{Batch, Capacity, Pairs};
+use wp_pairs::{Capacity, Pairs};
+use wp_samples::{Slots, are_exactly, wave_of};
 use wp_search::cost_of;
 
 /// One order.
-const ONE: &[(u32, u32)] = &[(2, 2)];
+const ONE: &[Slots] = &[&[(2, 2)]];
 
 /// Three orders with a slot each.
-const APART: &[(u32, u32)] = &[(1, 4), (2, 4), (3, 1)];
+const APART: &[Slots] = &[&[(1, 4)], &[(2, 4)], &[(3, 1)]];
 
 /// Three orders at one slot.
-const SAME: &[(u32, u32)] = &[(3, 4), (3, 4), (3, 4)];
+const SAME: &[Slots] = &[&[(3, 4)], &[(3, 4)], &[(3, 4)]];
 
 /// Where the orders of a wave pick, a capacity, for each undecided pair in turn whether it goes together, and tight duals; the classes and their cost.
 struct Classes {
-    slots: &'static [(u32, u32)],
+    orders: &'static [Slots],
     capacity: u32,
     together: &'static [bool],
     duals: &'static [u64],
@@ -34,7 +33,7 @@ struct Classes {
 
 const CLASSES: &[Classes] = &[
     Classes {
-        slots: ONE,
+        orders: ONE,
         capacity: 1,
         together: &[],
         duals: &[960],
@@ -42,7 +41,7 @@ const CLASSES: &[Classes] = &[
         cost: 16,
     },
     Classes {
-        slots: APART,
+        orders: APART,
         capacity: 1,
         together: &[false, false, false],
         duals: &[840, 1440, 1320],
@@ -50,7 +49,7 @@ const CLASSES: &[Classes] = &[
         cost: 60,
     },
     Classes {
-        slots: APART,
+        orders: APART,
         capacity: 2,
         together: &[true, false],
         duals: &[600, 960, 1320],
@@ -58,7 +57,7 @@ const CLASSES: &[Classes] = &[
         cost: 48,
     },
     Classes {
-        slots: APART,
+        orders: APART,
         capacity: 2,
         together: &[false, true],
         duals: &[2160, 1440, 0],
@@ -66,7 +65,7 @@ const CLASSES: &[Classes] = &[
         cost: 60,
     },
     Classes {
-        slots: SAME,
+        orders: SAME,
         capacity: 3,
         together: &[true, true],
         duals: &[0, 2000, 40],
@@ -74,71 +73,6 @@ const CLASSES: &[Classes] = &[
         cost: 34,
     },
 ];
-
-/// A point, where it is a slot of the layout.
-fn slot(layout: &Layout, at: (u32, u32)) -> Option<Point>
-    ensures { IfSome result (IsSlot layout.now) }
-{
-    let (aisle, slot) = at;
-    let within = 1 <= aisle && aisle <= layout.aisles() && 1 <= slot && slot <= layout.slots();
-    within.then_some(Point { aisle, slot })
-}
-
-/// What an order picks that picks at a slot.
-fn order_of(layout: &Layout, at: (u32, u32)) -> Option<Picks>
-    ensures layout { IfSome result (λ picks. picks.layout ≡ layout.now) }
-    ensures filled { IfSome result (λ picks. 0 < length picks.points) }
-{
-    let point = slot(layout, at)?;
-    let mut picks = Picks::new(layout);
-    picks.add(point);
-    picks.has(point).then_some(picks)
-}
-
-/// What orders pick that pick at a slot each.
-fn orders_of(alloc: Global, layout: &Layout, slots: &[(u32, u32)]) -> Option<Vec<Picks>>
-    ensures layout { IfSome result (λ picked. All (λ picks. picks.layout ≡ layout.now) picked.items) }
-    ensures filled { IfSome result (λ picked. All (λ picks. 0 < length picks.points) picked.items) }
-{
-    let mut all = Vec::new(alloc);
-    for at in slots {
-        all.push(order_of(layout, *at)?).ok()?;
-    }
-    Some(all)
-}
-
-/// The wave of orders that pick at a slot each, in a layout of three aisles of four slots.
-fn wave_of(alloc: Global, slots: &[(u32, u32)]) -> Option<Wave> {
-    let layout = Layout::new(3, 4, 2, 1, 5, 1)?;
-    let picks = orders_of(alloc, &layout, slots)?;
-    if picks.is_empty() || picks.len() > 64 {
-        return None;
-    }
-    Wave::of(alloc, layout, &picks).ok()
-}
-
-/// Whether a batch has exactly these orders.
-fn has_exactly(batch: Batch, orders: &[u32]) -> bool {
-    for order in orders {
-        if !batch.has(*order) {
-            return false;
-        }
-    }
-    batch.len() as usize == orders.len()
-}
-
-/// Whether the batches are these, in this order.
-fn are_exactly(batching: &Batching, batches: &[&[u32]]) -> bool {
-    if batching.len() as usize != batches.len() {
-        return false;
-    }
-    for (batch, orders) in batching.as_slice().iter().zip(batches) {
-        if !has_exactly(*batch, orders) {
-            return false;
-        }
-    }
-    true
-}
 
 /// The pairs of a wave's orders, each undecided one in turn put together or apart, if all are decided then.
 fn decided_pairs(wave: &Wave, capacity: Capacity, together: &[bool]) -> Option<Pairs>
@@ -209,7 +143,7 @@ fn classes_are_as(alloc: Global, case: &Classes) -> Option<bool> {
     let capacity = Capacity {
         most: case.capacity,
     };
-    let wave = wave_of(alloc, case.slots)?;
+    let wave = wave_of(alloc, case.orders, 1)?;
     let classes = classes_of(alloc, &wave, capacity, case)?;
     let cost = cost_of(&wave, capacity.most, &classes);
     Some(cost == case.cost && are_exactly(&classes, case.batches))

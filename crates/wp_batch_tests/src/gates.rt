@@ -1,63 +1,19 @@
 //! Gates that hold workers, and that count them.
 
-use std::sync::atomic::{AtomicBool, AtomicU32, Ordering};
-use std::thread::yield_now;
+use std::sync::atomic::{AtomicU32, Ordering};
 use wp_outside::{Gate, Moment};
+use wp_samples::Meeting;
 
-/// How often a worker that waits looks for the other, where both are to come.
-pub const MOST_LOOKS: u32 = 20_000_000;
-
-/// Where the workers 1 and 2 wait for each other, until both have come, or for so many looks.
+/// A gate at which the workers 1 and 2 wait for each other before their first part.
 #[derive(Drop)]
-pub struct Meeting {
-    most_looks: u32,
-    one_has_come: AtomicBool,
-    two_has_come: AtomicBool,
-    have_met: AtomicBool,
+pub struct WorkersMeet {
+    pub meeting: Meeting,
 }
 
-impl Meeting {
-    /// Nobody has come yet.
-    pub fn new(most_looks: u32) -> Meeting {
-        Meeting {
-            most_looks,
-            one_has_come: AtomicBool::new(false),
-            two_has_come: AtomicBool::new(false),
-            have_met: AtomicBool::new(false),
-        }
-    }
-
-    /// Whether one of them began to wait before the other had come, and saw it come.
-    pub fn have_met(&self) -> bool {
-        self.have_met.load(Ordering::SeqCst)
-    }
-
-    fn come(&self, own: &AtomicBool, other: &AtomicBool) {
-        let waits = !other.load(Ordering::SeqCst);
-        own.store(true, Ordering::SeqCst);
-        if waits && comes(other, self.most_looks) {
-            self.have_met.store(true, Ordering::SeqCst);
-        }
-    }
-}
-
-/// Whether one comes while another looks for it so often.
-fn comes(other: &AtomicBool, most_looks: u32) -> bool {
-    for _ in 0..most_looks {
-        if other.load(Ordering::SeqCst) {
-            return true;
-        }
-        yield_now();
-    }
-    false
-}
-
-impl Gate for Meeting {
+impl Gate for WorkersMeet {
     fn pass(&self, number: u32, at: Moment) {
-        match (number, at) {
-            (1, Moment::BeforePart) => self.come(&self.one_has_come, &self.two_has_come),
-            (2, Moment::BeforePart) => self.come(&self.two_has_come, &self.one_has_come),
-            _ => {}
+        if let Moment::BeforePart = at {
+            self.meeting.come(number);
         }
     }
 }

@@ -1,11 +1,11 @@
 //! Workers price beside each other while a wave is planned.
 
-use crate::gates::{MOST_LOOKS, Meeting};
+use crate::gates::WorkersMeet;
 use crate::search::APART;
 use std::alloc::Global;
 use std::thread::Threads;
 use wp_outside::Gate;
-use wp_samples::wave_of;
+use wp_samples::{MOST_LOOKS, Meeting, wave_of};
 use wp_search::{Planned, State, plan_wave};
 
 /// The plan of the orders with a slot each, priced by two workers who pass this gate.
@@ -20,9 +20,11 @@ fn is_cheapest(planned: &Planned) -> bool {
 }
 
 fn have_met<R: Threads + Sync>(rt: &R, alloc: Global) -> Option<bool> {
-    let gate = Meeting::new(MOST_LOOKS);
+    let gate = WorkersMeet {
+        meeting: Meeting::new(MOST_LOOKS),
+    };
     let planned = planned(rt, alloc, &gate)?;
-    Some(is_cheapest(&planned) && gate.have_met())
+    Some(is_cheapest(&planned) && gate.meeting.have_met())
 }
 
 #[test]

@@ -1,13 +1,13 @@
 //! Workers pass the gate before each first item, and price beside each other.
 
-use crate::gates::{Counting, Counts, MOST_LOOKS, Meeting};
+use crate::gates::{Counting, Counts, WorkersMeet};
 use crate::many::MANY;
 use crate::price::{FREE, Given, ONE_BY_ONE, Question, TOGETHER, asked, duals_of};
 use crate::slow::SIX;
 use std::alloc::Global;
 use std::thread::Threads;
 use wp_outside::Gate;
-use wp_samples::{pairs_for, wave_of};
+use wp_samples::{MOST_LOOKS, Meeting, pairs_for, wave_of};
 
 /// What is priced, through which order, and by how many workers.
 type Work = (Given, Option<u32>, u32);
@@ -70,9 +70,11 @@ fn each_first_item_is_priced_once_and_the_gate_is_passed_before(rt: HostRuntime)
 
 /// Whether two workers meet who look for each other so often.
 fn have_met<R: Threads + Sync>(rt: &R, alloc: Global, work: Work, most_looks: u32) -> Option<bool> {
-    let gate = Meeting::new(most_looks);
+    let gate = WorkersMeet {
+        meeting: Meeting::new(most_looks),
+    };
     let is_priced = is_priced(rt, alloc, work, &gate)?;
-    Some(is_priced && gate.have_met())
+    Some(is_priced && gate.meeting.have_met())
 }
 
 /// What is priced by several workers who meet.

@@ -2,10 +2,10 @@
 
 use crate::counting::Counting;
 use crate::lines::has_line;
-use crate::meeting::Meeting;
 use std::alloc::Global;
 use wp_model::Memory;
 use wp_outside::{Gate, Moment};
+use wp_samples::{MOST_LOOKS, Meeting};
 
 /// The gate that a case's desks and workers pass.
 #[derive(Drop)]
@@ -24,9 +24,9 @@ impl CaseGate {
     /// The gate that the lines of a case ask for.
     pub fn of(lines: &str) -> CaseGate {
         if has_line(lines, "desks meet") {
-            CaseGate::Desks(Meeting::new())
+            CaseGate::Desks(Meeting::new(MOST_LOOKS))
         } else if has_line(lines, "workers meet") {
-            CaseGate::Workers(Meeting::new())
+            CaseGate::Workers(Meeting::new(MOST_LOOKS))
         } else if has_line(lines, "passes are counted") {
             CaseGate::Counting(Counting::new())
         } else {
@@ -39,10 +39,19 @@ impl CaseGate {
         match self {
             CaseGate::Open => Ok(String::new(alloc)),
             CaseGate::Desks(meeting) | CaseGate::Workers(meeting) => {
-                Ok(String::from_str(alloc, meeting.told())?)
+                Ok(String::from_str(alloc, told_of(meeting))?)
             }
             CaseGate::Counting(counting) => counting.told(alloc),
         }
+    }
+}
+
+/// A line that tells whether the two have met.
+fn told_of(meeting: &Meeting) -> &'static str {
+    if meeting.have_met() {
+        "met\n"
+    } else {
+        "not met\n"
     }
 }
 

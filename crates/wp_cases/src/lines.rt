@@ -6,7 +6,7 @@ use std::alloc::Global;
 use wp_model::Memory;
 
 /// How each line of a case begins, where it isn't empty.
-const BEGINNINGS: [&str; 27] = [
+const BEGINNINGS: [&str; 24] = [
     "#",
     "words ",
     "file ",
@@ -20,9 +20,6 @@ const BEGINNINGS: [&str; 27] = [
     "desks meet",
     "workers meet",
     "passes are counted",
-    "plans meet",
-    "no memory for the plan of W1",
-    "after a day of ",
     "runs ",
     "audit ",
     "certificates",

@@ -12,10 +12,7 @@ mod host;
 mod judged;
 mod judging;
 mod lines;
-mod meeting;
 mod narrow;
-mod planners;
-mod scripts;
 mod sheets;
 mod stores;
 
@@ -28,8 +25,6 @@ use crate::judged::judge_runs;
 use crate::judging::own_status;
 use crate::lines::{has_line, rest_of, sink_of, test_lines, words_of};
 use crate::narrow::NarrowSink;
-use crate::planners::CasePlanner;
-use crate::scripts::run_planner;
 use crate::stores::{disk_of, tell_store};
 use std::alloc::Global;
 use std::process::ExitCode;
@@ -161,19 +156,6 @@ fn run_over<R: Threads + Wait + Sync, K: Sink>(
     }
 }
 
-/// Runs a case over its files, by the program's planner or by one of its own.
-fn run_by<R: Threads + Wait + Sync, K: Sink>(
-    host: &Host<'_, R>,
-    case: (&str, &str),
-    files: &mut MemFiles,
-    out: &mut K,
-) -> Result<(), CaseFault> {
-    match CasePlanner::of(case.1) {
-        Some(planner) => run_planner(host, case, files, &planner, out),
-        None => run_over(host, case, files, out),
-    }
-}
-
 fn run_case<R: Threads + Wait + Sync, F: Files, K: Sink>(
     host: &Host<'_, R>,
     case: &str,
@@ -188,7 +170,7 @@ fn run_case<R: Threads + Wait + Sync, F: Files, K: Sink>(
     let mut files = files_of(host.alloc, lines, common, source)?;
     match rest_of(lines, "runs ") {
         Some(runs) => judge_runs(host, (name, lines), &mut files, runs, out),
-        None => run_by(host, (name, lines), &mut files, out),
+        None => run_over(host, (name, lines), &mut files, out),
     }
 }
 

@@ -1,9 +1,10 @@
-//! What tests are made with: small layouts, picks, waves, pairs of orders, batches, and draws of further ones.
+//! What tests are made with: small layouts, picks, waves, pairs of orders, batches, draws of further ones, and a place where two threads meet.
 #![tactic(auto)]
 
 mod batches;
 mod draws;
 mod layouts;
+mod meeting;
 mod pairing;
 mod picking;
 mod waves;
@@ -11,6 +12,7 @@ mod waves;
 pub use batches::{are_exactly, batch_below, batch_of, has_exactly};
 pub use draws::{Draws, next_state};
 pub use layouts::{Numbers, crossed_layout, layout_of, small_layout};
+pub use meeting::{MOST_LOOKS, Meeting};
 pub use pairing::{PairRow, pairs_for, pairs_of};
 pub use picking::{At, add_slot, all_picked, picked, slot_of};
 pub use waves::{Slots, cart_wave_of, made_wave, order_of, orders_of, wave_in, wave_of, wave_with};
