@@ -146,7 +146,8 @@ impl Gate for Passes {
     }
 }
 
-/// The threads of a day, and what its desks pass.
+/// The threads of a day, who plans its waves, and what its desks pass.
+#[derive(Drop)]
 struct Way<'a, R> {
     rt: &'a R,
     alloc: Global,
