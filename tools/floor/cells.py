@@ -66,9 +66,10 @@ def whole(text, decimal, least, most):
         mark = re.fullmatch(r'\d+[.,]\d+', digits) and not decimal
         hint = 'say --decimal . or --decimal , for the sign that stands before tenths' if mark else 'write digits alone'
         raise Unread('it is no whole number as it stands: %s' % hint)
-    if not least <= int(digits) <= most:
+    digits = digits.lstrip('0') or '0'
+    if len(digits) > len(str(most)) or not least <= int(digits) <= most:
         raise Unread('it is not within %d to %d: correct it, or divide it' % (least, most))
-    return str(int(digits))
+    return digits
 
 
 class Pattern:

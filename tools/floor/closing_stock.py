@@ -10,20 +10,20 @@ Nothing here is proved; the output that it reads is.
 Status: 0, or 2 where DAY is no output of a plan, with the reason on standard error.
 """
 
-import argparse
 import sys
+
+from endings import Words
 
 from .output import read_output
 
 
 def main(words):
-    known = argparse.ArgumentParser('closing-stock', usage=__doc__, add_help=False)
-    known.add_argument('--help', action='store_true')
+    known = Words('closing-stock')
     which = known.add_mutually_exclusive_group()
     which.add_argument('--on-hand', action='store_true')
     which.add_argument('--free', action='store_true')
     known.add_argument('day', nargs='?')
-    asked = known.parse_intermixed_args(words)
+    asked = known.read(words)
     if asked.help or not asked.day or not (asked.on_hand or asked.free):
         print(__doc__, end='', file=sys.stdout if asked.help else sys.stderr)
         return 0 if asked.help else 2

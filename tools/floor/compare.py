@@ -10,6 +10,8 @@ Status: 0 where they differ in nothing of this, 1 where they do, 2 where one is 
 
 import sys
 
+from endings import Words
+
 from .output import read_output
 
 
@@ -119,14 +121,19 @@ def of_stock(left, right):
         yield 'the two stocks have other rows'
 
 
+def asked_words(words):
+    known = Words('compare')
+    known.add_argument('day', nargs='?')
+    known.add_argument('other', nargs='?')
+    return known.read(words)
+
+
 def main(words):
-    if words == ['--help']:
-        print(__doc__, end='')
-        return 0
-    if len(words) != 2:
-        print(__doc__, end='', file=sys.stderr)
-        return 2
-    left, right = read_output(words[0]), read_output(words[1])
+    asked = asked_words(words)
+    if asked.help or not asked.other:
+        print(__doc__, end='', file=sys.stdout if asked.help else sys.stderr)
+        return 0 if asked.help else 2
+    left, right = read_output(asked.day), read_output(asked.other)
     found = [*of_replies(left, right), *of_waves(left, right), *of_told(left, right), *of_crew(left, right), *of_stock(left, right)]
     total = [sum(wave.cost for wave in day.waves) for day in (left, right)]
     if found:

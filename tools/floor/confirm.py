@@ -11,8 +11,9 @@ Nothing here is proved; the output that it reads is.
 Status: 0, or 2 where DAY is no output of a plan or the wave isn't there to be picked, with the reason on standard error.
 """
 
-import argparse
 import sys
+
+from endings import Words
 
 from .holding import still_held
 from .output import read_output, with_earlier
@@ -29,14 +30,13 @@ def records(held, wave, desk):
 
 
 def main(words):
-    known = argparse.ArgumentParser('confirm', usage=__doc__, add_help=False)
-    known.add_argument('--help', action='store_true')
+    known = Words('confirm')
     known.add_argument('--desk', type=int, choices=range(1, 9), default=1)
     known.add_argument('day', nargs='?')
     known.add_argument('wave', nargs='?')
     known.add_argument('batch', nargs='?', type=int)
     known.add_argument('--earlier', action='append', default=[])
-    asked = known.parse_intermixed_args(words)
+    asked = known.read(words)
     if asked.help or not asked.wave:
         print(__doc__, end='', file=sys.stdout if asked.help else sys.stderr)
         return 0 if asked.help else 2

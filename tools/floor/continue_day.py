@@ -12,18 +12,18 @@ it writes the commands of all runs: a plan with them and without the store, over
 Status: 0, or 2 where DAY is no output of a plan, with the reason on standard error.
 """
 
-import argparse
 import sys
+
+from endings import Words
 
 from .output import read_output
 
 
 def main(words):
-    known = argparse.ArgumentParser('continue', usage=__doc__, add_help=False)
-    known.add_argument('--help', action='store_true')
+    known = Words('continue')
     known.add_argument('--desk', type=int, choices=range(1, 9), default=1)
     known.add_argument('day', nargs='?')
-    asked = known.parse_intermixed_args(words)
+    asked = known.read(words)
     if asked.help or not asked.day:
         print(__doc__, end='', file=sys.stdout if asked.help else sys.stderr)
         return 0 if asked.help else 2

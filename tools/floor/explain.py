@@ -13,19 +13,29 @@ Status: 0 where nothing is refused, 1 where something is, which is explained, 2 
 
 import os
 import sys
-from pathlib import Path
 
 from opinion import answers, stores, tables
+from opinion.refusals import MOST_BYTES
 from opinion.words import FILES, NUMBERS, read_words
 
 from . import causes
 
 
 def bytes_of(name):
+    """The bytes of a file up to the first that is too many, None where it can't be read."""
     try:
-        return Path(name).read_bytes()
+        with open(name, 'rb') as it:
+            return it.read(MOST_BYTES + 1)
     except OSError:
         return None
+
+
+def names_in(folder):
+    """The names in a folder, none where it can't be read."""
+    try:
+        return os.listdir(folder)
+    except OSError:
+        return []
 
 
 def bytes_of_store():
@@ -88,7 +98,7 @@ class Explained:
         elif os.path.exists(path):
             self.cause('it may not be read', 'look at its owner and permissions: ls -l')
         else:
-            near = causes.closest(os.path.basename(path), os.listdir(os.path.dirname(path) or '.') if os.path.isdir(os.path.dirname(path) or '.') else [])
+            near = causes.closest(os.path.basename(path), names_in(os.path.dirname(path) or '.'))
             self.cause('there is no file of that name', 'look at the name%s' % (', perhaps %s' % near if near else ''))
 
     def of_words(self, why):
@@ -102,7 +112,7 @@ class Explained:
             self.say('option', '--' + name)
             return self.cause('it stands twice', 'give it once')
         if name in NUMBERS[mode] and self.why.text is not None:
-            self.say('option', '--%s %s' % (name, self.why.text))
+            self.say('option', '--%s %s' % (name, shown(self.why.text)))
             return self.cause('it is no whole number from %d to %d' % NUMBERS[mode][name], 'give it a number in its range')
         if name:
             self.say('option', '--' + name)
@@ -240,7 +250,8 @@ def main(words):
     if why is None:
         print('nothing in these words and files is refused')
         if read_words(words).numbers.get('store'):
-            print('where the run said `store fault`, the disk failed or is full: look at it, and run again')
+            print('where the run said `store fault`, the disk failed or is full: look at it; then a run with a desk file of the heading')
+            print('alone prints what is stored, and what is missing is given after it (docs/DAY.md)')
         return 0
     print(why.line)
     print('\n'.join(Explained(words, why).explain()))

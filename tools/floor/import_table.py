@@ -23,6 +23,8 @@ Status: 0; 1 where a cell can't be read; 2 where the file or the words can't be.
 import argparse
 import sys
 
+from endings import Words
+
 from . import sheet_files
 from .cells import Pattern, Unread, name, whole
 from .trouble import Trouble, read_bytes
@@ -150,8 +152,7 @@ def pairs(text):
 
 
 def asked_words(words):
-    known = argparse.ArgumentParser('import', usage=__doc__, add_help=False)
-    known.add_argument('--help', action='store_true')
+    known = Words('import')
     known.add_argument('--columns', type=pairs, default={})
     known.add_argument('--skip', type=int, default=0)
     known.add_argument('--skip-last', type=int, default=0)
@@ -160,9 +161,9 @@ def asked_words(words):
     known.add_argument('--decimal', choices=['.', ','])
     known.add_argument('--location', default='{aisle}-{slot}-{side}')
     known.add_argument('--sides', type=pairs, default={'L': 'L', 'R': 'R'})
-    known.add_argument('kind', nargs='?', choices=[*COLUMNS, None])
+    known.add_argument('kind', nargs='?', choices=[*COLUMNS])
     known.add_argument('file', nargs='?')
-    return known.parse_intermixed_args(words)
+    return known.read(words)
 
 
 def table_of(asked):

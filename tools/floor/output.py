@@ -1,6 +1,8 @@
-"""What a plan printed, part by part. Lines of kinds that aren't known here are passed over, so that later kinds break nothing. Of a day that goes on from
-a store the journal and the stock are of the whole history, and sheets, refills and crew of the last run alone."""
+"""What a plan printed, part by part. Lines of kinds that aren't known here are passed over, so that later kinds break
+nothing. Of a day that goes on from a store the journal and the stock are of the whole history, and sheets, refills and
+crew of the last run alone."""
 
+import re
 from collections import namedtuple
 
 from .trouble import Trouble, read_bytes
@@ -13,6 +15,34 @@ Rule = namedtuple('Rule', 'name length surplus')  # what a usual rule walks past
 Root = namedtuple('Root', 'low high over state')  # the bracket of a wave's linear bound: both sides are over one number
 Picker = namedtuple('Picker', 'number load batches')
 Crew = namedtuple('Crew', 'longest least pickers')
+
+NUMBER, LOCATION, REST = r'\d{1,40}', r'\d{1,5}-\d{1,5}-[LR]', r'(?: \S+)*'
+STOCK = re.compile(' '.join((LOCATION, r'\S+', NUMBER, NUMBER, NUMBER)))
+
+# What follows the first word of a line of a known kind.
+FORMS = {
+    'submit': r' \S+' + REST, 'allot': r' \S+', 'release': r' \S+', 'cancel': r' \S+',
+    'pick': r' \S+ \S+ %s %s' % (LOCATION, NUMBER), 'missing': r' \S+ \S+ %s %s' % (LOCATION, NUMBER),
+    'receive': r' %s \S+ %s' % (LOCATION, NUMBER),
+}
+REPLIES = {
+    'refilled': ' ' + NUMBER, 'lost': r' \S+ ' + NUMBER,
+    'refused': r' short \S+ %s %s| (?!short )\S+%s' % (NUMBER, NUMBER, REST),
+}
+SHEET = {
+    'batch': r' %s length %s orders \S+%s' % (NUMBER, NUMBER, REST), 'tour': r'(?: \d{1,5}-\d{1,5})+',
+    'pick': r' %s \S+ %s \S+' % (LOCATION, NUMBER), 'rules': r'(?: \S+ %s %s)+' % (NUMBER, NUMBER),
+    'certificate': r' \S+', 'root': r' %s %s over [1-9]\d{0,39} \S+' % (NUMBER, NUMBER),
+}
+REFILLS = {'refill': r' %s \S+ \S+ %s %s' % (NUMBER, LOCATION, NUMBER)}
+PICKERS = {'picker': r' %s load %s batches%s' % (NUMBER, NUMBER, REST)}
+
+
+def test_form(forms, text):
+    """Fails where a line of a known kind has another form."""
+    word = text.split(' ')[0]
+    if word in forms and not re.fullmatch(forms[word], text[len(word):]):
+        raise ValueError
 
 
 class Batch:
@@ -99,7 +129,7 @@ def slot_of(location):
 def _facts(words):
     """The pairs of a name and a number at the beginning of some words, and the words behind them."""
     facts, place = {}, 0
-    while place + 1 < len(words) and words[place + 1].isdigit():
+    while place + 1 < len(words) and re.fullmatch(NUMBER, words[place + 1]):
         facts[words[place]] = int(words[place + 1])
         place += 2
     return facts, words[place:]
@@ -116,7 +146,7 @@ class _Reader:
         if self.part is None:
             self.outside(text, words)
         elif text == 'end %s' % self.part:
-            self.part = None
+            self.end()
         else:
             getattr(self, self.part)(text, words)
 
@@ -132,15 +162,24 @@ class _Reader:
             self.day.crew = Crew(facts['longest'], facts['least'], [])
             self.part = 'crew'
 
+    def end(self):
+        """Ends a part. A sheet has batches, each with a tour."""
+        if self.part == 'wave' and not all(batch.tour for batch in self.day.waves[-1].batches or [Batch(0, 0, [])]):
+            raise ValueError
+        self.part = None
+
     def journal(self, text, words):
         told, arrow, reply = text.partition(' -> ')
-        if not arrow:
-            raise ValueError
         number, desk, *command = told.split(' ')
+        if not arrow or not command:
+            raise ValueError
+        test_form(FORMS, ' '.join(command))
+        test_form(REPLIES, reply)
         self.day.entries.append(Entry(int(number), int(desk), command, reply.split(' ')))
 
     def wave(self, text, words):
         wave = self.day.waves[-1]
+        test_form(SHEET, text)
         if words[0] == 'batch':
             wave.batches.append(Batch(int(words[1]), int(words[3]), words[5:]))
         elif words[0] == 'tour':
@@ -155,14 +194,18 @@ class _Reader:
             wave.root = Root(int(words[1]), int(words[2]), int(words[4]), words[5])
 
     def refills(self, text, words):
+        test_form(REFILLS, text)
         if words[0] == 'refill':
             self.day.refills.append(Refill(int(words[1]), words[2], words[3], words[4], int(words[5])))
 
     def crew(self, text, words):
+        test_form(PICKERS, text)
         if words[0] == 'picker':
             self.day.crew.pickers.append(Picker(int(words[1]), int(words[3]), words[5:]))
 
     def stock(self, text, words):
+        if not STOCK.match(text):
+            raise ValueError
         self.day.rows.append(Row(words[0], words[1], *map(int, words[2:5])))
 
 

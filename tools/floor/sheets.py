@@ -14,8 +14,9 @@ kinds that this script doesn't know are passed over. Nothing here is proved; the
 Status: 0, or 2 where DAY is no output of a plan or FILE isn't its layout, with the reason on standard error.
 """
 
-import argparse
 import sys
+
+from endings import Words
 
 from . import drawing, pages, warehouse
 from .output import read_output
@@ -23,12 +24,11 @@ from .trouble import Trouble
 
 
 def asked_words(words):
-    known = argparse.ArgumentParser('sheets', usage=__doc__, add_help=False)
-    known.add_argument('--help', action='store_true')
+    known = Words('sheets')
     known.add_argument('--layout')
     known.add_argument('--drawing', nargs=2)
     known.add_argument('day', nargs='?')
-    return known.parse_intermixed_args(words)
+    return known.read(words)
 
 
 def batch_of(day, name, number):

@@ -8,15 +8,16 @@ they are needed, line ends as CR LF. In waves.csv the bracket of the linear boun
 picker, are empty where the day doesn't tell them, and pickers.csv has its heading alone. Of a day that goes on from a store the journal and the stock are
 of all runs, and the other tables of the last one. Nothing here is proved; the output that it reads is.
 
-Status: 0, or 2 where DAY is no output of a plan or FOLDER can't be written, with the reason on standard error.
+Status: 0, or 2 where DAY is no output of a plan, or 4 where FOLDER can't be written, with the reason on standard error.
 """
 
 import csv
 import os
 import sys
 
+from endings import Unwritten, Words
+
 from .output import name_of, read_output
-from .trouble import Trouble
 
 FIELDS = {'pick': ('order', 'location', 'quantity'), 'missing': ('order', 'location', 'quantity'), 'receive': ('location', 'article', 'quantity')}
 
@@ -80,20 +81,25 @@ def stock(day):
 TABLES = {'journal': journal, 'waves': waves, 'batches': batches, 'picks': picks, 'refills': refills, 'pickers': pickers, 'stock': stock}
 
 
+def asked_words(words):
+    known = Words('to-csv')
+    known.add_argument('day', nargs='?')
+    known.add_argument('folder', nargs='?')
+    return known.read(words)
+
+
 def main(words):
-    if words == ['--help']:
-        print(__doc__, end='')
-        return 0
-    if len(words) != 2:
-        print(__doc__, end='', file=sys.stderr)
-        return 2
-    day = read_output(words[0])
+    asked = asked_words(words)
+    if asked.help or not asked.folder:
+        print(__doc__, end='', file=sys.stdout if asked.help else sys.stderr)
+        return 0 if asked.help else 2
+    day = read_output(asked.day)
     tables = {name: list(rows(day)) for name, rows in TABLES.items()}
     try:
-        os.makedirs(words[1], exist_ok=True)
+        os.makedirs(asked.folder, exist_ok=True)
         for name, rows in tables.items():
-            with open('%s/%s.csv' % (words[1], name), 'w', encoding='utf-8', newline='') as it:
+            with open('%s/%s.csv' % (asked.folder, name), 'w', encoding='utf-8', newline='') as it:
                 csv.writer(it).writerows(rows)
     except OSError as why:
-        raise Trouble('%s cannot be written: %s' % (words[1], why.strerror)) from None
+        raise Unwritten('%s cannot be written: %s' % (asked.folder, why.strerror)) from None
     return 0

@@ -13,6 +13,9 @@ Status: 0, or 2 where DAY is no output of a plan, with the reason on standard er
 import json
 import sys
 
+from endings import Trouble, Words
+from opinion import json_text
+
 from .output import read_output
 
 
@@ -27,10 +30,21 @@ def batch_of(batch):
     return {**found, 'rules': [rule._asdict() for rule in batch.rules]} if batch.rules else found
 
 
+def certificate_of(wave):
+    """The value of a wave's certificate, None where it has none."""
+    if not wave.certificate:
+        return None
+    try:
+        json_text.read(wave.certificate.encode())
+    except json_text.NotJson:
+        raise Trouble('the certificate of wave %s is no JSON' % wave.name) from None
+    return json.loads(wave.certificate)
+
+
 def wave_of(wave):
     found = {'wave': wave.name, 'entry': wave.entry, 'orders': wave.size, 'capacity': wave.capacity, 'cost': wave.cost, 'bound': wave.bound,
              'state': wave.state, 'cancelled_later': wave.cancelled, 'batches': [batch_of(batch) for batch in wave.batches],
-             'certificate': json.loads(wave.certificate) if wave.certificate else None}
+             'certificate': certificate_of(wave)}
     if wave.units is not None:
         found['units'] = wave.units
     return {**found, 'root': wave.root._asdict()} if wave.root else found
@@ -46,13 +60,17 @@ def object_of(day):
     return {**found, 'crew': crew_of(day.crew)} if day.crew else found
 
 
+def asked_words(words):
+    known = Words('to-json')
+    known.add_argument('day', nargs='?')
+    return known.read(words)
+
+
 def main(words):
-    if words == ['--help']:
-        print(__doc__, end='')
-        return 0
-    if len(words) != 1:
-        print(__doc__, end='', file=sys.stderr)
-        return 2
-    json.dump(object_of(read_output(words[0])), sys.stdout, separators=(',', ':'))
+    asked = asked_words(words)
+    if asked.help or not asked.day:
+        print(__doc__, end='', file=sys.stdout if asked.help else sys.stderr)
+        return 0 if asked.help else 2
+    json.dump(object_of(read_output(asked.day)), sys.stdout, separators=(',', ':'))
     print()
     return 0

@@ -45,7 +45,8 @@ def opening_of(files):
     numbers = files.job.numbers
     shown = {name: numbers.get(name, 0) for name in SHOWN_NUMBERS}
     stored = files.stored(stock, orders, scripts)
-    return days.Opening(layout, stock, orders, scripts, numbers['capacity'], numbers.get('units'), **shown, stored=stored)
+    return days.Opening(layout, stock, orders, scripts, numbers['capacity'], numbers.get('units'), **shown, stored=stored,
+                        budget=numbers['budget'])
 
 
 def check_of(files):
@@ -107,7 +108,7 @@ def _faults_of_plan(files, status, output):
 def _faults_of_make(job, status, output):
     if status != 0:
         return ['status %s and %r where a summary is due' % (status, output[:200])]
-    found = re.fullmatch(rb'(made [^\n]*)\n(commands [^\n]*)\ncost (\d+) bound (\d+) proven (\d+)\n', output)
+    found = re.fullmatch(rb'(made [^\n]*)\n(commands [^\n]*)\ncost (\d{1,40}) bound (\d{1,40}) proven (\d{1,40})\n', output)
     if not found:
         return ['no summary: %r' % output[:200]]
     return list(making.faults(job.numbers, [each.decode() for each in found.groups()[:2]], [int(each) for each in found.groups()[2:]]))

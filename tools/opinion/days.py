@@ -4,6 +4,7 @@ import re
 from collections import namedtuple
 
 from . import json_text, tours
+from .budgets import nodes_for
 from .certificates import Wave as CertifiedWave, bound_of, read_certificate
 from .crews import judge_crew
 from .journals import read_entry
@@ -14,10 +15,12 @@ from .stock_book import Book, command_text
 
 SMALL = 9  # so few slots that every order of them is tried
 COMPACT = re.compile(rb'[ \t\r\n]')
+TOO_LONG = re.compile(b'[0-9]{60}')  # longer than any number or name
 
-# What the files of a day say, and what its words do: the units of a cart may be None, and rules, pickers and root are 0 where nothing is told of them.
-# `stored` has the lines of the entries with which the day begins.
-Opening = namedtuple('Opening', 'layout stock orders scripts capacity units rules pickers root stored', defaults=(0, 0, 0, ()))
+# What the files of a day say, and what its words do: the units of a cart may be None, and rules, pickers and root are 0
+# where nothing is told of them. `stored` has the lines of the entries with which the day begins. A budget of None isn't told.
+Opening = namedtuple('Opening', 'layout stock orders scripts capacity units rules pickers root stored budget',
+                     defaults=(0, 0, 0, (), None))
 
 # A wave that went out: its name, the number of the entry, its orders, and what it holds then, as (row, order, units).
 Released = namedtuple('Released', 'name entry orders held')
@@ -46,10 +49,10 @@ class Lines:
         self.place += 1
         if self.place >= len(self.lines):
             self.fail('the output is cut off here')
-        try:
-            return self.lines[self.place - 1].decode('ascii')
-        except UnicodeDecodeError:
-            return self.fail('a byte that is no ASCII')
+        line = self.lines[self.place - 1]
+        self.test(line.isascii(), 'a byte that is no ASCII')
+        self.test(line.startswith(b'certificate ') or not TOO_LONG.search(line), 'a number with too many digits')
+        return line.decode('ascii')
 
     def peek(self):
         return self.lines[self.place].decode('ascii', 'replace') if self.place < len(self.lines) - 1 else ''
@@ -65,6 +68,13 @@ class Lines:
 
 def shortened(text):
     return text if len(text) <= 200 else text[:200] + '..'
+
+
+def is_gathered(order):
+    """Whether the slots of an order are pairs of numbers, in order and each once."""
+    if not isinstance(order, list) or not all(isinstance(slot, list) and list(map(type, slot)) == [int, int] for slot in order):
+        return False
+    return order == sorted(map(list, set(map(tuple, order))))
 
 
 class Judge:
@@ -130,10 +140,13 @@ class Judge:
         self.lines.test(self.opening.capacity in (None, capacity), 'the capacity is %d where %s was asked for' % (capacity, self.opening.capacity))
         batches, lengths = self.batches_of(wave, capacity)
         self.test_numbers(wave, batches, sum(lengths), (cost, bound, state))
-        certified, duals = self.certificate(wave, batches, capacity, bound)
+        certified, nodes = self.certificate(wave, batches, capacity, bound)
         self.waves.append((wave, capacity, cost, bound, state))
+        paid = nodes_for(self.opening.budget, len(wave.orders), capacity)
+        self.test_worked(wave, nodes, paid, state)
         if self.opening.root:
-            judge_root(self.lines, wave.name, certified, cost, duals)
+            duals = sum(nodes[0].get('duals', certified.shares()))
+            judge_root(self.lines, wave.name, certified, cost, duals, paid)
         self.test_no_further('root')
         self.lines.is_due('end wave')
 
@@ -202,7 +215,7 @@ class Judge:
     # The certificate
 
     def certificate(self, wave, batches, capacity, bound):
-        """The wave of a sheet's certificate, and what the duals of its root come to."""
+        """The wave of a sheet's certificate, and the nodes of its tree."""
         line = self.lines.next()
         self.lines.test(line.startswith('certificate '), 'no certificate: %r' % shortened(line))
         text = line[len('certificate '):].encode()
@@ -221,7 +234,14 @@ class Judge:
         self.lines.test(shown == bound, 'the certificate shows the bound %s where %d is printed' % (shown, bound))
         certified = CertifiedWave(self.opening.layout, found)
         self.test_joins(wave, batches, certified)
-        return certified, sum(found.nodes[0].get('duals', certified.shares()))
+        return certified, found.nodes
+
+    def test_worked(self, wave, nodes, paid, state):
+        """As many nodes have duals of their own as the budget pays for, or the plan is proven before."""
+        own = sum('duals' in node for node in nodes)
+        told = '%d nodes of %s have duals of their own where the budget of %d pays for %d'
+        right = paid is None or own <= paid and (own == paid or state == 'proven')
+        self.lines.test(right, told % (own, wave.name, self.opening.budget or 0, paid or 0))
 
     def is_compact(self, text):
         """Whether a text is JSON as it is printed: nothing between its parts, keys in order, slots of each order in order and once."""
@@ -229,9 +249,9 @@ class Judge:
             value = json_text.read(text)
         except json_text.NotJson:
             return False
-        if isinstance(value, dict) and isinstance(value.get('orders'), list):
-            if any(not isinstance(order, list) or order != sorted(map(list, set(map(tuple, order)))) for order in value['orders']):
-                return False
+        orders = value.get('orders') if isinstance(value, dict) else None
+        if isinstance(orders, list) and not all(map(is_gathered, orders)):
+            return False
         return json_text.compact(value) == text
 
     def test_joins(self, wave, batches, certified):

@@ -8,7 +8,7 @@ from .tables import FORMS, Location
 
 MOST_ENTRIES = 10000
 
-NUMBER = r'(?:0|[1-9][0-9]*)'
+NUMBER = r'(?:0|[1-9][0-9]{0,19})'  # a greater one is no number of 64 bits
 NAME = r'[A-Za-z0-9._-]{1,40}'
 PLACE = r'(?:0|[1-9][0-9]{0,4})'
 LOCATION = '%s-%s-[LR]' % (PLACE, PLACE)

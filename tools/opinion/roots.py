@@ -77,8 +77,9 @@ def cheapest_cover(wave, batches):
     return cover
 
 
-def judge_root(lines, name, wave, cost, duals):
-    """Judges the line of a bracket: of a wave, what its tours come to, and feasible duals of it in sixtieths."""
+def judge_root(lines, name, wave, cost, duals, rounds):
+    """Judges the line of a bracket: of a wave, what its tours come to, feasible duals of it in sixtieths, and for
+    how many rounds its budget pays, None where that isn't told."""
     found = LINE.fullmatch(lines.next())
     lines.test(found, 'no bracket of %s' % name)
     low, high, over = (int(found[place]) for place in (1, 2, 3))
@@ -87,14 +88,19 @@ def judge_root(lines, name, wave, cost, duals):
     lines.test(duals * over <= PARTS * high, 'the bracket of %s is below the duals of its root' % name)
     is_narrow = PARTS * (high - low) < len(wave.orders) * over
     lines.test(found[4] == 'open' or is_narrow, 'the bracket of %s is not narrow' % name)
-    _judge_sides(lines, name, wave, Fraction(low, over), Fraction(high, over))
-
-
-def _judge_sides(lines, name, wave, low, high):
-    """The two sides of a bracket, against the linear bound of a wave with few permitted batches."""
     batches = permitted(wave)
-    if batches is None:
-        return
-    bound = cheapest_cover(wave, batches).cost()
+    if batches is not None:
+        _judge_sides(lines, name, cheapest_cover(wave, batches).cost(), (Fraction(low, over), Fraction(high, over)))
+    if found[4] == 'open':
+        told = 'the bracket of %s is open, ' % name + 'and meets the test of narrow, ' * is_narrow
+        is_start = over == PARTS and low == sum(wave.shares()) and high % PARTS == 0
+        lines.test(is_start, told + 'and is not that of the share duals and a first batching')
+        is_paid = None not in (batches, rounds) and rounds >= len(batches)
+        lines.test(not is_paid, told + 'where its budget pays for as many rounds as there are batches')
+
+
+def _judge_sides(lines, name, bound, sides):
+    """The two sides of a bracket, against the linear bound."""
+    low, high = sides
     lines.test(low <= bound, 'the bracket of %s lies above its linear bound, which is %s' % (name, bound))
     lines.test(high >= bound, 'the bracket of %s lies below its linear bound, which is %s' % (name, bound))

@@ -459,11 +459,19 @@ class Crews(unittest.TestCase):
             'layout.json': by_hand.LAYOUT, 'stock.csv': 'location,article,on_hand\n1-1-L,D,5\n1-4-L,A,5\n2-4-L,B,5\n3-1-L,C,5\n',
             'orders.csv': 'order,article,quantity\nO1,A,1\nO2,B,1\nO3,C,1\nO4,D,1\n', 'desks.csv': head + '1,submit,W1,O1,O2,O3\n1,release,W1\n'})
         output = '\n'.join(by_hand.PAIR).encode()
-        for asked, status, told in (('--rules 1 --pickers 2 --root 1', 0, 'right: 2 entries, 1 sheets and their brackets with 2 batches'),
-                                    ('--rules 1 --pickers 2', 1, 'wrong: line 15: a line `root'), ('--rules 1 --pickers 2 --root 2', 2, '')):
+        shown, right = '--rules 1 --pickers 2 --root 1', 'right: 2 entries, 1 sheets and their brackets with 2 batches'
+        short = 'wrong: line 15: 0 nodes of W1 have duals of their own where the budget of '
+        for asked, status, told in (
+                (shown + ' --budget 0', 0, right), (shown + ' --budget=111 --workers 3 --store 0 --capacity 2', 0, right),
+                (shown + ' --budget 0 --store 1', 0, right), ('--rules 1 --pickers 2 --budget 0', 1, 'wrong: line 15: a line `root'),
+                (shown + ' --budget 112', 1, short + '112 pays for 1'), (shown, 1, short + '2000000 pays for 17857'),
+                (shown + ' --budget 0 --capacity 3', 1, 'wrong: line 5: the capacity'), ('--rules 1 --pickers 2 --root 2', 2, ''),
+                (shown + ' --budget ' + '9' * 5000, 2, ''), (shown + ' --workers 17', 2, ''), (shown + ' --store 2', 2, '')):
             done = runs.script('second-opinion', *runs.options(folder), *asked.split(), '-', given=output)
-            self.assertEqual(status, done.status, done.errors)
+            self.assertEqual(status, done.status, (asked, done.output, done.errors))
             self.assertIn(told, done.output)
+        words = ['plan', *runs.options(folder), *shown.split(), '--budget', '0', '-']
+        self.assertIn(right, runs.script('wave', 'second-opinion', *words, given=output).output)
 
     def test_what_is_wrong_with_a_crew_is_found(self):
         heading, first, second = 'crew longest 36 least 31', 'picker 1 load 36 batches W1/1 W1/3', 'picker 2 load 26 batches W1/2 W2/1'
@@ -528,10 +536,10 @@ class Brackets(unittest.TestCase):
     def cover(wave):
         return roots.cheapest_cover(wave, roots.permitted(wave))
 
-    def fault(self, line, wave=None, cost=68, duals=3060):
+    def fault(self, line, wave=None, cost=68, duals=3060, rounds=None):
         """What is wrong with a line of three orders at one place, two to a cart, whose linear bound is 51."""
         try:
-            roots.judge_root(days.Lines(line.encode() + b'\n'), 'W1', wave or self.wave([[(3, 4)]] * 3, 2), cost, duals)
+            roots.judge_root(days.Lines(line.encode() + b'\n'), 'W1', wave or self.wave([[(3, 4)]] * 3, 2), cost, duals, rounds)
         except days.Fault as why:
             return str(why)
         return None
@@ -572,7 +580,7 @@ class Brackets(unittest.TestCase):
         self.assertEqual((None, 1159), (roots.permitted(many), len(roots.permitted(many, 1159))))
 
     def test_a_right_line(self):
-        for line in ('6120 6120 over 120 narrow', '6120 6120 over 120 open', '51 51 over 1 narrow', '6115 6120 over 120 narrow', '0 4080 over 60 open', '3060 4080 over 60 open',
+        for line in ('6120 6120 over 120 narrow', '51 51 over 1 narrow', '6115 6120 over 120 narrow', '3060 4080 over 60 open',
                      '%d %d over %d narrow' % (51 * 10 ** 30, 51 * 10 ** 30 + 1, 10 ** 30)):
             self.assertIsNone(self.fault('root ' + line), line)
 
@@ -582,6 +590,21 @@ class Brackets(unittest.TestCase):
                             ('52 68 over 1 open', 'above its linear bound'), ('69 69 over 1 open', 'above its cost'), ('50 50 over 1 open', 'below the duals of its root')):
             self.assertRegex(self.fault('root ' + line) or 'nothing found', words, line)
         self.assertRegex(self.fault('root 6119 6119 over 120 narrow', duals=0), 'below its linear bound, which is 51')
+
+    def test_an_open_bracket_is_that_of_the_shares_and_a_first_batching(self):
+        for line in ('6120 6120 over 120 open', '51 51 over 1 open'):
+            self.assertRegex(self.fault('root ' + line) or 'nothing found', 'open, and meets the test of narrow, and is not', line)
+        for line in ('0 4080 over 60 open', '6120 8160 over 120 open', '3060 4081 over 60 open'):
+            self.assertRegex(self.fault('root ' + line) or 'nothing found', 'is open, and is not that of the share duals', line)
+
+    def test_an_open_bracket_has_fewer_rounds_than_there_are_batches(self):
+        alone = self.wave([[(3, 4)]], 1)
+        for rounds, words in ((0, None), (1, 'open, and meets the test of narrow, where its budget pays for as many rounds'), (None, None)):
+            found = self.fault('root 2040 2040 over 60 open', alone, 34, 2040, rounds)
+            self.assertTrue(found is None if words is None else words in str(found), (rounds, found))
+        for rounds, words in ((5, None), (6, 'is open, where its budget pays for as many rounds')):
+            found = self.fault('root 3060 4080 over 60 open', rounds=rounds)
+            self.assertTrue(found is None if words is None else words in str(found), (rounds, found))
 
     def test_a_line_of_another_form_is_found(self):
         for line in ('6120 6120 over 0 narrow', '-1 6120 over 120 open', '6120 -6120 over 120 open', '6120 6120 over -120 open', '06120 6120 over 120 open', '6120 6120 over 120',
