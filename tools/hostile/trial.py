@@ -3,9 +3,10 @@
 import os
 import re
 import subprocess
-import sys
 from collections import namedtuple
 from pathlib import Path
+
+import endings
 
 REPOSITORY = Path(__file__).resolve().parent.parent.parent
 CASES = REPOSITORY / "crates" / "wp_cases" / "data"
@@ -55,6 +56,16 @@ def run(program, words, folder, **how):
     except subprocess.TimeoutExpired:
         return End(None, b"", b"")
     return End(done.returncode, done.stdout or b"", done.stderr or b"")
+
+
+def program_of(path):
+    """The program that a path names. Fails where it is none, or answers otherwise than waveplan."""
+    program = str(Path(path).resolve())
+    if os.path.isdir(program) or not os.access(program, os.X_OK):
+        raise endings.Trouble("%s is no program that can be run" % path)
+    if run(program, [], "/").output != b"refused words no-mode\n":
+        raise endings.Trouble("%s is no waveplan: without words it doesn't say `refused words no-mode`" % path)
+    return program
 
 
 def is_named(end, mode):
@@ -137,6 +148,6 @@ class Tally:
             print("wrong: %s: status %s, output %r, errors %r" % told, flush=True)
 
     def end(self):
-        """Prints the line that sums up, and ends the script."""
+        """Prints the line that sums up, and gives the script's status."""
         print("%d runs, %d wrong" % (self.runs, self.wrong))
-        sys.exit(1 if self.wrong else 0)
+        return endings.WRONG if self.wrong else endings.RIGHT
