@@ -108,6 +108,9 @@ class Explained:
         if why == 'too-many-waves':
             return self.cause('the orders are cut into %s waves, and there are at most 500' % self.parts[3], 'fewer orders, or more of them in a wave')
         mode, name = self.words[0], self.why.field
+        if mode not in FILES:
+            self.say('word', shown(self.why.text))
+            return self.cause('it has bytes that are no UTF-8', 'write it in UTF-8')
         if name and str(self.why.text).startswith('--' + name):
             self.say('option', '--' + name)
             return self.cause('it stands twice', 'give it once')

@@ -185,6 +185,8 @@ class _Reader:
         elif words[0] == 'tour':
             wave.batches[-1].tour = [tuple(map(int, point.split('-'))) for point in words[1:]]
         elif words[0] == 'pick':
+            if words[4] not in wave.batches[-1].orders:
+                raise ValueError
             wave.batches[-1].picks.append(Pick(words[1], words[2], int(words[3]), words[4]))
         elif words[0] == 'rules':
             wave.batches[-1].rules = [Rule(words[place], int(words[place + 1]), int(words[place + 2])) for place in range(1, len(words), 3)]
