@@ -75,7 +75,7 @@ def headline(page, lines):
             yield _place(page, line), None if due == int(found[1]) else 'of %s there are %s lines%s' % (', '.join(roots), due, ' more' * is_more)
 
 
-def _counted(sources):
+def counted_of(sources):
     """What is counted of the repository, by the words that stand behind the number."""
     edits = [file for file in sources.files if file.endswith('.edit')]
     kept = [file for file in edits if '/must-fail/' in file]
@@ -93,7 +93,7 @@ def _counted(sources):
 
 def stated(page, sources):
     """Numbers that the prose states."""
-    for form, due in _counted(sources).items():
+    for form, due in counted_of(sources).items():
         for line in page.lines:
             for found in () if line.is_code else re.finditer(form, line.text):
                 word = found[1].lower().replace(',', '')
