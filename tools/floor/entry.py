@@ -22,8 +22,10 @@ SUBCOMMANDS = {'import': 'import_table', 'explain': 'explain', 'sheets': 'sheets
 def module_of(name):
     """The module of a subcommand. Its text of help has the name by which it was called."""
     found = importlib.import_module('floor.' + SUBCOMMANDS[name])
-    if Path(sys.argv[0]).name != 'wave':
-        found.__doc__ = found.__doc__.replace('tools/wave %s ' % name, 'tools/%s ' % name)
+    names = ['tools/%s ' % name, 'tools/wave %s ' % name]
+    if Path(sys.argv[0]).name == 'wave':
+        names.reverse()
+    found.__doc__ = found.__doc__.replace(names[1], names[0])
     return found
 
 

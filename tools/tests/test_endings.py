@@ -7,18 +7,20 @@ import importlib.machinery
 import importlib.util
 import io
 import os
+import re
 import signal
 import subprocess
 import sys
+import time
 import unittest
 from concurrent.futures import ThreadPoolExecutor
-from contextlib import contextmanager
 from pathlib import Path
 
 import by_hand
 import endings
 import runs
 from floor import entry
+from in_process import ended
 
 HOSTILE = ('fuzz', 'greatest', 'failing-devices', 'without-memory', 'surroundings')
 MOST_DIGITS = '9' * 5000
@@ -83,32 +85,6 @@ STOPS = ((FULL, endings.UNWRITTEN), (GONE, endings.UNWRITTEN), (KeyboardInterrup
          (MemoryError(), endings.NO_MEMORY))
 
 
-def opened(device):
-    return io.TextIOWrapper(io.BufferedRandom(device) if isinstance(device, io.BytesIO) else io.BufferedWriter(device))
-
-
-@contextmanager
-def standard(given, out, folder):
-    """Standard input, output and error of a script that runs in this process, in a folder."""
-    kept, here = (sys.stdin, sys.stdout, sys.stderr, sys.argv), os.getcwd()
-    reader = io.BufferedReader(given if isinstance(given, Failing) else io.BytesIO(given))
-    sys.stdin, sys.stderr, sys.argv = io.TextIOWrapper(reader), io.StringIO(), ['wave']
-    sys.stdout = None if out is None else io.TextIOWrapper(io.BytesIO() if out is True else io.BufferedWriter(out))
-    os.chdir(folder)
-    try:
-        yield sys.stderr
-    finally:
-        sys.stdin, sys.stdout, sys.stderr, sys.argv = kept
-        os.chdir(here)
-
-
-def ended(main, name, folder, given=b'', out=True):
-    """The status of a script that runs in this process, and what it told on standard error."""
-    with standard(given, out, folder) as errors:
-        status = endings.status_of(main, name)
-        return status, errors.getvalue()
-
-
 def bad_bytes():
     """What a file may hold that is of no form at all."""
     yield from (b'', b'\n', b'\xff', b'\x00' * 100, b'\xef\xbb\xbf', b'"', b'{', b'[]', b'null', b'NaN', b'1e400', b'-1')
@@ -121,7 +97,7 @@ def bad_bytes():
 def bad_days():
     """The output of a plan, with each line changed, left out or cut off."""
     lines = by_hand.PAIR
-    digits = __import__('re').compile(r'\d+')
+    digits = re.compile(r'\d+')
     for place, line in enumerate(lines):
         found = list(digits.finditer(line))
         others = [line[:len(line) // 2], line + ' 1'] + [line[:each.start()] + MOST_DIGITS + line[each.end():] for each in found[-2:]]
@@ -192,9 +168,10 @@ class Floor(unittest.TestCase):
     def setUpClass(cls):
         cls.folder = runs.put(Path(runs.shelf().name) / 'endings', {**FILES, 'alone.txt': '\n'.join(by_hand.ALONE)})
 
-    def judge(self, name, words, given=b'', out=True, due=None):
+    def judge(self, name, words, given=b'', due=None, **how):
         """Runs a script, and tests how it ends."""
-        status, told = ended(lambda: entry.module_of(name).main(words), name, self.folder, given, out)
+        out = how.get('out', io.BytesIO())
+        status, told = ended(lambda: entry.module_of(name).main(words), name, given, out, self.folder)
         self.assertIn(status, (due,) if due else (endings.RIGHT, endings.WRONG, endings.REFUSED, endings.UNWRITTEN), (name, words, told[:500]))
         is_help = status == endings.REFUSED and told.startswith(entry.module_of(name).__doc__[:40])
         is_list = name == 'import' and status == endings.WRONG
@@ -212,7 +189,7 @@ class Floor(unittest.TestCase):
     def test_right_words_end_with_0(self):
         for name in RIGHT:
             words = RIGHT[name][0][0]
-            status, told = ended(lambda: entry.module_of(name).main(words), name, self.folder)
+            status, told = ended(lambda: entry.module_of(name).main(words), name, out=io.BytesIO(), folder=self.folder)
             self.assertEqual(int(name == 'compare'), status, (name, told))
 
     def test_files_of_a_wrong_form_and_wrong_words(self):
@@ -241,7 +218,7 @@ class Floor(unittest.TestCase):
     def test_a_fault_of_a_script_is_one_line_too(self):
         def wrong():
             return {}['nothing']
-        self.assertEqual((endings.FAULTY, "x: this script is at fault: KeyError: 'nothing'\n"), ended(wrong, 'x', self.folder))
+        self.assertEqual((endings.FAULTY, "x: this script is at fault: KeyError: 'nothing'\n"), ended(wrong, 'x', out=io.BytesIO()))
 
 
 def module_of(name):
@@ -267,9 +244,9 @@ class Hostile(unittest.TestCase):
             (cls.folder / name).chmod(0o755)
         cls.modules = {name: module_of(name) for name in HOSTILE}
 
-    def judge(self, name, words, out=True, due=endings.REFUSED):
-        module = self.modules[name]
-        status, told = ended(lambda: module.main(words), name, self.folder, out=out)
+    def judge(self, name, words, due=endings.REFUSED, **how):
+        module, out = self.modules[name], how.get('out', io.BytesIO())
+        status, told = ended(lambda: module.main(words), name, out=out, folder=self.folder)
         self.assertEqual(due, status, (name, words, told[:500]))
         self.assertTrue(told == module.__doc__ or told.count('\n') == 1, (name, words, told[:500]))
         return 1
@@ -291,8 +268,8 @@ class Hostile(unittest.TestCase):
     def test_outputs_that_can_not_be_written(self):
         for name in HOSTILE:
             for why, due in STOPS:
-                self.judge(name, ['--help'], Failing(why), due)
-            self.judge(name, ['--help'], None, endings.UNWRITTEN)
+                self.judge(name, ['--help'], due, out=Failing(why))
+            self.judge(name, ['--help'], endings.UNWRITTEN, out=None)
 
 
 class Processes(unittest.TestCase):
@@ -330,7 +307,7 @@ class Processes(unittest.TestCase):
             script.stdin.flush()
             while Path('/proc/%d/wchan' % script.pid).read_text() not in ('pipe_read', 'anon_pipe_read', '0'):
                 pass
-            __import__('time').sleep(0.5)
+            time.sleep(0.5)
             script.send_signal(signal.SIGINT)
             _, told = script.communicate()
             self.assertEqual((130, '%s: interrupted\n' % name), (script.returncode, told.decode()))
