@@ -66,7 +66,7 @@ class Reader:
 
     def prose(self, line):
         """Commands within the prose, and what it says of the output."""
-        for text in re.findall(r'`(tools/[\w-]+ [^`]+)`', line.text):
+        for text in re.findall(r'`(tools/(?:wave [\w-]+|(?!wave)[\w-]+) [^`]+)`', line.text):
             yield self.run(text, self.folder(line.section))
         if 'Then plan again' in line.text and self.last_plan:
             yield self.run(self.last_plan, self.folder(line.section))
@@ -101,7 +101,7 @@ class Reader:
         self.last = done.stdout.decode('utf-8', 'replace')
         if command.startswith('./waveplan plan'):
             self.keep(command, folder)
-        right = done.returncode == 0 or done.returncode == 1 and command.startswith('tools/compare')
+        right = done.returncode == 0 or done.returncode == 1 and command.startswith('tools/wave compare')
         told = (done.stderr or done.stdout).decode('utf-8', 'replace').strip().split('\n')[-1]
         return self.place, None if right else 'it ends with status %d: %s: %s' % (done.returncode, command, told)
 

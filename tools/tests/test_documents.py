@@ -99,7 +99,7 @@ class Documents(unittest.TestCase):
         head = self.texts['README.md'].split('## What the words')[0]
         for old, new, due in (('cost 64480 bound 64480', 'cost 64481 bound 64480', 'no such line is printed: wave MON-13.00'),
                               ('138 lines', '139 lines', 'the command prints 138 lines'), ('--capacity 3\n', '--capacity 9\n', 'it ends with status 1'),
-                              ('tools/sheets --layout', 'tools/sheets --layuot', 'it ends with status 2'), ('    end stock\n', '    end stocks\n', 'no such line'),
+                              ('tools/wave sheets --layout', 'tools/wave sheets --layuot', 'it ends with status 2'), ('    end stock\n', '    end stocks\n', 'no such line'),
                               ('    end journal\n    ..\n', '    ..\n    end journal\n    end journal\n', 'no such line is printed: end journal')):
             self.assertIn(old, head)
             self.assertIn(due, ' '.join(self.printed(Page('README.md', head.replace(old, new, 1)))), new)

@@ -3,6 +3,7 @@
 Most run in this process, over devices that fail in memory; some run beside each other as processes of their own.
 """
 
+import functools
 import importlib.machinery
 import importlib.util
 import io
@@ -182,9 +183,15 @@ class Floor(unittest.TestCase):
     def bad_files(self, name):
         for words, files in RIGHT[name]:
             for file in files:
-                for content in contents_for(file):
-                    (self.folder / 'bad').write_bytes(content)
-                    yield ['bad' if word == file else word for word in words]
+                yield from ([bad if word == file else word for word in words] for bad in self.names_of(file))
+
+    @classmethod
+    @functools.lru_cache(maxsize=None)
+    def names_of(cls, file):
+        """The names of files, each of which is wrong in the place of one."""
+        contents = contents_for(file)
+        runs.put(cls.folder, {'%d %s' % (place, file): content for place, content in enumerate(contents)})
+        return ['%d %s' % (place, file) for place, _ in enumerate(contents)]
 
     def test_right_words_end_with_0(self):
         for name in RIGHT:
