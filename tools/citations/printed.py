@@ -7,7 +7,7 @@ import subprocess
 import tempfile
 from pathlib import Path
 
-COMMAND = re.compile(r'(\./waveplan|tools/|echo )')
+COMMAND = re.compile(r'\./|tools/|echo ')
 LEFT_OUT = re.compile(r'\./gate|\./waveplan --prove')
 DAY_OF = re.compile(r'The day of `examples/([\w-]+)`')
 LINES = re.compile(r'The command prints ([\d,]+) lines')
