@@ -27,7 +27,8 @@ class Unwritten(Exception):
 
 
 class Words(argparse.ArgumentParser):
-    """The words of a script. Options may stand before and after files; where the words aren't right, one line says so."""
+    """The words of a script. Options may stand before and after files; where the words aren't right, one line says so.
+    """
 
     def __init__(self, name):
         super().__init__(name, add_help=False)
@@ -59,7 +60,8 @@ def ending_of(why):
     if isinstance(why, subprocess.CalledProcessError):
         return REFUSED, '%s ended with status %s' % (os.path.basename(str(why.cmd[0])), why.returncode)
     for kind, status, told in ((Trouble, REFUSED, str(why)), (Unwritten, UNWRITTEN, str(why)),
-                               (KeyboardInterrupt, INTERRUPTED, 'interrupted'), (MemoryError, NO_MEMORY, 'memory ran out'),
+                               (KeyboardInterrupt, INTERRUPTED, 'interrupted'),
+                               (MemoryError, NO_MEMORY, 'memory ran out'),
                                (RecursionError, REFUSED, 'lists or objects stand too deep in each other')):
         if isinstance(why, kind):
             return status, told

@@ -14,12 +14,15 @@ MEMBER = r'\b(?:ensures|requires|fn)\s+%s\b|\b%s\s*:|\b%s\s*='
 COMMAND = re.compile(r'(?:\./)?(tools/[\w/-]+|docs/lines-to-read|waveplan|gate)(?: |$)')
 
 # Files that a reader has or makes, and words of the system that no file of the repository has.
-OF_A_READER = {'day.txt', 'day.html', 'noon.txt', 'morning.txt', 'journal.txt', 'waveplan.store', 'layout.json', 'stock.csv', 'orders.csv',
+OF_A_READER = {'day.txt', 'day.html', 'noon.txt', 'morning.txt', 'journal.txt', 'waveplan.store', 'layout.json',
+               'stock.csv', 'orders.csv',
                'desks.csv', 'out/waveplan', '/dev/null', 'must-fail/', 'edits/', 'data/', '/'}
-OF_THE_SYSTEM = {'lseek', 'ftruncate', 'fsync', 'malloc', 'realloc', 'unlimited', 'perf', 'LD_PRELOAD', 'XDG_CACHE_HOME', 'cache'}
+OF_THE_SYSTEM = {'lseek', 'ftruncate', 'fsync', 'malloc', 'realloc', 'unlimited', 'perf', 'LD_PRELOAD',
+                 'XDG_CACHE_HOME', 'cache'}
 PLACEHOLDER = re.compile(r'NAME|\*|FOLDER|~')
 
-OPTIONS = {'--' + name for mode in command_line.FILES for name in (*command_line.FILES[mode], *command_line.NUMBERS[mode])}
+OPTIONS = {'--' + name for mode in command_line.FILES for name in (*command_line.FILES[mode],
+                                                                   *command_line.NUMBERS[mode])}
 
 
 def links(page, pages):
@@ -80,7 +83,8 @@ def of_command(text, sources):
 
 
 def clauses(page, sources):
-    """Each clause or field stands in the item of which it is told to be. What stands before the last of them may be an item by itself."""
+    """Each clause or field stands in the item of which it is told to be. What stands before the last of them may be an
+    item by itself."""
     for line in page.lines:
         for found in () if line.is_code else OF.finditer(line.text):
             item, blocks = found[2], sources.blocks_of(found[2])

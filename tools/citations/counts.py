@@ -11,7 +11,8 @@ NUMBERS = {'two': 2, 'three': 3, 'four': 4, 'five': 5, 'six': 6, 'seven': 7, 'ei
 def all_of(pages, sources):
     """All that is counted: a place, and what is wrong there, or None."""
     known = {page.name: page for page in pages}
-    counter = next((each for each in ('docs/lines-to-read', 'tools/gate/lines-to-read') if sources.has_path(each)), None)
+    counter = next((each for each in ('docs/lines-to-read', 'tools/gate/lines-to-read') if sources.has_path(each)),
+                   None)
     lines = Lines(sources.top, counter)
     for page in pages:
         yield from lines_to_read(page, lines)
@@ -31,7 +32,8 @@ class Lines:
     def of(self, words):
         """The lines in all, and how many names of the kit are cited beside."""
         if words not in self.known:
-            done = subprocess.run([sys.executable, '-B', str(self.top / self.script), *words], stdout=subprocess.PIPE, stderr=subprocess.STDOUT)
+            done = subprocess.run([sys.executable, '-B', str(self.top / self.script), *words], stdout=subprocess.PIPE,
+                                  stderr=subprocess.STDOUT)
             found = re.search(rb'(\d+)  lines in all\n *(\d+)  names', done.stdout)
             self.known[words] = (int(found[1]), int(found[2])) if found else None
         return self.known[words]
@@ -61,7 +63,8 @@ def _roots(cell):
 
 
 def headline(page, lines):
-    """The last column of the table of the headline. Where it says that there are so many more, it counts those of the rows before too."""
+    """The last column of the table of the headline. Where it says that there are so many more, it counts those of the
+    rows before too."""
     so_far = []
     for line in page.lines:
         cells = [cell.strip() for cell in line.text.split('|')]
@@ -72,7 +75,8 @@ def headline(page, lines):
             so_far = so_far + roots if is_more else roots
             counted = lines.of(tuple(so_far))
             due = counted[0] - before if counted else None
-            yield _place(page, line), None if due == int(found[1]) else 'of %s there are %s lines%s' % (', '.join(roots), due, ' more' * is_more)
+            told = 'of %s there are %s lines%s' % (', '.join(roots), due, ' more' * is_more)
+            yield _place(page, line), None if due == int(found[1]) else told
 
 
 def counted_of(sources):
@@ -104,7 +108,8 @@ def stated(page, sources):
 
 def table_of_crates(page, sources):
     """The table of the crates has those of crates.txt, lowest first, and each stands on what that says."""
-    below = {found[1]: set(found[2].split()) for found in re.finditer(r'^(\w+)(?: may_wait=\d+)?:(.*)$', sources.texts['crates.txt'], re.MULTILINE)}
+    below = {found[1]: set(found[2].split()) for found in re.finditer(r'^(\w+)(?: may_wait=\d+)?:(.*)$',
+                                                                      sources.texts['crates.txt'], re.MULTILINE)}
     seen = []
     for line in page.lines:
         found = re.fullmatch(r'\| `(\w+)` \| .* \|(.*)\|', line.text) if line.section == 'The crates' else None
@@ -113,6 +118,7 @@ def table_of_crates(page, sources):
             due = below.get(found[1], set())
             later = sorted(name for name in due if name in below and name not in seen)
             why = '%s stands on %s' % (found[1], ', '.join(sorted(due))) if told != due else None
-            yield _place(page, line), why or ('%s stands on %s, which comes later' % (found[1], ', '.join(later)) if later else None)
+            yield _place(page, line), why or ('%s stands on %s, which comes later' % (found[1], ', '.join(later))
+                                              if later else None)
             seen.append(found[1])
     yield page.name, None if sorted(seen) == sorted(below) else 'the table of the crates has others than crates.txt'

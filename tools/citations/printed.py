@@ -52,7 +52,8 @@ class Reader:
         """The folder of a section: one of its own where it begins with an example."""
         example = self.examples.get(section)
         if example not in self.folders:
-            self.folders[example] = _set_up(self.room / (example or 'first'), self.top, self.program, example or PAGES[self.page.name])
+            self.folders[example] = _set_up(self.room / (example or 'first'), self.top, self.program,
+                                            example or PAGES[self.page.name])
         return self.folders[example]
 
     def all(self):
@@ -120,6 +121,7 @@ class Reader:
             begins = line[:-2].rstrip() if line.endswith('..') else None
             if begins == '':
                 continue
-            found = next((at for at, other in enumerate(rest) if other == line or begins and other.startswith(begins)), None)
+            found = next((at for at, other in enumerate(rest) if other == line or begins and other.startswith(begins)),
+                         None)
             yield self.place, None if found is not None else 'no such line is printed: %s' % line
             rest = rest if found is None else rest[found + 1:]

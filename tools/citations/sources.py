@@ -1,4 +1,5 @@
-"""What there is to be cited: the files of the repository, its words, the items of its code and definitions, and options."""
+"""What there is to be cited: the files of the repository, its words, the items of its code and definitions, and
+options."""
 
 import os
 import re
@@ -9,7 +10,8 @@ from floor.entry import SUBCOMMANDS
 WORD = re.compile(r'[A-Za-z_][A-Za-z0-9_]*')
 OPTION = re.compile(r'--[a-z][a-z-]*')
 ITEM = re.compile(r'\s*(?:pub(?:\(\w+\))? )?(?:ghost )?(?:const |unsafe )*(fn|struct|enum|trait|impl|const|type)\b(.*)')
-DEFINITION = re.compile(r"^(?:abbrev|unfoldable|record|data|pub)\s+(?:(?:pub|record|data)\s+)?([A-Za-z_][\w'-]*)", re.MULTILINE)
+DEFINITION = re.compile(r"^(?:abbrev|unfoldable|record|data|pub)\s+(?:(?:pub|record|data)\s+)?([A-Za-z_][\w'-]*)",
+                        re.MULTILINE)
 LEFT_OUT = {'.git', 'out', '__pycache__'}
 
 
@@ -26,12 +28,15 @@ class Sources:
         self.endings = {}
         for file in self.files:
             self.endings.setdefault(file.rsplit('/', 1)[-1], []).append(file)
-        self.folders = {'/'.join(file.split('/')[:depth]) for file in self.files for depth in range(1, file.count('/') + 1)}
+        self.folders = {'/'.join(file.split('/')[:depth]) for file in self.files
+                        for depth in range(1, file.count('/') + 1)}
         self.texts = {file: read(self.top / file) for file in self.files if self._is_source(file)}
         self.words = {word for file, text in self.texts.items() for word in WORD.findall(text)}
-        self.words |= {word for file in self.files for word in WORD.findall(file)} | {part for file in self.files for part in re.split('[/.]', file)}
+        self.words |= {word for file in self.files for word in WORD.findall(file)}
+        self.words |= {part for file in self.files for part in re.split('[/.]', file)}
         self.subcommands = SUBCOMMANDS
-        self.options = {option for file, text in self.texts.items() if not file.startswith('crates/') for option in OPTION.findall(text)}
+        self.options = {option for file, text in self.texts.items() if not file.startswith('crates/')
+                        for option in OPTION.findall(text)}
         self.items = {}
         for file, text in self.texts.items():
             for name, block in _items_of(file, text):
@@ -47,16 +52,19 @@ class Sources:
         """Whether the words of a file count: code, definitions and scripts do, and what they are made of."""
         if file.endswith('.md') or file.startswith(('crates/wp_cases/data/', 'tools/tests/')):
             return False
-        return file.endswith(('.rt', '.antt', '.py', '.txt', '.json', '.csv', '.cpp', '.kit', '.toml')) or '.' not in file.rsplit('/', 1)[-1]
+        return file.endswith(('.rt', '.antt', '.py', '.txt', '.json', '.csv', '.cpp', '.kit',
+                              '.toml')) or '.' not in file.rsplit('/', 1)[-1]
 
     def has_path(self, path):
-        """Whether there is a file or a folder of this name: from the top, below crates/ or docs/, or at the end of some path."""
+        """Whether there is a file or a folder of this name: from the top, below crates/ or docs/, or at the end of some
+        path."""
         path = path.rstrip('/').removeprefix('./')
         for at in (path, 'crates/' + path, 'docs/' + path):
             if at in self.folders or at in self.endings.get(at.rsplit('/', 1)[-1], ()):
                 return True
         named = self.endings.get(path.rsplit('/', 1)[-1], ())
-        return any(file.endswith('/' + path) for file in named) or any(folder.endswith('/' + path) for folder in self.folders)
+        return any(file.endswith('/' + path) for file in named) or any(folder.endswith('/' + path)
+                                                                       for folder in self.folders)
 
     def blocks_of(self, item):
         """The texts in which an item stands, as `Name`, `name` or `Type::name`."""
@@ -88,7 +96,8 @@ def _items_of_code(text):
         found = ITEM.match(line)
         if found:
             indent = line[:len(line) - len(line.lstrip())]
-            end = next((at for at in range(place, len(lines)) if lines[at] == indent + '}' or at == place and line.endswith((';', '}'))), len(lines))
+            end = next((at for at in range(place, len(lines)) if lines[at] == indent + '}' or at == place
+                        and line.endswith((';', '}'))), len(lines))
             block = '\n'.join(lines[place:end + 1])
             names = WORD.findall(found[2].split('{')[0])
             yield from ((name, block) for name in (names if found[1] == 'impl' else names[:1]))

@@ -3,9 +3,9 @@
 usage: tools/wave closing-stock DAY --on-hand > stock.csv
        tools/wave closing-stock DAY --free > stock.csv
 
-DAY is the output of `waveplan plan`, or - for standard input. With --on-hand each row has what lies there: units that waves still held are free
-again in the next day. With --free each row has what nobody held: held units count as picked. docs/DAY.md says which of the two is meant when.
-Nothing here is proved; the output that it reads is.
+DAY is the output of `waveplan plan`, or - for standard input. With --on-hand each row has what lies there: units that
+waves still held are free again in the next day. With --free each row has what nobody held: held units count as picked.
+docs/DAY.md says which of the two is meant when. Nothing here is proved; the output that it reads is.
 
 Status: 0, or 2 where DAY is no output of a plan, with the reason on standard error.
 """

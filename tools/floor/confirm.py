@@ -2,13 +2,15 @@
 
 usage: tools/wave confirm DAY WAVE [BATCH] [--desk N] [--earlier DAY] .. >> desks.csv
 
-DAY is the output of `waveplan plan`, or - for standard input. There is one record `N,pick,WAVE,ORDER,LOCATION,QUANTITY` for all that the wave, or
-the batch of this number, still holds at the end of the day for an order at a location: what its sheet says, less what the journal tells as picked
-or missing, and with what is held elsewhere in its place. There is no heading: the records go behind those of a desk file. Of a day that goes on from a
-store DAY is the last output, and --earlier names the outputs of earlier runs: the wave's sheet stands in one of them, and refills may in others.
-Nothing here is proved; the output that it reads is.
+DAY is the output of `waveplan plan`, or - for standard input. There is one record `N,pick,WAVE,ORDER,LOCATION,QUANTITY`
+for all that the wave, or the batch of this number, still holds at the end of the day for an order at a location: what
+its sheet says, less what the journal tells as picked or missing, and with what is held elsewhere in its place. There is
+no heading: the records go behind those of a desk file. Of a day that goes on from a store DAY is the last output, and
+--earlier names the outputs of earlier runs: the wave's sheet stands in one of them, and refills may in others. Nothing
+here is proved; the output that it reads is.
 
-Status: 0, or 2 where DAY is no output of a plan or the wave isn't there to be picked, with the reason on standard error.
+Status: 0, or 2 where DAY is no output of a plan or the wave isn't there to be picked, with the reason on standard
+error.
 """
 
 import sys

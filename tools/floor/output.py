@@ -11,7 +11,8 @@ Entry = namedtuple('Entry', 'number desk command reply')  # the command and the 
 Pick = namedtuple('Pick', 'location article quantity order')
 Refill = namedtuple('Refill', 'entry wave order location quantity')
 Row = namedtuple('Row', 'location article on_hand free held')
-Rule = namedtuple('Rule', 'name length surplus')  # what a usual rule walks past a batch's picks, and how much longer that is than its tour
+# What a usual rule walks past a batch's picks, and how much longer that is than its tour.
+Rule = namedtuple('Rule', 'name length surplus')
 Root = namedtuple('Root', 'low high over state')  # the bracket of a wave's linear bound: both sides are over one number
 Picker = namedtuple('Picker', 'number load batches')
 Crew = namedtuple('Crew', 'longest least pickers')
@@ -46,7 +47,8 @@ def test_form(forms, text):
 
 
 class Batch:
-    """A batch of a wave: its orders, its tour point by point, its picks as they are printed, and what usual rules walk, where that is told."""
+    """A batch of a wave: its orders, its tour point by point, its picks as they are printed, and what usual rules walk,
+    where that is told."""
 
     def __init__(self, number, length, orders):
         self.number, self.length, self.orders = number, length, orders
@@ -67,7 +69,8 @@ class Batch:
 
 
 class Wave:
-    """A wave's sheet. `units` is the size of its carts, where they have one, and `root` the bracket of its linear bound, if it has one."""
+    """A wave's sheet. `units` is the size of its carts, where they have one, and `root` the bracket of its linear
+    bound, if it has one."""
 
     def __init__(self, name, facts, state):
         self.name, self.state = name, state[0] if state else ''
@@ -94,7 +97,8 @@ class Output:
         return [entry for entry in self.entries if entry.reply[0] == 'refused']
 
     def earlier(self):
-        """The waves that went out in an earlier run over the same store, whose sheets that run has printed, and whether each was cancelled later."""
+        """The waves that went out in an earlier run over the same store, whose sheets that run has printed, and whether
+        each was cancelled later."""
         sheets, found = {wave.name for wave in self.waves}, {}
         for entry in self.entries:
             if entry.reply == ['released'] and entry.command[1] not in sheets:
@@ -104,7 +108,8 @@ class Output:
         return found
 
     def picker_of(self):
-        """The number of the picker of each batch, by the names that the crew has for batches; none where there is no crew."""
+        """The number of the picker of each batch, by the names that the crew has for batches; none where there is no
+        crew."""
         return {name: picker.number for picker in self.crew.pickers for name in picker.batches} if self.crew else {}
 
     def wave(self, name):
@@ -113,7 +118,8 @@ class Output:
                 return wave
         if name in self.earlier():
             raise Trouble('wave %s went out in an earlier run, and its sheet stands in the output of that' % name)
-        raise Trouble('no wave %s went out in this day; %s did' % (name, ', '.join(wave.name for wave in self.waves) or 'none'))
+        raise Trouble('no wave %s went out in this day; %s did'
+                      % (name, ', '.join(wave.name for wave in self.waves) or 'none'))
 
 
 def name_of(wave, batch):
@@ -189,7 +195,8 @@ class _Reader:
                 raise ValueError
             wave.batches[-1].picks.append(Pick(words[1], words[2], int(words[3]), words[4]))
         elif words[0] == 'rules':
-            wave.batches[-1].rules = [Rule(words[place], int(words[place + 1]), int(words[place + 2])) for place in range(1, len(words), 3)]
+            wave.batches[-1].rules = [Rule(words[place], int(words[place + 1]), int(words[place + 2]))
+                                      for place in range(1, len(words), 3)]
         elif words[0] == 'certificate':
             wave.certificate = words[1]
         elif words[0] == 'root':
@@ -217,11 +224,13 @@ def read_output(path):
     lines = data.decode('utf-8', 'replace').replace('\r\n', '\n').split('\n')
     first = lines[0].lstrip('\ufeff')
     if first.startswith(('refused ', 'read fault ')):
-        raise Trouble('%s is no plan: it says "%s". docs/FORMATS.md and tools/explain say what to do about it' % (path, first))
+        raise Trouble('%s is no plan: it says "%s". docs/FORMATS.md and tools/explain say what to do about it'
+                      % (path, first))
     if first != 'journal':
         raise Trouble('%s is no output of `waveplan plan`: its first line is not "journal"' % path)
     if lines[-2:] != ['end', '']:
-        raise Trouble('%s is cut off: its last line is not "end". The run that wrote it did not end with status 0' % path)
+        raise Trouble('%s is cut off: its last line is not "end". The run that wrote it did not end with status 0'
+                      % path)
     reader = _Reader()
     for number, line in enumerate([first, *lines[1:-2]], 1):
         try:
@@ -237,7 +246,8 @@ def with_earlier(day, paths):
     for path in paths:
         other = read_output(path)
         if other.entries != day.entries[:len(other.entries)]:
-            raise Trouble('%s is of no earlier run of this day: its journal is not the beginning of the later one' % path)
+            raise Trouble('%s is of no earlier run of this day: its journal is not the beginning of the later one'
+                          % path)
         for wave in other.waves:
             wave.cancelled = cancelled.get(wave.name, wave.cancelled)
         day.waves, day.refills = other.waves + day.waves, other.refills + day.refills

@@ -6,22 +6,25 @@ usage: tools/wave second-opinion [plan] --layout FILE --stock FILE --orders FILE
        tools/wave second-opinion [check] --layout FILE --certificate FILE ANSWER
        tools/wave second-opinion [audit] --layout FILE --stock FILE --orders FILE --journal FILE [--units N] ANSWER
 
-DAY is what a plan printed, ANSWER what a check or an audit printed, and - stands for standard input. The words before it
-are those of the run. The files are read, each command is answered and each sheet is measured again, as docs/FORMATS.md,
-docs/RULES.md, docs/TOURS.md and docs/BATCHES.md say it: each desk's commands once and in order, each reply, what is
-held, each wave's orders in one batch within the capacity, each pick, each tour a closed walk of the printed length and a
-shortest one, cost, bound and state, each certificate, refills and stock. A plan is worked as far as its budget pays,
-which is 2000000 where none is given. With --rules 1 also what the three usual rules walk past each batch's picks, with
---pickers, as docs/CREWS.md says it, the crew: each batch with one picker, loads and numbers, and that it is settled; and
-with --root 1 the bracket of each wave's linear bound: it holds the bound, which is found again for waves with at most
-1,000 permitted batches, is narrow where it says so, and not where it is open and the search went on. None may stand
-there where it isn't asked for. Where a file is refused, the line that tells it is judged.
+DAY is what a plan printed, ANSWER what a check or an audit printed, and - stands for standard input. The words before
+it are those of the run. The files are read, each command is answered and each sheet is measured again, as
+docs/FORMATS.md, docs/RULES.md, docs/TOURS.md and docs/BATCHES.md say it: each desk's commands once and in order, each
+reply, what is held, each wave's orders in one batch within the capacity, each pick, each tour a closed walk of the
+printed length and a shortest one, cost, bound and state, each certificate, refills and stock. With --rules 1 also what
+the three usual rules walk past each batch's picks, with --pickers, as docs/CREWS.md says it, the crew: each batch with
+one picker, loads and numbers, and that it is settled; and with --root 1 the bracket of each wave's linear bound: it
+holds the bound, which is found again for waves with at most 1,000 permitted batches, it is narrow where it says so, and
+an open one is that of the share duals and a first batching. None may stand there where it isn't asked for. Where a file
+is refused, the line that tells it is judged.
 
-A day that was planned with --store 1 is judged with --store-before, a copy of its waveplan.store from before the run, or
-/dev/null where there was none: its records are read and answered again, or the first that is refused is told; the
+With `plan` before the words, or with one of --budget, --workers and --store, the words are all those of the plan. Then
+each wave is worked as far as its budget pays, which is 2000000 where none is given, and so is each open bracket.
+
+A day that was planned with --store 1 is judged with --store-before, a copy of its waveplan.store from before the run,
+or /dev/null where there was none: its records are read and answered again, or the first that is refused is told; the
 journal has their entries and then those of the desks, and sheets, refills and crew are those of the desks' entries
-alone. With --store-after that file is judged too, as it is after the run. Without --store-before, or with --stored, the
-journal may begin with any entries that are answered right.
+alone. With --store-after that file is judged too, as it is after the run. With --stored, or with --store 1 and no
+--store-before, the journal may begin with any entries that are answered right.
 
 This is a plain program, written from the documents; nothing that it says is proved, and no promise of waveplan rests on
 it. With --units the carts hold so many units.
@@ -61,14 +64,17 @@ def asked_words(words):
 
 
 def numbers_of(asked):
-    """The numbers of the words: those of a plan where they are left out, but for the capacity, which may be any then."""
+    """The numbers of the words: those of a plan where they are left out, but for the capacity, which may be any then,
+    and for the budget, which isn't told where the words may not be all those of the plan."""
     given = {name: getattr(asked, name) for name in NUMBERS['plan']}
     try:
         found = {name: number(name, text, NUMBERS['plan'][name]) for name, text in given.items() if text is not None}
     except Refusal as why:
         low, high = NUMBERS['plan'][why.field]
-        raise Trouble('--%s is a whole number from %d to %d, not %s' % (why.field, low, high, shortened(why.text))) from None
-    return {'capacity': None, **GIVEN, **found}
+        raise Trouble('--%s is a whole number from %d to %d, not %s'
+                      % (why.field, low, high, shortened(why.text))) from None
+    is_whole = asked.mode or any(name in found for name in ('budget', 'workers', 'store'))
+    return {'capacity': None, **GIVEN, **({} if is_whole else {'budget': None}), **found}
 
 
 def job_of(asked):
@@ -123,9 +129,12 @@ def judged(asked, job, answer):
         return str(why), None
     shown = job.numbers
     told = (len(seen.entries), ', %d of them stored before' % seen.old if job.numbers['store'] else '', len(seen.waves),
-            ' and their brackets' if shown['root'] else '', len(seen.batches), ', and what three rules walk' if shown['rules'] else '',
-            sum(refill[0] >= seen.old for refill in seen.refills), ', a crew of %d' % shown['pickers'] if shown['pickers'] else '')
-    return store_fault(asked, 0, answer), '%d entries%s, %d sheets%s with %d batches and their tours%s, %d refills%s, and the stock' % told
+            ' and their brackets' if shown['root'] else '', len(seen.batches),
+            ', and what three rules walk' if shown['rules'] else '',
+            sum(refill[0] >= seen.old for refill in seen.refills),
+            ', a crew of %d' % shown['pickers'] if shown['pickers'] else '')
+    form = '%d entries%s, %d sheets%s with %d batches and their tours%s, %d refills%s, and the stock'
+    return store_fault(asked, 0, answer), form % told
 
 
 def answer_of(asked):

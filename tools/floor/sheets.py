@@ -1,15 +1,18 @@
-"""Makes sheets for pickers of what a plan printed: one HTML file, to be looked at in any browser and to be printed on A4.
+"""Makes sheets for pickers of what a plan printed: one HTML file, to be looked at in any browser and to be printed on
+A4.
 
 usage: tools/wave sheets --layout FILE DAY > day.html
        tools/wave sheets --layout FILE --drawing WAVE BATCH DAY > tour.svg
 
-DAY is the output of `waveplan plan`, or - for standard input, and FILE the layout file of that day. The first page is for the planner: each wave
-with its cost, its bound and how far the two are apart, between what its linear bound lies, where the day was planned with --root, what usual rules
-would walk, where it was planned with --rules, refused commands with their reasons, short articles. Then come the pickers with their carts, where it was
-planned with --pickers, the refills, and a page for each cart: who walks it, its orders, a drawing of its tour, and its picks in the order of the walk,
-each with a box to tick. Waves that were cancelled later have no pages. Of a day that goes on from a store there are pages of what went out in the last
-run; the first page names the waves of earlier runs, and those of them that were cancelled later. With --drawing one drawing alone is written. Lines of
-kinds that this script doesn't know are passed over. Nothing here is proved; the output that it reads is.
+DAY is the output of `waveplan plan`, or - for standard input, and FILE the layout file of that day. The first page is
+for the planner: each wave with its cost, its bound and how far the two are apart, between what its linear bound lies,
+where the day was planned with --root, what usual rules would walk, where it was planned with --rules, refused commands
+with their reasons, short articles. Then come the pickers with their carts, where it was planned with --pickers, the
+refills, and a page for each cart: who walks it, its orders, a drawing of its tour, and its picks in the order of the
+walk, each with a box to tick. Waves that were cancelled later have no pages. Of a day that goes on from a store there
+are pages of what went out in the last run; the first page names the waves of earlier runs, and those of them that were
+cancelled later. With --drawing one drawing alone is written. Lines of kinds that this script doesn't know are passed
+over. Nothing here is proved; the output that it reads is.
 
 Status: 0, or 2 where DAY is no output of a plan or FILE isn't its layout, with the reason on standard error.
 """

@@ -2,11 +2,13 @@
 
 usage: tools/wave to-csv DAY FOLDER
 
-DAY is the output of `waveplan plan`, or - for standard input. FOLDER is made where it isn't there, and gets journal.csv, waves.csv, batches.csv,
-picks.csv (with each pick's place in the walk), refills.csv, pickers.csv and stock.csv, each with a heading, as RFC 4180 has it: commas, quotes where
-they are needed, line ends as CR LF. In waves.csv the bracket of the linear bound, and in batches.csv what the three rules walk and the number of the
-picker, are empty where the day doesn't tell them, and pickers.csv has its heading alone. Of a day that goes on from a store the journal and the stock are
-of all runs, and the other tables of the last one. Nothing here is proved; the output that it reads is.
+DAY is the output of `waveplan plan`, or - for standard input. FOLDER is made where it isn't there, and gets
+journal.csv, waves.csv, batches.csv, picks.csv (with each pick's place in the walk), refills.csv, pickers.csv and
+stock.csv, each with a heading, as RFC 4180 has it: commas, quotes where they are needed, line ends as CR LF. In
+waves.csv the bracket of the linear bound, and in batches.csv what the three rules walk and the number of the picker,
+are empty where the day doesn't tell them, and pickers.csv has its heading alone. Of a day that goes on from a store the
+journal and the stock are of all runs, and the other tables of the last one. Nothing here is proved; the output that it
+reads is.
 
 Status: 0, or 2 where DAY is no output of a plan, or 4 where FOLDER can't be written, with the reason on standard error.
 """
@@ -19,7 +21,8 @@ from endings import Unwritten, Words
 
 from .output import name_of, read_output
 
-FIELDS = {'pick': ('order', 'location', 'quantity'), 'missing': ('order', 'location', 'quantity'), 'receive': ('location', 'article', 'quantity')}
+FIELDS = {'pick': ('order', 'location', 'quantity'), 'missing': ('order', 'location', 'quantity'),
+          'receive': ('location', 'article', 'quantity')}
 
 
 def journal(day):
@@ -32,14 +35,17 @@ def journal(day):
         refused = entry.reply[0] == 'refused'
         reason = entry.reply[1] if refused else ''
         about = ' '.join(entry.reply[2 if refused else 1:])
-        yield [entry.number, entry.desk, word, wave, orders, *(told.get(each, '') for each in ('location', 'article', 'quantity')), entry.reply[0], reason, about]
+        yield [entry.number, entry.desk, word, wave, orders,
+               *(told.get(each, '') for each in ('location', 'article', 'quantity')), entry.reply[0], reason, about]
 
 
 def waves(day):
-    yield 'wave entry orders capacity units batches cost bound state cancelled_later root_low root_high root_over root_state'.split()
+    yield ('wave entry orders capacity units batches cost bound state cancelled_later root_low root_high root_over '
+           'root_state').split()
     for wave in day.waves:
         units = '' if wave.units is None else wave.units
-        yield [wave.name, wave.entry, wave.size, wave.capacity, units, len(wave.batches), wave.cost, wave.bound, wave.state, 'yes' if wave.cancelled else 'no',
+        yield [wave.name, wave.entry, wave.size, wave.capacity, units, len(wave.batches), wave.cost, wave.bound,
+               wave.state, 'yes' if wave.cancelled else 'no',
                *(wave.root or [''] * 4)]
 
 
@@ -48,9 +54,12 @@ def batches(day):
     picker_of = day.picker_of()
     for wave in day.waves:
         for batch in wave.batches:
-            tour, rules = ' '.join('%d-%d' % point for point in batch.tour), {rule.name: rule.length for rule in batch.rules}
-            yield [wave.name, batch.number, batch.length, ' '.join(batch.orders), len(batch.picks), sum(pick.quantity for pick in batch.picks), tour,
-                   *(rules.get(name, '') for name in ('s-shape', 'return', 'largest-gap')), picker_of.get(name_of(wave, batch), '')]
+            tour = ' '.join('%d-%d' % point for point in batch.tour)
+            rules = {rule.name: rule.length for rule in batch.rules}
+            yield [wave.name, batch.number, batch.length, ' '.join(batch.orders), len(batch.picks),
+                   sum(pick.quantity for pick in batch.picks), tour,
+                   *(rules.get(name, '') for name in ('s-shape', 'return', 'largest-gap')),
+                   picker_of.get(name_of(wave, batch), '')]
 
 
 def picks(day):
@@ -78,7 +87,8 @@ def stock(day):
     yield from map(list, day.rows)
 
 
-TABLES = {'journal': journal, 'waves': waves, 'batches': batches, 'picks': picks, 'refills': refills, 'pickers': pickers, 'stock': stock}
+TABLES = {'journal': journal, 'waves': waves, 'batches': batches, 'picks': picks, 'refills': refills,
+          'pickers': pickers, 'stock': stock}
 
 
 def asked_words(words):

@@ -2,10 +2,11 @@
 
 usage: tools/wave to-json DAY > day.json
 
-DAY is the output of `waveplan plan`, or - for standard input. The object has `journal`, `waves` with their batches, tours, picks and certificates,
-`refills`, `stock`, and `crew` where the day has one; each pick has its place in the walk, and each batch its `rules`, and each wave
-its `root`, where they are told. Of a day that goes on from a store the journal and the stock are of all runs, and the rest of the last one. Nothing here
-is proved; the output that it reads is.
+DAY is the output of `waveplan plan`, or - for standard input. The object has `journal`, `waves` with their batches,
+tours, picks and certificates, `refills`, `stock`, and `crew` where the day has one; each pick has its place in the
+walk, and each batch its `rules`, and each wave its `root`, where they are told. Of a day that goes on from a store the
+journal and the stock are of all runs, and the rest of the last one. Nothing here is proved; the output that it reads
+is.
 
 Status: 0, or 2 where DAY is no output of a plan, with the reason on standard error.
 """
@@ -20,7 +21,8 @@ from .output import read_output
 
 
 def entry_of(entry):
-    return {'entry': entry.number, 'desk': entry.desk, 'command': ' '.join(entry.command), 'reply': ' '.join(entry.reply)}
+    return {'entry': entry.number, 'desk': entry.desk, 'command': ' '.join(entry.command),
+            'reply': ' '.join(entry.reply)}
 
 
 def batch_of(batch):
@@ -42,8 +44,10 @@ def certificate_of(wave):
 
 
 def wave_of(wave):
-    found = {'wave': wave.name, 'entry': wave.entry, 'orders': wave.size, 'capacity': wave.capacity, 'cost': wave.cost, 'bound': wave.bound,
-             'state': wave.state, 'cancelled_later': wave.cancelled, 'batches': [batch_of(batch) for batch in wave.batches],
+    found = {'wave': wave.name, 'entry': wave.entry, 'orders': wave.size, 'capacity': wave.capacity, 'cost': wave.cost,
+             'bound': wave.bound,
+             'state': wave.state, 'cancelled_later': wave.cancelled,
+             'batches': [batch_of(batch) for batch in wave.batches],
              'certificate': certificate_of(wave)}
     if wave.units is not None:
         found['units'] = wave.units

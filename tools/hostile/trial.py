@@ -41,7 +41,8 @@ LINES = {
 
 # What the whole output of each mode is, where the status is 0.
 OUTPUTS = {
-    "plan": rb"journal\n.*end journal\n.*refills\n.*end refills\n(crew [^\n]*\n(picker [^\n]*\n)+end crew\n)?stock\n.*end stock\nend\n",
+    "plan": rb"journal\n.*end journal\n.*refills\n.*end refills\n(crew [^\n]*\n(picker [^\n]*\n)+end "
+           rb"crew\n)?stock\n.*end stock\nend\n",
     "check": rb"bound \d+\n",
     "audit": rb"audit \d+ entries\n",
     "make": rb"made [^\n]*\ncommands \d+ released \d+ units \d+\ncost \d+ bound \d+ proven \d+\n",
@@ -89,7 +90,8 @@ def plan_words(capacity=2, *more):
 
 
 CHECK = ["check", "--layout", "layout.json", "--certificate", "certificate.json"]
-AUDIT = ["audit", "--layout", "layout.json", "--stock", "stock.csv", "--orders", "orders.csv", "--journal", "journal.txt"]
+AUDIT = ["audit", "--layout", "layout.json", "--stock", "stock.csv", "--orders", "orders.csv", "--journal",
+         "journal.txt"]
 MAKE = "make --number 1 --aisles 2 --orders 3 --desks 1 --wave 3 --capacity 2".split()
 
 

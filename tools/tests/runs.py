@@ -34,13 +34,15 @@ def script(name, *words, given=b'', folder=None):
     if name in entry.SUBCOMMANDS:
         return Done(*in_process.floor(name, list(map(str, words)), given, folder))
     words = [sys.executable, str(TOOLS / name), *map(str, words)]
-    return Done.of(subprocess.run(words, input=given, stdout=subprocess.PIPE, stderr=subprocess.PIPE, cwd=folder, timeout=170))
+    return Done.of(subprocess.run(words, input=given, stdout=subprocess.PIPE, stderr=subprocess.PIPE, cwd=folder,
+                                  timeout=170))
 
 
 def waveplan(*words, folder=None):
     """Runs the program."""
     words = [PROGRAM, *map(str, words)]
-    return Done.of(subprocess.run(words, stdin=subprocess.DEVNULL, stdout=subprocess.PIPE, stderr=subprocess.PIPE, cwd=folder,
+    return Done.of(subprocess.run(words, stdin=subprocess.DEVNULL, stdout=subprocess.PIPE, stderr=subprocess.PIPE,
+                                  cwd=folder,
                                   timeout=170))
 
 

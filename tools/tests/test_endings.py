@@ -57,7 +57,8 @@ RIGHT = {
 NUMBERS = {
     'import': ['--skip', '--skip-last'], 'continue': ['--desk'], 'confirm': ['--desk'],
     'second-opinion': ['--capacity', '--units', '--budget', '--workers', '--rules', '--pickers', '--root', '--store'],
-    'fuzz': ['--runs', '--first', '--seed', '--processes'], 'greatest': ['--seconds'], 'surroundings': ['--steps', '--runs'],
+    'fuzz': ['--runs', '--first', '--seed', '--processes'], 'greatest': ['--seconds'],
+    'surroundings': ['--steps', '--runs'],
 }
 
 
@@ -88,10 +89,12 @@ STOPS = ((FULL, endings.UNWRITTEN), (GONE, endings.UNWRITTEN), (KeyboardInterrup
 
 def bad_bytes():
     """What a file may hold that is of no form at all."""
-    yield from (b'', b'\n', b'\xff', b'\x00' * 100, b'\xef\xbb\xbf', b'"', b'{', b'[]', b'null', b'NaN', b'1e400', b'-1')
+    yield from (b'', b'\n', b'\xff', b'\x00' * 100, b'\xef\xbb\xbf', b'"', b'{', b'[]', b'null', b'NaN', b'1e400',
+                b'-1')
     yield from (DEEP.encode(), DEEP_OBJECT.encode(), MOST_DIGITS.encode(), ('[%s]' % MOST_DIGITS).encode())
     yield from (text.encode('utf-16') for text in ('journal', FILES['stock.csv']))
-    yield from (b'refused layout not-json\n', b'read fault stock\n', b'journal\n', b'journal\nend\n', b'a,b\r\n"c', b'PK\x03\x04')
+    yield from (b'refused layout not-json\n', b'read fault stock\n', b'journal\n', b'journal\nend\n', b'a,b\r\n"c',
+                b'PK\x03\x04')
     yield b'store fault\n'
 
 
@@ -101,40 +104,48 @@ def bad_days():
     digits = re.compile(r'\d+')
     for place, line in enumerate(lines):
         found = list(digits.finditer(line))
-        others = [line[:len(line) // 2], line + ' 1'] + [line[:each.start()] + MOST_DIGITS + line[each.end():] for each in found[-2:]]
+        others = [line[:len(line) // 2], line + ' 1'] + [line[:each.start()] + MOST_DIGITS + line[each.end():]
+                                                         for each in found[-2:]]
         yield lines[:place] + lines[place + 1:]
         yield from (lines[:place] + [other] + lines[place + 1:] for other in others)
-    for text in (DEEP, DEEP_OBJECT, '{"orders":[[1,2]]}', '{"orders":[[1,[2]]]}', '{"orders":[%s]}' % MOST_DIGITS, '[%s]' % MOST_DIGITS, '"\\ud800"'):
+    for text in (DEEP, DEEP_OBJECT, '{"orders":[[1,2]]}', '{"orders":[[1,[2]]]}', '{"orders":[%s]}' % MOST_DIGITS,
+                 '[%s]' % MOST_DIGITS, '"\\ud800"'):
         yield [line if not line.startswith('certificate') else 'certificate ' + text for line in lines]
 
 
 def bad_certificates():
     """A certificate with each of its values changed."""
     text = FILES['certificate.json']
-    for old, new in (('2,', MOST_DIGITS + ','), ('[1,4]', '1'), ('[[1,4]]', DEEP), ('[[1,4]]', '[[[1]]]'), ('"kept"', '{}'), ('[{"kind":"kept"}]', '[[]]'),
-                     ('{"kind":"kept"}', '1'), ('"version":1', '"version":' + MOST_DIGITS), ('"version":1', '"version":[]'), ('"kept"', '"split"'),
+    for old, new in (('2,', MOST_DIGITS + ','), ('[1,4]', '1'), ('[[1,4]]', DEEP), ('[[1,4]]', '[[[1]]]'),
+                     ('"kept"', '{}'), ('[{"kind":"kept"}]', '[[]]'),
+                     ('{"kind":"kept"}', '1'), ('"version":1', '"version":' + MOST_DIGITS),
+                     ('"version":1', '"version":[]'), ('"kept"', '"split"'),
                      ('"kind":"kept"', '"kind":"leaf","duals":[%s],"marks":"","tight":[]' % MOST_DIGITS),
-                     ('"kind":"kept"', '"kind":"leaf","duals":[1],"marks":5,"tight":[[1]]'), ('}]', '}'), ('1}', '1,"loads":1,"units":1}')):
+                     ('"kind":"kept"', '"kind":"leaf","duals":[1],"marks":5,"tight":[[1]]'), ('}]', '}'),
+                     ('1}', '1,"loads":1,"units":1}')):
         yield text.replace(old, new, 1)
 
 
 def bad_tables(text):
     """A table with a field changed."""
-    for new in (MOST_DIGITS, '', '-1', '1-1-L', '"', '\x00', 'A' * 50000, '1.5', '#N/A', '1-1-L-1', '0-0-L', '99999-99999-R'):
+    for new in (MOST_DIGITS, '', '-1', '1-1-L', '"', '\x00', 'A' * 50000, '1.5', '#N/A', '1-1-L-1', '0-0-L',
+                '99999-99999-R'):
         yield text.replace(',5', ',' + new, 1).replace(',O1', ',' + new, 1).replace('1 submit', new + ' submit')
 
 
 def contents_for(name):
     """What stands in the place of a file."""
     made = {'day.txt': ['\n'.join(lines) for lines in bad_days()], 'certificate.json': list(bad_certificates())}
-    made['layout.json'] = [FILES['layout.json'].replace(':4', ':' + new) for new in (MOST_DIGITS, DEEP, '[]', '"', '-4', '4.0', 'null', '{}')]
+    made['layout.json'] = [FILES['layout.json'].replace(':4', ':' + new)
+                           for new in (MOST_DIGITS, DEEP, '[]', '"', '-4', '4.0', 'null', '{}')]
     some = made.get(name) or list(bad_tables(FILES[name]))
     return [*bad_bytes(), *(text.encode('utf-8', 'surrogatepass') for text in some)]
 
 
 def bad_words(name):
     """Words that are wrong, whatever the files are."""
-    yield from ([], ['--help', '--unknown'], ['--unknown'], ['nowhere.txt'], ['/'], ['-'], ['', ''], ['a', 'b', 'c', 'd', 'e'], ['nowhere.txt', 'W1'])
+    yield from ([], ['--help', '--unknown'], ['--unknown'], ['nowhere.txt'], ['/'], ['-'], ['', ''],
+                ['a', 'b', 'c', 'd', 'e'], ['nowhere.txt', 'W1'])
     for option in NUMBERS.get(name, ()):
         for text in (MOST_DIGITS, '-1', '', 'x', '1e3', '\u0663'):
             yield ['day.txt', option, text]
@@ -146,19 +157,28 @@ def odd_words(name):
     """Words of single scripts that are wrong."""
     yield from {
         'import': [['stock', 'stock.csv', *more] for more in (
-            ['--columns', 'x'], ['--columns', 'location='], ['--columns', 'nothing=a'], ['--sides', 'a=b'], ['--location', '('], ['--location', '{aisle}'],
-            ['--location', '{aisle}{slot}{side}['], ['--encoding', 'utf-16'], ['--encoding', 'x'], ['--separator', 'tab'], ['--skip', '9' * 4000],
+            ['--columns', 'x'], ['--columns', 'location='], ['--columns', 'nothing=a'], ['--sides', 'a=b'],
+            ['--location', '('], ['--location', '{aisle}'],
+            ['--location', '{aisle}{slot}{side}['], ['--encoding', 'utf-16'], ['--encoding', 'x'],
+            ['--separator', 'tab'], ['--skip', '9' * 4000],
             ['--skip-last', '9' * 30], ['--decimal', '.', '--skip', '1'])],
-        'confirm': [['day.txt', *more] for more in (['W2'], ['W1', '9' * 30], ['W1', 'x'], ['W1', MOST_DIGITS], ['W1', '--earlier', 'nowhere'],
+        'confirm': [['day.txt', *more] for more in (['W2'], ['W1', '9' * 30], ['W1', 'x'], ['W1', MOST_DIGITS],
+                                                    ['W1', '--earlier', 'nowhere'],
                                                     ['W1', '--earlier', 'alone.txt'], ['W1', '--earlier'])],
         'sheets': [['--layout', layout, *more] for layout in ('layout.json', 'nowhere', '/', 'day.txt') for more in (
-            ['day.txt', '--drawing', 'W1', 'x'], ['day.txt', '--drawing', 'W2', '1'], ['day.txt', '--drawing', 'W1'], ['/'])],
+            ['day.txt', '--drawing', 'W1', 'x'], ['day.txt', '--drawing', 'W2', '1'], ['day.txt', '--drawing', 'W1'],
+            ['/'])],
         'to-csv': [['day.txt', folder] for folder in ('/dev/null/x', 'day.txt', '', '/proc/x')],
         'compare': [['day.txt', other] for other in ('/', 'nowhere', '/dev/null', 'layout.json')],
-        'explain': [['plan', *PLAN, '--units', MOST_DIGITS], ['plan', *PLAN, '--budget', '+' + MOST_DIGITS], ['make', '--number', MOST_DIGITS],
-                    ['plan', *PLAN, '--store', '1'], ['check', '--layout', '/root/none/x'], ['\udcff'], ['plan', '\udcff'], ['plan', *PLAN[:-1], '\udcff']],
-        'second-opinion': [[*JUDGED, *more] for more in (['--stored', 'nowhere'], ['--store-after', 'day.txt', 'day.txt'], ['--store-before', '/', 'day.txt'],
-                                                         ['--store-before', 'stock.csv', 'day.txt'], ['day.txt', 'day.txt'], ['--certificate', 'x', 'day.txt'])],
+        'explain': [['plan', *PLAN, '--units', MOST_DIGITS], ['plan', *PLAN, '--budget', '+' + MOST_DIGITS],
+                    ['make', '--number', MOST_DIGITS],
+                    ['plan', *PLAN, '--store', '1'], ['check', '--layout', '/root/none/x'], ['\udcff'],
+                    ['plan', '\udcff'], ['plan', *PLAN[:-1], '\udcff']],
+        'second-opinion': [[*JUDGED, *more] for more in (['--stored', 'nowhere'],
+                                                         ['--store-after', 'day.txt', 'day.txt'],
+                                                         ['--store-before', '/', 'day.txt'],
+                                                         ['--store-before', 'stock.csv', 'day.txt'],
+                                                         ['day.txt', 'day.txt'], ['--certificate', 'x', 'day.txt'])],
     }.get(name, [])
 
 
@@ -173,10 +193,12 @@ class Floor(unittest.TestCase):
         """Runs a script, and tests how it ends."""
         out = how.get('out', io.BytesIO())
         status, told = ended(lambda: entry.module_of(name).main(words), name, given, out, self.folder)
-        self.assertIn(status, (due,) if due else (endings.RIGHT, endings.WRONG, endings.REFUSED, endings.UNWRITTEN), (name, words, told[:500]))
+        self.assertIn(status, (due,) if due else (endings.RIGHT, endings.WRONG, endings.REFUSED, endings.UNWRITTEN),
+                      (name, words, told[:500]))
         is_help = status == endings.REFUSED and told.startswith(entry.module_of(name).__doc__[:40])
         is_list = name == 'import' and status == endings.WRONG
-        self.assertTrue(is_help or is_list or told.count('\n') == (status in (endings.REFUSED, *range(endings.UNWRITTEN, 200))), (name, words, told[:500]))
+        self.assertTrue(is_help or is_list or told.count('\n')
+                        == (status in (endings.REFUSED, *range(endings.UNWRITTEN, 200))), (name, words, told[:500]))
         self.assertNotIn('Traceback', told)
         return 1
 
@@ -225,12 +247,14 @@ class Floor(unittest.TestCase):
     def test_a_fault_of_a_script_is_one_line_too(self):
         def wrong():
             return {}['nothing']
-        self.assertEqual((endings.FAULTY, "x: this script is at fault: KeyError: 'nothing'\n"), ended(wrong, 'x', out=io.BytesIO()))
+        self.assertEqual((endings.FAULTY, "x: this script is at fault: KeyError: 'nothing'\n"),
+                         ended(wrong, 'x', out=io.BytesIO()))
 
 
 def module_of(name):
     """A script of tools/hostile, or of tools/ itself, as a module."""
-    path = next(str(at / name) for at in (runs.TOOLS / 'hostile', runs.TOOLS) if (at / name).exists() and (at.name == 'hostile' or name not in HOSTILE))
+    path = next(str(at / name) for at in (runs.TOOLS / 'hostile', runs.TOOLS) if (at / name).exists()
+                and (at.name == 'hostile' or name not in HOSTILE))
     sys.path[1:1] = [str(runs.TOOLS / 'hostile')] if str(runs.TOOLS / 'hostile') not in sys.path else []
     loader = importlib.machinery.SourceFileLoader(name.replace('-', '_'), path)
     made = importlib.util.module_from_spec(importlib.util.spec_from_loader(loader.name, loader))
@@ -241,7 +265,8 @@ def module_of(name):
 class Hostile(unittest.TestCase):
     """The scripts that try the program, in this process: over programs that are none, and with wrong words."""
 
-    PROGRAMS = {'silent': '#!/bin/sh\n', 'failing': '#!/bin/sh\nexit 1\n', 'loud': '#!/bin/sh\necho waveplan\n', 'other': '#!/bin/sh\necho refused words\n',
+    PROGRAMS = {'silent': '#!/bin/sh\n', 'failing': '#!/bin/sh\nexit 1\n', 'loud': '#!/bin/sh\necho waveplan\n',
+                'other': '#!/bin/sh\necho refused words\n',
                 'stopped': '#!/bin/sh\nkill -9 $$\n', 'nameless': 'no program\n', 'without': '#!/nowhere/sh\n'}
 
     @classmethod
@@ -260,7 +285,8 @@ class Hostile(unittest.TestCase):
 
     def words(self, name):
         yield from ([], ['--unknown'], ['silent', '--unknown'], ['silent', '--unknown', '1'])
-        yield from ([program] for program in (*self.PROGRAMS, 'plain', 'nowhere', '/', '', '/dev/null', 'plain/x', 'x' * 5000))
+        yield from ([program] for program in (*self.PROGRAMS, 'plain', 'nowhere', '/', '', '/dev/null', 'plain/x',
+                                              'x' * 5000))
         yield from ([program, '--help=1'] for program in ('silent', 'nowhere'))
         for option in (*NUMBERS.get(name, ()), '--only', '--mode', '--list', '--once', '--to-wrong'):
             for text in (MOST_DIGITS, 'x', '', '1.5'):
@@ -304,12 +330,14 @@ class Processes(unittest.TestCase):
         with open('/dev/full', 'wb') as full, os.fdopen(writer, 'wb') as gone:
             for out, why in ((full, 'No space left on device'), (gone, 'its reader has ended')):
                 for name, status, told in self.each(self.NAMES, ['--help'], stdout=out):
-                    self.assertEqual((4, '%s: the output cannot be written: %s\n' % (Path(name).name, why)), (status, told))
+                    self.assertEqual((4, '%s: the output cannot be written: %s\n' % (Path(name).name, why)),
+                                     (status, told))
 
     def test_an_interruption(self):
         for name in ('continue', 'second-opinion'):
             words = {'continue': ['-'], 'second-opinion': [*JUDGED, '-']}[name]
-            script = subprocess.Popen([str(runs.TOOLS / name), *words], stdin=subprocess.PIPE, stdout=subprocess.PIPE, stderr=subprocess.PIPE)
+            script = subprocess.Popen([str(runs.TOOLS / name), *words], stdin=subprocess.PIPE, stdout=subprocess.PIPE,
+                                      stderr=subprocess.PIPE)
             script.stdin.write(b'journal\n')
             script.stdin.flush()
             while Path('/proc/%d/wchan' % script.pid).read_text() not in ('pipe_read', 'anon_pipe_read', '0'):

@@ -464,14 +464,16 @@ class Crews(unittest.TestCase):
         for asked, status, told in (
                 (shown + ' --budget 0', 0, right), (shown + ' --budget=111 --workers 3 --store 0 --capacity 2', 0, right),
                 (shown + ' --budget 0 --store 1', 0, right), ('--rules 1 --pickers 2 --budget 0', 1, 'wrong: line 15: a line `root'),
-                (shown + ' --budget 112', 1, short + '112 pays for 1'), (shown, 1, short + '2000000 pays for 17857'),
+                (shown + ' --budget 112', 1, short + '112 pays for 1'), (shown + ' --workers 1', 1, short + '2000000 pays for 17857'),
+                (shown, 0, right), (shown + ' --store 0', 1, short + '2000000 pays for 17857'),
                 (shown + ' --budget 0 --capacity 3', 1, 'wrong: line 5: the capacity'), ('--rules 1 --pickers 2 --root 2', 2, ''),
                 (shown + ' --budget ' + '9' * 5000, 2, ''), (shown + ' --workers 17', 2, ''), (shown + ' --store 2', 2, '')):
             done = runs.script('second-opinion', *runs.options(folder), *asked.split(), '-', given=output)
             self.assertEqual(status, done.status, (asked, done.output, done.errors))
             self.assertIn(told, done.output)
-        words = ['plan', *runs.options(folder), *shown.split(), '--budget', '0', '-']
-        self.assertIn(right, runs.script('wave', 'second-opinion', *words, given=output).output)
+        words = ['second-opinion', 'plan', *runs.options(folder), *shown.split(), '-']
+        self.assertIn(short + '2000000 pays for 17857', runs.script('wave', *words, given=output).output)
+        self.assertIn(right, runs.script('wave', *words, '--budget', '0', given=output).output)
 
     def test_what_is_wrong_with_a_crew_is_found(self):
         heading, first, second = 'crew longest 36 least 31', 'picker 1 load 36 batches W1/1 W1/3', 'picker 2 load 26 batches W1/2 W2/1'

@@ -44,6 +44,7 @@ SHOWN_FAULTS = [
     ('a crew without its last picker', 'plan', rb'^picker .*\n(end crew\n)', 'found[1]', 'done.returncode'),
     ('brackets whose sides change places', 'plan', rb'^root (\d+) (\d+)', 'b"root %s %s" % (found[2], found[1])', 'done.returncode'),
     ('brackets that are all narrow', 'plan', rb'^(root .*) open', 'b"%s narrow" % found[1]', 'done.returncode'),
+    ('brackets that are all open', 'plan', rb'^(root .*) narrow', 'b"%s open" % found[1]', 'done.returncode'),
     ('brackets that lie higher by one', 'plan', rb'^root (\d+) (\d+) over (\d+)',
      'b"root %d %d over %s" % (int(found[1]) + int(found[3]), int(found[2]) + int(found[3]), found[3])', 'done.returncode'),
     ('brackets that lie lower by one', 'plan', rb'^root (\d+) (\d+) over (\d+)',
@@ -85,6 +86,22 @@ class Days(unittest.TestCase):
         words = ('--capacity', '3', '--root', '1')
         done = self.judged(runs.EXAMPLES / 'one-day', runs.day_of('one-day', *words, '--budget', '0'), *words)
         self.assertEqual((0, ''), (done.status, done.errors), done.output)
+
+    def test_a_plan_short_of_its_budget_is_wrong(self):
+        """A program that ignores the budget, and one that tells a narrow bracket as open."""
+        words, options = ['--capacity', '3', '--root', '1'], runs.options(runs.EXAMPLES / 'one-day')
+        for ignored in ('0', '50000'):
+            done = runs.planned(runs.EXAMPLES / 'one-day', *words, '--budget', ignored)
+            for budget, due in ((['--budget', ignored], 0), (['--budget', '5000000'], 1), (['--store', '0'], 1), ([], 0)):
+                judged = runs.script('second-opinion', *options, *words, *budget, '-', given=done.bytes)
+                self.assertEqual(due, judged.status, (ignored, budget, judged.output))
+                self.assertRegex(judged.output, 'where the budget of .* pays for' if due else 'right: ')
+        right = runs.planned(runs.EXAMPLES / 'one-day', *words).bytes
+        for told, due in ((right, 0), (right.replace(b' narrow\n', b' open\n'), 1)):
+            for mode in (['plan'], []):
+                judged = runs.script('second-opinion', *mode, *options, *words, '-', given=told)
+                self.assertEqual(due, judged.status, judged.output)
+                self.assertRegex(judged.output, 'is open, and meets the test of narrow' if due else 'right: ')
 
     def test_the_plan_of_other_carts_is_wrong(self):
         day = runs.day_of('small-carts', '--capacity', '3', '--units', '30')
