@@ -90,12 +90,11 @@ class Days(unittest.TestCase):
     def test_a_plan_short_of_its_budget_is_wrong(self):
         """A program that ignores the budget, and one that tells a narrow bracket as open."""
         words, options = ['--capacity', '3', '--root', '1'], runs.options(runs.EXAMPLES / 'one-day')
-        for ignored in ('0', '50000'):
-            done = runs.planned(runs.EXAMPLES / 'one-day', *words, '--budget', ignored)
-            for budget, due in ((['--budget', ignored], 0), (['--budget', '5000000'], 1), (['--store', '0'], 1), ([], 0)):
-                judged = runs.script('second-opinion', *options, *words, *budget, '-', given=done.bytes)
-                self.assertEqual(due, judged.status, (ignored, budget, judged.output))
-                self.assertRegex(judged.output, 'where the budget of .* pays for' if due else 'right: ')
+        short = runs.planned(runs.EXAMPLES / 'one-day', *words, '--budget', '0')
+        for budget, due in ((['--budget', '0'], 0), (['--budget', '5000000'], 1), (['--store', '0'], 1), ([], 0)):
+            judged = runs.script('second-opinion', *options, *words, *budget, '-', given=short.bytes)
+            self.assertEqual(due, judged.status, (budget, judged.output))
+            self.assertRegex(judged.output, 'where the budget of .* pays for' if due else 'right: ')
         right = runs.planned(runs.EXAMPLES / 'one-day', *words).bytes
         for told, due in ((right, 0), (right.replace(b' narrow\n', b' open\n'), 1)):
             for mode in (['plan'], []):
