@@ -1,5 +1,6 @@
 """Numbers of the documents that a command counts, or that are counted here, held to the text in which they stand."""
 
+import functools
 import re
 import subprocess
 import sys
@@ -27,16 +28,18 @@ class Lines:
     """Counts the lines that a reader of some definitions reads."""
 
     def __init__(self, top, script):
-        self.top, self.script, self.known = top, script, {}
+        self.script = script and str(top / script)
 
     def of(self, words):
-        """The lines in all, and how many names of the kit are cited beside."""
-        if words not in self.known:
-            done = subprocess.run([sys.executable, '-B', str(self.top / self.script), *words], stdout=subprocess.PIPE,
-                                  stderr=subprocess.STDOUT)
-            found = re.search(rb'(\d+)  lines in all\n *(\d+)  names', done.stdout)
-            self.known[words] = (int(found[1]), int(found[2])) if found else None
-        return self.known[words]
+        """The lines in all, and how many names of the kit are cited beside; None where they can't be counted."""
+        return _counted_by(self.script, words) if self.script else None
+
+
+@functools.lru_cache(maxsize=None)
+def _counted_by(script, words):
+    done = subprocess.run([sys.executable, '-B', script, *words], stdout=subprocess.PIPE, stderr=subprocess.STDOUT)
+    found = re.search(rb'(\d+)  lines in all\n *(\d+)  names', done.stdout)
+    return (int(found[1]), int(found[2])) if found else None
 
 
 def _place(page, line):
@@ -68,10 +71,10 @@ def headline(page, lines):
     so_far = []
     for line in page.lines:
         cells = [cell.strip() for cell in line.text.split('|')]
-        found = re.match(r'(\d+)(.*)', cells[-2]) if len(cells) == 6 and line.section == 'The headline' else None
+        found = re.match(r'([0-9]{1,9})(?![0-9])(.*)', cells[-2]) if len(cells) == 6 and line.section == 'The headline' else None
         if found:
             is_more, roots = ' more' in found[2], _roots(cells[3])
-            before = lines.of(tuple(so_far))[0] if is_more else 0
+            before = (lines.of(tuple(so_far)) or (0, 0))[0] if is_more else 0
             so_far = so_far + roots if is_more else roots
             counted = lines.of(tuple(so_far))
             due = counted[0] - before if counted else None
@@ -101,7 +104,7 @@ def stated(page, sources):
         for line in page.lines:
             for found in () if line.is_code else re.finditer(form, line.text):
                 word = found[1].lower().replace(',', '')
-                number = int(word) if word.isdigit() else NUMBERS.get(word)
+                number = int(word) if re.fullmatch('[0-9]{1,9}', word) else NUMBERS.get(word)
                 if number is not None:
                     yield _place(page, line), None if number == due else '%s, where %d are counted' % (found[0], due)
 

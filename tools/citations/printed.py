@@ -10,7 +10,7 @@ from pathlib import Path
 COMMAND = re.compile(r'\./|tools/|echo ')
 LEFT_OUT = re.compile(r'\./gate|\./waveplan --prove')
 DAY_OF = re.compile(r'The day of `examples/([\w-]+)`')
-LINES = re.compile(r'The command prints ([\d,]+) lines')
+LINES = re.compile(r'The command prints ([0-9,]{1,9}) lines')
 PAGES = {'README.md': None, 'docs/DAY.md': 'one-day'}  # each with the example whose files it begins with
 STORE, BEFORE = 'waveplan.store', 'before.store'
 LONGEST = 120  # seconds that a command may take

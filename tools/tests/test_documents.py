@@ -130,7 +130,7 @@ class Documents(unittest.TestCase):
         done = runs.script('documents', '--help')
         self.assertEqual((0, ''), (done.status, done.errors))
         for words, told in ((['nowhere'], 'nowhere is no program'),
-                            (['--top', '/nowhere'], 'there is no /nowhere/README.md'), (['--nothing'], 'unrecognized')):
+                            (['--top', '/nowhere'], 'there is no file /nowhere/README.md'), (['--nothing'], 'unrecognized')):
             done = runs.script('documents', *words)
             self.assertEqual((2, '', 1), (done.status, done.output, done.errors.count('\n')))
             self.assertIn(told, done.errors)

@@ -305,10 +305,64 @@ class Hostile(unittest.TestCase):
             self.judge(name, ['--help'], endings.UNWRITTEN, out=None)
 
 
+class Entry(unittest.TestCase):
+    """The entry of the scripts for planners, and the check of the documents, in this process."""
+
+    PAGES = ('`%s`' % MOST_DIGITS, '%s that may wait' % MOST_DIGITS, '[a](%s)' % ('/' * 1000), '`x` of ' * 5000,
+             '|' * 50000,
+             '`a`, ' * 20000 + '`b` of `c`', '# ' * 50000, '    ./waveplan', '`tools/wave`',
+             '`docs/lines-to-read %s`' % ('x ' * 500),
+             '## The headline\n\n| a | b | `IsLegal` of `wp_model` | %s |' % MOST_DIGITS,
+             '## The crates\n\n| `wp_x` | | `wp_y` |')
+
+    @classmethod
+    def setUpClass(cls):
+        cls.folder = Path(runs.shelf().name) / 'entry'
+        for place, content in enumerate([*bad_bytes(), *(page.encode() for page in cls.PAGES)]):
+            runs.put(cls.folder / ('bad %d' % place), {'README.md': content, 'crates.txt': b'wp_model:\n'})
+            runs.put(cls.folder / ('odd %d' % place), {'README.md': b'A page.\n', 'crates.txt': content})
+        runs.put(cls.folder / 'bare', {'README.md': b'A page.\n'})
+        runs.put(cls.folder / 'folder' / 'README.md', {})
+        runs.put(cls.folder / 'inner' / 'docs' / 'x.md', {'y': b''})
+        runs.put(cls.folder / 'inner', {'README.md': b'A page.\n'})
+        cls.documents = module_of('documents')
+
+    def judge(self, words, due, **how):
+        out = how.get('out', io.BytesIO())
+        status, told = ended(lambda: self.documents.main(words), 'documents', out=out, folder=self.folder)
+        self.assertIn(status, due, (words, told[:500]))
+        self.assertEqual(int(status > 1), told.count('\n'), (words, told[:500]))
+        return 1
+
+    def test_documents_of_a_wrong_form(self):
+        count = sum(self.judge(['--top', str(folder)], (0, 1)) for folder in self.folder.glob('bad *'))
+        count += sum(self.judge(['--top', str(folder)], (0, 1)) for folder in self.folder.glob('odd *'))
+        for words in (['--top', 'nowhere'], ['--top', 'bare'], ['--top', 'folder'], ['--top', 'inner'], ['--top'],
+                      ['nowhere'], ['/'],
+                      ['--top', '/dev/null'], ['a', 'b'], ['--nothing'], ['--top', 'x' * 5000], ['x' * 5000]):
+            count += self.judge(words, (endings.REFUSED,))
+        self.assertGreaterEqual(count, 40)
+
+    def test_outputs_of_the_check_that_can_not_be_written(self):
+        for why, due in STOPS:
+            self.judge(['--help'], (due,), out=Failing(why))
+        self.judge(['--help'], (endings.UNWRITTEN,), out=None)
+
+    def test_words_that_name_no_subcommand(self):
+        words = [MOST_DIGITS, 'x' * 50000, '', '-', '--', '--x', '-h', '--help=1', '\udcff', '\u0663', '../sheets',
+                 'Sheets', 'sheet', 'sheets ', 'to_csv']
+        words += [name + end for name in entry.SUBCOMMANDS for end in ('s', '=', '\n')]
+        self.assertGreaterEqual(len(words), 40)
+        for word in words:
+            status, told = ended(lambda: entry.tell_subcommands([word]), 'wave', out=io.BytesIO())
+            self.assertEqual(endings.REFUSED, status, (word, told[:500]))
+            self.assertTrue(told.count('\n') == 1 or told.startswith('The one entry'), (word, told[:500]))
+
+
 class Processes(unittest.TestCase):
     """All scripts as processes of their own, beside each other: real devices, and a signal."""
 
-    NAMES = ('wave', *entry.SUBCOMMANDS, *HOSTILE, *('hostile/' + name for name in HOSTILE))
+    NAMES = ('wave', 'documents', *entry.SUBCOMMANDS, *HOSTILE, *('hostile/' + name for name in HOSTILE))
 
     def ended(self, name, more, **how):
         words = [str(runs.TOOLS / name), *more]

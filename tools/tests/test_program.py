@@ -1,9 +1,11 @@
 """Tests with the program: made days and example days judged by the second opinion, and faults planted behind the
 program that `tools/fuzz` is to find."""
 
+import os
 import re
 import sys
 import unittest
+from concurrent.futures import ThreadPoolExecutor
 from pathlib import Path
 
 import by_hand
@@ -258,6 +260,13 @@ class Days(unittest.TestCase):
 
 
 class Fuzzing(unittest.TestCase):
+    @classmethod
+    def setUpClass(cls):
+        """What a run that is wrong leaves goes with the process."""
+        kept = os.environ.get('TMPDIR')
+        os.environ['TMPDIR'] = runs.shelf().name
+        cls.addClassCleanup(lambda: os.environ.update(TMPDIR=kept) if kept else os.environ.pop('TMPDIR'))
+
     def fuzzed(self, program, mode, count, *more):
         return runs.script('fuzz', program, '--mode', mode, '--runs', count, *more)
 
@@ -266,14 +275,21 @@ class Fuzzing(unittest.TestCase):
             done = self.fuzzed(runs.PROGRAM, mode, 60)
             self.assertEqual(0, done.status, done.output + done.errors)
 
+    def planted(self, place, fault):
+        """What is found of a fault that is planted behind the program."""
+        _, mode, pattern, new, status = fault
+        program = Path(runs.shelf().name) / ('planted-%d' % place)
+        program.write_text(PLANTED % {'python': sys.executable, 'program': runs.PROGRAM, 'pattern': pattern, 'new': new,
+                                      'status': status})
+        program.chmod(0o755)
+        return self.fuzzed(program, mode, 80 if place < len(FAULTS) else 400, '--to-wrong')
+
     def test_each_planted_fault_is_found(self):
-        for place, (name, mode, pattern, new, status) in enumerate(FAULTS + CART_FAULTS + SHOWN_FAULTS + STORE_FAULTS):
+        faults = FAULTS + CART_FAULTS + SHOWN_FAULTS + STORE_FAULTS
+        with ThreadPoolExecutor(2) as pool:
+            found = list(pool.map(self.planted, range(len(faults)), faults))
+        for (name, mode, *_), done in zip(faults, found):
             with self.subTest(name):
-                program = Path(runs.shelf().name) / ('planted-%d' % place)
-                program.write_text(PLANTED % {'python': sys.executable, 'program': runs.PROGRAM, 'pattern': pattern,
-                                              'new': new, 'status': status})
-                program.chmod(0o755)
-                done = self.fuzzed(program, mode, 80 if place < len(FAULTS) else 400, '--to-wrong')
                 self.assertEqual(1, done.status, done.output + done.errors)
                 self.assertRegex(done.output, 'wrong: %s run' % mode)
 
