@@ -78,11 +78,18 @@ def status_of(main, name):
         return status
     except (Exception, KeyboardInterrupt) as why:
         status, told = ending_of(why)
-    try:
-        print('%s: %s' % (name, told.replace('\n', ' ')), file=sys.stderr, flush=True)
-    except (OSError, ValueError, AttributeError):
-        pass
+    _tell('%s: %s\n' % (name, told.replace('\n', ' ')))
     return status
+
+
+def _tell(line):
+    """Writes a line to standard error, if there is one that takes it."""
+    try:
+        if sys.stderr is not None:
+            sys.stderr.write(line)
+            sys.stderr.flush()
+    except (OSError, ValueError):
+        pass
 
 
 def run(main, name):
