@@ -85,10 +85,14 @@ def of_command(text, sources):
 def clauses(page, sources):
     """Each clause or field stands in the item of which it is told to be. What stands before the last of them may be an
     item by itself."""
-    for line in page.lines:
-        for found in () if line.is_code else OF.finditer(line.text):
-            item, blocks = found[2], sources.blocks_of(found[2])
-            *others, last = re.findall('`(.*?)`', found[1])
-            for name in [last, *(other for other in others if other not in sources.items)] if blocks else ():
-                right = any(re.search(MEMBER % (name, name, name), block) for block in blocks)
-                yield line, None if right else '%s has no %s' % (item, name)
+    prose = (line for line in page.lines if not line.is_code)
+    told = ((line, found[2], re.findall('`(.*?)`', found[1])) for line in prose for found in OF.finditer(line.text))
+    for line, item, names in told:
+        blocks = sources.blocks_of(item)
+        members = [name for name in names[:-1] if name not in sources.items] + names[-1:]
+        yield from ((line, None if _has_member(blocks, name) else '%s has no %s' % (item, name))
+                    for name in (members if blocks else ()))
+
+
+def _has_member(blocks, name):
+    return any(re.search(MEMBER % (name, name, name), block) for block in blocks)

@@ -71,7 +71,8 @@ def headline(page, lines):
     so_far = []
     for line in page.lines:
         cells = [cell.strip() for cell in line.text.split('|')]
-        found = re.match(r'([0-9]{1,9})(?![0-9])(.*)', cells[-2]) if len(cells) == 6 and line.section == 'The headline' else None
+        found = re.match(r'([0-9]{1,9})(?![0-9])(.*)',
+                         cells[-2]) if len(cells) == 6 and line.section == 'The headline' else None
         if found:
             is_more, roots = ' more' in found[2], _roots(cells[3])
             before = (lines.of(tuple(so_far)) or (0, 0))[0] if is_more else 0
@@ -89,24 +90,25 @@ def counted_of(sources):
     crates = re.findall(r'^(\w+)(?: may_wait=(\d+))?:', sources.texts['crates.txt'], re.MULTILINE)
     tests = [file for file in sources.texts if re.match(r'crates/(?!\w+_tests/|wp_cases/)\w+/src/', file)]
     return {
-        r'(\w+) that may wait': sum(int(count) for name, count in crates if count and name != 'wp_cases'),
-        r'(\d+) crates(?! of)': len(crates),
-        r'(\w+) (?:wrong )?edits in `must-fail/`': len(kept),
-        r'(\w+) (?:wrong )?edits in `edits/`': len(edits) - len(kept),
-        r'(\w+) (?:wrong )?edits in all': len(edits),
-        r'(\w+) small tests stay in libraries': sum(sources.texts[file].count('#[test]') for file in tests),
+        r'(\w[\w,]*) that may wait': sum(int(count) for name, count in crates if count and name != 'wp_cases'),
+        r'(\d[\d,]*) crates(?! of)': len(crates),
+        r'(\w[\w,]*) (?:wrong )?edits in `must-fail/`': len(kept),
+        r'(\w[\w,]*) (?:wrong )?edits in `edits/`': len(edits) - len(kept),
+        r'(\w[\w,]*) (?:wrong )?edits in all': len(edits),
+        r'(\w[\w,]*) small tests stay in libraries': sum(sources.texts[file].count('#[test]') for file in tests),
     }
 
 
 def stated(page, sources):
     """Numbers that the prose states."""
-    for form, due in counted_of(sources).items():
-        for line in page.lines:
-            for found in () if line.is_code else re.finditer(form, line.text):
-                word = found[1].lower().replace(',', '')
-                number = int(word) if re.fullmatch('[0-9]{1,9}', word) else NUMBERS.get(word)
-                if number is not None:
-                    yield _place(page, line), None if number == due else '%s, where %d are counted' % (found[0], due)
+    prose = [line for line in page.lines if not line.is_code]
+    found = ((line, due, each) for form, due in counted_of(sources).items() for line in prose
+             for each in re.finditer(form, line.text))
+    for line, due, each in found:
+        word = each[1].lower().replace(',', '')
+        number = int(word) if re.fullmatch('[0-9]{1,9}', word) else NUMBERS.get(word)
+        if number is not None:
+            yield _place(page, line), None if number == due else '%s, where %d are counted' % (each[0], due)
 
 
 def table_of_crates(page, sources):

@@ -32,12 +32,13 @@ it. With --units the carts hold so many units.
 Status: 0 where all is right, 1 where something is wrong, which is told, 2 where nothing can be judged.
 """
 
+import os
 import sys
 
 from endings import Trouble, Words, shortened
 from opinion import answers, days, stores
 from opinion.refusals import MOST_BYTES, Refusal
-from opinion.words import FILES, GIVEN, NUMBERS, SHOWN_NUMBERS, Job, number
+from opinion.words import FILES, GIVEN, NUMBERS, Job, number
 
 KINDS = {'desks': 'plan', 'certificate': 'check', 'journal': 'audit'}
 OF_A_MODE = {name for names in FILES.values() for name in names}
@@ -59,6 +60,8 @@ def asked_words(words):
     known.add_argument('--stored', action='store_true')
     known.add_argument('answer', nargs='*')
     asked = known.read(words)
+    if os.path.basename((asked.answer or [''])[0]) == 'waveplan':
+        asked.answer.pop(0)
     asked.mode = asked.answer.pop(0) if asked.answer[1:] and asked.answer[0] in KINDS.values() else None
     return asked
 

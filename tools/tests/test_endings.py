@@ -244,6 +244,17 @@ class Floor(unittest.TestCase):
                 self.judge(name, ['--help'], out=Failing(why), due=due)
             self.judge(name, ['--help'], out=None, due=endings.UNWRITTEN)
 
+    def test_options_stand_before_and_after_files(self):
+        for name, words in (('confirm', ['--desk', '2', 'day.txt', 'W1']),
+                            ('confirm', ['day.txt', '--desk', '2', 'W1']),
+                            ('sheets', ['day.txt', '--layout', 'layout.json']), ('continue', ['--desk=2', 'day.txt']),
+                            ('closing-stock', ['day.txt', '--free']), ('second-opinion', ['day.txt', *JUDGED]),
+                            ('second-opinion', ['waveplan', 'plan', *JUDGED, 'day.txt']),
+                            ('second-opinion', [*JUDGED[:4], 'plan', *JUDGED[4:], 'day.txt', '--workers=2']),
+                            ('import', ['stock', '--skip', '0', 'stock.csv']),
+                            ('import', ['--skip=0', 'stock', 'stock.csv'])):
+            self.judge(name, words, due=endings.RIGHT)
+
     def test_a_fault_of_a_script_is_one_line_too(self):
         def wrong():
             return {}['nothing']
@@ -386,6 +397,15 @@ class Processes(unittest.TestCase):
                 for name, status, told in self.each(self.NAMES, ['--help'], stdout=out):
                     self.assertEqual((4, '%s: the output cannot be written: %s\n' % (Path(name).name, why)),
                                      (status, told))
+
+    def test_both_names_of_a_subcommand_do_the_same(self):
+        folder = runs.put(Path(runs.shelf().name) / 'names', {**FILES, 'alone.txt': '\n'.join(by_hand.ALONE)})
+        for name in RIGHT:
+            words = RIGHT[name][0][0]
+            each = [subprocess.run([*command, *words], cwd=folder, stdout=subprocess.PIPE, stderr=subprocess.PIPE)
+                    for command in ([runs.TOOLS / name], [runs.TOOLS / 'wave', name])]
+            self.assertEqual(*((done.returncode, done.stdout, done.stderr) for done in each), name)
+            self.assertEqual(int(name == 'compare'), each[0].returncode, name)
 
     def test_an_interruption(self):
         for name in ('continue', 'second-opinion'):
