@@ -3,6 +3,7 @@
 Most run in this process, over devices that fail in memory; some run beside each other as processes of their own.
 """
 
+import fcntl
 import functools
 import importlib.machinery
 import importlib.util
@@ -12,6 +13,7 @@ import re
 import signal
 import subprocess
 import sys
+import termios
 import time
 import unittest
 from concurrent.futures import ThreadPoolExecutor
@@ -370,6 +372,16 @@ class Entry(unittest.TestCase):
             self.assertTrue(told.count('\n') == 1 or told.startswith('The one entry'), (word, told[:500]))
 
 
+def may_be_interrupted():
+    """Lets a process be interrupted, whoever has started these tests."""
+    signal.signal(signal.SIGINT, signal.SIG_DFL)
+
+
+def waiting_in(pipe):
+    """How many bytes of a pipe nobody has read."""
+    return int.from_bytes(fcntl.ioctl(pipe, termios.FIONREAD, bytes(4)), sys.byteorder)
+
+
 class Processes(unittest.TestCase):
     """All scripts as processes of their own, beside each other: real devices, and a signal."""
 
@@ -411,12 +423,11 @@ class Processes(unittest.TestCase):
         for name in ('continue', 'second-opinion'):
             words = {'continue': ['-'], 'second-opinion': [*JUDGED, '-']}[name]
             script = subprocess.Popen([str(runs.TOOLS / name), *words], stdin=subprocess.PIPE, stdout=subprocess.PIPE,
-                                      stderr=subprocess.PIPE)
+                                      stderr=subprocess.PIPE, preexec_fn=may_be_interrupted)
             script.stdin.write(b'journal\n')
             script.stdin.flush()
-            while Path('/proc/%d/wchan' % script.pid).read_text() not in ('pipe_read', 'anon_pipe_read', '0'):
-                pass
-            time.sleep(0.5)
+            while waiting_in(script.stdin):
+                time.sleep(0.05)
             script.send_signal(signal.SIGINT)
             _, told = script.communicate()
             self.assertEqual((130, '%s: interrupted\n' % name), (script.returncode, told.decode()))
