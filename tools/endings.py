@@ -1,4 +1,4 @@
-"""How each script of this folder ends: its statuses, and one line on standard error in place of a traceback."""
+"""How scripts end: their statuses, and one line on standard error in place of a traceback."""
 
 import argparse
 import errno
