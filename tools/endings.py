@@ -41,6 +41,12 @@ class Words(argparse.ArgumentParser):
         raise Trouble('%s; --help says which words there are' % shortened(message))
 
 
+def tell_usage(text, asked):
+    """Tells how a script is used: on standard output where that was asked for. Gives the status."""
+    print(text, end='', file=sys.stdout if asked.help else sys.stderr)
+    return RIGHT if asked.help else REFUSED
+
+
 def shortened(text):
     return text if len(text) <= SHOWN else text[:SHOWN] + '..'
 

@@ -10,9 +10,7 @@ docs/DAY.md says which of the two is meant when. Nothing here is proved; the out
 Status: 0, or 2 where DAY is no output of a plan, with the reason on standard error.
 """
 
-import sys
-
-from endings import Words
+from endings import RIGHT, Words, tell_usage
 
 from .output import read_output
 
@@ -25,9 +23,8 @@ def main(words):
     known.add_argument('day', nargs='?')
     asked = known.read(words)
     if asked.help or not asked.day or not (asked.on_hand or asked.free):
-        print(__doc__, end='', file=sys.stdout if asked.help else sys.stderr)
-        return 0 if asked.help else 2
+        return tell_usage(__doc__, asked)
     print('location,article,on_hand')
     for row in read_output(asked.day).rows:
         print('%s,%s,%d' % (row.location, row.article, row.on_hand if asked.on_hand else row.free))
-    return 0
+    return RIGHT

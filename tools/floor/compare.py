@@ -10,9 +10,7 @@ first. Nothing here is proved.
 Status: 0 where they differ in nothing of this, 1 where they do, 2 where one is no output of a plan.
 """
 
-import sys
-
-from endings import Words
+from endings import RIGHT, WRONG, Words, tell_usage
 
 from .output import read_output
 
@@ -141,8 +139,7 @@ def asked_words(words):
 def main(words):
     asked = asked_words(words)
     if asked.help or not asked.other:
-        print(__doc__, end='', file=sys.stdout if asked.help else sys.stderr)
-        return 0 if asked.help else 2
+        return tell_usage(__doc__, asked)
     left, right = read_output(asked.day), read_output(asked.other)
     found = [*of_replies(left, right), *of_waves(left, right), *of_told(left, right), *of_crew(left, right),
              *of_stock(left, right)]
@@ -152,4 +149,4 @@ def main(words):
         print('all waves: cost %s' % change(*total))
     else:
         print('no difference')
-    return 1 if found else 0
+    return WRONG if found else RIGHT

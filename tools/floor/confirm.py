@@ -13,9 +13,7 @@ Status: 0, or 2 where DAY is no output of a plan or the wave isn't there to be p
 error.
 """
 
-import sys
-
-from endings import Words
+from endings import RIGHT, Words, tell_usage
 
 from .holding import still_held
 from .output import read_output, with_earlier
@@ -40,8 +38,7 @@ def main(words):
     known.add_argument('--earlier', action='append', default=[])
     asked = known.read(words)
     if asked.help or not asked.wave:
-        print(__doc__, end='', file=sys.stdout if asked.help else sys.stderr)
-        return 0 if asked.help else 2
+        return tell_usage(__doc__, asked)
     day = with_earlier(read_output(asked.day), asked.earlier)
     wave = day.wave(asked.wave)
     if wave.cancelled:
@@ -50,4 +47,4 @@ def main(words):
     if not batches:
         raise Trouble('wave %s has no batch %d, but 1 to %d' % (wave.name, asked.batch, len(wave.batches)))
     records(still_held(day, wave, batches), wave.name, asked.desk)
-    return 0
+    return RIGHT

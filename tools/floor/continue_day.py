@@ -14,9 +14,7 @@ files of the first run, prints all sheets and refills again.
 Status: 0, or 2 where DAY is no output of a plan, with the reason on standard error.
 """
 
-import sys
-
-from endings import Words
+from endings import RIGHT, Words, tell_usage
 
 from .output import read_output
 
@@ -27,9 +25,8 @@ def main(words):
     known.add_argument('day', nargs='?')
     asked = known.read(words)
     if asked.help or not asked.day:
-        print(__doc__, end='', file=sys.stdout if asked.help else sys.stderr)
-        return 0 if asked.help else 2
+        return tell_usage(__doc__, asked)
     print('desk,command,arguments')
     for entry in read_output(asked.day).entries:
         print(','.join([str(asked.desk), *entry.command]))
-    return 0
+    return RIGHT

@@ -44,9 +44,7 @@ def subcommand_of(words):
 
 def tell_subcommands(words):
     """Tells which subcommands there are, where the words name none."""
-    asked = subcommand_of(words)
-    print(help_text(), end='', file=sys.stdout if asked.help else sys.stderr)
-    return endings.RIGHT if asked.help else endings.REFUSED
+    return endings.tell_usage(help_text(), subcommand_of(words))
 
 
 def main(words):

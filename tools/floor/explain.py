@@ -14,6 +14,7 @@ Status: 0 where nothing is refused, 1 where something is, which is explained, 2 
 import os
 import sys
 
+from endings import REFUSED, RIGHT, WRONG
 from opinion import answers, stores, tables
 from opinion.refusals import MOST_BYTES
 from opinion.words import FILES, NUMBERS, read_words
@@ -275,7 +276,7 @@ def main(words):
     words = words[1:] if words and os.path.basename(words[0]) == 'waveplan' else words
     if not words or words == ['--help']:
         print(__doc__, end='', file=sys.stdout if words else sys.stderr)
-        return 0 if words else 2
+        return RIGHT if words else REFUSED
     why = answers.refusal_of(words, bytes_of, None, bytes_of_store())
     if why is None:
         print('nothing in these words and files is refused')
@@ -283,7 +284,7 @@ def main(words):
             print('where the run said `store fault`, the disk failed or is full: look at it; then a run with a desk '
                   'file of the heading')
             print('alone prints what is stored, and what is missing is given after it (docs/DAY.md)')
-        return 0
+        return RIGHT
     print(why.line)
     print('\n'.join(Explained(words, why).explain()))
-    return 1
+    return WRONG

@@ -27,7 +27,7 @@ Status: 0; 1 where a cell can't be read; 2 where the file or the words can't be.
 import argparse
 import sys
 
-from endings import Words
+from endings import RIGHT, WRONG, Words, tell_usage
 
 from . import sheet_files
 from .cells import Pattern, Unread, name, whole
@@ -198,8 +198,7 @@ def table_of(asked):
 def main(words):
     asked = asked_words(words)
     if asked.help or not asked.file:
-        print(__doc__, end='', file=sys.stdout if asked.help else sys.stderr)
-        return 0 if asked.help else 2
+        return tell_usage(__doc__, asked)
     rows, places = table_of(asked)
     try:
         reader = Reader(asked, places)
@@ -210,8 +209,8 @@ def main(words):
         print('\n'.join(reader.unread), file=sys.stderr)
         print('import: %d cells of %s cannot be read; nothing was written' % (len(reader.unread), asked.file),
               file=sys.stderr)
-        return 1
+        return WRONG
     heading = {'stock': 'location,article,on_hand', 'orders': 'order,article,quantity',
                'desks': 'desk,command,arguments'}[asked.kind]
     print('\n'.join([heading, *[','.join(fields) for fields in reader.records]]))
-    return 0
+    return RIGHT

@@ -35,7 +35,7 @@ Status: 0 where all is right, 1 where something is wrong, which is told, 2 where
 import os
 import sys
 
-from endings import Trouble, Words, shortened
+from endings import RIGHT, WRONG, Trouble, Words, shortened, tell_usage
 from opinion import answers, days, stores
 from opinion.refusals import MOST_BYTES, Refusal
 from opinion.words import FILES, GIVEN, NUMBERS, Job, number
@@ -160,8 +160,7 @@ def main(words):
     asked = asked_words(words)
     job = None if asked.help else job_of(asked)
     if job is None:
-        print(__doc__, end='', file=sys.stdout if asked.help else sys.stderr)
-        return 0 if asked.help else 2
+        return tell_usage(__doc__, asked)
     wrong, told = judged(asked, job, answer_of(asked))
     print('wrong: %s' % wrong if wrong else 'right: %s' % told)
-    return 1 if wrong else 0
+    return WRONG if wrong else RIGHT

@@ -19,7 +19,7 @@ Status: 0, or 2 where DAY is no output of a plan or FILE isn't its layout, with 
 
 import sys
 
-from endings import Words
+from endings import RIGHT, Words, tell_usage
 
 from . import drawing, pages, warehouse
 from .output import read_output
@@ -46,12 +46,11 @@ def batch_of(day, name, number):
 def main(words):
     asked = asked_words(words)
     if asked.help or not asked.layout or not asked.day:
-        print(__doc__, end='', file=sys.stdout if asked.help else sys.stderr)
-        return 0 if asked.help else 2
+        return tell_usage(__doc__, asked)
     layout, day = warehouse.read_layout(asked.layout), read_output(asked.day)
     warehouse.test_fits(layout, day)
     if asked.drawing:
         print(drawing.drawing(layout, batch_of(day, *asked.drawing)))
     else:
         sys.stdout.writelines(list(pages.of_day(layout, day)))
-    return 0
+    return RIGHT

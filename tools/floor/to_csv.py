@@ -15,9 +15,8 @@ Status: 0, or 2 where DAY is no output of a plan, or 4 where FOLDER can't be wri
 
 import csv
 import os
-import sys
 
-from endings import Unwritten, Words
+from endings import RIGHT, Unwritten, Words, tell_usage
 
 from .output import name_of, read_output
 
@@ -101,8 +100,7 @@ def asked_words(words):
 def main(words):
     asked = asked_words(words)
     if asked.help or not asked.folder:
-        print(__doc__, end='', file=sys.stdout if asked.help else sys.stderr)
-        return 0 if asked.help else 2
+        return tell_usage(__doc__, asked)
     day = read_output(asked.day)
     tables = {name: list(rows(day)) for name, rows in TABLES.items()}
     try:
@@ -112,4 +110,4 @@ def main(words):
                 csv.writer(it).writerows(rows)
     except OSError as why:
         raise Unwritten('%s cannot be written: %s' % (asked.folder, why.strerror)) from None
-    return 0
+    return RIGHT

@@ -14,7 +14,7 @@ Status: 0, or 2 where DAY is no output of a plan, with the reason on standard er
 import json
 import sys
 
-from endings import Trouble, Words
+from endings import RIGHT, Trouble, Words, tell_usage
 from opinion import json_text
 
 from .output import read_output
@@ -73,8 +73,7 @@ def asked_words(words):
 def main(words):
     asked = asked_words(words)
     if asked.help or not asked.day:
-        print(__doc__, end='', file=sys.stdout if asked.help else sys.stderr)
-        return 0 if asked.help else 2
+        return tell_usage(__doc__, asked)
     json.dump(object_of(read_output(asked.day)), sys.stdout, separators=(',', ':'))
     print()
-    return 0
+    return RIGHT
