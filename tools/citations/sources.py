@@ -58,7 +58,7 @@ class Sources:
     def has_path(self, path):
         """Whether there is a file or a folder of this name: from the top, below crates/ or docs/, or at the end of some
         path."""
-        path = path.rstrip('/').removeprefix('./')
+        path = re.sub(r'^\./', '', path.rstrip('/'))
         for at in (path, 'crates/' + path, 'docs/' + path):
             if at in self.folders or at in self.endings.get(at.rsplit('/', 1)[-1], ()):
                 return True
