@@ -282,7 +282,8 @@ class Fuzzing(unittest.TestCase):
         program.write_text(PLANTED % {'python': sys.executable, 'program': runs.PROGRAM, 'pattern': pattern, 'new': new,
                                       'status': status})
         program.chmod(0o755)
-        return self.fuzzed(program, mode, 80 if place < len(FAULTS) else 400, '--to-wrong')
+        count = 80 if place < len(FAULTS) else 400
+        return self.fuzzed(program, mode, count, '--to-wrong', '--corpus', runs.PROGRAM)
 
     def test_each_planted_fault_is_found(self):
         faults = FAULTS + CART_FAULTS + SHOWN_FAULTS + STORE_FAULTS
