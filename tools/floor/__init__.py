@@ -1,1 +1,2 @@
-"""What the scripts for the floor share: reading a plan's output and a layout, and writing files. Nothing here is proved."""
+"""What the scripts for the floor share: reading a plan's output and a layout, and writing files. Nothing here is
+proved."""

@@ -1,4 +1,5 @@
-"""What each refusal means where it stands: the field, its text, the usual cause and the cure. docs/FORMATS.md has the same in general."""
+"""What each refusal means where it stands: the field, its text, the usual cause and the cure. docs/FORMATS.md has the
+same in general."""
 
 import difflib
 import re
@@ -8,20 +9,27 @@ FIELDS = {
     'orders': ['order', 'article', 'quantity'],
     'desks': ['desk', 'command'],
 }
-FORMS = {'submit': ['wave'], 'allot': ['wave'], 'release': ['wave'], 'cancel': ['wave'], 'pick': ['wave', 'order', 'location', 'quantity'],
+FORMS = {'submit': ['wave'], 'allot': ['wave'], 'release': ['wave'], 'cancel': ['wave'],
+         'pick': ['wave', 'order', 'location', 'quantity'],
          'missing': ['wave', 'order', 'location', 'quantity'], 'receive': ['location', 'article', 'quantity']}
 HEADINGS = {'stock': 'location,article,on_hand', 'orders': 'order,article,quantity', 'desks': 'desk,command,arguments'}
 
 # Of each refusal in a record: what it says, and what to do where nothing closer is found.
 ROWS = {
-    'columns': ('the record has not as many fields as it should, or is not the heading where that is due', 'hold it against docs/FORMATS.md'),
-    'not-utf8': ('a field has bytes that are no UTF-8', 'save the file as UTF-8, or let tools/import read it with --encoding latin-1'),
-    'bad-name': ('the field is no name, or not of the form of a location', 'a name has 1 to 40 letters without accents, digits, and - _ .'),
-    'bad-number': ('the field is not 1 to 18 digits', 'digits alone: no sign, no decimal point, no separator of thousands'),
-    'out-of-range': ('the number is too small or too large', 'on hand 0 to 1,000,000, all other quantities 1 to 100,000'),
+    'columns': ('the record has not as many fields as it should, or is not the heading where that is due',
+                'hold it against docs/FORMATS.md'),
+    'not-utf8': ('a field has bytes that are no UTF-8',
+                 'save the file as UTF-8, or let tools/import read it with --encoding latin-1'),
+    'bad-name': ('the field is no name, or not of the form of a location',
+                 'a name has 1 to 40 letters without accents, digits, and - _ .'),
+    'bad-number': ('the field is not 1 to 18 digits',
+                   'digits alone: no sign, no decimal point, no separator of thousands'),
+    'out-of-range': ('the number is too small or too large',
+                     'on hand 0 to 1,000,000, all other quantities 1 to 100,000'),
     'unknown-location': ('the layout has no such aisle or slot', 'correct the location, or the layout'),
     'location-twice': ('an earlier record has the same location', 'join the two records, or correct one'),
-    'unknown-article': ('the stock file does not have the article', 'add a record to the stock file, with 0 where there is none on hand'),
+    'unknown-article': ('the stock file does not have the article',
+                        'add a record to the stock file, with 0 where there is none on hand'),
     'unknown-command': ('the word is no command', 'one of %s, in small letters' % ', '.join(FORMS)),
     'desk-number': ('the number is not 1 to 8', 'there are eight desks at most, numbered from 1'),
     'too-many-rows': ('the file has more records than it may have', 'leave records out'),
@@ -31,7 +39,9 @@ ROWS = {
     'too-many-waves': ('500 records submit a wave already', 'leave waves out'),
 }
 LAYOUTS = {
-    'not-json': ('the file is not JSON', 'look for a comma too many or too few, quotes that are not straight, a byte order mark; save it as UTF-8 without one'),
+    'not-json': ('the file is not JSON',
+                 'look for a comma too many or too few, quotes that are not straight, a byte order mark; save it as '
+                 'UTF-8 without one'),
     'not-object': ('the file is a list or a single value', 'put the keys into { and }'),
     'missing-key': ('a key is not there', 'add it'),
     'unknown-key': ('there is a key that the version has not', 'take it out, or correct its name'),
@@ -40,20 +50,25 @@ LAYOUTS = {
     'not-end': ('`end` is neither "front" nor "back"', 'write one of the two, in small letters and in quotes'),
 }
 NODES = {
-    'cut': ('the list of nodes ends too early, or has nodes left', 'look whether the text was cut off; have it printed anew'),
+    'cut': ('the list of nodes ends too early, or has nodes left',
+            'look whether the text was cut off; have it printed anew'),
     'split-kept': ('a split has no duals of its own', 'give it duals, marks and tight'),
     'not-dead': ('some permitted batch has the order of a dead leaf', 'put a leaf with duals in its place'),
     'duals-length': ('there is not one dual and one tight batch for each order', 'give one of each for each order'),
     'sum-low': ('the duals come to less than those above', 'keep the duals of the node above'),
-    'not-feasible': ('the duals of a permitted batch come to more than sixty times its length', 'lower the duals of these orders'),
+    'not-feasible': ('the duals of a permitted batch come to more than sixty times its length',
+                     'lower the duals of these orders'),
     'bad-marks': ('a mark is missing or left over, or a 0 stands where a 1 is due', 'give the marks in preorder'),
-    'not-tight': ('the tight batch of an order does not come to sixty times its length, or is not permitted', 'name a batch that is tight, or raise the duals'),
+    'not-tight': ('the tight batch of an order does not come to sixty times its length, or is not permitted',
+                  'name a batch that is tight, or raise the duals'),
     'bad-pair': ('the pair of a split is decided already, or is no pair of orders', 'split on another pair'),
 }
 CERTIFICATES = {
-    'not-json': ('the file is not JSON', 'the whole of what stands behind the word `certificate`, in UTF-8 without a byte order mark'),
+    'not-json': ('the file is not JSON',
+                 'the whole of what stands behind the word `certificate`, in UTF-8 without a byte order mark'),
     'bad-shape': ('the value is not of the form of a certificate', 'hold its keys and values against docs/FORMATS.md'),
-    'out-of-range': ('the form is right, but a number is not in its range, or a slot is not in the layout', 'look whether it is the right layout'),
+    'out-of-range': ('the form is right, but a number is not in its range, or a slot is not in the layout',
+                     'look whether it is the right layout'),
 }
 
 
@@ -75,9 +90,11 @@ def of_first_row(file, data):
     plain = shown.strip().lower().replace(' ', '').replace('"', '')
     due = HEADINGS[file]
     if data[:4] in (b'PK\x03\x04', b'\xd0\xcf\x11\xe0'):
-        return 'it is a workbook (.xlsx, .ods or .xls)', 'open it in the spreadsheet and save it as "CSV UTF-8"; then tools/import reads it'
+        return ('it is a workbook (.xlsx, .ods or .xls)',
+                'open it in the spreadsheet and save it as "CSV UTF-8"; then tools/import reads it')
     if data[:2] in (b'\xff\xfe', b'\xfe\xff') or b'\0' in data[:100]:
-        return 'it is UTF-16, which some programs call "Unicode text"', 'save it as "CSV UTF-8", or let tools/import read it'
+        return ('it is UTF-16, which some programs call "Unicode text"',
+                'save it as "CSV UTF-8", or let tools/import read it')
     if text.startswith(b'\xef\xbb\xbf'):
         return 'it begins with two byte order marks', 'take one out'
     if plain.startswith('sep='):
@@ -89,17 +106,20 @@ def of_first_row(file, data):
     if '\t' in shown:
         return 'tabs stand between its fields', 'let tools/import read it, or save it with commas'
     if plain == due:
-        return 'its heading has capitals, blanks or quotes in the wrong places: %s' % shown, 'write %s, letter by letter' % due
+        return ('its heading has capitals, blanks or quotes in the wrong places: %s' % shown,
+                'write %s, letter by letter' % due)
     if plain.startswith(due + ','):
         return 'its heading has a column too many: %s' % shown, 'let tools/import read it, or take the column out'
     if sorted(plain.split(',')) == sorted(due.split(',')):
-        return 'its columns stand in another order: %s' % shown, 'let tools/import read it, or put them into the order %s' % due
+        return ('its columns stand in another order: %s' % shown,
+                'let tools/import read it, or put them into the order %s' % due)
     others = [name for name, heading in HEADINGS.items() if heading == plain]
     if others:
         return 'it is a file of %s' % others[0], 'look at the options: --%s names it now' % file
     if due.encode() in text.lower():
         return 'a title stands above its heading: %s' % shown, 'take it out, or let tools/import read it with --skip'
-    return 'its first record is %s' % (shown[:80] or 'empty'), 'the heading is %s; tools/import reads other words with --columns' % due
+    return ('its first record is %s' % (shown[:80] or 'empty'),
+            'the heading is %s; tools/import reads other words with --columns' % due)
 
 
 def of_columns(file, record):
@@ -115,7 +135,8 @@ def of_columns(file, record):
     if any(b'\n' in field for field in record):
         return 'a quote is opened in it and not closed in its line', 'close it, or take it out'
     if re.search(r'\d,\d{3}\b', shown):
-        return 'it has %d fields, perhaps since a comma sets thousands apart' % len(record), 'write numbers with digits alone'
+        return ('it has %d fields, perhaps since a comma sets thousands apart' % len(record),
+                'write numbers with digits alone')
     return 'it has %d fields' % len(record), 'it should have %d: %s' % (len(FIELDS[file]), HEADINGS[file])
 
 
@@ -128,11 +149,13 @@ def of_name(name, text):
     if name == 'location':
         if re.fullmatch(r'\d{1,5}-\d{1,5}-[lr]', text):
             return 'its side is a small letter', 'write L or R'
-        if re.match(r'\d{4}-\d\d?-\d\d?|\d\d?[./]\d\d?[./]\d+|.*(?i:jan|feb|mar|apr|may|jun|jul|aug|sep|oct|nov|dec)', text):
+        if re.match(r'\d{4}-\d\d?-\d\d?|\d\d?[./]\d\d?[./]\d+|.*(?i:jan|feb|mar|apr|may|jun|jul|aug|sep|oct|nov|dec)',
+                    text):
             return 'a spreadsheet has made a date of it', 'format the column as text, and write it again'
         if re.fullmatch(r'(?i)(grand )?total|sum|summe|gesamt', text):
             return 'the record is a row of totals', 'leave it out'
-        return 'it is not of the form 3-17-L: aisle, slot, side', 'write it so; tools/import reads other forms with --location'
+        return ('it is not of the form 3-17-L: aisle, slot, side',
+                'write it so; tools/import reads other forms with --location')
     if len(text) > 40:
         return 'it has %d characters' % len(text), 'a name has at most 40'
     bad = ' '.join('a blank' if sign == ' ' else sign for sign in sorted(set(re.sub(r'[A-Za-z0-9._-]', '', text))))

@@ -3,8 +3,10 @@
 import re
 
 NAME = re.compile(r'[A-Za-z0-9._-]{1,40}')
-DATE = re.compile(r'\d{4}-\d\d?-\d\d?(?: .*)?|\d\d?[./]\d\d?[./]\d{2,4}|\d\d?[-. ]?(?:jan|feb|m[aä]r|apr|ma[iy]|jun|jul|aug|sep|o[ck]t|nov|de[cz])[a-z]*\.?(?:[- ]\d{2,4})?|'
+DATE = re.compile(r'\d{4}-\d\d?-\d\d?(?: .*)?|\d\d?[./]\d\d?[./]\d{2,4}|\d\d?[-. '
+                  r']?(?:jan|feb|m[aä]r|apr|ma[iy]|jun|jul|aug|sep|o[ck]t|nov|de[cz])[a-z]*\.?(?:[- ]\d{2,4})?|'
                   r'(?:jan|feb|m[aä]r|apr|ma[iy]|jun|jul|aug|sep|o[ck]t|nov|de[cz])[a-z]*[-. ]\d{2,4}', re.IGNORECASE)
+ERRORS = ('#N/A', '#NV', '#REF!', '#WERT!', '#VALUE!', '#NAME?', '#DIV/0!')
 SCIENTIFIC = re.compile(r'[+-]?\d+(?:[.,]\d+)?[eE][+-]?\d+')
 TOTALS = ('total', 'sum', 'summe', 'gesamt', 'somme', 'totale', 'suma', 'grand total', 'subtotal', 'zwischensumme')
 
@@ -17,7 +19,7 @@ def _test_usual(text):
     """The usual accidents of any cell."""
     if not text:
         raise Unread('it is empty: fill it in, or leave the row out')
-    if text.startswith('#') and text.rstrip('!?').isupper() or text.upper() in ('#N/A', '#NV', '#REF!', '#WERT!', '#VALUE!', '#NAME?', '#DIV/0!'):
+    if text.startswith('#') and text.rstrip('!?').isupper() or text.upper() in ERRORS:
         raise Unread('it is an error of the spreadsheet: mend the formula')
     if text.startswith('='):
         raise Unread('it is a formula: save the values')
@@ -37,7 +39,8 @@ def name(text):
     if re.fullmatch('[A-Za-z0-9._-]+', text):
         raise Unread('it has %d characters, and a name has at most 40: shorten it' % len(text))
     bad = sorted(set(re.sub(r'[A-Za-z0-9._-]', '', text)))
-    raise Unread('a name has letters without accents, digits, and the signs - _ . alone: put something else for %s' % ' '.join(
+    raise Unread('a name has letters without accents, digits, and the signs - _ . alone: put something else for %s'
+                 % ' '.join(
         'the blank' if sign == ' ' else '"%s"' % sign for sign in bad))
 
 
@@ -53,7 +56,8 @@ def whole(text, decimal, least, most):
     """A whole number in a range. `decimal` is the sign before the tenths, None where none may stand."""
     _test_usual(text)
     if SCIENTIFIC.fullmatch(text):
-        raise Unread('the spreadsheet has shortened it to a power of ten: widen the column, format it as a number without decimals')
+        raise Unread('the spreadsheet has shortened it to a power of ten: widen the column, format it as a number '
+                     'without decimals')
     if text.startswith('-'):
         raise Unread('it is below 0: correct it')
     digits = text.lstrip('+')
@@ -61,18 +65,21 @@ def whole(text, decimal, least, most):
         digits, point, tenths = digits.partition(decimal)
         if tenths.strip('0'):
             raise Unread('it is no whole number: units are counted whole')
-        digits = _groups(digits.replace(' ', ',' if decimal == '.' else '.').replace("'", ',' if decimal == '.' else '.'), ',' if decimal == '.' else '.')
+        mark = ',' if decimal == '.' else '.'
+        digits = _groups(digits.replace(' ', mark).replace("'", mark), mark)
     if not digits.isdigit() or not digits.isascii():
         mark = re.fullmatch(r'\d+[.,]\d+', digits) and not decimal
         hint = 'say --decimal . or --decimal , for the sign that stands before tenths' if mark else 'write digits alone'
         raise Unread('it is no whole number as it stands: %s' % hint)
-    if not least <= int(digits) <= most:
+    digits = digits.lstrip('0') or '0'
+    if len(digits) > len(str(most)) or not least <= int(digits) <= most:
         raise Unread('it is not within %d to %d: correct it, or divide it' % (least, most))
-    return str(int(digits))
+    return digits
 
 
 class Pattern:
-    """How locations are written: {aisle}, {slot} and {side} with other signs between them, and what stands for the sides."""
+    """How locations are written: {aisle}, {slot} and {side} with other signs between them, and what stands for the
+    sides."""
 
     def __init__(self, text, sides):
         parts = re.split(r'(\{aisle\}|\{slot\}|\{side\})', text)
@@ -87,6 +94,7 @@ class Pattern:
         found = self.form.fullmatch(text)
         if not found:
             _test_usual(text)
-            raise Unread('it is not of the form %s with %s for the side: say how locations are written with --location and --sides' % (
+            raise Unread('it is not of the form %s with %s for the side: say how locations are written with '
+                         '--location and --sides' % (
                 self.text, ' or '.join(sorted(self.sides))))
         return '%d-%d-%s' % (int(found['aisle']), int(found['slot']), self.sides[found['side'].lower()])

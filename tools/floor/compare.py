@@ -1,14 +1,16 @@
-"""Tells what two plans differ in, wave by wave: cost, bound, state, batches and replies; and what their rules, brackets and crews differ in.
+"""Tells what two plans differ in, wave by wave: cost, bound, state, batches and replies; and what their rules, brackets
+and crews differ in.
 
 usage: tools/wave compare DAY OTHER
 
-Both are outputs of `waveplan plan`. Waves are compared by their names, replies by their commands: where a command was given more than once, first
-with first. Of two runs over one store the second has no sheets of what went out in the first. Nothing here is proved.
+Both are outputs of `waveplan plan`. Waves are compared by their names, replies by their commands: where a command was
+given more than once, first with first. Of two runs over one store the second has no sheets of what went out in the
+first. Nothing here is proved.
 
 Status: 0 where they differ in nothing of this, 1 where they do, 2 where one is no output of a plan.
 """
 
-import sys
+from endings import RIGHT, WRONG, Words, tell_usage
 
 from .output import read_output
 
@@ -41,7 +43,8 @@ def of_replies(left, right):
 
 
 def change(left, right):
-    return '%d, and %d (%+.2f %%)' % (left, right, 100 * (right - left) / left) if left else '%d, and %d' % (left, right)
+    told = '%d, and %d' % (left, right)
+    return told + ' (%+.2f %%)' % (100 * (right - left) / left) if left else told
 
 
 def bracket(root):
@@ -67,7 +70,8 @@ def of_batches(left, right):
     for title, mine, yours in (('first', one, other), ('second', other, one)):
         for orders, batch in mine.items():
             if orders not in yours:
-                yield '%s: only in the %s: batch of %s, length %d' % (left.name, title, ' '.join(batch.orders), batch.length)
+                yield '%s: only in the %s: batch of %s, length %d' % (left.name, title, ' '.join(batch.orders),
+                                                                      batch.length)
     for orders, batch in one.items():
         if orders in other and batch.picks != other[orders].picks:
             yield '%s: the batch of %s has other picks' % (left.name, ' '.join(batch.orders))
@@ -81,14 +85,16 @@ def of_waves(left, right):
         if wave.name in others:
             yield from of_wave(wave, others.pop(wave.name))
         else:
-            yield '%s: %s only in the first' % (wave.name, 'has its sheet' if wave.name in right.earlier() else 'went out')
+            yield '%s: %s only in the first' % (wave.name,
+                                                'has its sheet' if wave.name in right.earlier() else 'went out')
     for name in others:
         yield '%s: %s only in the second' % (name, 'has its sheet' if name in left.earlier() else 'went out')
 
 
 def of_told(left, right):
     """Rules and brackets that only one of two days tells."""
-    for name, tells in (('rules', lambda wave: any(batch.rules for batch in wave.batches)), ('brackets', lambda wave: wave.root)):
+    for name, tells in (('rules', lambda wave: any(batch.rules for batch in wave.batches)),
+                        ('brackets', lambda wave: wave.root)):
         has = [any(map(tells, day.waves)) for day in (left, right)]
         if has[0] != has[1] and left.waves and right.waves:
             yield '%s: told only in the %s' % (name, 'first' if has[0] else 'second')
@@ -99,14 +105,18 @@ def of_crew(left, right):
     if not one or not other:
         for title, crew in (('first', one), ('second', other)):
             if crew:
-                yield 'crew: only in the %s, %d pickers with a longest load of %d' % (title, len(crew.pickers), crew.longest)
+                told = 'crew: only in the %s, %d pickers with a longest load of %d'
+                yield told % (title, len(crew.pickers), crew.longest)
         return
-    for name, mine, yours in (('pickers', len(one.pickers), len(other.pickers)), ('longest load', one.longest, other.longest), ('least longest load', one.least, other.least)):
+    for name, mine, yours in (('pickers', len(one.pickers), len(other.pickers)),
+                              ('longest load', one.longest, other.longest),
+                              ('least longest load', one.least, other.least)):
         if mine != yours:
             yield 'crew %s: %s' % (name, change(mine, yours))
     for mine, yours in zip(one.pickers, other.pickers):
         if mine.batches != yours.batches:
-            yield 'crew picker %d: %s, and %s' % (mine.number, ' '.join(mine.batches) or 'no batch', ' '.join(yours.batches) or 'no batch')
+            yield 'crew picker %d: %s, and %s' % (mine.number, ' '.join(mine.batches) or 'no batch',
+                                                  ' '.join(yours.batches) or 'no batch')
 
 
 def of_stock(left, right):
@@ -119,19 +129,24 @@ def of_stock(left, right):
         yield 'the two stocks have other rows'
 
 
+def asked_words(words):
+    known = Words('compare')
+    known.add_argument('day', nargs='?')
+    known.add_argument('other', nargs='?')
+    return known.read(words)
+
+
 def main(words):
-    if words == ['--help']:
-        print(__doc__, end='')
-        return 0
-    if len(words) != 2:
-        print(__doc__, end='', file=sys.stderr)
-        return 2
-    left, right = read_output(words[0]), read_output(words[1])
-    found = [*of_replies(left, right), *of_waves(left, right), *of_told(left, right), *of_crew(left, right), *of_stock(left, right)]
+    asked = asked_words(words)
+    if asked.help or not asked.other:
+        return tell_usage(__doc__, asked)
+    left, right = read_output(asked.day), read_output(asked.other)
+    found = [*of_replies(left, right), *of_waves(left, right), *of_told(left, right), *of_crew(left, right),
+             *of_stock(left, right)]
     total = [sum(wave.cost for wave in day.waves) for day in (left, right)]
     if found:
         print('\n'.join(found))
         print('all waves: cost %s' % change(*total))
     else:
         print('no difference')
-    return 1 if found else 0
+    return WRONG if found else RIGHT

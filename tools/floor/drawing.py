@@ -1,4 +1,5 @@
-"""A drawing of a block of aisles with a tour, as SVG: numbers of aisles and slots, the stops in walking order, the way with its direction, the depot."""
+"""A drawing of a block of aisles with a tour, as SVG: numbers of aisles and slots, the stops in walking order, the way
+with its direction, the depot."""
 
 from html import escape
 
@@ -8,10 +9,13 @@ ASIDE = 2.6  # how far to the right of its line a way is drawn, so that there an
 LABEL = 13  # how far two numbers of stops in one aisle lie apart
 LARGE, SMALL = 11, 7  # the greatest and the least height of these numbers
 
-STYLE = ('<style>.aisle{stroke:#d5d5d5;stroke-width:6}.cross{stroke:#e6e6e6;stroke-width:3}.tick{stroke:#bbb;stroke-width:1}'
-         '.way{fill:none;stroke:#1463b0;stroke-width:1.8;stroke-linejoin:round}.head{fill:#1463b0}.stop{fill:#b3261e}.lead{stroke:#b3261e;stroke-width:1}'
+STYLE = ('<style>.aisle{stroke:#d5d5d5;stroke-width:6}.cross{stroke:#e6e6e6;stroke-width:3}'
+         '.tick{stroke:#bbb;stroke-width:1}'
+         '.way{fill:none;stroke:#1463b0;stroke-width:1.8;stroke-linejoin:round}.head{fill:#1463b0}'
+         '.stop{fill:#b3261e}.lead{stroke:#b3261e;stroke-width:1}'
          '.tag{fill:#fff;stroke:#b3261e;stroke-width:1}.depot{fill:#111}'
-         'text{font-family:sans-serif;font-size:11px;text-anchor:middle}.slot{text-anchor:end;font-size:9px;fill:#777}.num{fill:#555}.where{font-size:10px}</style>')
+         'text{font-family:sans-serif;font-size:11px;text-anchor:middle}'
+         '.slot{text-anchor:end;font-size:9px;fill:#777}.num{fill:#555}.where{font-size:10px}</style>')
 
 
 class Scale:
@@ -36,7 +40,8 @@ class Scale:
 
     def letters(self):
         """How high numbers of stops are, so that those of neighbouring aisles don't cover each other."""
-        return min(LARGE, max(SMALL, 0.62 * min(self.layout.spacings, default=LARGE) * self.wide)) if self.wide else LARGE
+        return min(LARGE, max(SMALL, 0.62 * min(self.layout.spacings,
+                                                default=LARGE) * self.wide)) if self.wide else LARGE
 
 
 def _line(cls, left, right):
@@ -95,7 +100,8 @@ def _head(left, right):
     if length < 16:
         return ''
     x, y, along, up = (x0 + x1) / 2, (y0 + y1) / 2, (x1 - x0) / length * 5, (y1 - y0) / length * 5
-    return '<path class="head" d="M%.1f %.1fL%.1f %.1fL%.1f %.1fZ"/>' % (x + along, y + up, x - along + up * 0.7, y - up - along * 0.7,
+    return '<path class="head" d="M%.1f %.1fL%.1f %.1fL%.1f %.1fZ"/>' % (x + along, y + up, x - along + up * 0.7,
+                                                                         y - up - along * 0.7,
                                                                        x - along - up * 0.7, y - up + along * 0.7)
 
 
@@ -109,7 +115,8 @@ def way(layout, tour):
 
 
 def spread(places, low, high):
-    """Places on a line, in ascending order, moved apart so that their numbers don't cover each other, and kept between two ends."""
+    """Places on a line, in ascending order, moved apart so that their numbers don't cover each other, and kept between
+    two ends."""
     gap = min(LABEL, (high - low) / max(1, len(places) - 1))
     groups = []
     for place in places:
@@ -129,8 +136,10 @@ def spread(places, low, high):
 def _tag(x, y, number, letters):
     """The number of a stop, on a ground of its own."""
     wide = 0.14 * letters + 0.29 * letters * len(str(number)) + (2 if letters == LARGE else 0)
-    ground = '<rect class="tag" x="%.1f" y="%.1f" width="%.1f" height="%.1f" rx="3"/>' % (x - wide, y - letters / 2, 2 * wide, letters)
-    return ground + '<text x="%.1f" y="%.1f" style="font-size:%.1fpx">%d</text>' % (x, y + 0.35 * letters, letters, number)
+    ground = '<rect class="tag" x="%.1f" y="%.1f" width="%.1f" height="%.1f" rx="3"/>'
+    text = '<text x="%.1f" y="%.1f" style="font-size:%.1fpx">%d</text>'
+    return (ground % (x - wide, y - letters / 2, 2 * wide, letters)
+            + text % (x, y + 0.35 * letters, letters, number))
 
 
 def _stops_of_aisle(scale, stops):
@@ -140,7 +149,8 @@ def _stops_of_aisle(scale, stops):
     dots, tags = [], []
     for (aisle, slot, number, sides), height in zip(stops, heights):
         x, y = scale.point((aisle, slot))
-        dots += ['<circle class="stop" cx="%.1f" cy="%.1f" r="2.4"/>' % (x + (3 if side == 'R' else -3), y) for side in sides]
+        dots += ['<circle class="stop" cx="%.1f" cy="%.1f" r="2.4"/>' % (x + (3 if side == 'R' else -3), y)
+                 for side in sides]
         if abs(height - y) > 1:
             dots.append(_line('lead', (x, y), (x, height)))
         tags.append(_tag(x, height, number, scale.letters()))
@@ -161,4 +171,5 @@ def drawing(layout, batch, shared=None, titled=''):
     title = '<title>%s</title>' % escape(titled) if titled else ''
     ground = '<use href="#%s"/>' % shared if shared else STYLE + block(layout)
     size = 'viewBox="0 0 %d %.0f" width="100%%"' % (WIDE, Scale(layout).height)
-    return '<svg xmlns="http://www.w3.org/2000/svg" role="img" %s>%s%s%s%s</svg>' % (size, title, ground, way(layout, batch.tour), stops(layout, batch.walk()))
+    tour = way(layout, batch.tour) + stops(layout, batch.walk())
+    return '<svg xmlns="http://www.w3.org/2000/svg" role="img" %s>%s%s%s</svg>' % (size, title, ground, tour)

@@ -3,33 +3,45 @@
 usage: tools/wave explain plan --layout FILE --stock FILE --orders FILE --desks FILE --capacity C [..]
        tools/wave explain check|audit|make ..
 
-The words are those of the run that was refused. The words and files are read as docs/FORMATS.md says, by a program of this script's own, up to the
-first thing that is wrong; with --store 1 so is the file waveplan.store of the working directory, which is left as it is. A `store fault` that a failing or
-full disk caused is not seen here: look at the disk then. Nothing here is proved; the line that waveplan prints is the one that counts, and the first line
-here is the same.
+The words are those of the run that was refused. The words and files are read as docs/FORMATS.md says, by a program of
+this script's own, up to the first thing that is wrong; with --store 1 so is the file waveplan.store of the working
+directory, which is left as it is. A `store fault` that a failing or full disk caused is not seen here: look at the disk
+then. Nothing here is proved; the line that waveplan prints is the one that counts, and the first line here is the same.
 
 Status: 0 where nothing is refused, 1 where something is, which is explained, 2 where there are no words.
 """
 
 import os
 import sys
-from pathlib import Path
 
+from endings import REFUSED, RIGHT, WRONG
 from opinion import answers, stores, tables
+from opinion.refusals import MOST_BYTES
 from opinion.words import FILES, NUMBERS, read_words
 
 from . import causes
 
 
 def bytes_of(name):
+    """The bytes of a file up to the first that is too many, None where it can't be read."""
     try:
-        return Path(name).read_bytes()
+        with open(name, 'rb') as it:
+            return it.read(MOST_BYTES + 1)
     except OSError:
         return None
 
 
+def names_in(folder):
+    """The names in a folder, none where it can't be read."""
+    try:
+        return os.listdir(folder)
+    except OSError:
+        return []
+
+
 def bytes_of_store():
-    """The bytes of the store, up to the first that is too many: none where one can be made, None where it can't be read or written."""
+    """The bytes of the store, up to the first that is too many: none where one can be made, None where it can't be read
+    or written."""
     if not os.path.lexists(stores.NAME):
         return b'' if os.access('.', os.W_OK) else None
     try:
@@ -73,7 +85,8 @@ class Explained:
             getattr(self, 'of_store_' + self.parts[-1 if kind == 'fault' else 2].replace('-', '_'))()
         elif self.parts[2] == 'too-long':
             self.say('file', self.file(kind))
-            self.cause('it has more than 16,777,216 bytes', 'leave out what is not needed; docs/FORMATS.md says how an output is cut for an audit')
+            self.cause('it has more than 16,777,216 bytes',
+                       'leave out what is not needed; docs/FORMATS.md says how an output is cut for an audit')
         elif kind in ('stock', 'orders', 'desks'):
             self.of_row(kind, int(self.parts[3]), self.parts[4])
         else:
@@ -88,7 +101,7 @@ class Explained:
         elif os.path.exists(path):
             self.cause('it may not be read', 'look at its owner and permissions: ls -l')
         else:
-            near = causes.closest(os.path.basename(path), os.listdir(os.path.dirname(path) or '.') if os.path.isdir(os.path.dirname(path) or '.') else [])
+            near = causes.closest(os.path.basename(path), names_in(os.path.dirname(path) or '.'))
             self.cause('there is no file of that name', 'look at the name%s' % (', perhaps %s' % near if near else ''))
 
     def of_words(self, why):
@@ -96,22 +109,29 @@ class Explained:
         if why in ('no-mode', 'unknown-mode'):
             return self.cause('the first word is none of %s' % modes, 'begin with one of them')
         if why == 'too-many-waves':
-            return self.cause('the orders are cut into %s waves, and there are at most 500' % self.parts[3], 'fewer orders, or more of them in a wave')
+            return self.cause('the orders are cut into %s waves, and there are at most 500' % self.parts[3],
+                              'fewer orders, or more of them in a wave')
         mode, name = self.words[0], self.why.field
+        if mode not in FILES:
+            self.say('word', shown(self.why.text))
+            return self.cause('it has bytes that are no UTF-8', 'write it in UTF-8')
         if name and str(self.why.text).startswith('--' + name):
             self.say('option', '--' + name)
             return self.cause('it stands twice', 'give it once')
         if name in NUMBERS[mode] and self.why.text is not None:
-            self.say('option', '--%s %s' % (name, self.why.text))
-            return self.cause('it is no whole number from %d to %d' % NUMBERS[mode][name], 'give it a number in its range')
+            self.say('option', '--%s %s' % (name, shown(self.why.text)))
+            return self.cause('it is no whole number from %d to %d' % NUMBERS[mode][name],
+                              'give it a number in its range')
         if name:
             self.say('option', '--' + name)
-            return self.cause('it is left out, or has no value', 'give it once, with the name of a file or a number behind it')
+            return self.cause('it is left out, or has no value',
+                              'give it once, with the name of a file or a number behind it')
         self.say('word', shown(self.why.text))
         known = ['--' + each for each in (*FILES[mode], *NUMBERS[mode])]
         near = causes.closest(str(self.why.text), known)
         return self.cause('it is no option of %s, stands twice, or belongs to none' % mode,
-                          'the options are %s%s; put a name with spaces into quotes' % (' '.join(known), ', perhaps %s is meant' % near if near else ''))
+                          'the options are %s%s; put a name with spaces into quotes'
+                          % (' '.join(known), ', perhaps %s is meant' % near if near else ''))
 
     def of_layout(self):
         self.say('file', self.file('layout'))
@@ -132,7 +152,8 @@ class Explained:
         if record:
             self.say('record', '%d%s: %s' % (row, line_of(data, record), shown(b','.join(fields))))
         if self.why.field:
-            self.say('field', '%d, %s: "%s"' % (self.why.field, causes.field_name(name, fields, self.why.field), shown(self.why.text or b'')))
+            self.say('field', '%d, %s: "%s"' % (self.why.field, causes.field_name(name, fields, self.why.field),
+                                                shown(self.why.text or b'')))
         self.say('meaning', causes.ROWS[why][0])
         self.cause(*self.closer(name, why, fields, data, row))
 
@@ -153,17 +174,21 @@ class Explained:
 
     def of_unknown_location(self, text, data):
         layout = answers.Files(read_words(self.words), bytes_of, answers.FULL).layout()
-        return 'the layout has aisles 1 to %d with slots 1 to %d' % (layout.aisles, layout.slots), causes.ROWS['unknown-location'][1]
+        return 'the layout has aisles 1 to %d with slots 1 to %d' % (layout.aisles,
+                                                                     layout.slots), causes.ROWS['unknown-location'][1]
 
     def of_location_twice(self, text, data):
-        first = next(each.number for each in tables.records(data) if each.number > 1 and each.fields[0].lstrip(b'0') and same_place(each.fields[0], text))
+        first = next(each.number for each in tables.records(data) if each.number > 1 and each.fields[0].lstrip(b'0')
+                     and same_place(each.fields[0], text))
         return 'record %d has it too' % first, causes.ROWS['location-twice'][1]
 
     def of_unknown_article(self, text, data):
         files = answers.Files(read_words(self.words), bytes_of, answers.FULL)
         stock = tables.read_stock(files.bytes('stock'), files.layout())
         near = causes.closest(text, stock.articles)
-        return 'no record of the stock file has it', causes.ROWS['unknown-article'][1] + ('; perhaps %s is meant' % near if near else '')
+        return 'no record of the stock file has it', causes.ROWS['unknown-article'][1] + ('; perhaps %s '
+                                                                                          'is meant' % near if near
+                                                                                          else '')
 
     def of_certificate(self):
         self.say('file', self.file('certificate'))
@@ -179,41 +204,55 @@ class Explained:
             data = bytes_of(self.file('journal'))
             self.say('line', '%s: %s' % (self.parts[3], shown(self.why.text or b'')))
             if data.startswith(b'\xef\xbb\xbf') or b'\r' in data[:200]:
-                return self.cause('the file has a byte order mark, or line ends as CR LF', 'save it as the program wrote it: UTF-8 without a mark, line ends as LF')
-            return self.cause('it is not the entry with the next number', 'it was changed, left out or cut: take the output as it was printed')
+                return self.cause('the file has a byte order mark, or line ends as CR LF',
+                                  'save it as the program wrote it: UTF-8 without a mark, line ends as LF')
+            return self.cause('it is not the entry with the next number',
+                              'it was changed, left out or cut: take the output as it was printed')
         self.say('command', shown(self.why.text))
         if ' over-cart ' in self.why.line:
-            return self.cause('whether an order is too much for a cart is answered by the units that a cart holds: %s' % self.told_units(),
-                              'give the audit the same --units as the plan that printed the journal, or none where that had none')
-        return self.cause('the printed reply is not the one that these files give', 'the journal was changed, or came from other files')
+            return self.cause('whether an order is too much for a cart is answered by the units that a cart holds: %s'
+                              % self.told_units(),
+                              'give the audit the same --units as the plan that printed the journal, or none where '
+                              'that had none')
+        return self.cause('the printed reply is not the one that these files give',
+                          'the journal was changed, or came from other files')
 
     def of_store_fault(self):
         if os.path.isdir(stores.NAME):
             return self.cause('it is a folder', 'move it away, or run in another folder')
         if os.path.lexists(stores.NAME):
-            return self.cause('it may not be read and written, or is no plain file', 'look at its owner and permissions: ls -l')
-        return self.cause('the folder may not be written, so the store can not be made there', 'look at its owner and permissions, or run in another folder')
+            return self.cause('it may not be read and written, or is no plain file',
+                              'look at its owner and permissions: ls -l')
+        return self.cause('the folder may not be written, so the store can not be made there',
+                          'look at its owner and permissions, or run in another folder')
 
     def of_store_too_long(self):
-        self.cause('it has more than {:,} bytes, which no store has'.format(stores.MOST_BYTES), 'look what it is, and begin in another folder')
+        self.cause('it has more than {:,} bytes, which no store has'.format(stores.MOST_BYTES),
+                   'look what it is, and begin in another folder')
 
     def of_store_record(self):
         self.say('record', '%s, counted from 0: %s' % (self.parts[3], shown(self.why.text.rstrip(b'\n'))))
-        told = 'it is not the line of the entry of this number' if self.why.text.endswith(b'\n') else 'it has no line feed at its end'
+        has_end = self.why.text.endswith(b'\n')
+        told = 'it is not the line of the entry of this number' if has_end else 'it has no line feed at its end'
         self.cause(told + ': something else than the program wrote it, or changed it',
                    'the records before it are right: keep a copy of the file, and look at what changed it')
 
     def of_store_entry(self):
         self.say('command', shown(self.why.text))
         if ' over-cart ' in self.why.line:
-            return self.cause('whether an order is too much for a cart is answered by the units that a cart holds: %s' % self.told_units(),
+            return self.cause('whether an order is too much for a cart is answered by the units that a cart holds: %s'
+                              % self.told_units(),
                               'give the same --units as in the runs before, or none where those had none')
-        return self.cause('the stored reply is not the one that these files give: they are not those with which the store was begun',
-                          'give the layout, the stock and the orders of the first run, with the stock as it was then; for another day begin in another folder')
+        return self.cause('the stored reply is not the one that these files give: they are not those with which the '
+                          'store was begun',
+                          'give the layout, the stock and the orders of the first run, with the stock as it was then; '
+                          'for another day begin in another folder')
 
     def of_store_entries(self):
-        self.cause('the store has %d entries, and with the commands of the desk file there would be more than 10,000' % len(stores.records(bytes_of_store())),
-                   'begin a new store in another folder, with the stock that a run without commands prints (tools/closing-stock)')
+        self.cause('the store has %d entries, and with the commands of the desk file there would be more than 10,000'
+                   % len(stores.records(bytes_of_store())),
+                   'begin a new store in another folder, with the stock that a run without commands prints '
+                   '(tools/closing-stock)')
 
     def told_units(self):
         units = read_words(self.words).numbers['units']
@@ -222,7 +261,9 @@ class Explained:
 
 def same_place(field, text):
     found, other = tables.LOCATION.fullmatch(field), tables.LOCATION.fullmatch(text.encode())
-    return bool(found and other) and (int(found[1]), int(found[2]), found[3]) == (int(other[1]), int(other[2]), other[3])
+    if not found or not other:
+        return False
+    return (int(found[1]), int(found[2]), found[3]) == (int(other[1]), int(other[2]), other[3])
 
 
 def line_of(data, record):
@@ -235,13 +276,15 @@ def main(words):
     words = words[1:] if words and os.path.basename(words[0]) == 'waveplan' else words
     if not words or words == ['--help']:
         print(__doc__, end='', file=sys.stdout if words else sys.stderr)
-        return 0 if words else 2
+        return RIGHT if words else REFUSED
     why = answers.refusal_of(words, bytes_of, None, bytes_of_store())
     if why is None:
         print('nothing in these words and files is refused')
         if read_words(words).numbers.get('store'):
-            print('where the run said `store fault`, the disk failed or is full: look at it, and run again')
-        return 0
+            print('where the run said `store fault`, the disk failed or is full: look at it; then a run with a desk '
+                  'file of the heading')
+            print('alone prints what is stored, and what is missing is given after it (docs/DAY.md)')
+        return RIGHT
     print(why.line)
     print('\n'.join(Explained(words, why).explain()))
-    return 1
+    return WRONG

@@ -2,7 +2,8 @@
 
 
 def still_held(day, wave, batches):
-    """The units that some batches of a wave still hold, by order and location, in the order of the sheets and then of the refills."""
+    """The units that some batches of a wave still hold, by order and location, in the order of the sheets and then of
+    the refills."""
     orders, held = {order for batch in batches for order in batch.orders}, {}
     for batch in batches:
         for pick in batch.picks:
@@ -11,7 +12,8 @@ def still_held(day, wave, batches):
     for refill in day.refills:
         refills.setdefault(refill.entry, []).append(refill)
     for entry in day.entries[wave.entry:]:
-        if entry.command[0] in ('pick', 'missing') and entry.reply[0] != 'refused' and entry.command[1] == wave.name and entry.command[2] in orders:
+        is_told = entry.command[0] in ('pick', 'missing') and entry.reply[0] != 'refused'
+        if is_told and entry.command[1] == wave.name and entry.command[2] in orders:
             _add(held, entry.command[2], _plain(entry.command[3]), -int(entry.command[4]))
             for refill in refills.get(entry.number, ()):
                 _add(held, refill.order, refill.location, refill.quantity)

@@ -1,6 +1,8 @@
-"""What a plan printed, part by part. Lines of kinds that aren't known here are passed over, so that later kinds break nothing. Of a day that goes on from
-a store the journal and the stock are of the whole history, and sheets, refills and crew of the last run alone."""
+"""What a plan printed, part by part. Lines of kinds that aren't known here are passed over, so that later kinds break
+nothing. Of a day that goes on from a store the journal and the stock are of the whole history, and sheets, refills and
+crew of the last run alone."""
 
+import re
 from collections import namedtuple
 
 from .trouble import Trouble, read_bytes
@@ -9,14 +11,44 @@ Entry = namedtuple('Entry', 'number desk command reply')  # the command and the 
 Pick = namedtuple('Pick', 'location article quantity order')
 Refill = namedtuple('Refill', 'entry wave order location quantity')
 Row = namedtuple('Row', 'location article on_hand free held')
-Rule = namedtuple('Rule', 'name length surplus')  # what a usual rule walks past a batch's picks, and how much longer that is than its tour
+# What a usual rule walks past a batch's picks, and how much longer that is than its tour.
+Rule = namedtuple('Rule', 'name length surplus')
 Root = namedtuple('Root', 'low high over state')  # the bracket of a wave's linear bound: both sides are over one number
 Picker = namedtuple('Picker', 'number load batches')
 Crew = namedtuple('Crew', 'longest least pickers')
 
+NUMBER, LOCATION, REST = r'\d{1,40}', r'\d{1,5}-\d{1,5}-[LR]', r'(?: \S+)*'
+STOCK = re.compile(' '.join((LOCATION, r'\S+', NUMBER, NUMBER, NUMBER)))
+
+# What follows the first word of a line of a known kind.
+FORMS = {
+    'submit': r' \S+' + REST, 'allot': r' \S+', 'release': r' \S+', 'cancel': r' \S+',
+    'pick': r' \S+ \S+ %s %s' % (LOCATION, NUMBER), 'missing': r' \S+ \S+ %s %s' % (LOCATION, NUMBER),
+    'receive': r' %s \S+ %s' % (LOCATION, NUMBER),
+}
+REPLIES = {
+    'refilled': ' ' + NUMBER, 'lost': r' \S+ ' + NUMBER,
+    'refused': r' short \S+ %s %s| (?!short )\S+%s' % (NUMBER, NUMBER, REST),
+}
+SHEET = {
+    'batch': r' %s length %s orders \S+%s' % (NUMBER, NUMBER, REST), 'tour': r'(?: \d{1,5}-\d{1,5})+',
+    'pick': r' %s \S+ %s \S+' % (LOCATION, NUMBER), 'rules': r'(?: \S+ %s %s)+' % (NUMBER, NUMBER),
+    'certificate': r' \S+', 'root': r' %s %s over [1-9]\d{0,39} \S+' % (NUMBER, NUMBER),
+}
+REFILLS = {'refill': r' %s \S+ \S+ %s %s' % (NUMBER, LOCATION, NUMBER)}
+PICKERS = {'picker': r' %s load %s batches%s' % (NUMBER, NUMBER, REST)}
+
+
+def test_form(forms, text):
+    """Fails where a line of a known kind has another form."""
+    word = text.split(' ')[0]
+    if word in forms and not re.fullmatch(forms[word], text[len(word):]):
+        raise ValueError
+
 
 class Batch:
-    """A batch of a wave: its orders, its tour point by point, its picks as they are printed, and what usual rules walk, where that is told."""
+    """A batch of a wave: its orders, its tour point by point, its picks as they are printed, and what usual rules walk,
+    where that is told."""
 
     def __init__(self, number, length, orders):
         self.number, self.length, self.orders = number, length, orders
@@ -37,7 +69,8 @@ class Batch:
 
 
 class Wave:
-    """A wave's sheet. `units` is the size of its carts, where they have one, and `root` the bracket of its linear bound, if it has one."""
+    """A wave's sheet. `units` is the size of its carts, where they have one, and `root` the bracket of its linear
+    bound, if it has one."""
 
     def __init__(self, name, facts, state):
         self.name, self.state = name, state[0] if state else ''
@@ -64,7 +97,8 @@ class Output:
         return [entry for entry in self.entries if entry.reply[0] == 'refused']
 
     def earlier(self):
-        """The waves that went out in an earlier run over the same store, whose sheets that run has printed, and whether each was cancelled later."""
+        """The waves that went out in an earlier run over the same store, whose sheets that run has printed, and whether
+        each was cancelled later."""
         sheets, found = {wave.name for wave in self.waves}, {}
         for entry in self.entries:
             if entry.reply == ['released'] and entry.command[1] not in sheets:
@@ -74,7 +108,8 @@ class Output:
         return found
 
     def picker_of(self):
-        """The number of the picker of each batch, by the names that the crew has for batches; none where there is no crew."""
+        """The number of the picker of each batch, by the names that the crew has for batches; none where there is no
+        crew."""
         return {name: picker.number for picker in self.crew.pickers for name in picker.batches} if self.crew else {}
 
     def wave(self, name):
@@ -83,7 +118,8 @@ class Output:
                 return wave
         if name in self.earlier():
             raise Trouble('wave %s went out in an earlier run, and its sheet stands in the output of that' % name)
-        raise Trouble('no wave %s went out in this day; %s did' % (name, ', '.join(wave.name for wave in self.waves) or 'none'))
+        raise Trouble('no wave %s went out in this day; %s did'
+                      % (name, ', '.join(wave.name for wave in self.waves) or 'none'))
 
 
 def name_of(wave, batch):
@@ -99,7 +135,7 @@ def slot_of(location):
 def _facts(words):
     """The pairs of a name and a number at the beginning of some words, and the words behind them."""
     facts, place = {}, 0
-    while place + 1 < len(words) and words[place + 1].isdigit():
+    while place + 1 < len(words) and re.fullmatch(NUMBER, words[place + 1]):
         facts[words[place]] = int(words[place + 1])
         place += 2
     return facts, words[place:]
@@ -116,7 +152,7 @@ class _Reader:
         if self.part is None:
             self.outside(text, words)
         elif text == 'end %s' % self.part:
-            self.part = None
+            self.end()
         else:
             getattr(self, self.part)(text, words)
 
@@ -132,37 +168,53 @@ class _Reader:
             self.day.crew = Crew(facts['longest'], facts['least'], [])
             self.part = 'crew'
 
+    def end(self):
+        """Ends a part. A sheet has batches, each with a tour."""
+        if self.part == 'wave' and not all(batch.tour for batch in self.day.waves[-1].batches or [Batch(0, 0, [])]):
+            raise ValueError
+        self.part = None
+
     def journal(self, text, words):
         told, arrow, reply = text.partition(' -> ')
-        if not arrow:
-            raise ValueError
         number, desk, *command = told.split(' ')
+        if not arrow or not command:
+            raise ValueError
+        test_form(FORMS, ' '.join(command))
+        test_form(REPLIES, reply)
         self.day.entries.append(Entry(int(number), int(desk), command, reply.split(' ')))
 
     def wave(self, text, words):
         wave = self.day.waves[-1]
+        test_form(SHEET, text)
         if words[0] == 'batch':
             wave.batches.append(Batch(int(words[1]), int(words[3]), words[5:]))
         elif words[0] == 'tour':
             wave.batches[-1].tour = [tuple(map(int, point.split('-'))) for point in words[1:]]
         elif words[0] == 'pick':
+            if words[4] not in wave.batches[-1].orders:
+                raise ValueError
             wave.batches[-1].picks.append(Pick(words[1], words[2], int(words[3]), words[4]))
         elif words[0] == 'rules':
-            wave.batches[-1].rules = [Rule(words[place], int(words[place + 1]), int(words[place + 2])) for place in range(1, len(words), 3)]
+            wave.batches[-1].rules = [Rule(words[place], int(words[place + 1]), int(words[place + 2]))
+                                      for place in range(1, len(words), 3)]
         elif words[0] == 'certificate':
             wave.certificate = words[1]
         elif words[0] == 'root':
             wave.root = Root(int(words[1]), int(words[2]), int(words[4]), words[5])
 
     def refills(self, text, words):
+        test_form(REFILLS, text)
         if words[0] == 'refill':
             self.day.refills.append(Refill(int(words[1]), words[2], words[3], words[4], int(words[5])))
 
     def crew(self, text, words):
+        test_form(PICKERS, text)
         if words[0] == 'picker':
             self.day.crew.pickers.append(Picker(int(words[1]), int(words[3]), words[5:]))
 
     def stock(self, text, words):
+        if not STOCK.match(text):
+            raise ValueError
         self.day.rows.append(Row(words[0], words[1], *map(int, words[2:5])))
 
 
@@ -172,11 +224,13 @@ def read_output(path):
     lines = data.decode('utf-8', 'replace').replace('\r\n', '\n').split('\n')
     first = lines[0].lstrip('\ufeff')
     if first.startswith(('refused ', 'read fault ')):
-        raise Trouble('%s is no plan: it says "%s". docs/FORMATS.md and tools/explain say what to do about it' % (path, first))
+        raise Trouble('%s is no plan: it says "%s". docs/FORMATS.md and tools/explain say what to do about it'
+                      % (path, first))
     if first != 'journal':
         raise Trouble('%s is no output of `waveplan plan`: its first line is not "journal"' % path)
     if lines[-2:] != ['end', '']:
-        raise Trouble('%s is cut off: its last line is not "end". The run that wrote it did not end with status 0' % path)
+        raise Trouble('%s is cut off: its last line is not "end". The run that wrote it did not end with status 0'
+                      % path)
     reader = _Reader()
     for number, line in enumerate([first, *lines[1:-2]], 1):
         try:
@@ -192,7 +246,8 @@ def with_earlier(day, paths):
     for path in paths:
         other = read_output(path)
         if other.entries != day.entries[:len(other.entries)]:
-            raise Trouble('%s is of no earlier run of this day: its journal is not the beginning of the later one' % path)
+            raise Trouble('%s is of no earlier run of this day: its journal is not the beginning of the later one'
+                          % path)
         for wave in other.waves:
             wave.cancelled = cancelled.get(wave.name, wave.cancelled)
         day.waves, day.refills = other.waves + day.waves, other.refills + day.refills

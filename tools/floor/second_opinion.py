@@ -1,78 +1,99 @@
 """Judges an answer of waveplan by a program of its own, which shares no line with it.
 
-usage: tools/wave second-opinion --layout FILE --stock FILE --orders FILE --desks FILE [--capacity C] [--units N] [--rules 0-1] [--pickers K] [--root 0-1]
+usage: tools/wave second-opinion [plan] --layout FILE --stock FILE --orders FILE --desks FILE [--capacity C] [--units N]
+                            [--budget N] [--workers K] [--rules 0-1] [--pickers K] [--root 0-1] [--store 0-1]
                             [--store-before FILE [--store-after FILE] | --stored] DAY
-       tools/wave second-opinion --layout FILE --certificate FILE ANSWER
-       tools/wave second-opinion --layout FILE --stock FILE --orders FILE --journal FILE [--units N] ANSWER
+       tools/wave second-opinion [check] --layout FILE --certificate FILE ANSWER
+       tools/wave second-opinion [audit] --layout FILE --stock FILE --orders FILE --journal FILE [--units N] ANSWER
 
-DAY is what a plan printed, ANSWER what a check or an audit printed, and - stands for standard input. The files are read, each command is answered
-and each sheet is measured again, as docs/FORMATS.md, docs/RULES.md, docs/TOURS.md and docs/BATCHES.md say it: each desk's commands once and in
-order, each reply, what is held, each wave's orders in one batch within the capacity, each pick, each tour a closed walk of the printed length and a
-shortest one, cost, bound and state, each certificate, refills and stock. With --rules 1 also what the three usual rules walk past each batch's picks,
-with --pickers, as docs/CREWS.md says it, the crew: each batch with one picker, loads and numbers, and that it is settled; and with --root 1 the bracket
-of each wave's linear bound: it holds the bound, which is found again for waves with at most 1,000 permitted batches, and is narrow where it says so. None
-may stand there where it isn't asked for. Where a file is refused, the line that tells it is judged.
+DAY is what a plan printed, ANSWER what a check or an audit printed, and - stands for standard input. The words before
+it are those of the run. The files are read, each command is answered and each sheet is measured again, as
+docs/FORMATS.md, docs/RULES.md, docs/TOURS.md and docs/BATCHES.md say it: each desk's commands once and in order, each
+reply, what is held, each wave's orders in one batch within the capacity, each pick, each tour a closed walk of the
+printed length and a shortest one, cost, bound and state, each certificate, refills and stock. With --rules 1 also what
+the three usual rules walk past each batch's picks, with --pickers, as docs/CREWS.md says it, the crew: each batch with
+one picker, loads and numbers, and that it is settled; and with --root 1 the bracket of each wave's linear bound: it
+holds the bound, which is found again for waves with at most 1,000 permitted batches, it is narrow where it says so, and
+an open one is that of the share duals and a first batching. None may stand there where it isn't asked for. Where a file
+is refused, the line that tells it is judged.
 
-A day that was planned with --store 1 is judged with --store-before, a copy of its waveplan.store from before the run, or /dev/null where there was none:
-its records are read and answered again, or the first that is refused is told; the journal has their entries and then those of the desks, and sheets,
-refills and crew are those of the desks' entries alone. With --store-after that file is judged too, as it is after the run. With --stored the journal
-may begin with any entries that are answered right.
+With `plan` before the words, or with one of --budget, --workers and --store, the words are all those of the plan. Then
+each wave is worked as far as its budget pays, which is 2000000 where none is given, and so is each open bracket.
 
-This is a plain program, written from the documents; nothing that it says is proved, and no promise of waveplan rests on it. With --units the carts
-hold so many units.
+A day that was planned with --store 1 is judged with --store-before, a copy of its waveplan.store from before the run,
+or /dev/null where there was none: its records are read and answered again, or the first that is refused is told; the
+journal has their entries and then those of the desks, and sheets, refills and crew are those of the desks' entries
+alone. With --store-after that file is judged too, as it is after the run. With --stored, or with --store 1 and no
+--store-before, the journal may begin with any entries that are answered right.
+
+This is a plain program, written from the documents; nothing that it says is proved, and no promise of waveplan rests on
+it. With --units the carts hold so many units.
 
 Status: 0 where all is right, 1 where something is wrong, which is told, 2 where nothing can be judged.
 """
 
-import argparse
+import os
 import sys
-from pathlib import Path
 
+from endings import RIGHT, WRONG, Trouble, Words, shortened, tell_usage
 from opinion import answers, days, stores
-from opinion.refusals import Refusal
-from opinion.words import SHOWN_NUMBERS, Job
+from opinion.refusals import MOST_BYTES, Refusal
+from opinion.words import FILES, GIVEN, NUMBERS, Job, number
 
-FILES = {'desks': 'plan', 'certificate': 'check', 'journal': 'audit'}
+KINDS = {'desks': 'plan', 'certificate': 'check', 'journal': 'audit'}
+OF_A_MODE = {name for names in FILES.values() for name in names}
 
 
-def bytes_of(name):
-    """The bytes of a file, None where it can't be read."""
+def bytes_of(name, most=MOST_BYTES + 1):
+    """The bytes of a file up to the first that is too many, None where it can't be read."""
     try:
-        return Path(name).read_bytes()
+        with open(name, 'rb') as it:
+            return it.read(most)
     except OSError:
         return None
 
 
 def asked_words(words):
-    known = argparse.ArgumentParser('second-opinion', usage=__doc__, add_help=False)
-    known.add_argument('--help', action='store_true')
-    for name in ('layout', 'stock', 'orders', *FILES):
+    known = Words('second-opinion')
+    for name in (*sorted(OF_A_MODE), *NUMBERS['plan'], 'store-before', 'store-after'):
         known.add_argument('--' + name)
-    known.add_argument('--capacity', type=int)
-    known.add_argument('--units', type=int)
-    for name in SHOWN_NUMBERS:
-        known.add_argument('--' + name, type=int, default=0)
     known.add_argument('--stored', action='store_true')
-    known.add_argument('--store-before')
-    known.add_argument('--store-after')
-    known.add_argument('answer', nargs='?')
-    return known.parse_intermixed_args(words)
+    known.add_argument('answer', nargs='*')
+    asked = known.read(words)
+    if os.path.basename((asked.answer or [''])[0]) == 'waveplan':
+        asked.answer.pop(0)
+    asked.mode = asked.answer.pop(0) if asked.answer[1:] and asked.answer[0] in KINDS.values() else None
+    return asked
+
+
+def numbers_of(asked):
+    """The numbers of the words: those of a plan where they are left out, but for the capacity, which may be any then,
+    and for the budget, which isn't told where the words may not be all those of the plan."""
+    given = {name: getattr(asked, name) for name in NUMBERS['plan']}
+    try:
+        found = {name: number(name, text, NUMBERS['plan'][name]) for name, text in given.items() if text is not None}
+    except Refusal as why:
+        low, high = NUMBERS['plan'][why.field]
+        raise Trouble('--%s is a whole number from %d to %d, not %s'
+                      % (why.field, low, high, shortened(why.text))) from None
+    is_whole = asked.mode or any(name in found for name in ('budget', 'workers', 'store'))
+    return {'capacity': None, **GIVEN, **({} if is_whole else {'budget': None}), **found}
 
 
 def job_of(asked):
     """The job that was asked for, or None where the words don't say one."""
-    modes = [mode for name, mode in FILES.items() if getattr(asked, name)]
-    if len(modes) != 1 or not asked.layout or not asked.answer:
+    modes = [mode for name, mode in KINDS.items() if getattr(asked, name)]
+    if len(modes) != 1 or len(asked.answer) != 1 or asked.mode not in (None, *modes):
         return None
-    if not all(low <= getattr(asked, name) <= high for name, (low, high) in SHOWN_NUMBERS.items()):
-        return None
-    names = ('layout', 'certificate') if modes[0] == 'check' else ('layout', 'stock', 'orders', 'desks' if modes[0] == 'plan' else 'journal')
+    names, numbers = FILES[modes[0]], numbers_of(asked)
     if not all(getattr(asked, name) for name in names):
         return None
     has_store = asked.store_before is not None
-    if has_store and (modes[0] != 'plan' or asked.stored) or asked.store_after is not None and not has_store:
+    if has_store and (modes[0] != 'plan' or asked.stored or asked.store and not numbers['store']):
         return None
-    numbers = {name: getattr(asked, name) for name in ('capacity', 'units', *SHOWN_NUMBERS)}
+    if asked.store_after is not None and not has_store:
+        return None
+    asked.stored = asked.stored or numbers['store'] == 1 and not has_store
     return Job(modes[0], {name: getattr(asked, name) for name in names}, {**numbers, 'store': int(has_store)})
 
 
@@ -91,12 +112,13 @@ def store_fault(asked, status, answer):
     """What is wrong with the store after a run, None where nothing is or it isn't asked for."""
     if asked.store_after is None:
         return None
-    return stores.fault_after(bytes_of(asked.store_before), bytes_of(asked.store_after), status, answer)
+    before, after = (bytes_of(name, stores.MOST_BYTES + 1) for name in (asked.store_before, asked.store_after))
+    return stores.fault_after(before, after, status, answer)
 
 
 def judged(asked, job, answer):
     """What is wrong with an answer, or None, and what was judged."""
-    before = bytes_of(asked.store_before) if asked.store_before is not None else b''
+    before = bytes_of(asked.store_before, stores.MOST_BYTES + 1) if asked.store_before is not None else b''
     files = answers.Files(job, bytes_of, answers.FULL, before)
     due = right_line(files, job.mode)
     if due is not None:
@@ -108,26 +130,37 @@ def judged(asked, job, answer):
         seen = days.judge(opening, answer, asked.stored)
     except days.Fault as why:
         return str(why), None
+    shown = job.numbers
     told = (len(seen.entries), ', %d of them stored before' % seen.old if job.numbers['store'] else '', len(seen.waves),
-            ' and their brackets' if asked.root else '', len(seen.batches), ', and what three rules walk' if asked.rules else '',
-            sum(refill[0] >= seen.old for refill in seen.refills), ', a crew of %d' % asked.pickers if asked.pickers else '')
-    return store_fault(asked, 0, answer), '%d entries%s, %d sheets%s with %d batches and their tours%s, %d refills%s, and the stock' % told
+            ' and their brackets' if shown['root'] else '', len(seen.batches),
+            ', and what three rules walk' if shown['rules'] else '',
+            sum(refill[0] >= seen.old for refill in seen.refills),
+            ', a crew of %d' % shown['pickers'] if shown['pickers'] else '')
+    form = '%d entries%s, %d sheets%s with %d batches and their tours%s, %d refills%s, and the stock'
+    return store_fault(asked, 0, answer), form % told
+
+
+def answer_of(asked):
+    """The answer that is to be judged. Fails where there is none, or where nobody can judge it."""
+    name, stored = asked.answer[0], (asked.store_before, asked.store_after)
+    if name == '-' and sys.stdin is None:
+        raise Trouble('standard input is closed')
+    answer = sys.stdin.buffer.read() if name == '-' else bytes_of(name, -1)
+    unread = [each for each in stored if each is not None and bytes_of(each, 1) is None]
+    if answer is None or unread:
+        raise Trouble('%s cannot be read' % (unread or [name])[0])
+    if answer == stores.FAULT:
+        raise Trouble('the run says that the disk of its store failed, and nothing tells whether it did')
+    if asked.store and asked.stored and answer.startswith(b'refused store '):
+        raise Trouble('the run refuses its store: name a copy of it from before the run with --store-before')
+    return answer
 
 
 def main(words):
     asked = asked_words(words)
     job = None if asked.help else job_of(asked)
     if job is None:
-        print(__doc__, end='', file=sys.stdout if asked.help else sys.stderr)
-        return 0 if asked.help else 2
-    answer = sys.stdin.buffer.read() if asked.answer == '-' else bytes_of(asked.answer)
-    unread = [name for name in (asked.store_before, asked.store_after) if name is not None and bytes_of(name) is None]
-    if answer is None or unread:
-        print('second-opinion: %s cannot be read' % (unread or [asked.answer])[0], file=sys.stderr)
-        return 2
-    if answer == stores.FAULT:
-        print('second-opinion: the run says that the disk of its store failed, and nothing tells whether it did', file=sys.stderr)
-        return 2
-    wrong, told = judged(asked, job, answer)
+        return tell_usage(__doc__, asked)
+    wrong, told = judged(asked, job, answer_of(asked))
     print('wrong: %s' % wrong if wrong else 'right: %s' % told)
-    return 1 if wrong else 0
+    return WRONG if wrong else RIGHT

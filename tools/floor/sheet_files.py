@@ -1,4 +1,5 @@
-"""Tables as spreadsheets and warehouse systems write them: the bytes as text, the text as rows of cells, the heading found in them."""
+"""Tables as spreadsheets and warehouse systems write them: the bytes as text, the text as rows of cells, the heading
+found in them."""
 
 import csv
 import io
@@ -7,12 +8,14 @@ from .trouble import Trouble
 
 SEPARATORS = {'comma': ',', 'semicolon': ';', 'tab': '\t'}
 ENCODINGS = {'utf-8': 'utf-8-sig', 'utf-16': 'utf-16', 'latin-1': 'latin-1'}
-WORKBOOKS = {b'PK\x03\x04': 'a workbook (.xlsx or .ods)', b'\xd0\xcf\x11\xe0': 'an old workbook (.xls)', b'%PDF': 'a PDF', b'<htm': 'a web page', b'<!DO': 'a web page'}
+WORKBOOKS = {b'PK\x03\x04': 'a workbook (.xlsx or .ods)', b'\xd0\xcf\x11\xe0': 'an old workbook (.xls)',
+             b'%PDF': 'a PDF', b'<htm': 'a web page', b'<!DO': 'a web page'}
 HOW_TO_SAVE = 'open it in the spreadsheet and save it as "CSV UTF-8", or as "Text CSV" with the character set UTF-8'
 
 
 def text_of(data, encoding=None):
-    """The text of a file. Without a name for it the encoding is UTF-8, or UTF-16 where the file begins with its mark."""
+    """The text of a file. Without a name for it the encoding is UTF-8, or UTF-16 where the file begins with its mark.
+    """
     for first, kind in WORKBOOKS.items():
         if data.startswith(first):
             raise Trouble('this is %s and no table of text: %s' % (kind, HOW_TO_SAVE))
@@ -20,9 +23,12 @@ def text_of(data, encoding=None):
     if not encoding and b'\0' in data[:200] and name == 'utf-8':
         raise Trouble('this is UTF-16 without a mark: say so with --encoding utf-16, or %s' % HOW_TO_SAVE)
     try:
-        return data.decode('utf-16-le' if name == 'utf-16' and data[:2] not in (b'\xff\xfe', b'\xfe\xff') else ENCODINGS[name])
+        return data.decode('utf-16-le' if name == 'utf-16' and data[:2] not in (b'\xff\xfe', b'\xfe\xff')
+                           else ENCODINGS[name])
     except UnicodeDecodeError:
-        hint = 'say --encoding latin-1 where it comes from an old Windows program' if name == 'utf-8' else 'leave --encoding out, or name another'
+        hint = 'leave --encoding out, or name another'
+        if name == 'utf-8':
+            hint = 'say --encoding latin-1 where it comes from an old Windows program'
         raise Trouble('this is not %s: %s' % (name.upper(), hint)) from None
 
 
@@ -37,7 +43,8 @@ def _separator(lines):
 
 
 def rows_of(text, separator=None, skip=0, skip_last=0):
-    """The rows of a table with their numbers in the file, without those that are to be skipped and those that are empty."""
+    """The rows of a table with their numbers in the file, without those that are to be skipped and those that are
+    empty."""
     csv.field_size_limit(1 << 30)
     lines = text.replace('\r\n', '\n').replace('\r', '\n').split('\n')[skip:]
     mark = SEPARATORS[separator] if separator else _separator(lines)
@@ -54,7 +61,8 @@ def rows_of(text, separator=None, skip=0, skip_last=0):
 
 
 def columns_of(rows, names, known, optional=()):
-    """The place of each column in the rows, by the heading: the words that were given for it, or its own name, in small letters or capitals."""
+    """The place of each column in the rows, by the heading: the words that were given for it, or its own name, in small
+    letters or capitals."""
     if not rows:
         raise Trouble('there is no heading: the file has no row that is not empty')
     number, heading = rows[0]
@@ -63,10 +71,13 @@ def columns_of(rows, names, known, optional=()):
         word = names.get(name, name)
         found = [place for place, cell in enumerate(words) if cell == word.lower()]
         if len(found) > 1:
-            raise Trouble('the heading in line %d has %s %d times: name the columns differently' % (number, word, len(found)))
+            raise Trouble('the heading in line %d has %s %d times: name the columns differently'
+                          % (number, word, len(found)))
         if found:
             places[name] = found[0]
         elif name in names or name not in optional:
-            raise Trouble('the heading in line %d has no column %s; it has: %s. Say which it is with --columns %s=NAME, and --skip N where N lines of '
-                          'title stand above the heading' % (number, word, ', '.join(filter(None, heading)) or 'nothing', name))
+            raise Trouble('the heading in line %d has no column %s; it has: %s. Say which it is with --columns '
+                          '%s=NAME, and --skip N where N lines of '
+                          'title stand above the heading'
+                          % (number, word, ', '.join(filter(None, heading)) or 'nothing', name))
     return places

@@ -2,23 +2,26 @@
 
 usage: tools/wave to-csv DAY FOLDER
 
-DAY is the output of `waveplan plan`, or - for standard input. FOLDER is made where it isn't there, and gets journal.csv, waves.csv, batches.csv,
-picks.csv (with each pick's place in the walk), refills.csv, pickers.csv and stock.csv, each with a heading, as RFC 4180 has it: commas, quotes where
-they are needed, line ends as CR LF. In waves.csv the bracket of the linear bound, and in batches.csv what the three rules walk and the number of the
-picker, are empty where the day doesn't tell them, and pickers.csv has its heading alone. Of a day that goes on from a store the journal and the stock are
-of all runs, and the other tables of the last one. Nothing here is proved; the output that it reads is.
+DAY is the output of `waveplan plan`, or - for standard input. FOLDER is made where it isn't there, and gets
+journal.csv, waves.csv, batches.csv, picks.csv (with each pick's place in the walk), refills.csv, pickers.csv and
+stock.csv, each with a heading, as RFC 4180 has it: commas, quotes where they are needed, line ends as CR LF. In
+waves.csv the bracket of the linear bound, and in batches.csv what the three rules walk and the number of the picker,
+are empty where the day doesn't tell them, and pickers.csv has its heading alone. Of a day that goes on from a store the
+journal and the stock are of all runs, and the other tables of the last one. Nothing here is proved; the output that it
+reads is.
 
-Status: 0, or 2 where DAY is no output of a plan or FOLDER can't be written, with the reason on standard error.
+Status: 0, or 2 where DAY is no output of a plan, or 4 where FOLDER can't be written, with the reason on standard error.
 """
 
 import csv
 import os
-import sys
+
+from endings import RIGHT, Unwritten, Words, tell_usage
 
 from .output import name_of, read_output
-from .trouble import Trouble
 
-FIELDS = {'pick': ('order', 'location', 'quantity'), 'missing': ('order', 'location', 'quantity'), 'receive': ('location', 'article', 'quantity')}
+FIELDS = {'pick': ('order', 'location', 'quantity'), 'missing': ('order', 'location', 'quantity'),
+          'receive': ('location', 'article', 'quantity')}
 
 
 def journal(day):
@@ -31,14 +34,17 @@ def journal(day):
         refused = entry.reply[0] == 'refused'
         reason = entry.reply[1] if refused else ''
         about = ' '.join(entry.reply[2 if refused else 1:])
-        yield [entry.number, entry.desk, word, wave, orders, *(told.get(each, '') for each in ('location', 'article', 'quantity')), entry.reply[0], reason, about]
+        yield [entry.number, entry.desk, word, wave, orders,
+               *(told.get(each, '') for each in ('location', 'article', 'quantity')), entry.reply[0], reason, about]
 
 
 def waves(day):
-    yield 'wave entry orders capacity units batches cost bound state cancelled_later root_low root_high root_over root_state'.split()
+    yield ('wave entry orders capacity units batches cost bound state cancelled_later root_low root_high root_over '
+           'root_state').split()
     for wave in day.waves:
         units = '' if wave.units is None else wave.units
-        yield [wave.name, wave.entry, wave.size, wave.capacity, units, len(wave.batches), wave.cost, wave.bound, wave.state, 'yes' if wave.cancelled else 'no',
+        yield [wave.name, wave.entry, wave.size, wave.capacity, units, len(wave.batches), wave.cost, wave.bound,
+               wave.state, 'yes' if wave.cancelled else 'no',
                *(wave.root or [''] * 4)]
 
 
@@ -47,9 +53,12 @@ def batches(day):
     picker_of = day.picker_of()
     for wave in day.waves:
         for batch in wave.batches:
-            tour, rules = ' '.join('%d-%d' % point for point in batch.tour), {rule.name: rule.length for rule in batch.rules}
-            yield [wave.name, batch.number, batch.length, ' '.join(batch.orders), len(batch.picks), sum(pick.quantity for pick in batch.picks), tour,
-                   *(rules.get(name, '') for name in ('s-shape', 'return', 'largest-gap')), picker_of.get(name_of(wave, batch), '')]
+            tour = ' '.join('%d-%d' % point for point in batch.tour)
+            rules = {rule.name: rule.length for rule in batch.rules}
+            yield [wave.name, batch.number, batch.length, ' '.join(batch.orders), len(batch.picks),
+                   sum(pick.quantity for pick in batch.picks), tour,
+                   *(rules.get(name, '') for name in ('s-shape', 'return', 'largest-gap')),
+                   picker_of.get(name_of(wave, batch), '')]
 
 
 def picks(day):
@@ -77,23 +86,28 @@ def stock(day):
     yield from map(list, day.rows)
 
 
-TABLES = {'journal': journal, 'waves': waves, 'batches': batches, 'picks': picks, 'refills': refills, 'pickers': pickers, 'stock': stock}
+TABLES = {'journal': journal, 'waves': waves, 'batches': batches, 'picks': picks, 'refills': refills,
+          'pickers': pickers, 'stock': stock}
+
+
+def asked_words(words):
+    known = Words('to-csv')
+    known.add_argument('day', nargs='?')
+    known.add_argument('folder', nargs='?')
+    return known.read(words)
 
 
 def main(words):
-    if words == ['--help']:
-        print(__doc__, end='')
-        return 0
-    if len(words) != 2:
-        print(__doc__, end='', file=sys.stderr)
-        return 2
-    day = read_output(words[0])
+    asked = asked_words(words)
+    if asked.help or not asked.folder:
+        return tell_usage(__doc__, asked)
+    day = read_output(asked.day)
     tables = {name: list(rows(day)) for name, rows in TABLES.items()}
     try:
-        os.makedirs(words[1], exist_ok=True)
+        os.makedirs(asked.folder, exist_ok=True)
         for name, rows in tables.items():
-            with open('%s/%s.csv' % (words[1], name), 'w', encoding='utf-8', newline='') as it:
+            with open('%s/%s.csv' % (asked.folder, name), 'w', encoding='utf-8', newline='') as it:
                 csv.writer(it).writerows(rows)
     except OSError as why:
-        raise Trouble('%s cannot be written: %s' % (words[1], why.strerror)) from None
-    return 0
+        raise Unwritten('%s cannot be written: %s' % (asked.folder, why.strerror)) from None
+    return RIGHT

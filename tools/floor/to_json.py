@@ -2,10 +2,11 @@
 
 usage: tools/wave to-json DAY > day.json
 
-DAY is the output of `waveplan plan`, or - for standard input. The object has `journal`, `waves` with their batches, tours, picks and certificates,
-`refills`, `stock`, and `crew` where the day has one; each pick has its place in the walk, and each batch its `rules`, and each wave
-its `root`, where they are told. Of a day that goes on from a store the journal and the stock are of all runs, and the rest of the last one. Nothing here
-is proved; the output that it reads is.
+DAY is the output of `waveplan plan`, or - for standard input. The object has `journal`, `waves` with their batches,
+tours, picks and certificates, `refills`, `stock`, and `crew` where the day has one; each pick has its place in the
+walk, and each batch its `rules`, and each wave its `root`, where they are told. Of a day that goes on from a store the
+journal and the stock are of all runs, and the rest of the last one. Nothing here is proved; the output that it reads
+is.
 
 Status: 0, or 2 where DAY is no output of a plan, with the reason on standard error.
 """
@@ -13,11 +14,15 @@ Status: 0, or 2 where DAY is no output of a plan, with the reason on standard er
 import json
 import sys
 
+from endings import RIGHT, Trouble, Words, tell_usage
+from opinion import json_text
+
 from .output import read_output
 
 
 def entry_of(entry):
-    return {'entry': entry.number, 'desk': entry.desk, 'command': ' '.join(entry.command), 'reply': ' '.join(entry.reply)}
+    return {'entry': entry.number, 'desk': entry.desk, 'command': ' '.join(entry.command),
+            'reply': ' '.join(entry.reply)}
 
 
 def batch_of(batch):
@@ -27,10 +32,23 @@ def batch_of(batch):
     return {**found, 'rules': [rule._asdict() for rule in batch.rules]} if batch.rules else found
 
 
+def certificate_of(wave):
+    """The value of a wave's certificate, None where it has none."""
+    if not wave.certificate:
+        return None
+    try:
+        json_text.read(wave.certificate.encode())
+    except json_text.NotJson:
+        raise Trouble('the certificate of wave %s is no JSON' % wave.name) from None
+    return json.loads(wave.certificate)
+
+
 def wave_of(wave):
-    found = {'wave': wave.name, 'entry': wave.entry, 'orders': wave.size, 'capacity': wave.capacity, 'cost': wave.cost, 'bound': wave.bound,
-             'state': wave.state, 'cancelled_later': wave.cancelled, 'batches': [batch_of(batch) for batch in wave.batches],
-             'certificate': json.loads(wave.certificate) if wave.certificate else None}
+    found = {'wave': wave.name, 'entry': wave.entry, 'orders': wave.size, 'capacity': wave.capacity, 'cost': wave.cost,
+             'bound': wave.bound,
+             'state': wave.state, 'cancelled_later': wave.cancelled,
+             'batches': [batch_of(batch) for batch in wave.batches],
+             'certificate': certificate_of(wave)}
     if wave.units is not None:
         found['units'] = wave.units
     return {**found, 'root': wave.root._asdict()} if wave.root else found
@@ -46,13 +64,16 @@ def object_of(day):
     return {**found, 'crew': crew_of(day.crew)} if day.crew else found
 
 
+def asked_words(words):
+    known = Words('to-json')
+    known.add_argument('day', nargs='?')
+    return known.read(words)
+
+
 def main(words):
-    if words == ['--help']:
-        print(__doc__, end='')
-        return 0
-    if len(words) != 1:
-        print(__doc__, end='', file=sys.stderr)
-        return 2
-    json.dump(object_of(read_output(words[0])), sys.stdout, separators=(',', ':'))
+    asked = asked_words(words)
+    if asked.help or not asked.day:
+        return tell_usage(__doc__, asked)
+    json.dump(object_of(read_output(asked.day)), sys.stdout, separators=(',', ':'))
     print()
-    return 0
+    return RIGHT

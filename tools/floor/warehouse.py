@@ -27,8 +27,10 @@ def test_fits(layout, day):
         for batch in wave.batches:
             for aisle, slot in batch.tour:
                 if aisle > layout.aisles or slot > layout.slots + 1:
-                    raise Trouble('the tour of %s, batch %d, goes to %d-%d, which the layout has not: is it the layout of this day?'
+                    raise Trouble('the tour of %s, batch %d, goes to %d-%d, which the layout has not: is it the '
+                                  'layout of this day?'
                                   % (wave.name, batch.number, aisle, slot))
             if batch.tour and batch.tour[0] != layout.depot_point():
-                raise Trouble('the tour of %s, batch %d, does not begin at the depot of the layout: is it the layout of this day?'
+                raise Trouble('the tour of %s, batch %d, does not begin at the depot of the layout: is it the layout '
+                              'of this day?'
                               % (wave.name, batch.number))

@@ -1,7 +1,7 @@
 """Runs of plans with a store over folders, files and disks that fail, stop or are full, for `failing-devices`.
 
-After each run the store has the records from before and a beginning of the new entries: all of them where any output was taken. And the next run over a
-sound disk, without commands, prints the journal of just these records.
+After each run the store has the records from before and a beginning of the new entries: all of them where any output
+was taken. And the next run over a sound disk, without commands, prints the journal of just these records.
 """
 
 import errno
@@ -18,7 +18,8 @@ from pathlib import Path
 from opinion import stores
 from trial import End, plan_words, put, run, shim, wave_day
 
-# It tells of the calls on the store alone, which are numbered from its opening on. One of them fails, or stops the program before it or in the midst of it.
+# It tells of the calls on the store alone, which are numbered from its opening on. One of them fails, or stops the
+# program before it or in the midst of it.
 STOPPING = r"""
 #define _GNU_SOURCE
 #include <errno.h>
@@ -38,7 +39,8 @@ __attribute__((constructor)) static void begin(void) {
     how = getenv("STORE_HOW");
     number = atol(getenv("STORE_NUMBER"));
     error = atol(getenv("STORE_ERROR"));
-    if (getenv("STORE_TOLD")) told = (int)syscall(SYS_openat, AT_FDCWD, getenv("STORE_TOLD"), O_WRONLY | O_CREAT | O_APPEND, 0600);
+    if (getenv("STORE_TOLD"))
+        told = (int)syscall(SYS_openat, AT_FDCWD, getenv("STORE_TOLD"), O_WRONLY | O_CREAT | O_APPEND, 0600);
 }
 
 static void tell(const char *call, long where, const void *bytes, size_t count) {
@@ -75,7 +77,9 @@ int open(const char *name, int flags, ...) {
     return file;
 }
 
-ssize_t read(int file, void *bytes, size_t count) { return file == store && fails() ? -1 : syscall(SYS_read, file, bytes, count); }
+ssize_t read(int file, void *bytes, size_t count) {
+    return file == store && fails() ? -1 : syscall(SYS_read, file, bytes, count);
+}
 
 off_t lseek(int file, off_t where, int from) {
     if (file == store && fails()) return -1;
@@ -139,7 +143,8 @@ def begun(folder, day):
 
 
 def days(program, folder):
-    """A day that begins its store, and one that goes on from it; each with how it ends and with the lines of its journal."""
+    """A day that begins its store, and one that goes on from it; each with how it ends and with the lines of its
+    journal."""
     first = Day("a first run", wave_day(["1-1", "1-1"]), None)
     more = {**first.files, "desks.csv": HEADING + "1,pick,W1,O0,1-1-L,1\n1,receive,1-1-L,A1-1,5\n"}
     stored = stores.file_of([b"0 1 submit W1 O0 O1 -> submitted\n", b"1 1 release W1 -> released\n"])
@@ -161,7 +166,8 @@ def goes_on(program, place, kept):
     """Whether a run without commands prints a journal of these records, and leaves them."""
     put(place, {"desks.csv": HEADING})
     end = run(program, WORDS, place)
-    return end.status == 0 and end.output.startswith(b"journal\n" + b"".join(kept) + b"end journal\n") and bytes_at(place) == stores.file_of(kept)
+    return end.status == 0 and end.output.startswith(b"journal\n" + b"".join(kept)
+                                                     + b"end journal\n") and bytes_at(place) == stores.file_of(kept)
 
 
 def library_of(folder):
@@ -189,7 +195,8 @@ def try_store_calls(program, folder, tally):
     for day, right, journal in days(program, place):
         for error in ERRORS.split():
             for number in itertools.count(1):
-                end = run(program, WORDS, begun(place, day), env=with_calls(library, "fail", number, getattr(errno, error)))
+                end = run(program, WORDS, begun(place, day),
+                          env=with_calls(library, "fail", number, getattr(errno, error)))
                 what = "%s where call %d on the store fails with %s" % (day.what, number, error)
                 if not end.errors:
                     tally.add(end == right and bytes_at(place) == stores.file_of(journal), what, end)
@@ -221,7 +228,8 @@ def told_calls(path):
 
 
 def image(dice, synced, calls):
-    """One content that a disk may have where power fails after these calls, of which none was followed by a sync that succeeded."""
+    """One content that a disk may have where power fails after these calls, of which none was followed by a sync that
+    succeeded."""
     now, least, most, torn = bytearray(synced), len(synced), len(synced), set()
     for call in calls:
         if call.kind == "cut":
@@ -248,18 +256,21 @@ def applied(data, call):
 
 
 def acknowledged(calls):
-    """How many entries were acknowledged in these calls: two syncs each, behind the three with which a store is opened."""
+    """How many entries were acknowledged in these calls: two syncs each, behind the three with which a store is opened.
+    """
     return max(0, sum(call.kind == "sync" for call in calls) - 3) // 2
 
 
 def try_torn_stores(program, folder, tally):
-    """What a disk may hold where power fails after each call on a store, with what wasn't synced torn in ways that are drawn."""
+    """What a disk may hold where power fails after each call on a store, with what wasn't synced torn in ways that are
+    drawn."""
     dice, library, place, told = random.Random(1), library_of(folder), Path(folder, "store"), Path(folder, "told")
     for day, right, journal in days(program, place):
         told.unlink(missing_ok=True)
         end = run(program, WORDS, begun(place, day), env=with_calls(library, "never", 0, 0, told))
         calls, old = list(told_calls(told)), len(stores.records(day.before or b""))
-        tally.add(end == right and acknowledged(calls) == len(journal) - old, "%s whose calls on the store are told" % day.what, end)
+        tally.add(end == right and acknowledged(calls) == len(journal) - old,
+                  "%s whose calls on the store are told" % day.what, end)
         synced, reads, since = day.before or b"", day.before or b"", 0
         for number, call in enumerate(calls):
             reads = applied(reads, call)
@@ -270,7 +281,9 @@ def try_torn_stores(program, folder, tally):
                 kept = stores.records(left)
                 begun(place, day._replace(before=left))
                 fine = kept == journal[:len(kept)] and len(kept) >= old + acknowledged(calls[:number + 1])
-                tally.add(fine and goes_on(program, place, kept), "%s where power fails after call %d, draw %d: %r" % (day.what, number, draw, left), End(None, left, b""))
+                tally.add(fine and goes_on(program, place, kept),
+                          "%s where power fails after call %d, draw %d: %r" % (day.what, number, draw, left),
+                          End(None, left, b""))
 
 
 def bad_stores():
@@ -281,7 +294,8 @@ def bad_stores():
         "a link below a file": lambda path: path.symlink_to("stock.csv/x"),
         "a link into no folder": lambda path: path.symlink_to("nowhere/x"),
         "a pipe": os.mkfifo,
-        **{device: lambda path, device=device: path.symlink_to(device) for device in ("/dev/null", "/dev/zero", "/dev/full", "/proc/self/mem")},
+        **{device: lambda path, device=device: path.symlink_to(device)
+           for device in ("/dev/null", "/dev/zero", "/dev/full", "/proc/self/mem")},
     }
 
 
@@ -300,7 +314,8 @@ def try_bad_stores(program, folder, tally):
         end = run(program, WORDS, place, timeout=LARGE)
         left = (place / stores.NAME).stat().st_size
         fine = left == stores.MOST_BYTES + more if more else left < 200
-        tally.add((end.status, end.output) == (status, line) and fine, "a store of %d bytes" % (stores.MOST_BYTES + more), end)
+        tally.add((end.status, end.output) == (status, line) and fine,
+                  "a store of %d bytes" % (stores.MOST_BYTES + more), end)
 
 
 def put_file(path):
@@ -321,7 +336,8 @@ def try_permissions(program, folder, tally):
             if day.before is not None:
                 (place / stores.NAME).chmod(mode)
             end = run(program, WORDS, place, user=STRANGER)
-            fine = end == right if status == 0 else (end.status, end.output) == (7, stores.FAULT) and bytes_at(place) == day.before
+            is_fault = (end.status, end.output) == (7, stores.FAULT) and bytes_at(place) == day.before
+            fine = end == right if status == 0 else is_fault
             tally.add(fine, "%s in a folder that can't be written, with a store of the mode %o" % (day.what, mode), end)
 
 
@@ -348,7 +364,8 @@ def try_limited_stores(program, folder, tally):
             end = run(program, WORDS, begun(place, day), preexec_fn=limited, restore_signals=False)
             whole = end == right and bytes_at(place) == stores.file_of(journal)
             fine = whole if most >= len(stores.file_of(journal)) else (end.status, end.output) == (7, stores.FAULT)
-            tally.add(fine and is_sound(program, place, day, end, journal), "%s with a store of at most %d bytes" % (day.what, most), end)
+            tally.add(fine and is_sound(program, place, day, end, journal),
+                      "%s with a store of at most %d bytes" % (day.what, most), end)
 
 
 def mounted(place, size, *more):
@@ -393,13 +410,16 @@ def full_from_the_start(program, files, place, tally):
 
 
 def full_in_the_midst(program, files, place, commands, tally):
-    """The day stops at what has no room. The next run tells what there is, and the commands that are missing are given then."""
+    """The day stops at what has no room. The next run tells what there is, and the commands that are missing are given
+    then."""
     end = planned_from(program, files, place, commands)
     kept = stores.records(bytes_at(place))
-    tally.add((end.status, end.output) == (7, stores.FAULT) and 0 < len(kept) < len(commands), "a disk that is full after %d entries" % len(kept), end)
+    tally.add((end.status, end.output) == (7, stores.FAULT) and 0 < len(kept) < len(commands),
+              "a disk that is full after %d entries" % len(kept), end)
     mounted(place, 64, "remount")
     end = planned_from(program, files, place, [])
-    tally.add(end.status == 0 and end.output.startswith(b"journal\n" + b"".join(kept) + b"end journal\n"), "the same disk with room", end)
+    tally.add(end.status == 0 and end.output.startswith(b"journal\n" + b"".join(kept) + b"end journal\n"),
+              "the same disk with room", end)
     by_desk = {desk: [line for line in commands if line.startswith("%d," % desk)] for desk in range(1, 9)}
     for line in kept:
         by_desk[int(line.split(b" ")[1])].pop(0)
@@ -408,4 +428,5 @@ def full_in_the_midst(program, files, place, commands, tally):
     tally.add(whole and b"\n1-1-L A1-1 409 409 0\n" in end.output, "the commands that are missing", end)
 
 
-TRIALS = (try_store_calls, try_stops, try_torn_stores, try_bad_stores, try_permissions, try_outputs, try_limited_stores, try_full_disk)
+TRIALS = (try_store_calls, try_stops, try_torn_stores, try_bad_stores, try_permissions, try_outputs, try_limited_stores,
+          try_full_disk)

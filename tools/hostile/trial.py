@@ -3,9 +3,10 @@
 import os
 import re
 import subprocess
-import sys
 from collections import namedtuple
 from pathlib import Path
+
+import endings
 
 REPOSITORY = Path(__file__).resolve().parent.parent.parent
 CASES = REPOSITORY / "crates" / "wp_cases" / "data"
@@ -40,7 +41,8 @@ LINES = {
 
 # What the whole output of each mode is, where the status is 0.
 OUTPUTS = {
-    "plan": rb"journal\n.*end journal\n.*refills\n.*end refills\n(crew [^\n]*\n(picker [^\n]*\n)+end crew\n)?stock\n.*end stock\nend\n",
+    "plan": rb"journal\n.*end journal\n.*refills\n.*end refills\n(crew [^\n]*\n(picker [^\n]*\n)+end "
+           rb"crew\n)?stock\n.*end stock\nend\n",
     "check": rb"bound \d+\n",
     "audit": rb"audit \d+ entries\n",
     "make": rb"made [^\n]*\ncommands \d+ released \d+ units \d+\ncost \d+ bound \d+ proven \d+\n",
@@ -55,6 +57,16 @@ def run(program, words, folder, **how):
     except subprocess.TimeoutExpired:
         return End(None, b"", b"")
     return End(done.returncode, done.stdout or b"", done.stderr or b"")
+
+
+def program_of(path):
+    """The program that a path names. Fails where it is none, or answers otherwise than waveplan."""
+    program = str(Path(path).resolve())
+    if os.path.isdir(program) or not os.access(program, os.X_OK):
+        raise endings.Trouble("%s is no program that can be run" % path)
+    if run(program, [], "/").output != b"refused words no-mode\n":
+        raise endings.Trouble("%s is no waveplan: without words it doesn't say `refused words no-mode`" % path)
+    return program
 
 
 def is_named(end, mode):
@@ -78,7 +90,8 @@ def plan_words(capacity=2, *more):
 
 
 CHECK = ["check", "--layout", "layout.json", "--certificate", "certificate.json"]
-AUDIT = ["audit", "--layout", "layout.json", "--stock", "stock.csv", "--orders", "orders.csv", "--journal", "journal.txt"]
+AUDIT = ["audit", "--layout", "layout.json", "--stock", "stock.csv", "--orders", "orders.csv", "--journal",
+         "journal.txt"]
 MAKE = "make --number 1 --aisles 2 --orders 3 --desks 1 --wave 3 --capacity 2".split()
 
 
@@ -137,6 +150,6 @@ class Tally:
             print("wrong: %s: status %s, output %r, errors %r" % told, flush=True)
 
     def end(self):
-        """Prints the line that sums up, and ends the script."""
+        """Prints the line that sums up, and gives the script's status."""
         print("%d runs, %d wrong" % (self.runs, self.wrong))
-        sys.exit(1 if self.wrong else 0)
+        return endings.WRONG if self.wrong else endings.RIGHT

@@ -12,8 +12,9 @@ FULL = {'versions': (1, 2), 'over_cart': True}
 
 
 class Files:
-    """The files of a run, by the names that the words give: `read` gives the bytes of a name, None where it can't be read. `before` has the bytes of
-    the store before the run, none where there was no such file, and is None where it can't be read or written."""
+    """The files of a run, by the names that the words give: `read` gives the bytes of a name, None where it can't be
+    read. `before` has the bytes of the store before the run, none where there was no such file, and is None where it
+    can't be read or written."""
 
     def __init__(self, job, read, knows, before=b''):
         self.job, self.reader, self.knows, self.before = job, read, knows, before
@@ -45,7 +46,9 @@ def opening_of(files):
     numbers = files.job.numbers
     shown = {name: numbers.get(name, 0) for name in SHOWN_NUMBERS}
     stored = files.stored(stock, orders, scripts)
-    return days.Opening(layout, stock, orders, scripts, numbers['capacity'], numbers.get('units'), **shown, stored=stored)
+    return days.Opening(layout, stock, orders, scripts, numbers['capacity'], numbers.get('units'), **shown,
+                        stored=stored,
+                        budget=numbers['budget'])
 
 
 def check_of(files):
@@ -63,7 +66,8 @@ def audit_of(files):
 
 
 def refusal_of(words, read, knows=None, before=b''):
-    """The first thing that is wrong with the words and files of a run, and with its store before it, None where nothing is."""
+    """The first thing that is wrong with the words and files of a run, and with its store before it, None where nothing
+    is."""
     try:
         job = read_words(words)
         files = Files(job, read, knows or FULL, before)
@@ -90,7 +94,8 @@ def faults(words, read, status, output, knows=None, before=b''):
 
 
 def _differs(right, found):
-    return [] if right == found else ['status %s and %r where status %s and %r is right' % (found[0], found[1][:200], right[0], right[1][:200])]
+    return [] if right == found else ['status %s and %r where status %s and %r is right'
+                                      % (found[0], found[1][:200], right[0], right[1][:200])]
 
 
 def _faults_of_plan(files, status, output):
@@ -107,7 +112,9 @@ def _faults_of_plan(files, status, output):
 def _faults_of_make(job, status, output):
     if status != 0:
         return ['status %s and %r where a summary is due' % (status, output[:200])]
-    found = re.fullmatch(rb'(made [^\n]*)\n(commands [^\n]*)\ncost (\d+) bound (\d+) proven (\d+)\n', output)
+    found = re.fullmatch(rb'(made [^\n]*)\n(commands [^\n]*)\ncost (\d{1,40}) bound (\d{1,40}) proven (\d{1,40})\n',
+                         output)
     if not found:
         return ['no summary: %r' % output[:200]]
-    return list(making.faults(job.numbers, [each.decode() for each in found.groups()[:2]], [int(each) for each in found.groups()[2:]]))
+    return list(making.faults(job.numbers, [each.decode() for each in found.groups()[:2]],
+                              [int(each) for each in found.groups()[2:]]))

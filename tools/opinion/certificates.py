@@ -1,4 +1,5 @@
-"""Certificates: their text, the rules of their trees in the order of their tests, and the bound of a right one, as docs/BATCHES.md has them."""
+"""Certificates: their text, the rules of their trees in the order of their tests, and the bound of a right one, as
+docs/BATCHES.md has them."""
 
 from collections import namedtuple
 
@@ -13,7 +14,8 @@ CART = {'units', 'loads'}
 OWN = {'duals', 'marks', 'tight'}
 KINDS = {'kept': set(), 'leaf': OWN, 'split': {'first', 'second'}, 'dead': {'order'}}
 
-# The wave of a certificate: the slots at which each order picks, the capacity, and units and loads of a cart, which may be None; and its nodes.
+# The wave of a certificate: the slots at which each order picks, the capacity, and units and loads of a cart, which may
+# be None; and its nodes.
 Certificate = namedtuple('Certificate', 'orders capacity units loads nodes')
 
 
@@ -39,7 +41,9 @@ def _is_pair(value):
 
 
 def _is_batch(value):
-    return _is_list(value, _is_whole) and all(each < 64 for each in value) and all(left < right for left, right in zip(value, value[1:]))
+    if not _is_list(value, _is_whole) or not all(each < 64 for each in value):
+        return False
+    return all(left < right for left, right in zip(value, value[1:]))
 
 
 def _is_short(value):
@@ -85,7 +89,8 @@ def _is_cart(units, loads, orders):
 def _is_within(value, layout, has_cart):
     """Whether the numbers of a certificate are within their ranges."""
     orders = value['orders']
-    return (value['version'] == (2 if has_cart else 1) and 1 <= value['capacity'] <= MOST_CAPACITY and 1 <= len(orders) <= MOST_ORDERS
+    return (value['version'] == (2 if has_cart else 1) and 1 <= value['capacity'] <= MOST_CAPACITY
+            and 1 <= len(orders) <= MOST_ORDERS
             and all(order and all(layout.has(*pair) for pair in order) for order in orders)
             and all(dual <= MOST_DUAL for node in value['nodes'] for dual in node.get('duals', ()))
             and (not has_cart or _is_cart(value['units'], value['loads'], len(orders))))
@@ -158,7 +163,8 @@ class Wave:
 
     def fits(self, batch):
         """Whether a cart takes these orders."""
-        return len(batch) <= self.capacity and (self.units is None or sum(self.loads[order] for order in batch) <= self.units)
+        return len(batch) <= self.capacity and (self.units is None
+                                                or sum(self.loads[order] for order in batch) <= self.units)
 
     def permits(self, pairs, batch):
         """Whether a batch is permitted where such pairs are decided."""
@@ -181,7 +187,8 @@ class Visit:
         self.pairs = pairs
 
     def within(self, batch, sum_of, least):
-        """Whether duals that come to so much are within the length of a batch, of which it is known that it is no less than `least`."""
+        """Whether duals that come to so much are within the length of a batch, of which it is known that it is no less
+        than `least`."""
         return sum_of <= PARTS * least or sum_of <= PARTS * (self.wave.length(batch) if batch else 0)
 
     def reach(self, batch, later):
@@ -207,7 +214,7 @@ class Visit:
         for place in range(later, len(self.items)):
             cls, orders = self.items[place]
             wider = tuple(sorted(batch + tuple(orders)))
-            if self.wave.fits(wider) and not any((cls, other) in self.pairs.parted for other in classes) and (cls, cls) not in self.pairs.parted:
+            if self.wave.fits(wider) and not any((cls, other) in self.pairs.parted for other in (*classes, cls)):
                 self.place(wider, classes + (cls,), place + 1, least)
 
     def all(self):
@@ -224,7 +231,8 @@ class Check:
 
     def test_dead(self, node, pairs):
         order, orders = node['order'], len(self.wave.orders)
-        if order >= orders or self.wave.permits(pairs, tuple(each for each in range(orders) if pairs.of[each] == pairs.of[order])):
+        if order >= orders or self.wave.permits(pairs, tuple(each for each in range(orders)
+                                                             if pairs.of[each] == pairs.of[order])):
             raise NodeFault('not-dead %d' % order)
 
     def test_own(self, node, pairs, above):

@@ -20,7 +20,8 @@ def _picker(lines, number, lengths):
     places = [lengths[name][0] for name in names]
     lines.test(places == sorted(places), 'the batches of picker %d are not in the order of the output' % number)
     load = sum(lengths[name][1] for name in names)
-    lines.test(int(found[1]) == load, 'the load of picker %d is %s where its batches come to %d' % (number, found[1], load))
+    lines.test(int(found[1]) == load, 'the load of picker %d is %s where its batches come to %d'
+               % (number, found[1], load))
     return load, places
 
 
@@ -52,4 +53,5 @@ def _judge_settled(lines, longest, crew):
         others = [other for place, (other, _) in enumerate(crew) if place != number]
         for length in lengths if load == longest else ():
             lines.test(all(other + length >= longest for other in others),
-                       'the crew is not settled: with a batch of %d of picker %d another load is below the longest' % (length, number + 1))
+                       'the crew is not settled: with a batch of %d of picker %d another load is below the longest'
+                       % (length, number + 1))

@@ -8,7 +8,7 @@ from .tables import FORMS, Location
 
 MOST_ENTRIES = 10000
 
-NUMBER = r'(?:0|[1-9][0-9]*)'
+NUMBER = r'(?:0|[1-9][0-9]{0,19})'  # a greater one is no number of 64 bits
 NAME = r'[A-Za-z0-9._-]{1,40}'
 PLACE = r'(?:0|[1-9][0-9]{0,4})'
 LOCATION = '%s-%s-[LR]' % (PLACE, PLACE)
@@ -16,14 +16,18 @@ QUANTITY = r'(?:100000|[1-9][0-9]{0,4})'
 STATE = '(?:submitted|allotted|released|cancelled|done)'
 
 WORDS = {'name': NAME, 'location': LOCATION, 'quantity': QUANTITY}
-COMMANDS = '|'.join(' '.join([word, *[WORDS[form] for form in forms]]) + ('(?: %s){0,100}' % NAME if word == 'submit' else '')
+COMMANDS = '|'.join(' '.join([word, *[WORDS[form] for form in forms]])
+                    + ('(?: %s){0,100}' % NAME if word == 'submit' else '')
                     for word, forms in FORMS.items())
 REFUSALS = '|'.join((
-    'no-orders', 'wave-full (?P<n>%s)' % NUMBER, 'known-wave', 'unknown-order %s' % NAME, 'order-twice %s' % NAME, 'order-taken %s %s' % (NAME, NAME),
+    'no-orders', 'wave-full (?P<n>%s)' % NUMBER, 'known-wave', 'unknown-order %s' % NAME, 'order-twice %s' % NAME,
+    'order-taken %s %s' % (NAME, NAME),
     'over-cart %s (?P<units>%s)' % (NAME, NUMBER), 'unknown-wave', 'wrong-state %s' % STATE,
-    'short %s (?P<wanted>%s) (?P<free>%s)' % (NAME, NUMBER, NUMBER), 'picking', 'not-held %s' % LOCATION, 'too-much (?P<held>%s)' % NUMBER,
+    'short %s (?P<wanted>%s) (?P<free>%s)' % (NAME, NUMBER, NUMBER), 'picking', 'not-held %s' % LOCATION,
+    'too-much (?P<held>%s)' % NUMBER,
     'no-row', 'other-article %s' % NAME, 'too-many (?P<onhand>%s)' % NUMBER))
-REPLIES = '|'.join(('submitted', 'allotted', 'released', 'cancelled', 'picked', 'received', 'refilled %s' % QUANTITY, 'lost %s %s' % (NAME, QUANTITY),
+REPLIES = '|'.join(('submitted', 'allotted', 'released', 'cancelled', 'picked', 'received', 'refilled %s' % QUANTITY,
+                    'lost %s %s' % (NAME, QUANTITY),
                     'refused (?:%s)' % REFUSALS))
 ENTRY = re.compile('(?P<number>%s) (?P<desk>[1-8]) (?P<command>%s) -> (?P<reply>%s)' % (NUMBER, COMMANDS, REPLIES))
 SHORT = ('n', 'units', 'held', 'onhand')  # numbers below 2 ^ 32; all others are below 2 ^ 64
@@ -65,7 +69,8 @@ def read_entry(line, knows_over_cart=True):
 
 
 def audit(data, book, knows_over_cart=True):
-    """How many entries a journal has, where each has the reply that the book gives. Fails with the first that hasn't."""
+    """How many entries a journal has, where each has the reply that the book gives. Fails with the first that hasn't.
+    """
     lines, count = data.split(b'\n'), 0
     if len(lines) < 2 or lines[0] != b'journal':
         raise Refusal(6, 'refused journal line 1', None, lines[0])
@@ -77,6 +82,7 @@ def audit(data, book, knows_over_cart=True):
             raise Refusal(6, 'refused journal line %d' % place, None, line)
         right = book.step(entry.command).reply
         if right != entry.reply:
-            raise Refusal(6, 'refused journal entry %d printed %s right %s' % (count, entry.reply, right), None, command_text(entry.command))
+            raise Refusal(6, 'refused journal entry %d printed %s right %s' % (count, entry.reply, right), None,
+                          command_text(entry.command))
         count += 1
     raise AssertionError('a last line is an end or a fault')

@@ -73,5 +73,6 @@ def read(data):
 
 
 def compact(value):
-    """A value of whole numbers, texts, lists and objects as it is printed: nothing between its parts, keys in the order of their bytes."""
+    """A value of whole numbers, texts, lists and objects as it is printed: nothing between its parts, keys in the order
+    of their bytes."""
     return json.dumps(value, separators=(',', ':'), sort_keys=True, default=repr).encode()

@@ -11,7 +11,8 @@ MOST = {'aisles': 64, 'slots': 200, 'pitch': 10000, 'clearance': 10000, 'spacing
 
 
 class Layout(namedtuple('Layout', 'aisles slots pitch clearance spacings depot back')):
-    """A block of parallel aisles. `spacings` has the length from each aisle to the next; the depot lies at the back where `back` is true."""
+    """A block of parallel aisles. `spacings` has the length from each aisle to the next; the depot lies at the back
+    where `back` is true."""
 
     def length(self):
         """The length of an aisle from end to end."""
@@ -106,4 +107,5 @@ def read_layout(data, versions=(1, 2)):
         _test_key(found, key)
     aisles = found['aisles']
     spacings = tuple(found.get('spacings', [found.get('spacing')] * (aisles - 1)))
-    return Layout(aisles, found['slots'], found['pitch'], found['clearance'], spacings, found['depot'], found.get('end') == 'back')
+    return Layout(aisles, found['slots'], found['pitch'], found['clearance'], spacings, found['depot'],
+                  found.get('end') == 'back')

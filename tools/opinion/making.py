@@ -26,7 +26,8 @@ def layout_of(aisles):
 def orders_of(number, aisles, orders):
     """The lines of each order: an aisle, a slot and a quantity."""
     draws = Draws(number)
-    return [[(1 + draws.below(aisles), 1 + draws.below(SLOTS), 1 + draws.below(5)) for _ in range(1 + draws.below(3))] for _ in range(orders)]
+    return [[(1 + draws.below(aisles), 1 + draws.below(SLOTS), 1 + draws.below(5)) for _ in range(1 + draws.below(3))]
+            for _ in range(orders)]
 
 
 def waves_of(orders, wave):
@@ -40,14 +41,18 @@ def files(number, aisles, orders, desks, wave, version=1):
     keys = {**shape, 'spacing': SPACING, 'version': 1}
     if version == 2 and aisles == 1:
         keys = {**shape, 'end': 'front', 'spacings': [], 'version': 2}
-    text = ','.join('"%s":%s' % (key, '"%s"' % value if isinstance(value, str) else value) for key, value in sorted(keys.items()))
-    stock = ['%d-%d-L,A%d-%d,1000000' % (aisle, slot, aisle, slot) for aisle in range(1, aisles + 1) for slot in range(1, SLOTS + 1)]
-    lines = ['O%d,A%d-%d,%d' % (order, aisle, slot, quantity) for order, some in enumerate(orders_of(number, aisles, orders), 1)
+    text = ','.join('"%s":%s' % (key, '"%s"' % value if isinstance(value, str) else value)
+                    for key, value in sorted(keys.items()))
+    stock = ['%d-%d-L,A%d-%d,1000000' % (aisle, slot, aisle, slot) for aisle in range(1, aisles + 1)
+             for slot in range(1, SLOTS + 1)]
+    lines = ['O%d,A%d-%d,%d' % (order, aisle, slot, quantity)
+             for order, some in enumerate(orders_of(number, aisles, orders), 1)
              for aisle, slot, quantity in some]
     commands = []
     for place, some in enumerate(waves_of(orders, wave)):
         desk, name = 1 + place % desks, 'W%d' % (place + 1)
-        commands += ['%d,submit,%s,%s' % (desk, name, ','.join('O%d' % (order + 1) for order in some)), '%d,release,%s' % (desk, name)]
+        commands += ['%d,submit,%s,%s' % (desk, name, ','.join('O%d' % (order + 1) for order in some)),
+                     '%d,release,%s' % (desk, name)]
     texts = {'stock.csv': ['location,article,on_hand', *stock], 'orders.csv': ['order,article,quantity', *lines],
              'desks.csv': ['desk,command,arguments', *commands]}
     return {'layout.json': '{%s}\n' % text, **{name: '\n'.join(lines) + '\n' for name, lines in texts.items()}}
@@ -55,7 +60,8 @@ def files(number, aisles, orders, desks, wave, version=1):
 
 def cheapest(layout, orders, capacity):
     """What the cheapest batching of a few orders costs, by trying all."""
-    lengths, slots = tours.Lengths(layout), [tours.gathered((aisle, slot) for aisle, slot, _ in lines) for lines in orders]
+    lengths, slots = tours.Lengths(layout), [tours.gathered((aisle, slot) for aisle, slot, _ in lines)
+                                             for lines in orders]
     union, best = {0: {}}, {0: 0}
     for some in range(1, 1 << len(orders)):
         low = some & -some
@@ -63,7 +69,8 @@ def cheapest(layout, orders, capacity):
     length = {some: lengths.shortest(union[some]) for some in union if 0 < bin(some).count('1') <= capacity}
     for some in range(1, 1 << len(orders)):
         low = some & -some
-        best[some] = min(length[batch] + best[some ^ batch] for batch in _parts(some) if batch & low and batch in length)
+        best[some] = min(length[batch] + best[some ^ batch] for batch in _parts(some) if batch & low
+                         and batch in length)
     return best[(1 << len(orders)) - 1]
 
 
@@ -89,6 +96,7 @@ def faults(size, told, sums):
     if bound > cost or proven > len(waves) or (proven == len(waves)) != (bound == cost):
         yield 'cost %d, bound %d and %d proven of %d waves do not go together' % (cost, bound, proven, len(waves))
     if size['wave'] <= SMALL and size['orders'] <= 40:
-        best = sum(cheapest(layout_of(size['aisles']), [orders[order] for order in wave], size['capacity']) for wave in waves)
+        best = sum(cheapest(layout_of(size['aisles']), [orders[order] for order in wave], size['capacity'])
+                   for wave in waves)
         if not bound <= best <= cost:
             yield 'cost %d and bound %d, where a cheapest plan costs %d' % (cost, bound, best)

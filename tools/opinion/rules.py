@@ -1,6 +1,8 @@
-"""What three usual rules would walk past the picks of a batch: through every aisle, back in every aisle, and round the largest gap (Hall, 1993).
+"""What three usual rules would walk past the picks of a batch: through every aisle, back in every aisle, and round the
+largest gap (Hall, 1993).
 
-A rule is a list of stops, and its walk goes straight from each to the next, point by point. So its length is that of its moves.
+A rule is a list of stops, and its walk goes straight from each to the next, point by point. So its length is that of
+its moves.
 """
 
 import re
@@ -58,7 +60,8 @@ class Rules:
         return stops + (self.back(self.aisles[-1]) if len(self.aisles) % 2 else [])
 
     def parts(self, aisle):
-        """The picks of an aisle before its largest gap from home, and behind it. Of equal gaps the one nearest to home counts."""
+        """The picks of an aisle before its largest gap from home, and behind it. Of equal gaps the one nearest to home
+        counts."""
         slots = self.picks[aisle]
         depths = [0, *map(self.depth, slots), self.layout.length()]
         gaps = [right - left for left, right in zip(depths, depths[1:])]
@@ -97,7 +100,9 @@ def judge_rules(lines, layout, slots, length):
     lines.test(found, 'no line of rules')
     told = list(map(int, found.groups()))
     for (name, walk), walked, surplus in zip(Rules(layout, slots).walks().items(), told[::2], told[1::2]):
-        lines.test(walked >= length, 'the walk by %s is %d long, and no tour of the batch is shorter than %d' % (name, walked, length))
-        lines.test(surplus == walked - length, 'the surplus of %s is %d where %d and %d are %d apart' % (name, surplus, walked, length, walked - length))
+        lines.test(walked >= length, 'the walk by %s is %d long, and no tour of the batch is shorter than %d'
+                   % (name, walked, length))
+        lines.test(surplus == walked - length, 'the surplus of %s is %d where %d and %d are %d apart'
+                   % (name, surplus, walked, length, walked - length))
         right = tours.walked(layout, walk)
         lines.test(walked == right, 'the walk by %s is %d long where %d is printed' % (name, right, walked))

@@ -5,12 +5,14 @@ from collections import namedtuple
 MOST_IN_WAVE = 64
 MOST_ON_HAND = 1000000
 
-# What a step did beside its reply: for a release all that the wave holds, for a refill what was held, as (row, order, units) in order of both.
+# What a step did beside its reply: for a release all that the wave holds, for a refill what was held, as (row, order,
+# units) in order of both.
 Step = namedtuple('Step', 'reply held')
 
 
 class Wave:
-    """A wave of orders: its state, whether a unit of it was picked, and how many units each row holds for each of its orders."""
+    """A wave of orders: its state, whether a unit of it was picked, and how many units each row holds for each of its
+    orders."""
 
     def __init__(self, orders):
         self.orders, self.state, self.picked, self.holds = orders, 'submitted', False, {}
@@ -191,7 +193,8 @@ class Book:
 
 
 def by_overlap(free, wants):
-    """Lays what is free in rows, and what orders want, end to end on one line: an order takes what its piece and a row's have in common."""
+    """Lays what is free in rows, and what orders want, end to end on one line: an order takes what its piece and a
+    row's have in common."""
     taken, pieces = [], iter(free)
     row, left = next(pieces, (None, 0))
     for place, wanted in wants:

@@ -1,4 +1,5 @@
-"""The store of a day: the records of its file, what they are refused for, and what a run leaves, as docs/STORE.md and docs/FORMATS.md tell it."""
+"""The store of a day: the records of its file, what they are refused for, and what a run leaves, as docs/STORE.md and
+docs/FORMATS.md tell it."""
 
 from .journals import MOST_ENTRIES, read_entry
 from .refusals import Refusal
@@ -35,7 +36,8 @@ def _entry_of(body, number, knows_over_cart):
 
 
 def entries(data, book, commands, knows_over_cart=True):
-    """The lines of the entries that a store has, each with the reply that the book gives. Fails with the first thing that is refused."""
+    """The lines of the entries that a store has, each with the reply that the book gives. Fails with the first thing
+    that is refused."""
     if data is None:
         raise Refusal(7, 'store fault')
     if len(data) > MOST_BYTES:
@@ -47,7 +49,8 @@ def entries(data, book, commands, knows_over_cart=True):
             raise Refusal(6, 'refused store record %d' % number, None, body)
         right = book.step(entry.command).reply
         if right != entry.reply:
-            raise Refusal(6, 'refused store entry %d printed %s right %s' % (number, entry.reply, right), None, command_text(entry.command))
+            raise Refusal(6, 'refused store entry %d printed %s right %s' % (number, entry.reply, right), None,
+                          command_text(entry.command))
     if len(bodies) + commands > MOST_ENTRIES:
         raise Refusal(6, 'refused store entries %d' % (len(bodies) + commands))
     return [body[:-1].decode('ascii') for body in bodies]
@@ -59,7 +62,8 @@ def _lines_of(output):
 
 
 def fault_after(before, after, status, output):
-    """What is wrong with the bytes that a run with the store has left, None where nothing is. None stands for a file that isn't there."""
+    """What is wrong with the bytes that a run with the store has left, None where nothing is. None stands for a file
+    that isn't there."""
     old = before or b''
     if status == 0:
         due = file_of(_lines_of(output))

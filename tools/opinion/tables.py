@@ -1,4 +1,5 @@
-"""The three tables: records of comma-separated fields, and what the readers of the stock, the orders and the desks make of them."""
+"""The three tables: records of comma-separated fields, and what the readers of the stock, the orders and the desks make
+of them."""
 
 import re
 from collections import namedtuple
@@ -178,7 +179,8 @@ def read_stock(data, layout):
 
 
 def read_orders(data, stock):
-    """The orders that bytes say, over a stock: the lines of each, an article and a quantity, in the order of their first records."""
+    """The orders that bytes say, over a stock: the lines of each, an article and a quantity, in the order of their
+    first records."""
     orders, articles = {}, set(stock.articles)
     for record in _behind_heading('orders', data):
         tests = Tests('orders', record)

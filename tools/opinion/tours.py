@@ -30,7 +30,8 @@ AFTER_CROSSING = (
 )
 WHOLE = (E01, ZE1, EE1, Z01)
 
-# From one aisle that is needed to the next, past aisles that aren't: the class before and after, and the copies of all crossings between.
+# From one aisle that is needed to the next, past aisles that aren't: the class before and after, and the copies of all
+# crossings between.
 PAST = ((UU1, UU1, 2), (E01, E01, 2), (EE1, E01, 2), (ZE1, ZE1, 2), (EE1, ZE1, 2), (EE1, EE1, 4), (EE2, EE2, 4))
 
 
@@ -75,7 +76,8 @@ def _through(best, lengths):
 
 
 def _across(best, spacing):
-    return _least((AFTER_CROSSING[cls][kind], so_far + copies * spacing) for cls, so_far in best.items() for kind, copies in enumerate(COPIES))
+    return _least((AFTER_CROSSING[cls][kind], so_far + copies * spacing) for cls, so_far in best.items()
+                  for kind, copies in enumerate(COPIES))
 
 
 def shortest(layout, slots):
@@ -126,7 +128,8 @@ def joined(left, right):
 def move(layout, left, right):
     """The length of a move from a point to another, None where it is none."""
     (aisle, slot), (other, place) = left, right
-    if not all(1 <= each <= layout.aisles for each in (aisle, other)) or not all(0 <= each <= layout.slots + 1 for each in (slot, place)):
+    is_within = all(1 <= each <= layout.aisles for each in (aisle, other))
+    if not is_within or not all(0 <= each <= layout.slots + 1 for each in (slot, place)):
         return None
     if aisle == other and abs(slot - place) == 1:
         return abs(layout.depth(slot) - layout.depth(place))
@@ -152,7 +155,8 @@ def apart(layout, left, right):
 
 
 def shortest_of_all(layout, points):
-    """The length of a shortest closed walk past a few points, by trying every order: a test of the others (Held and Karp, 1962)."""
+    """The length of a shortest closed walk past a few points, by trying every order: a test of the others (Held and
+    Karp, 1962)."""
     points = sorted(set(points))
     depot = layout.depot_point()
     best = {(1 << last, last): apart(layout, depot, point) for last, point in enumerate(points)}
@@ -163,4 +167,5 @@ def shortest_of_all(layout, points):
                     key, length = (seen | 1 << place, place), so_far + apart(layout, points[last], point)
                     best[key] = min(length, best.get(key, length))
     full = (1 << len(points)) - 1
-    return min((so_far + apart(layout, points[last], depot) for (seen, last), so_far in best.items() if seen == full), default=0)
+    return min((so_far + apart(layout, points[last], depot) for (seen, last), so_far in best.items() if seen == full),
+               default=0)

@@ -19,9 +19,11 @@ NUMBERS = {
     'plan': {**PLAN_NUMBERS, **CART_NUMBERS, **SHOWN_NUMBERS, **STORE_NUMBERS},
     'check': {},
     'audit': CART_NUMBERS,
-    'make': {'number': (0, 2 ** 64 - 1), 'aisles': (1, 64), 'orders': (1, 10000), 'desks': (1, 8), 'wave': (1, 64), **PLAN_NUMBERS},
+    'make': {'number': (0, 2 ** 64 - 1), 'aisles': (1, 64), 'orders': (1, 10000), 'desks': (1, 8), 'wave': (1, 64),
+             **PLAN_NUMBERS},
 }
-GIVEN = {'budget': 2000000, 'workers': 1, 'units': None, 'rules': 0, 'pickers': 0, 'root': 0, 'store': 0}  # where they are left out
+GIVEN = {'budget': 2000000, 'workers': 1, 'units': None, 'rules': 0, 'pickers': 0, 'root': 0,
+         'store': 0}  # where they are left out
 MOST_WAVES = 500
 NUMBER = re.compile(r'\+?[0-9]+|-0+')
 SIGNED = ('rules', 'pickers', 'root', 'store')  # whose 0 may have a minus
@@ -58,11 +60,14 @@ def _options(known, words):
     return found
 
 
-def _number(name, text, bounds):
+def number(name, text, bounds):
+    """The number that a text says for an option."""
     low, high = bounds
-    if not NUMBER.fullmatch(text) or text.startswith('-') and name not in SIGNED or not low <= int(text) <= high:
+    digits = text.lstrip('+-').lstrip('0') or '0'
+    if (not NUMBER.fullmatch(text) or text.startswith('-') and name not in SIGNED
+            or len(digits) > len(str(high)) or not low <= int(digits) <= high):
         _bad(name, text)
-    return int(text)
+    return int(digits)
 
 
 def read_words(words):
@@ -79,7 +84,8 @@ def read_words(words):
     for name in (*FILES[mode], *NUMBERS[mode]):
         if name not in found and name not in GIVEN:
             _bad(name)
-    numbers = {name: _number(name, found[name], bounds) if name in found else GIVEN[name] for name, bounds in NUMBERS[mode].items()}
+    numbers = {name: number(name, found[name], bounds) if name in found else GIVEN[name]
+               for name, bounds in NUMBERS[mode].items()}
     waves = -(-numbers['orders'] // numbers['wave']) if mode == 'make' else 0
     if waves > MOST_WAVES:
         raise Refusal(1, 'refused words too-many-waves %d' % waves)

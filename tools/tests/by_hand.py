@@ -1,6 +1,8 @@
-"""Outputs of plans with --rules 1, --pickers 2 and --root 1, worked out by hand: three orders at (1,4), (2,4) and (3,1), and a fourth at (1,1).
+"""Outputs of plans with --rules 1, --pickers 2 and --root 1, worked out by hand: three orders at (1,4), (2,4) and
+(3,1), and a fourth at (1,1).
 
-They are those of a budget of 0, which pays for no duals of a node's own and for no round of a bracket: its sides are the share duals and a first batching.
+They are those of a budget of 0, which pays for no duals of a node's own and for no round of a bracket: its sides are
+the share duals and a first batching.
 """
 
 LAYOUT = '{"version":1,"aisles":3,"slots":4,"pitch":2,"clearance":1,"spacing":5,"depot":1}'
@@ -10,34 +12,43 @@ FIRST = 'tour 1-0 1-1 1-2 1-3 1-4 1-3 1-2 1-1 1-0'
 SECOND = 'tour 1-0 2-0 2-1 2-2 2-3 2-4 2-3 2-2 2-1 2-0 1-0'
 THIRD = 'tour 1-0 2-0 3-0 3-1 3-0 2-0 1-0'
 
-# Carts of two orders: a wave of two batches. Past the first, return goes 14 into each aisle and out again, and 5 there and 5 back. The share duals are 420,
-# 720 and 660 sixtieths, half of each order's own tour. The linear bound is 48.
+# Carts of two orders: a wave of two batches. Past the first, return goes 14 into each aisle and out again, and 5 there
+# and 5 back. The share duals are 420, 720 and 660 sixtieths, half of each order's own tour. The linear bound is 48.
 PAIR = [
     'journal', '0 1 submit W1 O1 O2 O3 -> submitted', '1 1 release W1 -> released', 'end journal',
     'wave W1 entry 1 orders 3 capacity 2 cost 48 bound 30 open',
-    'batch 1 length 26 orders O1 O2', ROUND, 'pick 1-4-L A 1 O1', 'pick 2-4-L B 1 O2', 'rules s-shape 26 0 return 38 12 largest-gap 26 0',
+    'batch 1 length 26 orders O1 O2', ROUND, 'pick 1-4-L A 1 O1', 'pick 2-4-L B 1 O2',
+    'rules s-shape 26 0 return 38 12 largest-gap 26 0',
     'batch 2 length 22 orders O3', THIRD, 'pick 3-1-L C 1 O3', 'rules s-shape 22 0 return 22 0 largest-gap 22 0',
-    'certificate {"capacity":2,"nodes":[{"kind":"kept"}],"orders":[[[1,4]],[[2,4]],[[3,1]]],"version":1}', 'root 1800 2880 over 60 open', 'end wave',
+    'certificate {"capacity":2,"nodes":[{"kind":"kept"}],"orders":[[[1,4]],[[2,4]],[[3,1]]],"version":1}',
+    'root 1800 2880 over 60 open', 'end wave',
     'refills', 'end refills',
     'crew longest 26 least 26', 'picker 1 load 26 batches W1/1', 'picker 2 load 22 batches W1/2', 'end crew', *CLOSING]
 
-# Carts of one order: a wave of three batches, and one of a fourth, which is cancelled later. 24 and 22 are dealt first, then 14 to the 22 and 2 to the 24.
+# Carts of one order: a wave of three batches, and one of a fourth, which is cancelled later. 24 and 22 are dealt first,
+# then 14 to the 22 and 2 to the 24.
 ALONE = [
-    'journal', '0 1 submit W1 O1 O2 O3 -> submitted', '1 1 release W1 -> released', '2 1 submit W2 O4 -> submitted', '3 1 release W2 -> released',
+    'journal', '0 1 submit W1 O1 O2 O3 -> submitted', '1 1 release W1 -> released', '2 1 submit W2 O4 -> submitted',
+    '3 1 release W2 -> released',
     '4 1 cancel W2 -> cancelled', 'end journal',
     'wave W1 entry 1 orders 3 capacity 1 cost 60 bound 60 proven',
     'batch 1 length 14 orders O1', FIRST, 'pick 1-4-L A 1 O1', 'rules s-shape 14 0 return 14 0 largest-gap 14 0',
     'batch 2 length 24 orders O2', SECOND, 'pick 2-4-L B 1 O2', 'rules s-shape 24 0 return 24 0 largest-gap 24 0',
     'batch 3 length 22 orders O3', THIRD, 'pick 3-1-L C 1 O3', 'rules s-shape 22 0 return 22 0 largest-gap 22 0',
-    'certificate {"capacity":1,"nodes":[{"kind":"kept"}],"orders":[[[1,4]],[[2,4]],[[3,1]]],"version":1}', 'root 3600 3600 over 60 open', 'end wave',
+    'certificate {"capacity":1,"nodes":[{"kind":"kept"}],"orders":[[[1,4]],[[2,4]],[[3,1]]],"version":1}',
+    'root 3600 3600 over 60 open', 'end wave',
     'wave W2 entry 3 orders 1 capacity 1 cost 2 bound 2 proven cancelled later',
-    'batch 1 length 2 orders O4', 'tour 1-0 1-1 1-0', 'pick 1-1-L D 1 O4', 'rules s-shape 2 0 return 2 0 largest-gap 2 0',
-    'certificate {"capacity":1,"nodes":[{"kind":"kept"}],"orders":[[[1,1]]],"version":1}', 'root 120 120 over 60 open', 'end wave',
+    'batch 1 length 2 orders O4', 'tour 1-0 1-1 1-0', 'pick 1-1-L D 1 O4',
+    'rules s-shape 2 0 return 2 0 largest-gap 2 0',
+    'certificate {"capacity":1,"nodes":[{"kind":"kept"}],"orders":[[[1,1]]],"version":1}', 'root 120 120 over 60 open',
+    'end wave',
     'refills', 'end refills',
-    'crew longest 36 least 31', 'picker 1 load 36 batches W1/1 W1/3', 'picker 2 load 26 batches W1/2 W2/1', 'end crew', *CLOSING]
+    'crew longest 36 least 31', 'picker 1 load 36 batches W1/1 W1/3', 'picker 2 load 26 batches W1/2 W2/1', 'end crew',
+    *CLOSING]
 
 # No wave goes out, and there is one picker.
-NOBODY = ['journal', 'end journal', 'refills', 'end refills', 'crew longest 0 least 0', 'picker 1 load 0 batches', 'end crew',
+NOBODY = ['journal', 'end journal', 'refills', 'end refills', 'crew longest 0 least 0', 'picker 1 load 0 batches',
+          'end crew',
           'stock', '1-1-L D 5 5 0', '1-4-L A 5 5 0', '2-4-L B 5 5 0', '3-1-L C 5 5 0', 'end stock', 'end', '']
 
 

@@ -7,6 +7,9 @@ import sys
 import tempfile
 from pathlib import Path
 
+import in_process
+from floor import entry
+
 TOOLS = Path(__file__).resolve().parent.parent
 TOP = TOOLS.parent
 EXAMPLES = TOP / 'examples'
@@ -17,20 +20,30 @@ FILES = ('layout.json', 'stock.csv', 'orders.csv', 'desks.csv')
 class Done:
     """How a script ended: its status, and what it wrote."""
 
-    def __init__(self, done):
-        self.status, self.bytes = done.returncode, done.stdout
-        self.output, self.errors = done.stdout.decode('utf-8', 'replace'), done.stderr.decode('utf-8', 'replace')
+    def __init__(self, status, output, errors):
+        self.status, self.bytes = status, output
+        self.output, self.errors = output.decode('utf-8', 'replace'), errors
+
+    @classmethod
+    def of(cls, done):
+        return cls(done.returncode, done.stdout, done.stderr.decode('utf-8', 'replace'))
 
 
 def script(name, *words, given=b'', folder=None):
-    """Runs a script of tools/."""
+    """Runs a script of tools/: those for planners within this process."""
+    if name in entry.SUBCOMMANDS:
+        return Done(*in_process.floor(name, list(map(str, words)), given, folder))
     words = [sys.executable, str(TOOLS / name), *map(str, words)]
-    return Done(subprocess.run(words, input=given, stdout=subprocess.PIPE, stderr=subprocess.PIPE, cwd=folder, timeout=170))
+    return Done.of(subprocess.run(words, input=given, stdout=subprocess.PIPE, stderr=subprocess.PIPE, cwd=folder,
+                                  timeout=170))
 
 
 def waveplan(*words, folder=None):
     """Runs the program."""
-    return Done(subprocess.run([PROGRAM, *map(str, words)], stdin=subprocess.DEVNULL, stdout=subprocess.PIPE, stderr=subprocess.PIPE, cwd=folder, timeout=170))
+    words = [PROGRAM, *map(str, words)]
+    return Done.of(subprocess.run(words, stdin=subprocess.DEVNULL, stdout=subprocess.PIPE, stderr=subprocess.PIPE,
+                                  cwd=folder,
+                                  timeout=170))
 
 
 def put(folder, files):

@@ -64,42 +64,73 @@ FILES = [
 WORDS = [
     ('', 'words no-mode', None),
     ('plann', 'words unknown-mode', 'begin with one of them'),
-    ('plan --layout layout.json --stock stock.csv --orders orders.csv --desks desks.csv', 'words bad-words', 'option   --capacity'),
-    ('plan --layout layout.json --stock stock.csv --orders orders.csv --desks desks.csv --capacity 9', 'words bad-words', 'from 1 to 8'),
-    ('plan --layout layout.json --stock stock.csv --orders orders.csv --desks desks.csv --capacity 2 --units 0', 'words bad-words', 'from 1 to 40000000'),
-    ('plan --layout layout.json --stock stock.csv --orders orders.csv --desks desks.csv --capacity 2 --unit 5', 'words bad-words', 'perhaps --units'),
-    ('audit --layout layout.json --stock stock.csv --orders orders.csv --journal stock.csv --units 1.5', 'words bad-words', 'option   --units 1.5'),
+    ('plan --layout layout.json --stock stock.csv --orders orders.csv --desks desks.csv', 'words bad-words',
+     'option   --capacity'),
+    ('plan --layout layout.json --stock stock.csv --orders orders.csv --desks desks.csv --capacity 9',
+     'words bad-words', 'from 1 to 8'),
+    ('plan --layout layout.json --stock stock.csv --orders orders.csv --desks desks.csv --capacity 2 --units 0',
+     'words bad-words', 'from 1 to 40000000'),
+    ('plan --layout layout.json --stock stock.csv --orders orders.csv --desks desks.csv --capacity 2 --unit 5',
+     'words bad-words', 'perhaps --units'),
+    ('audit --layout layout.json --stock stock.csv --orders orders.csv --journal stock.csv --units 1.5',
+     'words bad-words', 'option   --units 1.5'),
     ('check --layout layout.json --certificate stock.csv --units 5', 'words bad-words', 'no option of check'),
-    ('make --number 1 --aisles 2 --orders 5 --desks 1 --wave 1 --capacity 1 --units 5', 'words bad-words', 'no option of make'),
-    ('plan --layout layout.json --stock stock.csv --orders orders.csv --desks desks.csv --capacity 2 --rules 2', 'words bad-words', 'from 0 to 1'),
-    ('plan --layout layout.json --stock stock.csv --orders orders.csv --desks desks.csv --capacity 2 --rules yes', 'words bad-words', 'option   --rules yes'),
-    ('plan --layout layout.json --stock stock.csv --orders orders.csv --desks desks.csv --capacity 2 --rules 1 --rules=1', 'words bad-words', 'it stands twice'),
-    ('plan --layout layout.json --stock stock.csv --orders orders.csv --desks desks.csv --capacity 2 --pickers 101', 'words bad-words', 'from 0 to 100'),
-    ('plan --layout layout.json --stock stock.csv --orders orders.csv --desks desks.csv --capacity 2 --pickers', 'words bad-words', 'it is left out, or has no value'),
-    ('plan --layout layout.json --stock stock.csv --orders orders.csv --desks desks.csv --capacity 2 --picker 4', 'words bad-words', 'perhaps --pickers'),
-    ('plan --layout layout.json --stock stock.csv --orders orders.csv --desks desks.csv --capacity 2 --root 2', 'words bad-words', 'from 0 to 1'),
-    ('plan --layout layout.json --stock stock.csv --orders orders.csv --desks desks.csv --capacity 2 --root', 'words bad-words', 'it is left out, or has no value'),
-    ('plan --layout layout.json --stock stock.csv --orders orders.csv --desks desks.csv --capacity 2 --root 1 --root=0', 'words bad-words', 'it stands twice'),
-    ('plan --layout layout.json --stock stock.csv --orders orders.csv --desks desks.csv --capacity 2 --roots 1', 'words bad-words', 'perhaps --root'),
-    ('plan --layout layout.json --stock stock.csv --orders orders.csv --desks desks.csv --capacity 2 --store 2', 'words bad-words', 'from 0 to 1'),
-    ('plan --layout layout.json --stock stock.csv --orders orders.csv --desks desks.csv --capacity 2 --store 1 --store 1', 'words bad-words', 'it stands twice'),
-    ('plan --layout layout.json --stock stock.csv --orders orders.csv --desks desks.csv --capacity 2 --stores 1', 'words bad-words', 'perhaps --stor'),
-    ('audit --layout layout.json --stock stock.csv --orders orders.csv --journal stock.csv --store 1', 'words bad-words', 'no option of audit'),
-    ('make --number 1 --aisles 2 --orders 5 --desks 1 --wave 1 --capacity 1 --store 1', 'words bad-words', 'no option of make'),
+    ('make --number 1 --aisles 2 --orders 5 --desks 1 --wave 1 --capacity 1 --units 5', 'words bad-words',
+     'no option of make'),
+    ('plan --layout layout.json --stock stock.csv --orders orders.csv --desks desks.csv --capacity 2 --rules 2',
+     'words bad-words', 'from 0 to 1'),
+    ('plan --layout layout.json --stock stock.csv --orders orders.csv --desks desks.csv --capacity 2 --rules yes',
+     'words bad-words', 'option   --rules yes'),
+    ('plan --layout layout.json --stock stock.csv --orders orders.csv --desks desks.csv --capacity 2 --rules 1 '
+     '--rules=1', 'words bad-words', 'it stands twice'),
+    ('plan --layout layout.json --stock stock.csv --orders orders.csv --desks desks.csv --capacity 2 --pickers 101',
+     'words bad-words', 'from 0 to 100'),
+    ('plan --layout layout.json --stock stock.csv --orders orders.csv --desks desks.csv --capacity 2 --pickers',
+     'words bad-words', 'it is left out, or has no value'),
+    ('plan --layout layout.json --stock stock.csv --orders orders.csv --desks desks.csv --capacity 2 --picker 4',
+     'words bad-words', 'perhaps --pickers'),
+    ('plan --layout layout.json --stock stock.csv --orders orders.csv --desks desks.csv --capacity 2 --root 2',
+     'words bad-words', 'from 0 to 1'),
+    ('plan --layout layout.json --stock stock.csv --orders orders.csv --desks desks.csv --capacity 2 --root',
+     'words bad-words', 'it is left out, or has no value'),
+    ('plan --layout layout.json --stock stock.csv --orders orders.csv --desks desks.csv --capacity 2 --root 1 --root=0',
+     'words bad-words', 'it stands twice'),
+    ('plan --layout layout.json --stock stock.csv --orders orders.csv --desks desks.csv --capacity 2 --roots 1',
+     'words bad-words', 'perhaps --root'),
+    ('plan --layout layout.json --stock stock.csv --orders orders.csv --desks desks.csv --capacity 2 --store 2',
+     'words bad-words', 'from 0 to 1'),
+    ('plan --layout layout.json --stock stock.csv --orders orders.csv --desks desks.csv --capacity 2 --store 1 '
+     '--store 1', 'words bad-words', 'it stands twice'),
+    ('plan --layout layout.json --stock stock.csv --orders orders.csv --desks desks.csv --capacity 2 --stores 1',
+     'words bad-words', 'perhaps --stor'),
+    ('audit --layout layout.json --stock stock.csv --orders orders.csv --journal stock.csv --store 1',
+     'words bad-words', 'no option of audit'),
+    ('make --number 1 --aisles 2 --orders 5 --desks 1 --wave 1 --capacity 1 --store 1', 'words bad-words',
+     'no option of make'),
     ('check --layout layout.json --certificate stock.csv --rules 1', 'words bad-words', 'no option of check'),
     ('check --layout layout.json --certificate stock.csv --root 1', 'words bad-words', 'no option of check'),
-    ('audit --layout layout.json --stock stock.csv --orders orders.csv --journal stock.csv --root 0', 'words bad-words', 'no option of audit'),
-    ('make --number 1 --aisles 2 --orders 5 --desks 1 --wave 1 --capacity 1 --root 1', 'words bad-words', 'no option of make'),
-    ('audit --layout layout.json --stock stock.csv --orders orders.csv --journal stock.csv --pickers 4', 'words bad-words', 'no option of audit'),
-    ('make --number 1 --aisles 2 --orders 5 --desks 1 --wave 1 --capacity 1 --pickers 0', 'words bad-words', 'no option of make'),
-    ('plan --layout layout.json --stok stock.csv --orders orders.csv --desks desks.csv --capacity 2', 'words bad-words', 'perhaps --stock'),
-    ('plan --layout layout.json --stock my stock.csv --orders orders.csv --desks desks.csv --capacity 2', 'words bad-words', 'a name with spaces into quotes'),
-    ('plan --layout layout.json --stock stok.csv --orders orders.csv --desks desks.csv --capacity 2', 'read fault stock', 'perhaps stock.csv'),
-    ('plan --layout . --stock stock.csv --orders orders.csv --desks desks.csv --capacity 2', 'read fault layout', 'it is a folder'),
+    ('audit --layout layout.json --stock stock.csv --orders orders.csv --journal stock.csv --root 0', 'words bad-words',
+     'no option of audit'),
+    ('make --number 1 --aisles 2 --orders 5 --desks 1 --wave 1 --capacity 1 --root 1', 'words bad-words',
+     'no option of make'),
+    ('audit --layout layout.json --stock stock.csv --orders orders.csv --journal stock.csv --pickers 4',
+     'words bad-words', 'no option of audit'),
+    ('make --number 1 --aisles 2 --orders 5 --desks 1 --wave 1 --capacity 1 --pickers 0', 'words bad-words',
+     'no option of make'),
+    ('plan --layout layout.json --stok stock.csv --orders orders.csv --desks desks.csv --capacity 2', 'words bad-words',
+     'perhaps --stock'),
+    ('plan --layout layout.json --stock my stock.csv --orders orders.csv --desks desks.csv --capacity 2',
+     'words bad-words', 'a name with spaces into quotes'),
+    ('plan --layout layout.json --stock stok.csv --orders orders.csv --desks desks.csv --capacity 2',
+     'read fault stock', 'perhaps stock.csv'),
+    ('plan --layout . --stock stock.csv --orders orders.csv --desks desks.csv --capacity 2', 'read fault layout',
+     'it is a folder'),
     ('check --layout layout.json --certificate stock.csv', 'certificate not-json', 'not JSON'),
     ('check --layout layout.json --certificate layout.json', 'certificate bad-shape', 'form of a certificate'),
-    ('audit --layout layout.json --stock stock.csv --orders orders.csv --journal stock.csv', 'journal line 1', 'not the entry with the next number'),
-    ('make --number 1 --aisles 2 --orders 501 --desks 1 --wave 1 --capacity 1', 'words too-many-waves 501', 'fewer orders'),
+    ('audit --layout layout.json --stock stock.csv --orders orders.csv --journal stock.csv', 'journal line 1',
+     'not the entry with the next number'),
+    ('make --number 1 --aisles 2 --orders 501 --desks 1 --wave 1 --capacity 1', 'words too-many-waves 501',
+     'fewer orders'),
 ]
 PLAN = 'plan --layout layout.json --stock stock.csv --orders orders.csv --desks desks.csv --capacity 2'.split()
 
@@ -134,16 +165,19 @@ class Explaining(unittest.TestCase):
 
     def test_a_certificate_and_a_journal(self):
         certificate = (runs.EXAMPLES / 'one-certificate' / 'certificate.json').read_text()
-        done, run = self.explained({'c.json': certificate.replace('1020', '1021', 1)}, 'check --layout layout.json --certificate c.json'.split())
+        done, run = self.explained({'c.json': certificate.replace('1020', '1021', 1)},
+                                   'check --layout layout.json --certificate c.json'.split())
         self.assertEqual(run.output, done.output.splitlines()[0] + '\n')
         self.assertIn('a 0 stands where a 1 is due', done.output)
         done, run = self.explained({'j.txt': 'journal\n0 1 submit W1 O1 -> allotted\nend journal\n'},
-                                   'audit --layout layout.json --stock stock.csv --orders orders.csv --journal j.txt'.split())
+                                   'audit --layout layout.json --stock stock.csv --orders orders.csv '
+                                   '--journal j.txt'.split())
         self.assertEqual(run.output, done.output.splitlines()[0] + '\n')
         self.assertIn('command  submit W1 O1', done.output)
 
     def test_a_journal_of_other_carts(self):
-        journal = 'journal\n0 1 submit W1 O1 -> refused over-cart O1 2\n1 1 release W1 -> refused unknown-wave\nend journal\n'
+        journal = ('journal\n0 1 submit W1 O1 -> refused over-cart O1 2\n1 1 release W1 -> refused unknown-wave\n'
+                   'end journal\n')
         words = 'audit --layout layout.json --stock stock.csv --orders orders.csv --journal j.txt'.split()
         for units, told in (((), 'these words say none'), (('--units', '2'), 'these words say 2')):
             done, run = self.explained({'j.txt': journal}, [*words, *units])
@@ -154,7 +188,8 @@ class Explaining(unittest.TestCase):
         self.assertEqual((0, 'audit 2 entries\n'), (done.status, run.output))
 
     def test_what_is_right_is_told(self):
-        for more in ((), ('--rules', '1', '--pickers', '100', '--root', '1'), ('--rules', '0', '--pickers', '0', '--root', '0')):
+        for more in ((), ('--rules', '1', '--pickers', '100', '--root', '1'),
+                     ('--rules', '0', '--pickers', '0', '--root', '0')):
             done, _ = self.explained({}, [*PLAN, *more])
             self.assertEqual((0, 'nothing in these words and files is refused\n'), (done.status, done.output))
 

@@ -64,10 +64,12 @@ class Sheets(unittest.TestCase):
         self.assertEqual('14-5-L', stops[0])
 
     def test_each_pick_has_its_page_and_a_box(self):
-        held = [pick for wave in output.read_output(str(self.day)).waves if not wave.cancelled for batch in wave.batches for pick in batch.picks]
+        held = [pick for wave in output.read_output(str(self.day)).waves if not wave.cancelled for batch in wave.batches
+                for pick in batch.picks]
         self.assertEqual(len(held) + 1, self.page.count('class="box"'))  # and one refill
         for pick in held:
-            self.assertIn('<td class="big">%s</td><td>%s</td><td class="right big">%d</td>' % (pick.location, pick.article, pick.quantity), self.page)
+            self.assertIn('<td class="big">%s</td><td>%s</td><td class="right big">%d</td>'
+                          % (pick.location, pick.article, pick.quantity), self.page)
 
     def test_a_wave_that_was_cancelled_has_no_page(self):
         self.assertIn('Cancelled later', self.page)
@@ -101,11 +103,13 @@ class Sheets(unittest.TestCase):
         folder = runs.put(Path(runs.shelf().name) / 'later', {'day.txt': LATER, 'layout.json': SMALL})
         done = sheets(folder / 'day.txt', folder / 'layout.json')
         self.assertEqual('', done.errors)
-        for text in ('2 units of 8 that the cart holds', 'By usual rules the walk is: s-shape 2 (0 longer)', 'W1/1', 'more units than a cart holds'):
+        for text in ('2 units of 8 that the cart holds', 'By usual rules the walk is: s-shape 2 (0 longer)', 'W1/1',
+                     'more units than a cart holds'):
             self.assertIn(text, done.output)
 
     def test_what_is_no_output_is_told(self):
-        for text, why in (('refused stock row 1 columns\n', 'no plan: it says'), ('journal\nend journal\n', 'cut off'), ('bound 68\n', 'no output of')):
+        for text, why in (('refused stock row 1 columns\n', 'no plan: it says'), ('journal\nend journal\n', 'cut off'),
+                          ('bound 68\n', 'no output of')):
             done = runs.script('sheets', '--layout', DAY / 'layout.json', '-', given=text.encode())
             self.assertEqual(2, done.status)
             self.assertIn(why, done.errors)
@@ -123,7 +127,8 @@ class Sheets(unittest.TestCase):
         self.assertTrue(0 <= places[0] and places[-1] <= 100)
 
     def test_a_way_is_drawn_by_its_corners(self):
-        self.assertEqual([(1, 0), (1, 2), (1, 0), (2, 0)], drawing.corners([(1, 0), (1, 1), (1, 2), (1, 1), (1, 0), (2, 0)]))
+        self.assertEqual([(1, 0), (1, 2), (1, 0), (2, 0)],
+                         drawing.corners([(1, 0), (1, 1), (1, 2), (1, 1), (1, 0), (2, 0)]))
 
     def test_a_depot_at_the_back_lies_above(self):
         layout = warehouse.Layout(3, 4, 2, 1, (5, 20), 2, True)
@@ -140,10 +145,12 @@ class Tables(unittest.TestCase):
         day = output.read_output(str(runs.example_day()))
         tables = {path.stem: list(csv.DictReader(io.StringIO(path.read_bytes().decode()))) for path in folder.iterdir()}
         self.assertEqual({'journal', 'waves', 'batches', 'picks', 'refills', 'pickers', 'stock'}, set(tables))
-        self.assertEqual([len(day.entries), 3, 8, 1, len(day.rows)], [len(tables[name]) for name in ('journal', 'waves', 'batches', 'refills', 'stock')])
+        self.assertEqual([len(day.entries), 3, 8, 1, len(day.rows)],
+                         [len(tables[name]) for name in ('journal', 'waves', 'batches', 'refills', 'stock')])
         self.assertEqual(sum(len(batch.picks) for wave in day.waves for batch in wave.batches), len(tables['picks']))
         self.assertEqual(('1', '14-5-L'), (tables['picks'][0]['place'], tables['picks'][0]['location']))
-        self.assertEqual(('refused', 'short', 'DRUM-DR2400 1 0'), tuple(tables['journal'][8][name] for name in ('reply', 'reason', 'about')))
+        self.assertEqual(('refused', 'short', 'DRUM-DR2400 1 0'),
+                         tuple(tables['journal'][8][name] for name in ('reply', 'reason', 'about')))
         self.assertTrue((folder / 'stock.csv').read_bytes().endswith(b'\r\n'))
         self.assertEqual({''}, {wave['units'] for wave in tables['waves']})
         self.assertEqual(0, runs.script('to-csv', '-', folder, given=LATER.encode()).status)
@@ -153,101 +160,132 @@ class Tables(unittest.TestCase):
     def test_the_object_has_all_that_is_printed(self):
         found = json.loads(runs.script('to-json', runs.example_day()).output)
         self.assertEqual([12, 3, 1], [len(found[name]) for name in ('journal', 'waves', 'refills')])
-        self.assertEqual({'place': 1, 'location': '14-5-L', 'article': 'PAPER-A3-80G', 'quantity': 12, 'order': 'SO-10235'}, found['waves'][0]['batches'][0]['picks'][0])
+        self.assertEqual({'place': 1, 'location': '14-5-L', 'article': 'PAPER-A3-80G', 'quantity': 12,
+                          'order': 'SO-10235'}, found['waves'][0]['batches'][0]['picks'][0])
         later = json.loads(runs.script('to-json', '-', given=LATER.encode()).output)
         self.assertEqual((8, 2), (later['waves'][0]['units'], len(later['crew']['pickers'])))
         self.assertEqual({'low': 1, 'high': 2, 'over': 1, 'state': 'open'}, later['waves'][0]['root'])
 
     def test_two_plans_are_compared(self):
         one = runs.example_day()
-        self.assertEqual((0, 'no difference\n'), (lambda done: (done.status, done.output))(runs.script('compare', one, one)))
+        same = runs.script('compare', one, one)
+        self.assertEqual((0, 'no difference\n'), (same.status, same.output))
         done = runs.script('compare', one, runs.day_of('one-day', '--capacity', '1'))
         self.assertEqual(1, done.status)
         self.assertRegex(done.output, r'MON-08.00 cost: 74300, and \d+ \(\+')
         self.assertRegex(done.output, 'only in the second: batch of SO-10231')
         for units, told in ((' units 9', 'W1 units: 8, and 9\n'), ('', 'W1 units: 8, and None\n')):
-            folder = runs.put(Path(runs.shelf().name) / 'carts', {'one.txt': LATER, 'other.txt': LATER.replace(' units 8', units)})
+            folder = runs.put(Path(runs.shelf().name) / 'carts',
+                              {'one.txt': LATER, 'other.txt': LATER.replace(' units 8', units)})
             self.assertIn(told, runs.script('compare', folder / 'one.txt', folder / 'other.txt').output)
         changed = Path(runs.shelf().name) / 'changed.txt'
         changed.write_text(one.read_text().replace('refused short DRUM-DR2400 1 0', 'refused short DRUM-DR2400 2 0'))
-        self.assertIn('release MON-13.00: refused short DRUM-DR2400 1 0, and refused short DRUM-DR2400 2 0', runs.script('compare', one, changed).output)
+        self.assertIn('release MON-13.00: refused short DRUM-DR2400 1 0, and refused short DRUM-DR2400 2 0',
+                      runs.script('compare', one, changed).output)
 
 
 
 class Shown(unittest.TestCase):
-    """What the scripts make of lines of rules, brackets and a crew: of outputs that were written by hand, so that no program is run."""
+    """What the scripts make of lines of rules, brackets and a crew: of outputs that were written by hand, so that no
+    program is run."""
 
     def test_rules_and_pickers_are_shown(self):
-        folder = runs.put(Path(runs.shelf().name) / 'shown', {'day.txt': '\n'.join(by_hand.PAIR), 'layout.json': by_hand.LAYOUT})
+        folder = runs.put(Path(runs.shelf().name) / 'shown',
+                          {'day.txt': '\n'.join(by_hand.PAIR), 'layout.json': by_hand.LAYOUT})
         page = sheets(folder / 'day.txt', folder / 'layout.json').output
-        for text in ('s-shape 26 (0 longer), return 38 (12 longer), largest-gap 26 (0 longer)', '<h2>By usual rules</h2>',
-                     '<td>return</td><td class="right">60</td><td class="right">12</td><td class="right">25.0 %</td>', 'The longest load is 26; ',
+        for text in ('s-shape 26 (0 longer), return 38 (12 longer), largest-gap 26 (0 longer)',
+                     '<h2>By usual rules</h2>',
+                     '<td>return</td><td class="right">60</td><td class="right">12</td><td class="right">25.0 %</td>',
+                     'The longest load is 26; ',
                      '<td class="right">2</td><td class="right">22</td><td><a href="#cart-W1-2">W1/2</a></td>'):
             self.assertIn(text, page)
         self.assertIn('Walked by picker <b>2</b>', page.split('Wave W1, cart 2 of 2')[1])
         day = runs.put(folder, {'alone.txt': '\n'.join(by_hand.ALONE)}) / 'alone.txt'
-        self.assertIn('<a href="#cart-W1-2">W1/2</a>, W2/1 (cancelled later)', sheets(day, folder / 'layout.json').output)
+        self.assertIn('<a href="#cart-W1-2">W1/2</a>, W2/1 (cancelled later)',
+                      sheets(day, folder / 'layout.json').output)
         day = runs.put(folder, {'plain.txt': '\n'.join(by_hand.plain(by_hand.PAIR))}) / 'plain.txt'
         self.assertNotRegex(sheets(day, folder / 'layout.json').output, 'picker|usual rules|Linear bounds')
 
     def test_brackets_are_shown(self):
         thirds = '\n'.join(by_hand.PAIR).replace('1800 2880 over 60 open', '290000 290001 over 3 narrow')
-        folder = runs.put(Path(runs.shelf().name) / 'brackets', {'day.txt': '\n'.join(by_hand.PAIR), 'thirds.txt': thirds, 'layout.json': by_hand.LAYOUT})
-        for name, sides, state in (('day.txt', ('30.00', '48.00'), 'open'), ('thirds.txt', ('96&#8239;666.66', '96&#8239;667.00'), 'narrow')):
+        folder = runs.put(Path(runs.shelf().name) / 'brackets',
+                          {'day.txt': '\n'.join(by_hand.PAIR), 'thirds.txt': thirds, 'layout.json': by_hand.LAYOUT})
+        for name, sides, state in (('day.txt', ('30.00', '48.00'), 'open'),
+                                   ('thirds.txt', ('96&#8239;666.66', '96&#8239;667.00'), 'narrow')):
             page = sheets(folder / name, folder / 'layout.json').output
-            self.assertIn('<tr><td>W1</td>%s<td>%s</td></tr>' % (''.join('<td class="right">%s</td>' % side for side in sides), state), page.split('<h2>Linear bounds</h2>')[1])
+            self.assertIn('<tr><td>W1</td>%s<td>%s</td></tr>'
+                          % (''.join('<td class="right">%s</td>' % side for side in sides), state),
+                          page.split('<h2>Linear bounds</h2>')[1])
 
     def test_brackets_are_told_and_compared(self):
         for lines, due in ((by_hand.PAIR, ['1800', '2880', '60', 'open']), (by_hand.plain(by_hand.PAIR), [''] * 4)):
             folder = Path(runs.shelf().name) / 'bracket-tables'
             self.assertEqual(0, runs.script('to-csv', '-', folder, given='\n'.join(lines).encode()).status)
             waves = list(csv.DictReader(io.StringIO((folder / 'waves.csv').read_text())))
-            self.assertEqual([due], [[row['root_' + name] for name in ('low', 'high', 'over', 'state')] for row in waves])
+            self.assertEqual([due], [[row['root_' + name] for name in ('low', 'high', 'over', 'state')]
+                                     for row in waves])
         one = '\n'.join(by_hand.PAIR)
-        for other, told in ((one, 'no difference'), ('\n'.join(by_hand.without(by_hand.PAIR, 'root ')), 'brackets: told only in the first\n'),
-                            (one.replace('1800 2880 over 60 open', '2880 2880 over 60 narrow'), 'W1 bracket: 1800 to 2880 over 60, open, and 2880 to 2880 over 60, narrow\n')):
+        for other, told in ((one, 'no difference'), ('\n'.join(by_hand.without(by_hand.PAIR, 'root ')),
+                                                     'brackets: told only in the first\n'),
+                            (one.replace('1800 2880 over 60 open', '2880 2880 over 60 narrow'),
+                             'W1 bracket: 1800 to 2880 over 60, open, and 2880 to 2880 over 60, narrow\n')):
             folder = runs.put(Path(runs.shelf().name) / 'brackets', {'one.txt': one, 'other.txt': other})
             self.assertIn(told, runs.script('compare', folder / 'one.txt', folder / 'other.txt').output)
 
     def test_the_tables_have_rules_and_pickers(self):
-        for lines, batches, pickers in ((by_hand.PAIR, [['26', '26', '38', '26', '1'], ['22', '22', '22', '22', '2']], [['1', '26', 'W1/1'], ['2', '22', 'W1/2']]),
-                                        (by_hand.plain(by_hand.PAIR), [['26', '', '', '', ''], ['22', '', '', '', '']], []),
+        for lines, batches, pickers in ((by_hand.PAIR, [['26', '26', '38', '26', '1'], ['22', '22', '22', '22', '2']],
+                                         [['1', '26', 'W1/1'], ['2', '22', 'W1/2']]),
+                                        (by_hand.plain(by_hand.PAIR), [['26', '', '', '', ''], ['22', '', '', '', '']],
+                                         []),
                                         (by_hand.NOBODY, [], [['1', '0', '']])):
             folder = Path(runs.shelf().name) / 'shown-tables'
             self.assertEqual(0, runs.script('to-csv', '-', folder, given='\n'.join(lines).encode()).status)
-            tables = {name: list(csv.DictReader(io.StringIO((folder / (name + '.csv')).read_text()))) for name in ('batches', 'pickers')}
-            self.assertEqual(batches, [[row[name] for name in ('length', 's_shape', 'return', 'largest_gap', 'picker')] for row in tables['batches']])
-            self.assertEqual(pickers, [[row[name] for name in ('picker', 'load', 'batches')] for row in tables['pickers']])
+            tables = {name: list(csv.DictReader(io.StringIO((folder / (name + '.csv')).read_text())))
+                      for name in ('batches', 'pickers')}
+            self.assertEqual(batches, [[row[name] for name in ('length', 's_shape', 'return', 'largest_gap', 'picker')]
+                                       for row in tables['batches']])
+            self.assertEqual(pickers, [[row[name] for name in ('picker', 'load', 'batches')]
+                                       for row in tables['pickers']])
 
     def test_the_object_has_rules_pickers_and_brackets(self):
         shown = json.loads(runs.script('to-json', '-', given='\n'.join(by_hand.PAIR).encode()).output)
         self.assertEqual({'name': 'return', 'length': 38, 'surplus': 12}, shown['waves'][0]['batches'][0]['rules'][1])
-        self.assertEqual({'longest': 26, 'least': 26, 'pickers': [{'number': 1, 'load': 26, 'batches': ['W1/1']}, {'number': 2, 'load': 22, 'batches': ['W1/2']}]}, shown['crew'])
+        self.assertEqual({'longest': 26, 'least': 26, 'pickers': [{'number': 1, 'load': 26, 'batches': ['W1/1']},
+                                                                  {'number': 2, 'load': 22, 'batches': ['W1/2']}]},
+                         shown['crew'])
         plain = json.loads(runs.script('to-json', '-', given='\n'.join(by_hand.plain(by_hand.PAIR)).encode()).output)
         self.assertEqual({'low': 1800, 'high': 2880, 'over': 60, 'state': 'open'}, shown['waves'][0]['root'])
-        self.assertEqual(set(), {'rules', 'root', 'crew'} & {*plain, *plain['waves'][0], *plain['waves'][0]['batches'][0]})
+        self.assertEqual(set(), {'rules', 'root', 'crew'} & {*plain, *plain['waves'][0],
+                                                             *plain['waves'][0]['batches'][0]})
 
     def test_crews_are_compared(self):
         lines = by_hand.ALONE
         place = lines.index('crew longest 36 least 31')
         other = ['crew longest 38 least 31', 'picker 1 load 38 batches W1/1 W1/2', 'picker 2 load 24 batches W1/3 W2/1']
         one = ['crew longest 62 least 62', 'picker 1 load 62 batches W1/1 W1/2 W1/3 W2/1']
-        for changed, told in ((lines, 'no difference'), (by_hand.plain(lines), 'rules: told only in the first\nbrackets: told only in the first\ncrew: only in the first, 2 pickers with a longest load of 36\n'),
-                              (lines[:place] + other + lines[place + 3:], 'crew longest load: 36, and 38 (+5.56 %)\ncrew picker 1: W1/1 W1/3, and W1/1 W1/2\n'),
+        for changed, told in ((lines, 'no difference'), (by_hand.plain(lines),
+                                                         'rules: told only in the first\nbrackets: told only in the '
+                                                         'first\ncrew: only in the first, 2 pickers with a longest '
+                                                         'load of 36\n'),
+                              (lines[:place] + other + lines[place + 3:],
+                               'crew longest load: 36, and 38 (+5.56 %)\ncrew picker 1: W1/1 W1/3, and W1/1 W1/2\n'),
                               (lines[:place] + one + lines[place + 3:], 'crew pickers: 2, and 1 (-50.00 %)\n')):
-            folder = runs.put(Path(runs.shelf().name) / 'crews', {'one.txt': '\n'.join(lines), 'other.txt': '\n'.join(changed)})
+            folder = runs.put(Path(runs.shelf().name) / 'crews',
+                              {'one.txt': '\n'.join(lines), 'other.txt': '\n'.join(changed)})
             self.assertIn(told, runs.script('compare', folder / 'one.txt', folder / 'other.txt').output)
 
     def test_a_day_with_a_crew_goes_on_as_one_without(self):
         for name, *words in (('continue',), ('confirm', 'W1'), ('confirm', 'W1', '2'), ('closing-stock', '--free')):
-            shown, plain = (runs.script(name, '-', *words, given='\n'.join(lines).encode()) for lines in (by_hand.ALONE, by_hand.plain(by_hand.ALONE)))
+            shown, plain = (runs.script(name, '-', *words, given='\n'.join(lines).encode())
+                            for lines in (by_hand.ALONE, by_hand.plain(by_hand.ALONE)))
             self.assertEqual((0, plain.output), (shown.status, shown.output), name)
             self.assertGreater(len(shown.output.splitlines()), 0)
 
 
 class GoingOn(unittest.TestCase):
     def replayed(self, records):
-        folder = runs.put(Path(runs.shelf().name) / 'again', {'desks.csv': records, **{name: (DAY / name).read_bytes() for name in runs.FILES[:3]}})
+        folder = runs.put(Path(runs.shelf().name) / 'again',
+                          {'desks.csv': records, **{name: (DAY / name).read_bytes() for name in runs.FILES[:3]}})
         return runs.planned(folder, '--capacity', '3')
 
     def test_a_day_is_played_again_to_the_same_output(self):
@@ -283,14 +321,17 @@ class GoingOn(unittest.TestCase):
         for flag, drum in (('--on-hand', 6), ('--free', 5)):
             stock = runs.script('closing-stock', runs.example_day(), flag).output
             self.assertIn('5-36-R,DRUM-DR2400,%d\n' % drum, stock)
-            folder = runs.put(Path(runs.shelf().name) / 'next', {'stock.csv': stock, 'desks.csv': 'desk,command,arguments\n', 'layout.json': layout.read_bytes(),
+            folder = runs.put(Path(runs.shelf().name) / 'next',
+                              {'stock.csv': stock, 'desks.csv': 'desk,command,arguments\n',
+                               'layout.json': layout.read_bytes(),
                                                                 'orders.csv': (DAY / 'orders.csv').read_bytes()})
             self.assertEqual(0, runs.planned(folder, '--capacity', '3').status)
 
 
 class Helping(unittest.TestCase):
     def test_each_script_says_how_it_is_used(self):
-        for name in ('sheets', 'to-csv', 'to-json', 'compare', 'import', 'explain', 'continue', 'confirm', 'closing-stock', 'second-opinion'):
+        for name in ('sheets', 'to-csv', 'to-json', 'compare', 'import', 'explain', 'continue', 'confirm',
+                     'closing-stock', 'second-opinion'):
             done = runs.script(name, '--help')
             self.assertEqual((0, ''), (done.status, done.errors), name)
             self.assertRegex(done.output, '(?s)usage: tools/%s.*(?:not|[Nn]othing).*proved' % name)

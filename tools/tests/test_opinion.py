@@ -1,5 +1,5 @@
-"""Tests of the second opinion: its lengths against every order of a few slots, its certificates against those of the cases, and faults that are
-planted in right outputs."""
+"""Tests of the second opinion: its lengths against every order of a few slots, its certificates against those of the
+cases, and faults that are planted in right outputs."""
 
 import random
 import re
@@ -30,7 +30,8 @@ def rule_fault(layout, points, line):
 
 
 def by_sums(layout, points):
-    """What S-shape, return and largest gap walk, added up: along the ends, through aisles, and into them and out again."""
+    """What S-shape, return and largest gap walk, added up: along the ends, through aisles, and into them and out again.
+    """
     def across(left, right):
         return sum(layout.spacings[min(left, right) - 1:max(left, right) - 1])
 
@@ -67,8 +68,10 @@ def refused(call, *words):
 class Tours(unittest.TestCase):
     def test_rows_worked_by_hand(self):
         back = SMALL._replace(back=True)
-        for layout, points, due in ((SMALL, [(1, 4), (2, 1), (2, 4), (3, 1)], 38), (SMALL, [(3, 4)], 34), (SMALL, [], 0), (back, [(1, 1)], 14),
-                                    (SMALL._replace(spacings=(5, 20)), [(3, 1)], 52), (back, [(1, 1), (2, 1)], 26), (back, [], 0),
+        for layout, points, due in ((SMALL, [(1, 4), (2, 1), (2, 4), (3, 1)], 38), (SMALL, [(3, 4)], 34),
+                                    (SMALL, [], 0), (back, [(1, 1)], 14),
+                                    (SMALL._replace(spacings=(5, 20)), [(3, 1)], 52), (back, [(1, 1), (2, 1)], 26),
+                                    (back, [], 0),
                                     (back._replace(depot=2), [(2, 4)], 2), (back._replace(depot=2), [(2, 1)], 14)):
             self.assertEqual(due, length(layout, points), (layout, points))
 
@@ -77,7 +80,8 @@ class Tours(unittest.TestCase):
         for _ in range(1500):
             aisles, slots = dice.randint(1, 7), dice.randint(1, 6)
             spacings = tuple(dice.randint(1, 30) for _ in range(aisles - 1))
-            layout = layouts.Layout(aisles, slots, dice.randint(1, 9), dice.randint(1, 9), spacings, dice.randint(1, aisles), dice.random() < 0.5)
+            layout = layouts.Layout(aisles, slots, dice.randint(1, 9), dice.randint(1, 9), spacings,
+                                    dice.randint(1, aisles), dice.random() < 0.5)
             points = [(dice.randint(1, aisles), dice.randint(1, slots)) for _ in range(dice.randint(0, 6))]
             due = tours.shortest_of_all(layout, points)
             self.assertEqual(due, length(layout, points), (layout, points))
@@ -85,16 +89,22 @@ class Tours(unittest.TestCase):
 
     def test_rules_walk_as_they_say(self):
         every = [(aisle, slot) for aisle in (1, 2, 3) for slot in (1, 2, 3, 4)]
-        for points, due in ((every, 's-shape 50 2 return 62 14 largest-gap 48 0'), ([(1, 4), (2, 1), (2, 4), (3, 1)], 's-shape 38 0 return 50 12 largest-gap 40 2'),
+        for points, due in ((every, 's-shape 50 2 return 62 14 largest-gap 48 0'),
+                            ([(1, 4), (2, 1), (2, 4), (3, 1)], 's-shape 38 0 return 50 12 largest-gap 40 2'),
                             ([(3, 4)], 's-shape 34 0 return 34 0 largest-gap 34 0')):
             self.assertIsNone(rule_fault(SMALL, points, 'rules ' + due))
 
     def test_what_is_wrong_with_a_line_of_rules_is_found(self):
         points, right = [(1, 4), (2, 1), (2, 4), (3, 1)], 'rules s-shape 38 0 return 50 12 largest-gap 40 2'
-        for old, new, words in (('50 12', '50 13', 'surplus of return'), ('38 0', '36 0', 'no tour of the batch is shorter'), ('40 2', '42 4', 'by largest-gap is 40 long'),
-                                ('50 12', '48 10', 'by return is 50 long'), ('38 0', '40 0', 'surplus of s-shape'), ('38 0', '50 12', 'by s-shape is 38 long'),
-                                (' largest-gap 40 2', '', 'no line of rules'), ('s-shape 38 0 return 50 12', 'return 50 12 s-shape 38 0', 'no line of rules'),
-                                ('38 0', '38 -0', 'no line of rules'), ('38 0', '038 0', 'no line of rules'), ('rules', 'rule', 'no line of rules')):
+        for old, new, words in (('50 12', '50 13', 'surplus of return'),
+                                ('38 0', '36 0', 'no tour of the batch is shorter'),
+                                ('40 2', '42 4', 'by largest-gap is 40 long'),
+                                ('50 12', '48 10', 'by return is 50 long'), ('38 0', '40 0', 'surplus of s-shape'),
+                                ('38 0', '50 12', 'by s-shape is 38 long'),
+                                (' largest-gap 40 2', '', 'no line of rules'),
+                                ('s-shape 38 0 return 50 12', 'return 50 12 s-shape 38 0', 'no line of rules'),
+                                ('38 0', '38 -0', 'no line of rules'), ('38 0', '038 0', 'no line of rules'),
+                                ('rules', 'rule', 'no line of rules')):
             self.assertRegex(rule_fault(SMALL, points, right.replace(old, new)) or 'nothing found', words, new)
 
     def test_a_walk_goes_straight_from_stop_to_stop(self):
@@ -110,19 +120,22 @@ class Tours(unittest.TestCase):
         for _ in range(1500):
             aisles, slots = dice.randint(1, 7), dice.randint(1, 6)
             spacings = tuple(dice.randint(1, 30) for _ in range(aisles - 1))
-            layout = layouts.Layout(aisles, slots, dice.randint(1, 9), dice.randint(1, 9), spacings, dice.randint(1, aisles), dice.random() < 0.5)
+            layout = layouts.Layout(aisles, slots, dice.randint(1, 9), dice.randint(1, 9), spacings,
+                                    dice.randint(1, aisles), dice.random() < 0.5)
             points = [(dice.randint(1, aisles), dice.randint(1, slots)) for _ in range(dice.randint(0, 8))]
             walks = rules.Rules(layout, tours.gathered(points)).walks()
             for name, walk in walks.items():
                 self.assertEqual((layout.depot_point(),) * 2, (walk[0], walk[-1]), (layout, points, name))
                 self.assertLessEqual(set(points), set(walk), (layout, points, name))
                 self.assertGreaterEqual(tours.walked(layout, walk), length(layout, points), (layout, points, name))
-            self.assertEqual(by_sums(layout, points), [tours.walked(layout, walks[name]) for name in rules.NAMES], (layout, points))
+            self.assertEqual(by_sums(layout, points), [tours.walked(layout, walks[name]) for name in rules.NAMES],
+                             (layout, points))
 
 
 class Certificates(unittest.TestCase):
     LAYOUT = layouts.read_layout((runs.EXAMPLES / 'one-certificate' / 'layout.json').read_bytes())
-    CART = ('{"capacity":2,"loads":[3,3,3],"nodes":[{"duals":[2040,2040,2040],"kind":"leaf","marks":"1110","tight":[[0],[1],[2]]}],'
+    CART = ('{"capacity":2,"loads":[3,3,3],"nodes":[{"duals":[2040,2040,2040],"kind":"leaf","marks":"1110",'
+            '"tight":[[0],[1],[2]]}],'
             '"orders":[[[3,4]],[[3,4]],[[3,4]]],"units":5,"version":2}')
 
     def answer(self, text):
@@ -132,25 +145,35 @@ class Certificates(unittest.TestCase):
             return why.line.replace('refused certificate ', '')
 
     def test_each_case_has_its_answer(self):
-        due = {'right': 68, 'of-the-kept-root': 51, 'capacity-nine': 'out-of-range', 'last-byte-left-out': 'not-json', 'version-as-text': 'bad-shape',
-               'leaf-named-dead': 'node 1 not-dead 0', 'nodes-cut': 'node 2 cut', 'one-node-too-many': 'node 3 cut', 'of-no-bytes': 'not-json',
-               'root-dual-above-reach': 'node 0 bad-marks', 'root-pair-not-feasible': 'node 0 not-feasible 0 1', 'root-sum-low': 'node 0 sum-low',
-               'root-two-duals': 'node 0 duals-length', 'split-pair-backwards': 'node 0 bad-pair', 'split-without-duals': 'node 0 split-kept',
-               'tight-batch-not-permitted': 'node 1 not-tight 2', 'dual-too-high': 'node 1 not-feasible 2', 'zero-mark-too-early': 'node 2 bad-marks'}
+        due = {'right': 68, 'of-the-kept-root': 51, 'capacity-nine': 'out-of-range', 'last-byte-left-out': 'not-json',
+               'version-as-text': 'bad-shape',
+               'leaf-named-dead': 'node 1 not-dead 0', 'nodes-cut': 'node 2 cut', 'one-node-too-many': 'node 3 cut',
+               'of-no-bytes': 'not-json',
+               'root-dual-above-reach': 'node 0 bad-marks', 'root-pair-not-feasible': 'node 0 not-feasible 0 1',
+               'root-sum-low': 'node 0 sum-low',
+               'root-two-duals': 'node 0 duals-length', 'split-pair-backwards': 'node 0 bad-pair',
+               'split-without-duals': 'node 0 split-kept',
+               'tight-batch-not-permitted': 'node 1 not-tight 2', 'dual-too-high': 'node 1 not-feasible 2',
+               'zero-mark-too-early': 'node 2 bad-marks'}
         for name, answer in due.items():
             self.assertEqual(answer, self.answer((DATA / 'certificates' / (name + '.json')).read_bytes()), name)
 
     def test_a_cart_is_judged_by_its_units(self):
-        for change, due in (((), 102), (('"units":5', '"units":6'), 'node 0 not-feasible 0 1'), (('3,3,3', '3,3,6'), 'out-of-range'),
-                            (('"units":5', '"units":0'), 'out-of-range'), (('"units":5', '"units":40000001'), 'out-of-range'), (('3,3,3', '3,3'), 'out-of-range'),
-                            (('"version":2', '"version":1'), 'out-of-range'), (('"units":5,', ''), 'bad-shape'), (('"loads":[3,3,3],', ''), 'bad-shape'),
+        for change, due in (((), 102), (('"units":5', '"units":6'), 'node 0 not-feasible 0 1'),
+                            (('3,3,3', '3,3,6'), 'out-of-range'),
+                            (('"units":5', '"units":0'), 'out-of-range'),
+                            (('"units":5', '"units":40000001'), 'out-of-range'), (('3,3,3', '3,3'), 'out-of-range'),
+                            (('"version":2', '"version":1'), 'out-of-range'), (('"units":5,', ''), 'bad-shape'),
+                            (('"loads":[3,3,3],', ''), 'bad-shape'),
                             (('3,3,3', '3,3.0,3'), 'bad-shape'), (('3,3,3', '0,3,3'), 'node 0 not-feasible 0 1')):
-            self.assertEqual(due, self.answer(self.CART.replace(*change).encode() if change else self.CART.encode()), change)
+            self.assertEqual(due, self.answer(self.CART.replace(*change).encode() if change else self.CART.encode()),
+                             change)
 
 
 class Files(unittest.TestCase):
     def test_json_is_strict(self):
-        for text in (b'', b'\xef\xbb\xbf{}', b'[1,]', b'01', b'1e400', b'-', b'NaN', b'"\x01"', b'"\\ud800"', b'[' * 128 + b']' * 128, b'"\xff"', b'{} x'):
+        for text in (b'', b'\xef\xbb\xbf{}', b'[1,]', b'01', b'1e400', b'-', b'NaN', b'"\x01"', b'"\\ud800"',
+                     b'[' * 128 + b']' * 128, b'"\xff"', b'{} x'):
             self.assertRaises(json_text.NotJson, json_text.read, text)
         self.assertEqual({'a': 2}, json_text.read(b' {"a":1,"a":2}\n'))
         self.assertEqual('1.0', json_text.read(b'1.0').text)
@@ -159,24 +182,34 @@ class Files(unittest.TestCase):
 
     def test_layouts_are_tested_in_order(self):
         two = '{"version":2,"aisles":3,"slots":4,"pitch":2,"clearance":1,"spacings":[5,20],"depot":1,"end":"front"}'
-        for change, due in (('{"version":3}', 'out-of-range version'), ('{"version":"2"}', 'not-whole version'), ('{}', 'missing-key version'), ('[]', 'not-object'),
-                            ('x', 'not-json'), (two.replace('"spacings":[5,20]', '"spacing":5'), 'missing-key spacings'), (two.replace('}', ',"spacing":5}'), 'unknown-key'),
-                            (two.replace('[5,20]', '[5]'), 'out-of-range spacings'), (two.replace('[5,20]', '[5,5.0]'), 'not-whole spacings'),
-                            (two.replace('[5,20]', '[5,10001]'), 'out-of-range spacings'), (two.replace('"front"', '"left"'), 'not-end'),
-                            (two.replace('"depot":1', '"depot":4'), 'out-of-range depot'), (two.replace('"aisles":3', '"aisles":65'), 'out-of-range aisles')):
+        for change, due in (('{"version":3}', 'out-of-range version'), ('{"version":"2"}', 'not-whole version'),
+                            ('{}', 'missing-key version'), ('[]', 'not-object'),
+                            ('x', 'not-json'), (two.replace('"spacings":[5,20]', '"spacing":5'),
+                                                'missing-key spacings'),
+                            (two.replace('}', ',"spacing":5}'), 'unknown-key'),
+                            (two.replace('[5,20]', '[5]'), 'out-of-range spacings'),
+                            (two.replace('[5,20]', '[5,5.0]'), 'not-whole spacings'),
+                            (two.replace('[5,20]', '[5,10001]'), 'out-of-range spacings'),
+                            (two.replace('"front"', '"left"'), 'not-end'),
+                            (two.replace('"depot":1', '"depot":4'), 'out-of-range depot'),
+                            (two.replace('"aisles":3', '"aisles":65'), 'out-of-range aisles')):
             self.assertEqual('refused layout ' + due, refused(layouts.read_layout, change.encode()), change)
         self.assertEqual((5, 20), layouts.read_layout(two.encode()).spacings)
-        self.assertEqual('refused layout unknown-key', refused(layouts.read_layout, two.replace('"spacings":[5,20]', '"spacing":5').encode(), (1,)))
+        self.assertEqual('refused layout unknown-key', refused(layouts.read_layout,
+                                                               two.replace('"spacings":[5,20]', '"spacing":5').encode(),
+                                                               (1,)))
 
     def test_records_are_read_as_documented(self):
-        for text, due in ((b'a,b\r\nc', [[b'a', b'b'], [b'c']]), (b'"a,""b"c,d\n\n,,\nx,,', [[b'a,"bc', b'd'], [b'x']]), (b'a"b,"c', [[b'a"b', b'c']]),
+        for text, due in ((b'a,b\r\nc', [[b'a', b'b'], [b'c']]), (b'"a,""b"c,d\n\n,,\nx,,', [[b'a,"bc', b'd'], [b'x']]),
+                          (b'a"b,"c', [[b'a"b', b'c']]),
                           (b'\xef\xbb\xbfa\rb', [[b'a'], [b'b']]), (b'"a\nb",c', [[b'a\nb', b'c']])):
             self.assertEqual(due, [record.fields for record in tables.records(text)], text)
         self.assertEqual([1, 3], [record.number for record in tables.records(b'a\n\n,\nb\n')])
 
     def test_words_are_read_as_documented(self):
         job = words.read_words('plan --layout=l --stock s --orders o --desks d --capacity +03'.split())
-        self.assertEqual(({'capacity': 3, 'budget': 2000000, 'workers': 1, 'units': None, 'rules': 0, 'pickers': 0, 'root': 0, 'store': 0}, 'l'), (job.numbers, job.files['layout']))
+        self.assertEqual(({'capacity': 3, 'budget': 2000000, 'workers': 1, 'units': None, 'rules': 0, 'pickers': 0,
+                           'root': 0, 'store': 0}, 'l'), (job.numbers, job.files['layout']))
         for units, due in (('1', 1), ('=40000000', 40000000), ('=+007', 7)):
             for mode in ('plan --desks d --capacity 3', 'audit --journal j'):
                 asked = '%s --layout l --stock s --orders o --units%s%s' % (mode, '' if '=' in units else ' ', units)
@@ -185,30 +218,46 @@ class Files(unittest.TestCase):
             for mode in ('plan --desks d --capacity 3', 'audit --journal j'):
                 asked = '%s --layout l --stock s --orders o --units %s' % (mode, units)
                 self.assertEqual('refused words bad-words', refused(words.read_words, asked.split()), asked)
-        self.assertEqual('refused words bad-words', refused(words.read_words, 'check --layout l --certificate c --units 5'.split()))
-        for word, due in (('--rules 0', 0), ('--rules=1', 1), ('--rules +01', 1), ('--rules=-0', 0), ('--pickers 0', 0), ('--pickers 100', 100), ('--pickers=007', 7),
-                          ('--root 0', 0), ('--root=1', 1), ('--root +01', 1), ('--root=-0', 0), ('--store 0', 0), ('--store=1', 1), ('--store +01', 1), ('--store=-0', 0)):
-            job = words.read_words(['plan', *'--layout l --stock s --orders o --desks d --capacity 3'.split(), *word.split()])
+        self.assertEqual('refused words bad-words', refused(words.read_words,
+                                                            'check --layout l --certificate c --units 5'.split()))
+        for word, due in (('--rules 0', 0), ('--rules=1', 1), ('--rules +01', 1), ('--rules=-0', 0), ('--pickers 0', 0),
+                          ('--pickers 100', 100), ('--pickers=007', 7),
+                          ('--root 0', 0), ('--root=1', 1), ('--root +01', 1), ('--root=-0', 0), ('--store 0', 0),
+                          ('--store=1', 1), ('--store +01', 1), ('--store=-0', 0)):
+            job = words.read_words(['plan', *'--layout l --stock s --orders o --desks d --capacity 3'.split(),
+                                    *word.split()])
             self.assertEqual(due, job.numbers[re.match('--([a-z]+)', word)[1]], word)
-        for word in ('--rules 2', '--rules -0', '--rules=-1', '--rules', '--rules=', '--rules 1 --rules 1', '--rules 1.0', '--pickers 101', '--pickers=-1', '--pickers',
-                     '--pickers x', '--pickers 3 --pickers 3', '--pickers 1 --rules', '--budget=-0', '--root 2', '--root -0', '--root=-1', '--root', '--root=',
-                     '--root 1 --root 1', '--root=0 --root=1', '--root yes', '--root --rules 1', '--roots 1', '--store 2', '--store -0', '--store=-1', '--store', '--store=',
+        for word in ('--rules 2', '--rules -0', '--rules=-1', '--rules', '--rules=', '--rules 1 --rules 1',
+                     '--rules 1.0', '--pickers 101', '--pickers=-1', '--pickers',
+                     '--pickers x', '--pickers 3 --pickers 3', '--pickers 1 --rules', '--budget=-0', '--root 2',
+                     '--root -0', '--root=-1', '--root', '--root=',
+                     '--root 1 --root 1', '--root=0 --root=1', '--root yes', '--root --rules 1', '--roots 1',
+                     '--store 2', '--store -0', '--store=-1', '--store', '--store=',
                      '--store 1 --store 1', '--store=0 --store=1', '--store waveplan.store', '--stor 1'):
             asked = ['plan', *'--layout l --stock s --orders o --desks d --capacity 3'.split(), *word.split()]
             self.assertEqual('refused words bad-words', refused(words.read_words, asked), word)
-        for asked in ('check --layout l --certificate c', 'audit --layout l --stock s --orders o --journal j', 'make --number 1 --aisles 2 --orders 5 --desks 1 --wave 1 --capacity 1'):
-            for word in ('--rules 1', '--rules 0', '--pickers 2', '--pickers 0', '--root 1', '--root 0', '--store 1', '--store 0'):
+        for asked in ('check --layout l --certificate c', 'audit --layout l --stock s --orders o --journal j',
+                      'make --number 1 --aisles 2 --orders 5 --desks 1 --wave 1 --capacity 1'):
+            for word in ('--rules 1', '--rules 0', '--pickers 2', '--pickers 0', '--root 1', '--root 0', '--store 1',
+                         '--store 0'):
                 self.assertIsNone(refused(words.read_words, asked.split()), asked)
-                self.assertEqual('refused words bad-words', refused(words.read_words, [*asked.split(), *word.split()]), (asked, word))
-        for text, why in (('', 'no-mode'), ('plann', 'unknown-mode'), ('check --layout l', 'bad-words'), ('check --layout l --certificate --x', 'bad-words'),
-                          ('check --layout l --certificate c x', 'bad-words'), ('make --number 1 --aisles 2 --orders 501 --desks 1 --wave 1 --capacity 1', 'too-many-waves 501')):
+                self.assertEqual('refused words bad-words', refused(words.read_words, [*asked.split(), *word.split()]),
+                                 (asked, word))
+        for text, why in (('', 'no-mode'), ('plann', 'unknown-mode'), ('check --layout l', 'bad-words'),
+                          ('check --layout l --certificate --x', 'bad-words'),
+                          ('check --layout l --certificate c x', 'bad-words'),
+                          ('make --number 1 --aisles 2 --orders 501 --desks 1 --wave 1 --capacity 1',
+                           'too-many-waves 501')):
             self.assertEqual('refused words ' + why, refused(words.read_words, text.split()), text)
 
     def test_journal_lines_are_read_as_documented(self):
-        for line in ('0 1 submit W -> refused no-orders', '9999 8 pick W O 1-1-L 100000 -> refused too-much 4294967295', '0 1 allot W -> refused short A 1 0'):
+        for line in ('0 1 submit W -> refused no-orders', '9999 8 pick W O 1-1-L 100000 -> refused too-much 4294967295',
+                     '0 1 allot W -> refused short A 1 0'):
             self.assertIsNotNone(journals.read_entry(line.encode()), line)
-        for line in ('00 1 allot W -> allotted', '0 9 allot W -> allotted', '10000 1 allot W -> allotted', '0 1 pick W O 1-1-L 100001 -> picked',
-                     '0 1 pick W O 01-1-L 1 -> picked', '0 1 allot W  -> allotted', '0 1 allot W -> refused too-much 4294967296', '0 1 allot W -> Allotted'):
+        for line in ('00 1 allot W -> allotted', '0 9 allot W -> allotted', '10000 1 allot W -> allotted',
+                     '0 1 pick W O 1-1-L 100001 -> picked',
+                     '0 1 pick W O 01-1-L 1 -> picked', '0 1 allot W  -> allotted',
+                     '0 1 allot W -> refused too-much 4294967296', '0 1 allot W -> Allotted'):
             self.assertIsNone(journals.read_entry(line.encode()), line)
 
     def test_holding_by_overlap(self):
@@ -229,7 +278,8 @@ class Planted(unittest.TestCase):
         layout = layouts.read_layout((folder / 'layout.json').read_bytes())
         stock = tables.read_stock((folder / 'stock.csv').read_bytes(), layout)
         orders = tables.read_orders((folder / 'orders.csv').read_bytes(), stock)
-        cls.opening = days.Opening(layout, stock, orders, tables.read_desks((folder / 'desks.csv').read_bytes()), 3, None)
+        cls.opening = days.Opening(layout, stock, orders, tables.read_desks((folder / 'desks.csv').read_bytes()), 3,
+                                   None)
         cls.output = runs.example_day().read_text()
 
     def fault(self, output):
@@ -253,7 +303,8 @@ class Planted(unittest.TestCase):
         self.assert_found(r'cost (\d+)', lambda found: 'cost %d' % (int(found[1]) + 1), 'cost')
 
     def test_cost_and_bound_one_too_high(self):
-        self.assert_found(r'cost (\d+) bound (\d+)', lambda found: 'cost %d bound %d' % (int(found[1]) + 1, int(found[2]) + 1), 'cost')
+        self.assert_found(r'cost (\d+) bound (\d+)', lambda found: 'cost %d bound %d'
+                          % (int(found[1]) + 1, int(found[2]) + 1), 'cost')
 
     def test_a_bound_one_too_high(self):
         self.assert_found(r'bound (\d+) proven', lambda found: 'bound %d proven' % (int(found[1]) + 1), 'bound')
@@ -272,7 +323,9 @@ class Planted(unittest.TestCase):
 
     def test_a_tour_with_a_detour(self):
         detour = 'batch 1 length %d'
-        self.assert_found(r'^batch 1 length (\d+)(.*)\ntour 10-0 ', lambda found: (detour + '%s\ntour 10-0 9-0 10-0 ') % (int(found[1]) + 700, found[2]), 'shortest')
+        self.assert_found(r'^batch 1 length (\d+)(.*)\ntour 10-0 ',
+                          lambda found: (detour + '%s\ntour 10-0 9-0 10-0 ') % (int(found[1]) + 700, found[2]),
+                          'shortest')
 
     def test_a_pick_of_one_unit_more(self):
         self.assert_found(r'^(pick \S+ \S+) (\d+)', lambda found: '%s %d' % (found[1], int(found[2]) + 1), 'pick')
@@ -284,7 +337,9 @@ class Planted(unittest.TestCase):
         self.assert_found(r'orders (\S+) (\S+) (\S+)$', r'orders \2 \1 \3', 'orders')
 
     def test_a_stock_that_is_one_off(self):
-        self.assert_found(r'^(\S+ \S+) (\d+) (\d+) (\d+)$', lambda found: '%s %d %d %s' % (found[1], int(found[2]) + 1, int(found[3]) + 1, found[4]), 'due')
+        self.assert_found(r'^(\S+ \S+) (\d+) (\d+) (\d+)$',
+                          lambda found: '%s %d %d %s' % (found[1], int(found[2]) + 1, int(found[3]) + 1, found[4]),
+                          'due')
 
     def test_another_reply(self):
         self.assert_found(r'refused short (\S+) 1 0', r'refused short \1 1 1', 'reply')
@@ -359,10 +414,13 @@ class Carts(unittest.TestCase):
               'wave W1 entry 1 orders 3 capacity 3 units 5 cost 68 bound 34 open\n'
               'batch 1 length 34 orders O1 O2\n' + OUT_AND_BACK + 'pick 3-4-L A 3 O1\npick 3-4-L A 2 O2\n'
               'batch 2 length 34 orders O3\n' + OUT_AND_BACK + 'pick 3-4-L A 4 O3\n'
-              'certificate {"capacity":3,"loads":[3,2,4],"nodes":[{"kind":"kept"}],"orders":[[[3,4]],[[3,4]],[[3,4]]],"units":5,"version":2}\n'
+              'certificate '
+              '{"capacity":3,"loads":[3,2,4],"nodes":[{"kind":"kept"}],"orders":[[[3,4]],[[3,4]],[[3,4]]],'
+              '"units":5,"version":2}\n'
               'end wave\nrefills\nend refills\nstock\n3-4-L A 9 0 9\nend stock\nend\n')
     OPENING = days.Opening(SMALL, tables.Stock([tables.StockRow(tables.Location(3, 4, 'L'), 'A', 9)], ['A']),
-                           {'O1': [('A', 3)], 'O2': [('A', 2)], 'O3': [('A', 1), ('A', 3)]}, {1: [('submit', 'W1', 'O1', 'O2', 'O3'), ('release', 'W1')]}, 3, 5)
+                           {'O1': [('A', 3)], 'O2': [('A', 2)], 'O3': [('A', 1), ('A', 3)]},
+                           {1: [('submit', 'W1', 'O1', 'O2', 'O3'), ('release', 'W1')]}, 3, 5)
 
     def fault(self, output, **changed):
         try:
@@ -376,10 +434,14 @@ class Carts(unittest.TestCase):
 
     def test_what_is_wrong_with_its_carts_is_found(self):
         as_one = self.OUTPUT.replace('orders O1 O2\n', 'orders O1 O2 O3\n')
-        for output, words in ((as_one, 'batch 1 has more units than the cart'), (self.OUTPUT.replace(' units 5 cost', ' cost'), 'heading'),
-                              (self.OUTPUT.replace(' units 5 cost 68', ' cost 68 units 5'), 'heading'), (self.OUTPUT.replace('[3,2,4]', '[1,1,1]'), 'another cart'),
-                              (self.OUTPUT.replace('"units":5', '"units":6'), 'another cart'), (self.OUTPUT.replace('"version":2', '"version":1'), 'out-of-range'),
-                              (self.OUTPUT.replace('"loads":[3,2,4],', '').replace('"units":5,"version":2', '"version":1'), 'another cart')):
+        for output, words in ((as_one, 'batch 1 has more units than the cart'),
+                              (self.OUTPUT.replace(' units 5 cost', ' cost'), 'heading'),
+                              (self.OUTPUT.replace(' units 5 cost 68', ' cost 68 units 5'), 'heading'),
+                              (self.OUTPUT.replace('[3,2,4]', '[1,1,1]'), 'another cart'),
+                              (self.OUTPUT.replace('"units":5', '"units":6'), 'another cart'),
+                              (self.OUTPUT.replace('"version":2', '"version":1'), 'out-of-range'),
+                              (self.OUTPUT.replace('"loads":[3,2,4],', '')
+                               .replace('"units":5,"version":2', '"version":1'), 'another cart')):
             self.assertRegex(self.fault(output) or 'nothing found', words)
 
     def test_the_same_day_with_other_units(self):
@@ -400,7 +462,8 @@ class Crews(unittest.TestCase):
 
     def fault(self, lines, scripts, capacity, rules=1, pickers=2, root=1):
         try:
-            days.judge(days.Opening(SMALL, self.STOCK, self.ORDERS, scripts, capacity, None, rules, pickers, root), '\n'.join(lines).encode())
+            days.judge(days.Opening(SMALL, self.STOCK, self.ORDERS, scripts, capacity, None, rules, pickers, root),
+                       '\n'.join(lines).encode())
         except days.Fault as why:
             return str(why)
         return None
@@ -417,62 +480,100 @@ class Crews(unittest.TestCase):
         self.assertIsNone(self.fault(by_hand.NOBODY, {}, 1, pickers=1))
 
     def test_none_stands_there_where_it_is_not_asked_for(self):
-        plain, no_rules, no_roots = by_hand.plain(self.ALONE), by_hand.without(self.ALONE, 'rules '), by_hand.without(self.ALONE, 'root ')
+        plain = by_hand.plain(self.ALONE)
+        no_rules, no_roots = by_hand.without(self.ALONE, 'rules '), by_hand.without(self.ALONE, 'root ')
         no_crew = by_hand.without(self.ALONE, 'crew ', 'picker ', 'end crew')
-        for lines, asked in ((plain, {'rules': 0, 'pickers': 0, 'root': 0}), (no_crew, {'pickers': 0}), (no_rules, {'rules': 0}), (no_roots, {'root': 0})):
+        for lines, asked in ((plain, {'rules': 0, 'pickers': 0, 'root': 0}), (no_crew, {'pickers': 0}),
+                             (no_rules, {'rules': 0}), (no_roots, {'root': 0})):
             self.assertIsNone(self.of_alone(lines, **asked))
-        for lines, asked, words in ((self.ALONE, {'rules': 0}, 'line 11: a line `rules'), (self.ALONE, {'pickers': 0}, 'a line `crew'), (no_crew, {}, 'no heading of a crew'),
-                                    (plain, {'pickers': 0}, 'no line of rules'), (no_rules, {}, 'no line of rules'), (no_roots, {}, 'no bracket of W1'),
-                                    (self.ALONE, {'root': 0}, 'line 21: a line `root'), (plain, {'rules': 0, 'pickers': 0}, 'no bracket of W1')):
+        for lines, asked, words in ((self.ALONE, {'rules': 0}, 'line 11: a line `rules'),
+                                    (self.ALONE, {'pickers': 0}, 'a line `crew'), (no_crew, {}, 'no heading of a crew'),
+                                    (plain, {'pickers': 0}, 'no line of rules'), (no_rules, {}, 'no line of rules'),
+                                    (no_roots, {}, 'no bracket of W1'),
+                                    (self.ALONE, {'root': 0}, 'line 21: a line `root'),
+                                    (plain, {'rules': 0, 'pickers': 0}, 'no bracket of W1')):
             self.assertRegex(self.of_alone(lines, **asked) or 'nothing found', words)
 
     def test_what_is_wrong_with_the_rules_is_found(self):
         last = self.PAIR.index('rules s-shape 22 0 return 22 0 largest-gap 22 0')
-        for old, new, words in (('38 12', '38 11', 'surplus of return'), ('s-shape 26 0', 's-shape 24 0', 'no tour of the batch is shorter'),
-                                ('38 12', '36 10', 'by return is 38 long'), ('s-shape 26 0 return 38 12', 's-shape 38 12 return 26 0', 'by s-shape is 26 long')):
-            self.assertRegex(self.of_pair([line.replace(old, new) for line in self.PAIR]) or 'nothing found', words, new)
+        for old, new, words in (('38 12', '38 11', 'surplus of return'),
+                                ('s-shape 26 0', 's-shape 24 0', 'no tour of the batch is shorter'),
+                                ('38 12', '36 10', 'by return is 38 long'),
+                                ('s-shape 26 0 return 38 12', 's-shape 38 12 return 26 0', 'by s-shape is 26 long')):
+            self.assertRegex(self.of_pair([line.replace(old, new) for line in self.PAIR]) or 'nothing found', words,
+                             new)
         self.assertRegex(self.of_pair(self.PAIR[:last] + self.PAIR[last + 1:]), 'no line of rules')
         self.assertRegex(self.of_pair(self.PAIR[:last] + self.PAIR[last:last + 1] + self.PAIR[last:]), 'a line `rules')
-        self.assertRegex(self.of_pair(self.PAIR[:last - 1] + [self.PAIR[last], self.PAIR[last - 1]] + self.PAIR[last + 1:]), 'pick')
+        self.assertRegex(self.of_pair(self.PAIR[:last - 1] + [self.PAIR[last], self.PAIR[last - 1]]
+                                      + self.PAIR[last + 1:]), 'pick')
 
     def test_what_is_wrong_with_a_bracket_is_found(self):
         place = self.PAIR.index('root 1800 2880 over 60 open')
         before, line, after = self.PAIR[:place], self.PAIR[place], self.PAIR[place + 1:]
         self.assertIsNone(self.of_pair([*before, 'root 2880 2880 over 60 narrow', *after]))
-        for told, words in ((['root 2880 1800 over 60 open'], 'is empty'), (['root 1800 2880 over 60 narrow'], 'not narrow'), (['root 2881 2881 over 60 open'], 'above its cost'),
-                            (['root 2878 2879 over 60 narrow'], 'below its linear bound, which is 48'), (['root 1799 1799 over 60 open'], 'below the duals of its root'),
-                            ([], 'line 16: no bracket of W1'), ([line, line], 'line 16: a line `root'), ([line.replace('root', 'roots')], 'no bracket of W1')):
+        for told, words in ((['root 2880 1800 over 60 open'], 'is empty'),
+                            (['root 1800 2880 over 60 narrow'], 'not narrow'),
+                            (['root 2881 2881 over 60 open'], 'above its cost'),
+                            (['root 2878 2879 over 60 narrow'], 'below its linear bound, which is 48'),
+                            (['root 1799 1799 over 60 open'], 'below the duals of its root'),
+                            ([], 'line 16: no bracket of W1'), ([line, line], 'line 16: a line `root'),
+                            ([line.replace('root', 'roots')], 'no bracket of W1')):
             self.assertRegex(self.of_pair([*before, *told, *after]) or 'nothing found', words, told)
-        for lines, words in (([*before[:-1], line, before[-1], *after], 'line 15: no certificate'), ([*before, after[0], line, *after[1:]], 'line 16: no bracket of W1'),
+        for lines, words in (([*before[:-1], line, before[-1], *after], 'line 15: no certificate'),
+                             ([*before, after[0], line, *after[1:]], 'line 16: no bracket of W1'),
                              ([*before[:4], line, *before[4:], *after], 'heading')):
             self.assertRegex(self.of_pair(lines) or 'nothing found', words)
 
     def test_a_bracket_may_lie_above_the_bound_of_duals_of_its_own_alone(self):
         own = '{"duals":[840,720,1320],"kind":"leaf","marks":"1100100","tight":[[0],[0,1],[0,2]]}'
-        proven = [line.replace('{"kind":"kept"}', own).replace('bound 30 open', 'bound 48 proven') for line in self.PAIR]
+        proven = [line.replace('{"kind":"kept"}', own).replace('bound 30 open', 'bound 48 proven')
+                  for line in self.PAIR]
         self.assertIsNone(self.of_pair(proven))
-        self.assertRegex(self.of_pair([line.replace('root 1800 2880', 'root 2820 2879') for line in proven]) or 'nothing found', 'below the duals of its root')
+        self.assertRegex(self.of_pair([line.replace('root 1800 2880', 'root 2820 2879') for line in proven])
+                         or 'nothing found', 'below the duals of its root')
 
     def test_the_script_judges_what_was_asked_for(self):
         head = 'desk,command,arguments\n'
         folder = runs.put(runs.Path(runs.shelf().name) / 'judged', {
-            'layout.json': by_hand.LAYOUT, 'stock.csv': 'location,article,on_hand\n1-1-L,D,5\n1-4-L,A,5\n2-4-L,B,5\n3-1-L,C,5\n',
-            'orders.csv': 'order,article,quantity\nO1,A,1\nO2,B,1\nO3,C,1\nO4,D,1\n', 'desks.csv': head + '1,submit,W1,O1,O2,O3\n1,release,W1\n'})
+            'layout.json': by_hand.LAYOUT,
+            'stock.csv': 'location,article,on_hand\n1-1-L,D,5\n1-4-L,A,5\n2-4-L,B,5\n3-1-L,C,5\n',
+            'orders.csv': 'order,article,quantity\nO1,A,1\nO2,B,1\nO3,C,1\nO4,D,1\n',
+            'desks.csv': head + '1,submit,W1,O1,O2,O3\n1,release,W1\n'})
         output = '\n'.join(by_hand.PAIR).encode()
-        for asked, status, told in (('--rules 1 --pickers 2 --root 1', 0, 'right: 2 entries, 1 sheets and their brackets with 2 batches'),
-                                    ('--rules 1 --pickers 2', 1, 'wrong: line 15: a line `root'), ('--rules 1 --pickers 2 --root 2', 2, '')):
+        shown, right = '--rules 1 --pickers 2 --root 1', 'right: 2 entries, 1 sheets and their brackets with 2 batches'
+        short = 'wrong: line 15: 0 nodes of W1 have duals of their own where the budget of '
+        for asked, status, told in (
+                (shown + ' --budget 0', 0, right), (shown + ' --budget=111 --workers 3 --store 0 --capacity 2', 0,
+                                                    right),
+                (shown + ' --budget 0 --store 1', 0, right),
+                ('--rules 1 --pickers 2 --budget 0', 1, 'wrong: line 15: a line `root'),
+                (shown + ' --budget 112', 1, short + '112 pays for 1'),
+                (shown + ' --workers 1', 1, short + '2000000 pays for 17857'),
+                (shown, 0, right), (shown + ' --store 0', 1, short + '2000000 pays for 17857'),
+                (shown + ' --budget 0 --capacity 3', 1, 'wrong: line 5: the capacity'),
+                ('--rules 1 --pickers 2 --root 2', 2, ''),
+                (shown + ' --budget ' + '9' * 5000, 2, ''), (shown + ' --workers 17', 2, ''),
+                (shown + ' --store 2', 2, '')):
             done = runs.script('second-opinion', *runs.options(folder), *asked.split(), '-', given=output)
-            self.assertEqual(status, done.status, done.errors)
+            self.assertEqual(status, done.status, (asked, done.output, done.errors))
             self.assertIn(told, done.output)
+        words = ['second-opinion', 'plan', *runs.options(folder), *shown.split(), '-']
+        self.assertIn(short + '2000000 pays for 17857', runs.script('wave', *words, given=output).output)
+        self.assertIn(right, runs.script('wave', *words, '--budget', '0', given=output).output)
 
     def test_what_is_wrong_with_a_crew_is_found(self):
-        heading, first, second = 'crew longest 36 least 31', 'picker 1 load 36 batches W1/1 W1/3', 'picker 2 load 26 batches W1/2 W2/1'
+        heading = 'crew longest 36 least 31'
+        first, second = 'picker 1 load 36 batches W1/1 W1/3', 'picker 2 load 26 batches W1/2 W2/1'
         settled = 'the crew is not settled'
         for crew, words in (
-                (('crew longest 60 least 31', 'picker 1 load 60 batches W1/1 W1/2 W1/3', 'picker 2 load 2 batches W2/1'), settled),
-                (('crew longest 48 least 31', 'picker 1 load 14 batches W1/1', 'picker 2 load 48 batches W1/2 W1/3 W2/1'), 'of 24 of picker 2'),
-                (('crew longest 62 least 31', 'picker 1 load 62 batches W1/1 W1/2 W1/3 W2/1', 'picker 2 load 0 batches'), settled),
-                (('crew longest 46 least 31', 'picker 1 load 16 batches W1/1 W2/1', 'picker 2 load 46 batches W1/2 W1/3'), 'of 24 of picker 2'),
+                (('crew longest 60 least 31', 'picker 1 load 60 batches W1/1 W1/2 W1/3',
+                  'picker 2 load 2 batches W2/1'), settled),
+                (('crew longest 48 least 31', 'picker 1 load 14 batches W1/1',
+                  'picker 2 load 48 batches W1/2 W1/3 W2/1'), 'of 24 of picker 2'),
+                (('crew longest 62 least 31', 'picker 1 load 62 batches W1/1 W1/2 W1/3 W2/1',
+                  'picker 2 load 0 batches'), settled),
+                (('crew longest 46 least 31', 'picker 1 load 16 batches W1/1 W2/1',
+                  'picker 2 load 46 batches W1/2 W1/3'), 'of 24 of picker 2'),
                 ((heading, first, 'picker 2 load 24 batches W1/2'), 'not each dealt'),
                 ((heading, first, 'picker 2 load 40 batches W1/1 W1/2 W2/1'), 'not each dealt'),
                 (('crew longest 50 least 31', 'picker 1 load 50 batches W1/1 W1/1 W1/3', second), 'not each dealt'),
@@ -482,36 +583,48 @@ class Crews(unittest.TestCase):
                 ((heading, second, first), 'no line of picker 1'),
                 ((heading, 'picker 0' + first[8:], 'picker 1' + second[8:]), 'no line of picker 1'),
                 ((heading, first.replace('W1/1 W1/3', 'W1/3 W1/1'), second), 'order of the output'),
-                ((heading, first.replace('W1/3', 'W1/4'), second), 'none of'), ((heading, first, second.replace('W2/1', 'W2/4')), 'none of'),
+                ((heading, first.replace('W1/3', 'W1/4'), second), 'none of'),
+                ((heading, first, second.replace('W2/1', 'W2/4')), 'none of'),
                 ((heading, first.replace('W1/3', 'W1/03'), second), 'none of'),
-                ((heading, first), 'no line of picker 2'), ((heading, second), 'no line of picker 1'), ((first, second), 'no heading'),
-                ((heading, first, second, 'picker 3 load 0 batches'), 'end crew'), ((heading, first, second, second), 'end crew'),
-                ((heading.replace('36', '26'), first, second), 'the longest load is 36'), ((heading.replace('31', '36'), first, second), 'least longest load is 31'),
-                ((heading.replace('31', '30'), first, second), 'least longest load is 31'), ((heading, first + ' ', second), 'no line of picker 1')):
+                ((heading, first), 'no line of picker 2'), ((heading, second), 'no line of picker 1'),
+                ((first, second), 'no heading'),
+                ((heading, first, second, 'picker 3 load 0 batches'), 'end crew'),
+                ((heading, first, second, second), 'end crew'),
+                ((heading.replace('36', '26'), first, second), 'the longest load is 36'),
+                ((heading.replace('31', '36'), first, second), 'least longest load is 31'),
+                ((heading.replace('31', '30'), first, second), 'least longest load is 31'),
+                ((heading, first + ' ', second), 'no line of picker 1')):
             place = self.ALONE.index(heading)
-            self.assertRegex(self.of_alone([*self.ALONE[:place], *crew, *self.ALONE[place + 3:]]) or 'nothing found', words, crew)
+            self.assertRegex(self.of_alone([*self.ALONE[:place], *crew, *self.ALONE[place + 3:]]) or 'nothing found',
+                             words, crew)
 
     def test_another_settled_crew_is_right(self):
         place = self.ALONE.index('crew longest 36 least 31')
-        other = ('crew longest 38 least 31', 'picker 1 load 38 batches W1/1 W1/2', 'picker 2 load 24 batches W1/3 W2/1', 'end crew')
+        other = ('crew longest 38 least 31', 'picker 1 load 38 batches W1/1 W1/2', 'picker 2 load 24 batches W1/3 W2/1',
+                 'end crew')
         self.assertIsNone(self.of_alone([*self.ALONE[:place], *other, *self.ALONE[place + 4:]]))
 
     def test_a_picker_without_batches_has_a_line(self):
         three = [line.replace('least 31', 'least 24').replace('longest 36', 'longest 24') for line in self.ALONE]
         place = three.index('crew longest 24 least 24')
         end = three[place + 3:]
-        for pickers, crew in ((3, ('picker 1 load 16 batches W1/1 W2/1', 'picker 2 load 24 batches W1/2', 'picker 3 load 22 batches W1/3')),
-                              (6, ('picker 1 load 14 batches W1/1', 'picker 2 load 24 batches W1/2', 'picker 3 load 22 batches W1/3', 'picker 4 load 2 batches W2/1',
+        for pickers, crew in ((3, ('picker 1 load 16 batches W1/1 W2/1', 'picker 2 load 24 batches W1/2',
+                                   'picker 3 load 22 batches W1/3')),
+                              (6, ('picker 1 load 14 batches W1/1', 'picker 2 load 24 batches W1/2',
+                                   'picker 3 load 22 batches W1/3', 'picker 4 load 2 batches W2/1',
                                    'picker 5 load 0 batches', 'picker 6 load 0 batches'))):
             self.assertIsNone(self.of_alone([*three[:place + 1], *crew, *end], pickers=pickers), pickers)
-            self.assertRegex(self.of_alone([*three[:place + 1], *crew[:-1], *end], pickers=pickers), 'no line of picker %d' % pickers)
-        early = ('picker 1 load 14 batches W1/1', 'picker 2 load 0 batches', 'picker 3 load 24 batches W1/2', 'picker 4 load 24 batches W1/3 W2/1')
+            self.assertRegex(self.of_alone([*three[:place + 1], *crew[:-1], *end], pickers=pickers),
+                             'no line of picker %d' % pickers)
+        early = ('picker 1 load 14 batches W1/1', 'picker 2 load 0 batches', 'picker 3 load 24 batches W1/2',
+                 'picker 4 load 24 batches W1/3 W2/1')
         self.assertRegex(self.of_alone([*three[:place + 1], *early, *end], pickers=4), 'numbered')
 
     def test_the_section_stands_between_the_refills_and_the_stock(self):
         place = self.ALONE.index('crew longest 36 least 31')
         crew, rest = self.ALONE[place:place + 4], self.ALONE[:place] + self.ALONE[place + 4:]
-        for before, words in (('refills', "'refills' is due"), ('end refills', "'end refills' is due"), ('end stock', 'no heading of a crew'), ('end', 'no heading of a crew')):
+        for before, words in (('refills', "'refills' is due"), ('end refills', "'end refills' is due"),
+                              ('end stock', 'no heading of a crew'), ('end', 'no heading of a crew')):
             at = rest.index(before)
             self.assertRegex(self.of_alone(rest[:at] + crew + rest[at:]) or 'nothing found', words, before)
         self.assertRegex(self.of_alone(self.ALONE[:place] + crew + crew + self.ALONE[place + 4:]), 'a line `crew')
@@ -522,36 +635,42 @@ class Brackets(unittest.TestCase):
 
     @staticmethod
     def wave(orders, capacity, units=None, loads=None, layout=SMALL):
-        return certificates.Wave(layout, certificates.Certificate(list(map(tours.gathered, orders)), capacity, units, loads, []))
+        return certificates.Wave(layout, certificates.Certificate(list(map(tours.gathered, orders)), capacity, units,
+                                                                  loads, []))
 
     @staticmethod
     def cover(wave):
         return roots.cheapest_cover(wave, roots.permitted(wave))
 
-    def fault(self, line, wave=None, cost=68, duals=3060):
+    def fault(self, line, wave=None, cost=68, duals=3060, rounds=None):
         """What is wrong with a line of three orders at one place, two to a cart, whose linear bound is 51."""
         try:
-            roots.judge_root(days.Lines(line.encode() + b'\n'), 'W1', wave or self.wave([[(3, 4)]] * 3, 2), cost, duals)
+            roots.judge_root(days.Lines(line.encode() + b'\n'), 'W1', wave or self.wave([[(3, 4)]] * 3, 2), cost, duals,
+                             rounds)
         except days.Fault as why:
             return str(why)
         return None
 
     def test_linear_bounds_worked_by_hand(self):
         three = [[(1, 4)], [(2, 4)], [(3, 1)]]
-        for orders, capacity, cart, due in ((three, 1, (), 60), (three, 2, (), 48), (three, 3, (), 38), ([[(3, 4)]] * 3, 2, (5, [3, 3, 3]), 102),
-                                            ([[(3, 4)]] * 3, 3, (5, [3, 2, 4]), 68), ([[(3, 4)]] * 3, 3, (5, [3, 2, 2]), 51), ([[]], 1, (), 0)):
+        for orders, capacity, cart, due in ((three, 1, (), 60), (three, 2, (), 48), (three, 3, (), 38),
+                                            ([[(3, 4)]] * 3, 2, (5, [3, 3, 3]), 102),
+                                            ([[(3, 4)]] * 3, 3, (5, [3, 2, 4]), 68),
+                                            ([[(3, 4)]] * 3, 3, (5, [3, 2, 2]), 51), ([[]], 1, (), 0)):
             self.assertEqual(due, self.cover(self.wave(orders, capacity, *cart)).cost(), (orders, capacity, cart))
 
     def test_orders_at_one_place_share_a_cart_evenly(self):
         for orders in range(1, 9):
             for capacity in range(1, 9):
-                self.assertEqual(max(Fraction(34), Fraction(34 * orders, capacity)), self.cover(self.wave([[(3, 4)]] * orders, capacity)).cost())
+                self.assertEqual(max(Fraction(34), Fraction(34 * orders, capacity)),
+                                 self.cover(self.wave([[(3, 4)]] * orders, capacity)).cost())
 
     def test_duals_show_that_no_cover_is_cheaper(self):
         dice = random.Random(3)
         for _ in range(300):
             orders, capacity, units = dice.randint(1, 7), dice.randint(1, 8), dice.choice((None, 5))
-            lines = [[(dice.randint(1, 3), dice.randint(1, 4), 1) for _ in range(dice.randint(1, 3))] for _ in range(orders)]
+            lines = [[(dice.randint(1, 3), dice.randint(1, 4), 1) for _ in range(dice.randint(1, 3))]
+                     for _ in range(orders)]
             loads = units and [dice.randint(0, 5) for _ in lines]
             wave = self.wave([[line[:2] for line in some] for some in lines], capacity, units, loads)
             cover = self.cover(wave)
@@ -572,27 +691,54 @@ class Brackets(unittest.TestCase):
         self.assertEqual((None, 1159), (roots.permitted(many), len(roots.permitted(many, 1159))))
 
     def test_a_right_line(self):
-        for line in ('6120 6120 over 120 narrow', '6120 6120 over 120 open', '51 51 over 1 narrow', '6115 6120 over 120 narrow', '0 4080 over 60 open', '3060 4080 over 60 open',
+        for line in ('6120 6120 over 120 narrow', '51 51 over 1 narrow', '6115 6120 over 120 narrow',
+                     '3060 4080 over 60 open',
                      '%d %d over %d narrow' % (51 * 10 ** 30, 51 * 10 ** 30 + 1, 10 ** 30)):
             self.assertIsNone(self.fault('root ' + line), line)
 
     def test_what_is_wrong_with_a_line_is_found(self):
-        for line, words in (('6120 6119 over 120 narrow', 'is empty'), ('4080 3060 over 60 open', 'is empty'), ('6114 6120 over 120 narrow', 'not narrow'),
-                            ('3060 4080 over 60 narrow', 'not narrow'), ('6121 6121 over 120 narrow', 'above its linear bound, which is 51'),
-                            ('52 68 over 1 open', 'above its linear bound'), ('69 69 over 1 open', 'above its cost'), ('50 50 over 1 open', 'below the duals of its root')):
+        for line, words in (('6120 6119 over 120 narrow', 'is empty'), ('4080 3060 over 60 open', 'is empty'),
+                            ('6114 6120 over 120 narrow', 'not narrow'),
+                            ('3060 4080 over 60 narrow', 'not narrow'),
+                            ('6121 6121 over 120 narrow', 'above its linear bound, which is 51'),
+                            ('52 68 over 1 open', 'above its linear bound'), ('69 69 over 1 open', 'above its cost'),
+                            ('50 50 over 1 open', 'below the duals of its root')):
             self.assertRegex(self.fault('root ' + line) or 'nothing found', words, line)
         self.assertRegex(self.fault('root 6119 6119 over 120 narrow', duals=0), 'below its linear bound, which is 51')
 
+    def test_an_open_bracket_is_that_of_the_shares_and_a_first_batching(self):
+        for line in ('6120 6120 over 120 open', '51 51 over 1 open'):
+            self.assertRegex(self.fault('root ' + line) or 'nothing found',
+                             'open, and meets the test of narrow, and is not', line)
+        for line in ('0 4080 over 60 open', '6120 8160 over 120 open', '3060 4081 over 60 open'):
+            self.assertRegex(self.fault('root ' + line) or 'nothing found',
+                             'is open, and is not that of the share duals', line)
+
+    def test_an_open_bracket_has_fewer_rounds_than_there_are_batches(self):
+        alone = self.wave([[(3, 4)]], 1)
+        for rounds, words in ((0, None),
+                              (1, 'open, and meets the test of narrow, where its budget pays for as many rounds'),
+                              (None, None)):
+            found = self.fault('root 2040 2040 over 60 open', alone, 34, 2040, rounds)
+            self.assertTrue(found is None if words is None else words in str(found), (rounds, found))
+        for rounds, words in ((5, None), (6, 'is open, where its budget pays for as many rounds')):
+            found = self.fault('root 3060 4080 over 60 open', rounds=rounds)
+            self.assertTrue(found is None if words is None else words in str(found), (rounds, found))
+
     def test_a_line_of_another_form_is_found(self):
-        for line in ('6120 6120 over 0 narrow', '-1 6120 over 120 open', '6120 -6120 over 120 open', '6120 6120 over -120 open', '06120 6120 over 120 open', '6120 6120 over 120',
-                     '6120 6120 over 120 wide', '6120 6120 over 120 narrow ', '6120 6120 120 narrow', '6120 over 120 narrow', '6120.0 6120 over 120 open', ''):
+        for line in ('6120 6120 over 0 narrow', '-1 6120 over 120 open', '6120 -6120 over 120 open',
+                     '6120 6120 over -120 open', '06120 6120 over 120 open', '6120 6120 over 120',
+                     '6120 6120 over 120 wide', '6120 6120 over 120 narrow ', '6120 6120 120 narrow',
+                     '6120 over 120 narrow', '6120.0 6120 over 120 open', ''):
             self.assertRegex(self.fault('root ' + line) or 'nothing found', 'no bracket of W1', line)
         self.assertRegex(self.fault('end wave'), 'no bracket of W1')
 
     def test_of_a_large_wave_the_plain_relations_are_judged(self):
         large = self.wave([[(3, 4)]] * 64, 3)
-        for line, words in (('43520 43520 over 60 narrow', None), ('44880 44880 over 60 narrow', None), ('44881 44881 over 60 open', 'above its cost'),
-                            ('43519 43519 over 60 open', 'below the duals'), ('43520 43584 over 60 narrow', 'not narrow'), ('43520 43583 over 60 narrow', None)):
+        for line, words in (('43520 43520 over 60 narrow', None), ('44880 44880 over 60 narrow', None),
+                            ('44881 44881 over 60 open', 'above its cost'),
+                            ('43519 43519 over 60 open', 'below the duals'),
+                            ('43520 43584 over 60 narrow', 'not narrow'), ('43520 43583 over 60 narrow', None)):
             found = self.fault('root ' + line, large, 22 * 34, 64 * 680)
             self.assertTrue(found is None if words is None else words in str(found), (line, found))
 
@@ -605,7 +751,8 @@ class LaterLines(unittest.TestCase):
     def fault(self, output, scripts=None, units=2, shown=(1, 2, 1), stored=False):
         scripts = scripts or {1: [('submit', 'W1', 'O1'), ('release', 'W1')]}
         try:
-            days.judge(days.Opening(SMALL, self.STOCK, {'O1': [('A', 2)]}, scripts, 1, units, *shown), output.encode(), stored)
+            days.judge(days.Opening(SMALL, self.STOCK, {'O1': [('A', 2)]}, scripts, 1, units, *shown), output.encode(),
+                       stored)
         except days.Fault as why:
             return str(why)
         return None
@@ -615,13 +762,16 @@ class LaterLines(unittest.TestCase):
         self.assertIsNone(self.fault(LATER.replace('1201 over', '1200 over')))
 
     def test_what_is_wrong_with_them_is_found(self):
-        for old, new, words in ((' units 2 cost', ' cost', 'heading'), ('"loads":[2]', '"loads":[1]', 'cart'), ('return 2 0', 'return 2 1', 'surplus'),
-                                ('root 1200', 'root 1201', 'above its cost'), ('root 1200 1201', 'root 1200 1210', 'narrow'),
+        for old, new, words in ((' units 2 cost', ' cost', 'heading'), ('"loads":[2]', '"loads":[1]', 'cart'),
+                                ('return 2 0', 'return 2 1', 'surplus'),
+                                ('root 1200', 'root 1201', 'above its cost'),
+                                ('root 1200 1201', 'root 1200 1210', 'narrow'),
                                 ('root 1200 1201', 'root 1200 1199', 'empty')):
             self.assertRegex(self.fault(LATER.replace(old, new, 1)) or 'nothing found', words, old)
 
     def test_an_order_over_the_cart_is_refused(self):
-        output = 'journal\n0 1 submit W1 O1 -> refused over-cart O1 2\n1 1 release W1 -> refused unknown-wave\nend journal\n' + STORED.split('end journal\n')[1]
+        output = ('journal\n0 1 submit W1 O1 -> refused over-cart O1 2\n1 1 release W1 -> refused unknown-wave\n'
+                  'end journal\n' + STORED.split('end journal\n')[1])
         self.assertIsNone(self.fault(output, units=1, shown=()))
         self.assertRegex(self.fault(output, units=2, shown=()), 'reply')
 

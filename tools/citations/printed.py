@@ -1,0 +1,127 @@
+"""The commands that README.md and docs/DAY.md print, run over a program, and what they print of its output."""
+
+import os
+import re
+import shutil
+import subprocess
+import tempfile
+from pathlib import Path
+
+COMMAND = re.compile(r'\./|tools/|echo ')
+LEFT_OUT = re.compile(r'\./gate|\./waveplan --prove')
+DAY_OF = re.compile(r'The day of `examples/([\w-]+)`')
+LINES = re.compile(r'The command prints ([0-9,]{1,9}) lines')
+PAGES = {'README.md': None, 'docs/DAY.md': 'one-day'}  # each with the example whose files it begins with
+STORE, BEFORE = 'waveplan.store', 'before.store'
+LONGEST = 120  # seconds that a command may take
+
+
+def all_of(pages, top, program):
+    """All that was run and looked for: a place, and what is wrong there, or None."""
+    for page in pages:
+        if page.name in PAGES:
+            with tempfile.TemporaryDirectory() as room:
+                yield from Reader(page, top, program, Path(room)).all()
+
+
+def _set_up(folder, top, program, example):
+    """A folder with the program, the scripts, the examples, and the files of one of these."""
+    folder.mkdir()
+    launcher = folder / 'waveplan'
+    launcher.write_text('#!/bin/sh\nexec "%s" "$@"\n' % program)
+    launcher.chmod(0o755)
+    for name in ('tools', 'examples'):
+        os.symlink(top / name, folder / name)
+    for file in sorted((top / 'examples' / example).iterdir()) if example else ():
+        shutil.copy(file, folder)
+    if example:
+        rows = (folder / 'stock.csv').read_text().split('\n')[1:]
+        (folder / 'export.csv').write_text('\n'.join(['Platz,Artikel,Bestand', *rows]))
+    return folder
+
+
+class Reader:
+    """Reads one page as a planner does who types what it prints."""
+
+    def __init__(self, page, top, program, room):
+        self.page, self.top, self.program, self.room = page, top, program, room
+        self.last, self.last_plan, self.folders, self.place = '', None, {}, ''
+        self.examples = {line.section: DAY_OF.search(line.text)[1] for line in page.lines if DAY_OF.search(line.text)}
+
+    def folder(self, section):
+        """The folder of a section: one of its own where it begins with an example."""
+        example = self.examples.get(section)
+        if example not in self.folders:
+            self.folders[example] = _set_up(self.room / (example or 'first'), self.top, self.program,
+                                            example or PAGES[self.page.name])
+        return self.folders[example]
+
+    def all(self):
+        blocks = {block.number: block for block in self.page.blocks()}
+        for line in self.page.lines:
+            self.place = '%s:%d' % (self.page.name, line.number)
+            if line.number in blocks:
+                yield from self.block(blocks[line.number])
+            elif not line.is_code:
+                yield from self.prose(line)
+
+    def prose(self, line):
+        """Commands within the prose, and what it says of the output."""
+        for text in re.findall(r'`(tools/(?:wave [\w-]+|(?!wave)[\w-]+) [^`]+)`', line.text):
+            yield self.run(text, self.folder(line.section))
+        if 'Then plan again' in line.text and self.last_plan:
+            yield self.run(self.last_plan, self.folder(line.section))
+        found = LINES.search(line.text)
+        if found:
+            count = self.last.count('\n')
+            yield self.place, None if int(found[1].replace(',', '')) == count else 'the command prints %d lines' % count
+
+    def block(self, block):
+        """A block of commands, or of what the command before it has printed."""
+        folder = self.folder(block.section)
+        if not COMMAND.match(block.lines[0]):
+            named = re.search(r'some of `([\w.]+)`', block.before)
+            yield from self.output(block.lines, (folder / named[1]).read_text() if named else self.last)
+            return
+        for command in block.lines:
+            if not LEFT_OUT.match(command):
+                yield self.run(command, folder)
+        promised = re.search(r'prints `([^`]+)`:$', block.before)
+        if promised:
+            yield from self.output([promised[1]], self.last)
+
+    def run(self, command, folder):
+        """Runs a command, and tells whether it ended as it should."""
+        if '--store 1' in command:
+            (folder / BEFORE).write_bytes((folder / STORE).read_bytes() if (folder / STORE).exists() else b'')
+        try:
+            done = subprocess.run(['sh', '-c', command], cwd=folder, stdin=subprocess.DEVNULL, stdout=subprocess.PIPE,
+                                  stderr=subprocess.PIPE, timeout=LONGEST)
+        except subprocess.TimeoutExpired:
+            return self.place, 'it takes longer than %d seconds: %s' % (LONGEST, command)
+        self.last = done.stdout.decode('utf-8', 'replace')
+        if command.startswith('./waveplan plan'):
+            self.keep(command, folder)
+        right = done.returncode == 0 or done.returncode == 1 and command.startswith('tools/wave compare')
+        told = (done.stderr or done.stdout).decode('utf-8', 'replace').strip().split('\n')[-1]
+        return self.place, None if right else 'it ends with status %d: %s: %s' % (done.returncode, command, told)
+
+    def keep(self, command, folder):
+        """Keeps the first output of a plan under the names that later commands have for it."""
+        self.last_plan = command
+        if '>' not in command and not (folder / 'day.txt').exists():
+            (folder / 'day.txt').write_text(self.last)
+        if (folder / 'day.txt').exists() and not (folder / 'morning.txt').exists():
+            shutil.copy(folder / 'day.txt', folder / 'morning.txt')
+
+    def output(self, lines, text):
+        """Each line stands in an output, one behind the other. Two dots stand for what is left out."""
+        rest = text.split('\n')
+        for line in lines:
+            begins = line[:-2].rstrip() if line.endswith('..') else None
+            if begins == '':
+                continue
+            found = next((at for at, other in enumerate(rest) if other == line or begins and other.startswith(begins)),
+                         None)
+            yield self.place, None if found is not None else 'no such line is printed: %s' % line
+            rest = rest if found is None else rest[found + 1:]
