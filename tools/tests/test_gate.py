@@ -364,7 +364,7 @@ class Changing(unittest.TestCase):
 
     def test_documents_and_scripts_reach_no_crate(self):
         self.assertEqual(self.reached('README.md', 'tools/prove', 'crates.txt'), [])
-        self.assertEqual([name for name, _ in self.changed.checks_for([])], ['waits', 'scripts', 'programs'])
+        self.assertEqual([name for name, _ in self.changed.checks_for([])], ['waits', 'documents', 'scripts', 'programs'])
 
     def test_another_line_of_a_crate_reaches_it(self):
         before = self.changed.lines_of(['low:', 'turn may_wait=3: low', 'high: low turn', 'waveplan: high', 'cases: high'])
@@ -375,7 +375,7 @@ class Changing(unittest.TestCase):
 
     def test_the_statuses_are_tried_where_the_program_is_reached(self):
         names = [name for name, _ in self.changed.checks_for(['high', 'waveplan'])]
-        self.assertEqual(names, ['waits', 'scripts', 'proofs', 'statuses', 'edits', 'programs'])
+        self.assertEqual(names, ['waits', 'documents', 'scripts', 'proofs', 'statuses', 'edits', 'programs'])
         self.assertNotIn('statuses', [name for name, _ in self.changed.checks_for(['cases'])])
 
 

@@ -1,0 +1,23 @@
+"""The program that `rt ci` has proved and built of these very files."""
+import os
+import shutil
+
+import kit
+
+PROGRAM = 'waveplan'
+
+
+def programs(rt, crates, kept):
+    """The built programs, one for each compiler."""
+    crate = next(it for it in crates if it.name == PROGRAM)
+    below = {it.name for it in crate.below()}
+    if kit.take_libraries(rt, kept, [it for it in crates if it.name in below]) or not kit.take(kept, crate):
+        raise kit.Missing(f'rt ci has built no {PROGRAM} of these files')
+    return [f'{crate.folder}/out/{it}' for it in kept.made(crate, False)]
+
+
+def copied_to(folder):
+    """A copy of the program in a folder."""
+    rt, _ = kit.load()
+    with kit.copied(rt) as (crates, kept):
+        return os.path.realpath(shutil.copy(programs(rt, crates, kept)[0], os.path.abspath(folder)))
