@@ -41,6 +41,11 @@ def block(ty, trait=(), is_trait=False):
     return types.SimpleNamespace(ty=list(ty), trait=list(trait), is_trait=is_trait)
 
 
+# What the prover says of a function, and of a declaration of its proof.
+SETTLE = 'fn wp_pairs::rows::settle'
+PROOFS = 'Rattle.wp_pairs.proofs.rows'
+
+
 class Refusing(unittest.TestCase):
     """What counts as a refusal of a function's own."""
 
@@ -56,24 +61,24 @@ class Refusing(unittest.TestCase):
         return self.judge.own_refusal(f'fn wp_pairs::rows::other: no holes\n{line}\nholes=0\n', function(name, **named))
 
     def test_a_declaration_below_its_own_path_is_its_own(self):
-        said = 'fn wp_pairs::rows::settle: not proved; it stands on `Rattle.wp_pairs.proofs.rows.settle.Answers.returns`, which antt refuses'
+        said = f'{SETTLE}: not proved; it stands on `{PROOFS}.settle.Answers.returns`, which antt refuses'
         self.assertIn('settle.Answers.returns', self.own(said))
 
     def test_a_goal_that_was_not_found_is_its_own(self):
-        said = 'fn wp_pairs::rows::settle: no proof: expected answers in ./proofs/rows/settle/Answers.antt; `search` did not prove `returns`'
+        said = f'{SETTLE}: no proof: expected answers in ./proofs/settle/Answers.antt; `search` did not prove `returns`'
         self.assertIn('did not prove', self.own(said))
 
     def test_a_callee_that_is_not_proved_is_not_its_own(self):
-        said = 'fn wp_pairs::rows::settle: not proved; it calls `wp_pairs::rows::join`, which is not proved'
+        said = f'{SETTLE}: not proved; it calls `wp_pairs::rows::join`, which is not proved'
         self.assertIsNone(self.own(said))
 
     def test_a_declaration_of_a_callee_is_not_its_own(self):
-        said = ('fn wp_pairs::rows::settle: not proved; it stands on `Rattle.wp_pairs.proofs.rows.join.Answers.returns`, which antt refuses; '
+        said = (f'{SETTLE}: not proved; it stands on `{PROOFS}.join.Answers.returns`, which antt refuses; '
                 'it calls `wp_pairs::rows::join`, which is not proved')
         self.assertIsNone(self.own(said))
 
     def test_a_name_that_begins_as_its_own_is_not_its_own(self):
-        said = 'fn wp_pairs::rows::settle: not proved; it stands on `Rattle.wp_pairs.proofs.rows.settle_all.Answers.returns`, which antt refuses'
+        said = f'{SETTLE}: not proved; it stands on `{PROOFS}.settle_all.Answers.returns`, which antt refuses'
         self.assertIsNone(self.own(said))
 
     def test_no_verdict_is_no_refusal(self):
@@ -83,24 +88,26 @@ class Refusing(unittest.TestCase):
         self.assertIsNone(self.own('fn wp_pairs::rows::settle: no holes'))
 
     def test_a_closure_in_it_is_its_own(self):
-        said = 'fn wp_pairs::rows::settle+map: not proved; it stands on `Rattle.wp_pairs.proofs.rows.settle+map.Answers.returns`, which antt refuses'
+        said = f'{SETTLE}+map: not proved; it stands on `{PROOFS}.settle+map.Answers.returns`, which antt refuses'
         self.assertIn('settle+map', self.own(said))
 
     def test_a_closure_below_its_path_is_its_own(self):
-        said = 'fn wp_pairs::rows::fn::settle::all: not proved; it stands on `Rattle.wp_pairs.proofs.rows.fn.settle.all.Answers.returns`, which antt refuses'
+        closure = 'fn wp_pairs::rows::fn::settle::all'
+        said = f'{closure}: not proved; it stands on `{PROOFS}.fn.settle.all.Answers.returns`, which antt refuses'
         self.assertIn('settle::all', self.own(said))
-        said = 'fn wp_pairs::table::fn::Table::better::all: no proof: expected answers; `search` did not prove `returns`'
+        closure = 'fn wp_pairs::table::fn::Table::better::all'
+        said = f'{closure}: no proof: expected answers; `search` did not prove `returns`'
         self.assertIn('better::all', self.own(said, 'better', block=block(['Table'])))
         said = 'fn wp_pairs::rows::fn::join::all: no proof: expected answers; `search` did not prove `returns`'
         self.assertIsNone(self.own(said))
 
     def test_what_stands_on_a_hole_is_not_refused(self):
-        self.assertIsNone(self.own('fn wp_pairs::rows::settle: depends on a hole in `Rattle.wp_pairs.proofs.rows.join.Proof.join_spec`'))
+        self.assertIsNone(self.own(f'{SETTLE}: depends on a hole in `{PROOFS}.join.Proof.join_spec`'))
 
     def test_the_proof_of_its_cycle_is_its_own(self):
-        said = 'fn wp_pairs::rows::settle: not proved; it stands on `Rattle.wp_pairs.proofs.rows.+settle.Answers.returns`, which antt refuses'
+        said = f'{SETTLE}: not proved; it stands on `{PROOFS}.+settle.Answers.returns`, which antt refuses'
         self.assertIn('+settle', self.own(said))
-        said = 'fn wp_pairs::rows::settle: not proved; it stands on `Rattle.wp_pairs.proofs.rows.+turns.Answers.returns`, which antt refuses'
+        said = f'{SETTLE}: not proved; it stands on `{PROOFS}.+turns.Answers.returns`, which antt refuses'
         self.assertIsNone(self.own(said))
         self.cycles['settle'] = 'turns'
         self.assertIn('+turns', self.own(said))
@@ -110,7 +117,8 @@ class Refusing(unittest.TestCase):
             (function('widen'), 'rows::widen'),
             (function('better', ('choice',), block(['Table'])), 'table::Table::better'),
             (function('fmt', ('reply',), block(['Reply'], ['fmt', ':', ':', 'Display'])), 'reply::ReplyDisplay::fmt'),
-            (function('from', ('fault',), block(['Fault'], ['From', '<', 'Memory', '>'])), 'fault::FaultFromMemory::from'),
+            (function('from', ('fault',), block(['Fault'], ['From', '<', 'Memory', '>'])),
+             'fault::FaultFromMemory::from'),
             (function('read', ('part',), block(['u64'], ['Part'])), 'part::U64Part::read'),
             (function('drop', ('chain',), block(['Chain'], ['Drop'])), 'chain::Chain::drop'),
         ]
@@ -167,7 +175,8 @@ class Emptying(unittest.TestCase):
         self.addCleanup(shutil.rmtree, self.room, ignore_errors=True)
         write(f'{self.room}/crate/src/rows.rt', ROWS)
         for name in ('join', '+turns', 'settle', 'widen'):
-            write(f'{self.room}/crate/proofs/rows/{name}/Answers.antt', f'use Rattle.wp_pairs.proofs.rows.{name}.Goals as goal\n')
+            answers = f'{self.room}/crate/proofs/rows/{name}/Answers.antt'
+            write(answers, f'use {PROOFS}.{name}.Goals as goal\n')
         self.refuse.rtlib = types.SimpleNamespace(PARTS=['src', 'proofs'])
         self.refuse.rt = types.SimpleNamespace(unread=lambda line, texts: False, REFUSED='refused', AT_LIMIT='limit')
         self.judge = self.refuse.Judge.__new__(self.refuse.Judge)
@@ -183,8 +192,10 @@ class Emptying(unittest.TestCase):
         first = data.index(b'/// Joins') if name == 'join' else at
         opens, end = (data.index(it, at) for it in (b'{\n', b'\n}'))
         body = data[opens:end].decode().replace('(', ' ( ').replace(')', ' ) ').split()[1:]
-        return types.SimpleNamespace(name=name, module=('rows',) if name != 'main' else (), block=None, file='src/rows.rt', body=body,
-                                     has_body=True, in_trait=False, in_cycle=False, first=first, start=at, opens=opens, end=end + 2)
+        module = ('rows',) if name != 'main' else ()
+        return types.SimpleNamespace(
+            name=name, module=module, block=None, file='src/rows.rt', body=body, has_body=True, in_trait=False,
+            in_cycle=False, first=first, start=at, opens=opens, end=end + 2)
 
     def edit(self, name, old, new, *functions):
         pairs = [('src/rows.rt', old, new)]
@@ -197,7 +208,8 @@ class Emptying(unittest.TestCase):
 
     def test_all_but_what_is_judged_is_emptied(self):
         edit = self.edit('a', 'settle(first)\n}\n\nfn main', 'first\n}\n\nfn main', 'widen')
-        room, text, applied = self.copied([self.edit('a', '    join(first, LIMIT)', '    first', 'settle'), edit], 'settle')
+        first = self.edit('a', '    join(first, LIMIT)', '    first', 'settle')
+        room, text, applied = self.copied([first, edit], 'settle')
         self.assertIn('fn settle(first: u8) -> u8 {\n    first\n}', text)
         self.assertIn('ensures { result ≡ first + second }\n{ unreachable!() }', text)
         self.assertIn('ensures { MOST ≡ most }\n{ unreachable!() }', text)
@@ -235,7 +247,8 @@ class Emptying(unittest.TestCase):
         self.assertIn('fn main() {\n    widen(1);', text)
 
     def test_a_function_whose_proof_another_names_is_not_emptied(self):
-        write(f'{self.room}/crate/proofs/Sums.antt', 'use Rattle.wp_pairs.proofs.rows.widen.Met\nuse Rattle.wp_pairs.proofs.Rows.{sum}\n')
+        cited = f'use {PROOFS}.widen.Met\nuse Rattle.wp_pairs.proofs.Rows.{{sum}}\n'
+        write(f'{self.room}/crate/proofs/Sums.antt', cited)
         self.judge.cited = self.judge.cited_paths()
         _, text, _ = self.copied([], 'settle')
         self.assertIn('ensures { MOST ≡ most }\n{\n    settle(first)', text)
@@ -248,7 +261,8 @@ class Emptying(unittest.TestCase):
         self.assertEqual([it.name for it in self.judge.users(edit)], ['widen'])
 
     def alone(self, edited, unedited, whole='missed'):
-        """How an edit ends that is tried alone, where the prover says this of its function with it and without it, and that of the whole crate."""
+        """How an edit ends that is tried alone, where the prover says this of its function with it and without it,
+        and that of the whole crate."""
         self.judge.check = lambda room, functions: self.said(room, edited, unedited)
         self.refuse.rt.must_fail = lambda crate, path, flags, kept: (whole, 'of the whole crate')
         return self.judge.alone(self.edit('a', '    join(first, LIMIT)', '    first', 'settle'))
@@ -259,7 +273,8 @@ class Emptying(unittest.TestCase):
         return line and f'fn wp_pairs::rows::settle: {line}\nonly=1 holes=1\n'
 
     def test_alone_an_edit_is_refused_where_its_function_is_proved_without_it(self):
-        said = self.alone('not proved; it calls `wp_pairs::rows::join`, which is not proved', 'depends on a hole in `Rattle.wp_pairs.proofs.rows.join.Proof`')
+        edited = 'not proved; it calls `wp_pairs::rows::join`, which is not proved'
+        said = self.alone(edited, f'depends on a hole in `{PROOFS}.join.Proof`')
         self.assertEqual(said.kind, self.refuse.REFUSED)
 
     def test_alone_an_edit_is_not_refused_where_its_function_is_unproved_without_it(self):
@@ -300,7 +315,8 @@ class Weighing(unittest.TestCase):
 
     def test_a_line_that_nothing_needs_is_told(self):
         self.assertIn('needs no line', self.faults(90, 'low 130 it reads tables')[0][1])
-        self.assertEqual(self.faults(90, 'high 130 it reads tables'), [('high', 'it has a line in tools/gate/weights and is no crate')])
+        found = self.faults(90, 'high 130 it reads tables')
+        self.assertEqual(found, [('high', 'it has a line in tools/gate/weights and is no crate')])
 
     def test_all_together_have_a_ceiling_too(self):
         (name, why), = self.faults(151, 'low 200 it reads tables')
@@ -329,11 +345,13 @@ class SummingUp(unittest.TestCase):
         return status, out.getvalue().rstrip('\n').split('\n')
 
     def test_what_passed_is_added_up(self):
-        self.assertEqual(self.told(waits=(0, 'a\n3 passed, 0 failed'), proofs=(0, '114 passed, 0 failed')), (0, ['117 passed, 0 failed']))
+        told = self.told(waits=(0, 'a\n3 passed, 0 failed'), proofs=(0, '114 passed, 0 failed'))
+        self.assertEqual(told, (0, ['117 passed, 0 failed']))
 
     def test_each_failure_stands_by_itself_with_its_command(self):
         proofs = 'rt: FAILED: wp_low wp_high (tests) wp_low/drops_one.edit\n3 passed, 3 failed'
-        status, told = self.told(waits=(1, 'FAILED: wp_turn: tools/waits\nwp_turn: it has 4\n1 passed, 1 failed'), proofs=(1, proofs))
+        waits = 'FAILED: wp_turn: tools/waits\nwp_turn: it has 4\n1 passed, 1 failed'
+        status, told = self.told(waits=(1, waits), proofs=(1, proofs))
         self.assertEqual((status, told[-1]), (1, '4 passed, 4 failed'))
         self.assertEqual(told[:-1], [
             'failed in waits: wp_turn', '    to see it alone: tools/waits',
@@ -344,7 +362,8 @@ class SummingUp(unittest.TestCase):
     def test_a_check_that_ends_ill_and_names_nothing_is_told(self):
         status, told = self.told(edits=(2, 'there is no rt on the path'))
         self.assertEqual(status, 1)
-        self.assertEqual(told, ['failed in edits: it ended with status 2: there is no rt on the path', '    to see it alone: tools/edits', '0 passed, 1 failed'])
+        self.assertEqual(told, ['failed in edits: it ended with status 2: there is no rt on the path',
+                                '    to see it alone: tools/edits', '0 passed, 1 failed'])
 
 
 class Changing(unittest.TestCase):
@@ -352,7 +371,12 @@ class Changing(unittest.TestCase):
 
     def setUp(self):
         self.changed = script('changed')
-        self.now = self.changed.lines_of(['# lowest first', 'low:', 'turn may_wait=2: low', 'high: low turn', 'waveplan: high', 'cases: high'])
+        self.now = self.lines('turn may_wait=2: low')
+
+    def lines(self, turn):
+        """A table of crates with this line among them."""
+        table = ['# lowest first', 'low:', turn, 'high: low turn', 'waveplan: high', 'cases: high']
+        return self.changed.lines_of(table)
 
     def reached(self, *files, before=None):
         crates = self.changed.changed_crates(files, self.now, before or self.now)
@@ -364,10 +388,11 @@ class Changing(unittest.TestCase):
 
     def test_documents_and_scripts_reach_no_crate(self):
         self.assertEqual(self.reached('README.md', 'tools/prove', 'crates.txt'), [])
-        self.assertEqual([name for name, _ in self.changed.checks_for([])], ['waits', 'documents', 'scripts', 'programs'])
+        names = [name for name, _ in self.changed.checks_for([])]
+        self.assertEqual(names, ['waits', 'documents', 'scripts', 'programs'])
 
     def test_another_line_of_a_crate_reaches_it(self):
-        before = self.changed.lines_of(['low:', 'turn may_wait=3: low', 'high: low turn', 'waveplan: high', 'cases: high'])
+        before = self.lines('turn may_wait=3: low')
         self.assertEqual(self.reached('crates.txt', before=before), ['turn', 'high', 'waveplan', 'cases'])
 
     def test_handles_reach_all(self):
@@ -444,7 +469,7 @@ class Ending(unittest.TestCase):
         self.assertEqual(len(self.faults('echo bound 68')), 13)
 
     def test_a_program_that_leaves_another_store_is_told(self):
-        found = self.faults(ENDS_AS_DUE.replace('1 cancel W1 -> refused unknown-wave', '1 cancel W2 -> refused unknown-wave'))
+        found = self.faults(ENDS_AS_DUE.replace('1 cancel W1 -> refused', '1 cancel W2 -> refused'))
         self.assertEqual(len(found), 2)
         self.assertTrue(all('it has left' in it for it in found))
 
@@ -474,7 +499,11 @@ make*) exit 5 ;;
     4[0-9][0-9][0-9][0-9][0-9],*/one.csv*) echo refused store entries 10001; exit 6 ;;
     4[0-9][0-9][0-9][0-9][0-9],*) exit 0 ;;
     */one.csv*) truncate -s 43 waveplan.store; record 1 >>waveplan.store; exit 0 ;;
-    *) grep -q 'no line' waveplan.store && echo refused store record 2 || echo refused store entry 1 printed cancelled right refused unknown-wave; exit 6 ;;
+    *)
+        grep -q 'no line' waveplan.store && echo refused store record 2 \\
+            || echo refused store entry 1 printed cancelled right refused unknown-wave
+        exit 6
+        ;;
     esac ;;
 *none.csv*) ;;
 *nowhere.json) echo read fault certificate; exit 3 ;;
