@@ -1,8 +1,10 @@
-"""What the scripts of the gate take of the kit: its own modules, the libraries that `rt ci` has proved, and the sentences of its prover.
+"""What the scripts of the gate take of the kit: its own modules, the libraries that `rt ci` has proved, and the
+sentences of its prover.
 
-All that is tied to one kit stands here. When the kit changes, look at: IDENTITY; `load`, which takes `rt` and `rt-plant-bodies` as modules; what is used
-of them (`crates_of`, `copy_crates`, `Kept.give` and `Kept.key`, `Crate.words`, `must_fail`, `in_lanes`, `need`, `Source`); and the prover's sentences
-below. `tools/refuse --unedited` over all crates and `tools/tests/run -k test_gate` show whether they still hold.
+All that is tied to one kit stands here. When the kit changes, look at: IDENTITY; `load`, which takes `rt` and
+`rt-plant-bodies` as modules; what is used of them (`crates_of`, `copy_crates`, `Kept.give` and `Kept.key`,
+`Crate.words`, `must_fail`, `in_lanes`, `need`, `Source`); and the prover's sentences below. `tools/refuse --unedited`
+over all crates and `tools/tests/run -k test_gate` show whether they still hold.
 """
 import contextlib
 import importlib.machinery
@@ -54,8 +56,10 @@ def identity():
 
 
 def load():
-    """The kit's rt, and its module that reads functions from the tokens of a crate."""
-    return module(folder(), 'rt', 'rt_of_kit'), module(folder(), 'rt-plant-bodies', 'bodies_of_kit')
+    """The kit's rt, and its module that reads the functions of a crate; also known as kit.rt and kit.bodies."""
+    global rt, bodies
+    rt, bodies = module(folder(), 'rt', 'rt_of_kit'), module(folder(), 'rt-plant-bodies', 'bodies_of_kit')
+    return rt, bodies
 
 
 def has_ended(said):
@@ -83,7 +87,8 @@ def refused_declarations(line):
 
 
 def passed_commit():
-    """The file that notes the last commit which the whole gate passed on this machine, and the last line of that gate."""
+    """The file that notes the last commit which the whole gate passed on this machine, and the last line of that
+    gate."""
     cache = os.environ.get('XDG_CACHE_HOME') or os.path.join(os.path.expanduser('~'), '.cache')
     return f'{cache}/waveplan/passed'
 
@@ -105,7 +110,8 @@ def room_of_copy():
 
 @contextlib.contextmanager
 def copied(rt):
-    """Gives the crates of a copy of this repository, lowest first, and what rt ci has kept of them. The copy is the current folder meanwhile."""
+    """Gives the crates of a copy of this repository, lowest first, and what rt ci has kept of them. The copy is the
+    current folder meanwhile."""
     here = os.getcwd()
     with room_of_copy() as room:
         if not os.path.isdir(f'{room}/repository'):
@@ -124,7 +130,8 @@ def copied(rt):
 
 
 def take(kept, crate):
-    """Puts what `rt ci` has proved of the crate into the copy's out/, where an earlier check of the gate hasn't, and returns whether it is there."""
+    """Puts what `rt ci` has proved of the crate into the copy's out/, where an earlier check of the gate hasn't, and
+    returns whether it is there."""
     key, taken = kept.key(crate), f'{crate.folder}/out/taken'
     if os.path.isfile(taken):
         with open(taken, encoding='utf-8') as it:
@@ -138,7 +145,8 @@ def take(kept, crate):
 
 
 def take_library(rt, kept, crate, jobs):
-    """Puts the crate's library, as rt ci has proved it of these files, into the copy's out/. Where rt ci has kept none it is proved here."""
+    """Puts the crate's library, as rt ci has proved it of these files, into the copy's out/. Where rt ci has kept
+    none it is proved here."""
     if not take(kept, crate):
         if os.environ.get(SHARED):
             raise NotProved(crate.name)
@@ -154,8 +162,8 @@ def take_library(rt, kept, crate, jobs):
 
 
 def take_libraries(rt, kept, crates):
-    """Puts the library of each of these crates, which are listed lowest first, into the copy's out/. Returns the names of those that aren't proved,
-    which there are only within a gate, where `rt ci` has told of them."""
+    """Puts the library of each of these crates, which are listed lowest first, into the copy's out/. Returns the
+    names of those that aren't proved, which there are only within a gate, where `rt ci` has told of them."""
     lacking = []
     for it in crates:
         try:

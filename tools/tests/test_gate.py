@@ -15,6 +15,10 @@ import runs
 HOME = str(runs.TOP)
 GATE = f'{HOME}/tools/gate'
 sys.path.append(GATE)
+import copies
+import edits
+import judge
+import kit
 
 
 def write(path, text):
@@ -50,8 +54,7 @@ class Refusing(unittest.TestCase):
     """What counts as a refusal of a function's own."""
 
     def setUp(self):
-        self.refuse = script('refuse')
-        self.judge = self.refuse.Judge.__new__(self.refuse.Judge)
+        self.judge = judge.Judge.__new__(judge.Judge)
         self.judge.crate = types.SimpleNamespace(name='wp_pairs')
         self.judge.declared = {'Table': [(('table',),)]}
         self.judge.cycle_of = lambda it: self.cycles.get(it.name, it.name)
@@ -123,21 +126,21 @@ class Refusing(unittest.TestCase):
             (function('drop', ('chain',), block(['Chain'], ['Drop'])), 'chain::Chain::drop'),
         ]
         for it, path in paths:
-            self.assertEqual(self.refuse.path_of(it, self.judge.declared), path)
+            self.assertEqual(edits.path_of(it, self.judge.declared), path)
 
     def test_a_round_has_one_edit_of_a_function(self):
         first, second = function('first'), function('second')
-        edits = [self.refuse.Edit(name, '', {}, [], [of]) for name, of in (('a', first), ('b', first), ('c', second))]
-        self.assertEqual([[it.name for it in one] for one in self.judge.rounds(edits)], [['a', 'c'], ['b']])
+        tried = [edits.Edit(name, '', {}, [], [of]) for name, of in (('a', first), ('b', first), ('c', second))]
+        self.assertEqual([[it.name for it in one] for one in self.judge.rounds(tried)], [['a', 'c'], ['b']])
 
     def test_a_caller_of_an_edited_function_is_masked(self):
         callee, caller = function('join'), function('settle', body=['join', '(', ')'])
-        edits = [self.refuse.Edit(name, '', {}, [], [of]) for name, of in (('a', callee), ('b', caller))]
-        self.assertEqual([self.judge.is_masked(it, edits) for it in edits], [False, True])
+        tried = [edits.Edit(name, '', {}, [], [of]) for name, of in (('a', callee), ('b', caller))]
+        self.assertEqual([self.judge.is_masked(it, tried) for it in tried], [False, True])
 
     def test_pairs_are_read_line_by_line(self):
         text = 'file: src/a.rt\nold: x\nnew: y\nold: z\nnew:\n'
-        self.assertEqual(self.refuse.pairs_of(text), [('src/a.rt', 'x', 'y'), ('src/a.rt', 'z', '')])
+        self.assertEqual(edits.pairs_of(text), [('src/a.rt', 'x', 'y'), ('src/a.rt', 'z', '')])
 
 
 ROWS = """use crate::table::Table;
@@ -170,16 +173,15 @@ class Emptying(unittest.TestCase):
     """A crate in which the functions that aren't judged are emptied."""
 
     def setUp(self):
-        self.refuse = script('refuse')
         self.room = tempfile.mkdtemp(prefix='waveplan-test-')
         self.addCleanup(shutil.rmtree, self.room, ignore_errors=True)
         write(f'{self.room}/crate/src/rows.rt', ROWS)
         for name in ('join', '+turns', 'settle', 'widen'):
             answers = f'{self.room}/crate/proofs/rows/{name}/Answers.antt'
             write(answers, f'use {PROOFS}.{name}.Goals as goal\n')
-        self.refuse.rtlib = types.SimpleNamespace(PARTS=['src', 'proofs'])
-        self.refuse.rt = types.SimpleNamespace(unread=lambda line, texts: False, REFUSED='refused', AT_LIMIT='limit')
-        self.judge = self.refuse.Judge.__new__(self.refuse.Judge)
+        parts = types.SimpleNamespace(PARTS=['src', 'proofs'])
+        kit.rt = types.SimpleNamespace(rtlib=parts, unread=lambda line, texts: False, REFUSED='refused', AT_LIMIT='limit')
+        self.judge = judge.Judge.__new__(judge.Judge)
         self.judge.crate = types.SimpleNamespace(name='wp_pairs', folder=f'{self.room}/crate', is_program=False)
         self.judge.room, self.judge.kept, self.judge.declared, self.judge.checks = self.room, '', {}, 0
         self.functions = {it: self.function(it) for it in ('join', 'settle', 'widen', 'main')}
@@ -199,10 +201,10 @@ class Emptying(unittest.TestCase):
 
     def edit(self, name, old, new, *functions):
         pairs = [('src/rows.rt', old, new)]
-        return self.refuse.Edit(name, '', {'src/rows.rt': ''}, pairs, [self.functions.get(it) for it in functions])
+        return edits.Edit(name, '', {'src/rows.rt': ''}, pairs, [self.functions.get(it) for it in functions])
 
-    def copied(self, edits, *kept, control=None):
-        room, applied = self.judge.copy(edits, [self.functions[it] for it in kept], self.functions.get(control))
+    def copied(self, tried, *kept, control=None):
+        room, applied = self.judge.copy(tried, [self.functions[it] for it in kept], self.functions.get(control))
         with open(f'{room}/src/rows.rt', encoding='utf-8') as it:
             return room, it.read(), applied
 
@@ -237,7 +239,7 @@ class Emptying(unittest.TestCase):
 
     def test_the_control_means_the_same_as_before(self):
         _, text, _ = self.copied([], 'settle', 'widen', control='widen')
-        self.assertIn(f'ensures {{ MOST ≡ most }}\n{{{self.refuse.HARMLESS}\n    settle(first)', text)
+        self.assertIn(f'ensures {{ MOST ≡ most }}\n{{{copies.HARMLESS}\n    settle(first)', text)
 
     def test_an_emptied_program_is_checked_as_a_library(self):
         self.judge.crate.is_program = True
@@ -254,6 +256,52 @@ class Emptying(unittest.TestCase):
         self.assertIn('ensures { MOST ≡ most }\n{\n    settle(first)', text)
         self.assertIn('{ unreachable!() }', text)
 
+    def test_an_edit_stands_in_a_twin_with_the_proof_of_its_function(self):
+        tried = [self.edit('a', '    join(first, LIMIT)', '    first', 'settle'), self.edit('b', 'LIMIT', 'MOST', 'settle')]
+        room = self.judge.copy_with_twins(tried, self.judge.twins(tried), None)
+        with open(f'{room}/src/rows.rt', encoding='utf-8') as it:
+            text = it.read()
+        self.assertIn('fn settle(first: u8) -> u8 { unreachable!() }', text)
+        self.assertIn('fn settle_twin_0(first: u8) -> u8 {\n    first\n}', text)
+        self.assertIn('fn settle_twin_1(first: u8) -> u8 {\n    join(first, MOST)\n}', text)
+        with open(f'{room}/proofs/rows/settle_twin_1/Answers.antt', encoding='utf-8') as it:
+            self.assertEqual(it.read(), f'use {PROOFS}.settle_twin_1.Goals as goal\n')
+        self.assertEqual(os.listdir(f'{room}/proofs/rows/settle'), ['Proof.antt'])
+
+    def test_what_can_have_no_twin(self):
+        edit = self.edit('a', '    join(first, LIMIT)', '    first', 'settle')
+        self.assertTrue(self.judge.has_twin(edit))
+        for name in ('in_trait', 'in_cycle'):
+            setattr(self.functions['settle'], name, True)
+            self.assertFalse(self.judge.has_twin(edit))
+            setattr(self.functions['settle'], name, False)
+        write(f'{self.room}/crate/proofs/rows/settle/More.antt', 'use Rattle.wp_pairs.proofs.rows.{settle, join}\n')
+        self.assertFalse(self.judge.has_twin(edit))
+
+    def test_a_function_with_a_proof_for_its_closure_has_no_twin(self):
+        write(f'{self.room}/crate/proofs/rows/settle+fn-settle/Invariants.antt', '')
+        self.assertFalse(self.judge.has_twin(self.edit('a', '    join(first, LIMIT)', '    first', 'settle')))
+
+    def judged(self, *lines):
+        """Which edits of widen and of settle count as refused, where the prover says this of their twins."""
+        tried = [self.edit('a', 'settle(first)', 'first', 'widen'), self.edit('b', 'LIMIT', 'MOST', 'settle')]
+        said = '\n'.join(f'fn wp_pairs::rows::{it}' for it in lines)
+        self.judge.check = lambda room, functions: f'{said}\nonly=1 holes=1\n'
+        self.judge.control = lambda edits: None
+        return sorted(self.judge.settle_twins(tried))
+
+    def test_twins_are_refused_by_refusals_of_their_own(self):
+        refused = 'no proof: expected answers; `search` did not prove `returns`'
+        found = self.judged(f'widen_twin_0: {refused}', f'settle_twin_1: {refused}', 'widen_twin_2: no holes')
+        self.assertEqual(found, ['a', 'b'])
+        found = self.judged(f'widen_twin_0: {refused}', 'settle_twin_1: no holes', 'widen_twin_2: no holes')
+        self.assertEqual(found, ['a'])
+
+    def test_a_twin_without_an_edit_has_to_be_proved(self):
+        for line in ('widen_twin_2: no proof: expected answers; `search` did not prove `returns`', 'settle: no holes'):
+            with self.assertRaises(kit.Missing):
+                self.judged('widen_twin_0: no holes', line)
+
     def test_an_edit_outside_of_functions_is_judged_by_those_that_name_its_item(self):
         edit = self.edit('a', 'const LIMIT: u8 = 1;', 'const LIMIT: u8 = 2;', None)
         self.assertEqual([it.name for it in self.judge.users(edit)], ['settle'])
@@ -264,7 +312,7 @@ class Emptying(unittest.TestCase):
         """How an edit ends that is tried alone, where the prover says this of its function with it and without it,
         and that of the whole crate."""
         self.judge.check = lambda room, functions: self.said(room, edited, unedited)
-        self.refuse.rt.must_fail = lambda crate, path, flags, kept: (whole, 'of the whole crate')
+        kit.rt.must_fail = lambda crate, path, flags, kept: (whole, 'of the whole crate')
         return self.judge.alone(self.edit('a', '    join(first, LIMIT)', '    first', 'settle'))
 
     def said(self, room, edited, unedited):
@@ -275,7 +323,7 @@ class Emptying(unittest.TestCase):
     def test_alone_an_edit_is_refused_where_its_function_is_proved_without_it(self):
         edited = 'not proved; it calls `wp_pairs::rows::join`, which is not proved'
         said = self.alone(edited, f'depends on a hole in `{PROOFS}.join.Proof`')
-        self.assertEqual(said.kind, self.refuse.REFUSED)
+        self.assertEqual(said.kind, judge.REFUSED)
 
     def test_alone_an_edit_is_not_refused_where_its_function_is_unproved_without_it(self):
         line = 'not proved; it calls `wp_pairs::rows::join`, which is not proved'
@@ -285,8 +333,8 @@ class Emptying(unittest.TestCase):
         self.assertEqual(self.alone('no holes', 'no holes').kind, 'failed')
 
     def test_what_its_functions_do_not_settle_the_whole_crate_does(self):
-        self.assertEqual(self.alone('no holes', 'no holes', 'refused'), (self.refuse.REFUSED, 'of the whole crate'))
-        self.assertEqual(self.alone(None, 'no holes', 'refused'), (self.refuse.REFUSED, 'of the whole crate'))
+        self.assertEqual(self.alone('no holes', 'no holes', 'refused'), (judge.REFUSED, 'of the whole crate'))
+        self.assertEqual(self.alone(None, 'no holes', 'refused'), (judge.REFUSED, 'of the whole crate'))
         self.assertEqual(self.alone('not proved; it stands on `x`', None).kind, 'failed')
 
 
