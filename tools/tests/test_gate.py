@@ -180,7 +180,8 @@ class Emptying(unittest.TestCase):
             answers = f'{self.room}/crate/proofs/rows/{name}/Answers.antt'
             write(answers, f'use {PROOFS}.{name}.Goals as goal\n')
         parts = types.SimpleNamespace(PARTS=['src', 'proofs'])
-        kit.rt = types.SimpleNamespace(rtlib=parts, unread=lambda line, texts: False, REFUSED='refused', AT_LIMIT='limit')
+        known = {'unread': lambda line, texts: False, 'REFUSED': 'refused', 'AT_LIMIT': 'limit'}
+        kit.rt = types.SimpleNamespace(rtlib=parts, **known)
         self.judge = judge.Judge.__new__(judge.Judge)
         self.judge.crate = types.SimpleNamespace(name='wp_pairs', folder=f'{self.room}/crate', is_program=False)
         self.judge.room, self.judge.kept, self.judge.declared, self.judge.checks = self.room, '', {}, 0
@@ -257,7 +258,8 @@ class Emptying(unittest.TestCase):
         self.assertIn('{ unreachable!() }', text)
 
     def test_an_edit_stands_in_a_twin_with_the_proof_of_its_function(self):
-        tried = [self.edit('a', '    join(first, LIMIT)', '    first', 'settle'), self.edit('b', 'LIMIT', 'MOST', 'settle')]
+        first = self.edit('a', '    join(first, LIMIT)', '    first', 'settle')
+        tried = [first, self.edit('b', 'LIMIT', 'MOST', 'settle')]
         room = self.judge.copy_with_twins(tried, self.judge.twins(tried), None)
         with open(f'{room}/src/rows.rt', encoding='utf-8') as it:
             text = it.read()
