@@ -80,15 +80,18 @@ class Launching(unittest.TestCase):
         self.room = tempfile.mkdtemp(prefix='waveplan-test-')
         self.addCleanup(shutil.rmtree, self.room, ignore_errors=True)
         self.home, self.kit = f'{self.room}/home', f'{self.room}/kit'
-        for name in ('waveplan', 'tools/prove', 'tools/gate/kit.py'):
+        for name in ('waveplan', 'tools/prove', 'tools/sources', 'tools/keep-store', 'tools/gate/kit.py'):
             os.makedirs(os.path.dirname(f'{self.home}/{name}'), exist_ok=True)
             shutil.copy2(f'{HOME}/{name}', f'{self.home}/{name}')
+        for name in ('tools/floor', 'tools/opinion'):
+            shutil.copytree(f'{HOME}/{name}', f'{self.home}/{name}')
         write(f'{self.home}/HANDLES', 'Handles allowed: none.\n')
         write(f'{self.home}/crates.txt', '# lowest first\nlow:\nwaveplan: low\nabove: low\n')
         for name, root in (('low', 'lib'), ('waveplan', 'main'), ('above', 'lib')):
             write(f'{self.home}/crates/{name}/src/{root}.rt', '')
         write(f'{self.kit}/rt', PRETENDED_KIT, is_program=True)
         write(f'{self.kit}/rt-plant-bodies', '')
+        write(f'{self.room}/KIT-ID', 'rattle-kit-13f logic dac8208d650f15bf\n')
         write(f'{self.kit}/seconds', '0.3')
         write(f'{self.room}/words.txt', 'words of a file\n')
 
