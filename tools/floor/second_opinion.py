@@ -1,7 +1,7 @@
 """Judges an answer of waveplan by a program of its own, which shares no line with it.
 
 usage: tools/wave second-opinion --layout FILE --stock FILE --orders FILE --desks FILE [--capacity C] [--units N] [--rules 0-1] [--pickers K] [--root 0-1]
-                            [--store-before FILE [--store-after FILE] | --stored] DAY
+                            [--store 1 | --store-before FILE [--store-after FILE] | --stored] DAY
        tools/wave second-opinion --layout FILE --certificate FILE ANSWER
        tools/wave second-opinion --layout FILE --stock FILE --orders FILE --journal FILE [--units N] ANSWER
 
@@ -13,8 +13,8 @@ with --pickers, as docs/CREWS.md says it, the crew: each batch with one picker, 
 of each wave's linear bound: it holds the bound, which is found again for waves with at most 1,000 permitted batches, and is narrow where it says so. None
 may stand there where it isn't asked for. Where a file is refused, the line that tells it is judged.
 
-A day that was planned with --store 1 is judged with --store-before, a copy of its waveplan.store from before the run, or /dev/null where there was none:
-its records are read and answered again, or the first that is refused is told; the journal has their entries and then those of the desks, and sheets,
+A day that was planned with --store 1 is judged with the store as it was before the run: in the folder of the last run this finds the copy that the
+launcher keeps, waveplan.store.before, by itself, or where --store 1 says so; else --store-before names a copy, or /dev/null where there was none. Its records are read and answered again, or the first that is refused is told; the journal has their entries and then those of the desks, and sheets,
 refills and crew are those of the desks' entries alone. With --store-after that file is judged too, as it is after the run. With --stored the journal
 may begin with any entries that are answered right.
 
@@ -31,6 +31,8 @@ from pathlib import Path
 from opinion import answers, days, stores
 from opinion.refusals import Refusal
 from opinion.words import SHOWN_NUMBERS, Job
+
+from . import store_keeping
 
 FILES = {'desks': 'plan', 'certificate': 'check', 'journal': 'audit'}
 
@@ -53,10 +55,14 @@ def asked_words(words):
     for name in SHOWN_NUMBERS:
         known.add_argument('--' + name, type=int, default=0)
     known.add_argument('--stored', action='store_true')
+    known.add_argument('--store', type=int, choices=(0, 1))
     known.add_argument('--store-before')
     known.add_argument('--store-after')
     known.add_argument('answer', nargs='?')
-    return known.parse_intermixed_args(words)
+    asked = known.parse_intermixed_args(words)
+    if asked.store and asked.store_before is None:
+        asked.store_before = store_keeping.BEFORE
+    return asked
 
 
 def job_of(asked):
@@ -114,6 +120,14 @@ def judged(asked, job, answer):
     return store_fault(asked, 0, answer), '%d entries%s, %d sheets%s with %d batches and their tours%s, %d refills%s, and the stock' % told
 
 
+def is_stored(asked, job, answer):
+    """Whether nothing is said of a store, and the answer's journal begins with the records of the copy that the launcher keeps here."""
+    if job.mode != 'plan' or asked.stored or asked.store is not None or asked.store_before is not None:
+        return False
+    bodies = stores.records(bytes_of(store_keeping.BEFORE) or b'')
+    return bool(bodies) and answer.startswith(b'journal\n' + b''.join(bodies))
+
+
 def main(words):
     asked = asked_words(words)
     job = None if asked.help else job_of(asked)
@@ -129,5 +143,8 @@ def main(words):
         print('second-opinion: the run says that the disk of its store failed, and nothing tells whether it did', file=sys.stderr)
         return 2
     wrong, told = judged(asked, job, answer)
+    if wrong and is_stored(asked, job, answer):
+        asked.store_before = store_keeping.BEFORE
+        wrong, told = judged(asked, job_of(asked), answer)
     print('wrong: %s' % wrong if wrong else 'right: %s' % told)
     return 1 if wrong else 0

@@ -4,6 +4,7 @@ import re
 import shutil
 import signal
 import subprocess
+import sys
 import tempfile
 import time
 import unittest
@@ -94,8 +95,9 @@ class Repository(unittest.TestCase):
             write(f'{self.home}/crates/{name}/src/{root}.rt', '')
         write(f'{self.kit}/rt', PRETENDED_KIT, is_program=True)
         write(f'{self.kit}/rt-plant-bodies', '')
+        os.symlink(sys.executable, f'{self.kit}/python3')
         write(f'{self.room}/KIT-ID', 'rattle-kit-13f logic dac8208d650f15bf\n')
-        write(f'{self.kit}/seconds', '0.2')
+        write(f'{self.kit}/seconds', '0.5')
         write(f'{self.kit}/try-seconds', '0')
         write(f'{self.room}/words.txt', 'words of a file\n')
 
@@ -114,6 +116,7 @@ class Repository(unittest.TestCase):
 
     def program(self, text):
         """Puts a script in the place of the proved program."""
+        write(f'{self.kit}/seconds', '0')
         self.wait()
         write(f'{self.home}/out/waveplan', '#!/bin/bash\n' + text, is_program=True)
 
@@ -141,6 +144,7 @@ class Launching(Repository):
         self.wait()
 
     def test_a_run_with_a_store_waits_for_the_proof(self):
+        write(f'{self.kit}/seconds', '0')
         for words in (('--store', '1'), ('--store=1',), ('--store', '+1'), ('--store=2',), ('--store', '0', '--store=1')):
             write(f'{self.home}/crates/low/src/lib.rt', f'// {words}\n')
             out, told, status = self.call('plan', '--layout', 'words.txt', *words)
@@ -195,30 +199,6 @@ class Launching(Repository):
         out, told, status = self.call('plan')
         self.assertEqual((out, status), ('refused words bad-words\n', 1))
         self.assertIn('usage: waveplan plan', told)
-
-    def on_a_terminal(self, **where):
-        """A run whose standard error is a terminal, and this terminal."""
-        ours, theirs = os.openpty()
-        run = subprocess.Popen([f'{self.home}/waveplan', 'plan'], stdout=subprocess.PIPE, stderr=theirs,
-                               env={**os.environ, 'XDG_CACHE_HOME': f'{self.room}/cache', 'HOME': self.room, **where})
-        os.close(theirs)
-        return run, ours
-
-    def told_on(self, run, terminal):
-        """What a run of six seconds has told on its terminal."""
-        self.assertEqual((run.communicate(timeout=60)[0], run.returncode), (b'done\n', 6))
-        try:
-            return os.read(terminal, 1000).decode()
-        except OSError:
-            return ''
-        finally:
-            os.close(terminal)
-
-    def test_a_long_run_tells_its_time_on_a_terminal_alone(self):
-        self.program('sleep 6\necho done\nexit 6\n')
-        telling, quiet = self.on_a_terminal(), self.on_a_terminal(WAVEPLAN_QUIET='1')
-        self.assertIn('it has run for 5 seconds', self.told_on(*telling))
-        self.assertEqual(self.told_on(*quiet), '')
 
     def test_a_proof_has_more_lanes_than_there_are_processors(self):
         self.wait()
@@ -371,8 +351,8 @@ class Signals(Repository):
         return told, run.returncode
 
     def test_a_first_answer_is_ended_and_its_proof_goes_on(self):
-        write(f'{self.kit}/seconds', '1.5')
-        for number, to_group, due in ((signal.SIGINT, True, 130), (signal.SIGINT, False, 130), (signal.SIGTERM, True, 143), (signal.SIGTERM, False, 143)):
+        write(f'{self.kit}/seconds', '2')
+        for number, to_group, due in ((signal.SIGINT, True, 130), (signal.SIGTERM, False, 143)):
             told, status = self.ended(self.start('plan', '--layout', 'words.txt'), number, to_group, 'unproved build')
             self.assertEqual(status, due)
             self.assertNotRegex(told, 'Traceback|no answer|plain')
@@ -382,8 +362,8 @@ class Signals(Repository):
         self.assertEqual((self.proofs(), self.call('plan')[0]), (1, 'proved plan\n'))
 
     def test_who_waits_for_a_proof_is_ended_and_the_proof_goes_on(self):
-        write(f'{self.kit}/seconds', '1')
-        self.ended(self.start('plan', '--layout', 'words.txt'), signal.SIGINT, True, 'unproved build')
+        write(f'{self.kit}/seconds', '2')
+        self.ended(self.start('plan', '--layout', 'words.txt'), signal.SIGINT, False, 'unproved build')
         for words, number, to_group, due in ((['--prove'], signal.SIGINT, True, 130), (['plan', '--store', '1'], signal.SIGTERM, False, 143)):
             told, status = self.ended(self.start(*words), number, to_group, 'running already')
             self.assertEqual(status, due)
@@ -392,7 +372,7 @@ class Signals(Repository):
         self.assertEqual(self.proofs(), 1)
 
     def test_a_proof_of_its_own_is_ended(self):
-        write(f'{self.kit}/seconds', '3')
+        write(f'{self.kit}/seconds', '1')
         for number, to_group, due in ((signal.SIGINT, True, 130), (signal.SIGTERM, False, 143)):
             told, status = self.ended(self.start('--prove'), number, to_group, 'low is proved')
             self.assertEqual(status, due)
@@ -407,7 +387,7 @@ class Signals(Repository):
             self.assertEqual(run.stderr.readline(), 'begun\n')
             (os.killpg if to_group else os.kill)(run.pid, number)
             out, _ = run.communicate(timeout=60)
-            self.assertEqual((out, run.returncode), (f'got {signal.Signals(number).name[3:]}\n', due))
+            self.assertEqual((out.splitlines()[0], run.returncode), (f'got {signal.Signals(number).name[3:]}', due))
 
     def test_a_program_that_a_signal_stops_is_told(self):
         self.program('kill -SEGV $$\n')
@@ -504,13 +484,29 @@ class Released(unittest.TestCase):
         self.assertEqual((out, status), ('', 70))
         self.assertIn('unpack it again', told)
 
-    def test_its_ticker_needs_no_other_command(self):
-        write(f'{self.room}/bin/waveplan', f'#!/bin/bash\n{shutil.which("sleep")} 6\n', is_program=True)
+    def on_a_terminal(self, **where):
+        """A run whose standard error is a terminal, and this terminal."""
         ours, theirs = os.openpty()
-        subprocess.run([f'{self.room}/waveplan', 'plan'], stderr=theirs, env={'PATH': f'{self.room}/path'}, timeout=60)
+        where = {'PATH': f'{self.room}/path', **where}
+        run = subprocess.Popen([f'{self.room}/waveplan', 'plan'], stdout=subprocess.PIPE, stderr=theirs, env=where)
         os.close(theirs)
-        self.assertIn('it has run for 5 seconds', os.read(ours, 1000).decode())
-        os.close(ours)
+        return run, ours
+
+    def told_on(self, run, terminal):
+        """What a run of six seconds has told on its terminal."""
+        self.assertEqual((run.communicate(timeout=60)[0], run.returncode), (b'done\n', 6))
+        try:
+            return os.read(terminal, 1000).decode()
+        except OSError:
+            return ''
+        finally:
+            os.close(terminal)
+
+    def test_a_long_run_tells_its_time_on_a_terminal_alone(self):
+        write(f'{self.room}/bin/waveplan', f'#!/bin/bash\n{shutil.which("sleep")} 6\necho done\nexit 6\n', is_program=True)
+        telling, quiet = self.on_a_terminal(), self.on_a_terminal(WAVEPLAN_QUIET='1')
+        self.assertIn('it has run for 5 seconds', self.told_on(*telling))
+        self.assertEqual(self.told_on(*quiet), '')
 
 
 # It stands for the program: it adds a record to the store, as long as the file `seconds` says, with the lock of a store where there is a file `locks`.
@@ -543,6 +539,7 @@ class Storing(Repository):
 
     def setUp(self):
         super().setUp()
+        write(f'{self.kit}/seconds', '0')
         self.wait()
         write(f'{self.home}/out/waveplan', PRETENDED_PROGRAM, is_program=True)
         self.words = ('plan', '--layout', 'l', '--stock', 's', '--orders', 'o', '--capacity', '2', '--store', '1', '--desks', 'desks.csv')
@@ -613,7 +610,7 @@ class Storing(Repository):
         self.assertEqual(self.content('.before'), b'a letter\n')
 
     def test_two_runs_at_once_go_one_after_the_other(self):
-        write(f'{self.room}/seconds', '1')
+        write(f'{self.room}/seconds', '0.5')
         for locks in (False, True):
             if locks:
                 write(f'{self.room}/locks', '')

@@ -150,6 +150,15 @@ class Scripts(unittest.TestCase):
             self.assertEqual(status, done.status, (words, done.output, done.errors))
             self.assertIn(told, done.output)
 
+    def test_a_second_opinion_finds_the_copy_of_the_launcher(self):
+        words = [word for name, file in zip(('layout', 'stock', 'orders', 'desks'), (*runs.FILES[:3], 'cancel.csv')) for word in ('--' + name, self.folder / file)]
+        here = runs.put(self.folder / 'here', {stores.NAME + '.before': stores.file_of([SUBMIT, RELEASE])})
+        elsewhere = runs.put(self.folder / 'elsewhere', {})
+        for folder, more, status in ((here, (), 0), (here, ('--store', '1'), 0), (here, ('--store', '0'), 1), (elsewhere, (), 1), (elsewhere, ('--store', '1'), 2)):
+            done = runs.script('second-opinion', *words, '--capacity', '2', *more, '-', given=CANCELLED.encode(), folder=folder)
+            self.assertEqual(status, done.status, (folder, more, done.output, done.errors))
+            self.assertEqual(status == 0, '2 of them stored before' in done.output)
+
     def test_a_second_opinion_on_what_is_left(self):
         for after, status in (('after', 0), ('before', 1)):
             done = self.judged(CANCELLED, 'cancel.csv', 'before', '--store-after', self.folder / after)
