@@ -31,13 +31,17 @@ class Complaints:
         yield from map(of_cause, causes)
         further = sorted(cell for cells in causes for cell in cells[1:])
         shown = further if shows_all else further[:SHOWN]
-        yield from map(of_cell, shown)
+        yield from map(place_of, shown)
         if len(shown) < len(further):
             yield 'and %d cells more, which --all tells too' % (len(further) - len(shown))
 
 
+def place_of(cell):
+    return 'line %d, column %s, "%s"' % (cell.line, cell.column, cell.text)
+
+
 def of_cell(cell):
-    return 'line %d, column %s, "%s": %s' % (cell.line, cell.column, cell.text, cell.why)
+    return '%s: %s' % (place_of(cell), cell.why)
 
 
 def of_cause(cells):

@@ -3,7 +3,8 @@
 usage: tools/wave explain plan --layout FILE --stock FILE --orders FILE --desks FILE --capacity C [..]
        tools/wave explain check|audit|make ..
 
-The words are those of the run that was refused. The words and files are read as docs/FORMATS.md says, by a program of this script's own, up to the
+The words are those of the run that was refused. With --names FILE, the file of `tools/wave import`, the lines behind the first have the texts of before in
+the place of names. The words and files are read as docs/FORMATS.md says, by a program of this script's own, up to the
 first thing that is wrong; with --store 1 so is the file waveplan.store of the working directory, which is left as it is. A `store fault` that a failing or
 full disk caused is not seen here: look at the disk then. Nothing here is proved; the line that waveplan prints is the one that counts, and the first line
 here is the same.
@@ -19,6 +20,7 @@ from opinion import answers, stores, tables
 from opinion.words import FILES, NUMBERS, read_words
 
 from . import causes
+from .names import restored_line, taken_from, texts_of
 
 
 def bytes_of(name):
@@ -236,6 +238,8 @@ def main(words):
     if not words or words == ['--help']:
         print(__doc__, end='', file=sys.stdout if words else sys.stderr)
         return 0 if words else 2
+    words, names = taken_from(words)
+    texts = texts_of(names)
     why = answers.refusal_of(words, bytes_of, None, bytes_of_store())
     if why is None:
         print('nothing in these words and files is refused')
@@ -243,5 +247,5 @@ def main(words):
             print('where the run said `store fault`, the disk failed or is full: look at it, and run again')
         return 0
     print(why.line)
-    print('\n'.join(Explained(words, why).explain()))
+    print('\n'.join(restored_line(line, texts) for line in Explained(words, why).explain()))
     return 1

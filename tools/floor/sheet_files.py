@@ -38,13 +38,20 @@ def text_of(data, encoding=None):
 
 
 def _separator(lines):
-    """The separator that stands most often in the heading."""
-    first = next((line for line in lines if line.strip()), '')
+    """The separator that stands most often in the first line, where it stands in the next one too; else the one that most lines have as often."""
+    first, *others = [line for line in lines if line.strip()][:guesses.NEAR] or ['']
     if first.lower().startswith('sep='):
         raise Guessed('the first line is "%s": say --skip 1, and --separator where it is not found' % first.strip(), skip=1)
-    counts = {name: first.count(mark) for name, mark in SEPARATORS.items()}
-    best = max(counts, key=counts.get)
-    return SEPARATORS[best] if counts[best] else ','
+    best = max(SEPARATORS.values(), key=first.count)
+    if best in first and (not others or best in others[0]):
+        return best
+    return max(SEPARATORS.values(), key=lambda mark: _usual_count([line.count(mark) for line in others]))
+
+
+def _usual_count(counts):
+    """How many lines have a mark as often as most of those that have it, and how often that is."""
+    usual = max(filter(None, counts), key=counts.count, default=0)
+    return (counts.count(usual), usual) if usual else (0, 0)
 
 
 def rows_of(text, separator=None, skip=0, skip_last=0):

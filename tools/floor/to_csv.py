@@ -1,12 +1,12 @@
 """Writes what a plan printed as tables that other programs read.
 
-usage: tools/wave to-csv DAY FOLDER
+usage: tools/wave to-csv [--names FILE] DAY FOLDER
 
 DAY is the output of `waveplan plan`, or - for standard input. FOLDER is made where it isn't there, and gets journal.csv, waves.csv, batches.csv,
 picks.csv (with each pick's place in the walk), refills.csv, pickers.csv and stock.csv, each with a heading, as RFC 4180 has it: commas, quotes where
 they are needed, line ends as CR LF. In waves.csv the bracket of the linear bound, and in batches.csv what the three rules walk and the number of the
 picker, are empty where the day doesn't tell them, and pickers.csv has its heading alone. Of a day that goes on from a store the journal and the stock are
-of all runs, and the other tables of the last one. Nothing here is proved; the output that it reads is.
+of all runs, and the other tables of the last one. With --names, the file of `tools/wave import`, the texts of before stand in the place of names. Nothing here is proved; the output that it reads is.
 
 Status: 0, or 2 where DAY is no output of a plan or FOLDER can't be written, with the reason on standard error.
 """
@@ -15,6 +15,7 @@ import csv
 import os
 import sys
 
+from .names import restored, taken_from
 from .output import name_of, read_output
 from .trouble import Trouble
 
@@ -84,10 +85,11 @@ def main(words):
     if words == ['--help']:
         print(__doc__, end='')
         return 0
+    words, names = taken_from(words)
     if len(words) != 2:
         print(__doc__, end='', file=sys.stderr)
         return 2
-    day = read_output(words[0])
+    day = restored(read_output(words[0]), names)
     tables = {name: list(rows(day)) for name, rows in TABLES.items()}
     try:
         os.makedirs(words[1], exist_ok=True)

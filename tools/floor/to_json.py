@@ -1,11 +1,11 @@
 """Writes what a plan printed as one JSON object.
 
-usage: tools/wave to-json DAY > day.json
+usage: tools/wave to-json [--names FILE] DAY > day.json
 
 DAY is the output of `waveplan plan`, or - for standard input. The object has `journal`, `waves` with their batches, tours, picks and certificates,
 `refills`, `stock`, and `crew` where the day has one; each pick has its place in the walk, and each batch its `rules`, and each wave
-its `root`, where they are told. Of a day that goes on from a store the journal and the stock are of all runs, and the rest of the last one. Nothing here
-is proved; the output that it reads is.
+its `root`, where they are told. Of a day that goes on from a store the journal and the stock are of all runs, and the rest of the last one.
+With --names, the file of `tools/wave import`, the texts of before stand in the place of names. Nothing here is proved; the output that it reads is.
 
 Status: 0, or 2 where DAY is no output of a plan, with the reason on standard error.
 """
@@ -13,6 +13,7 @@ Status: 0, or 2 where DAY is no output of a plan, with the reason on standard er
 import json
 import sys
 
+from .names import restored, taken_from
 from .output import read_output
 
 
@@ -50,9 +51,10 @@ def main(words):
     if words == ['--help']:
         print(__doc__, end='')
         return 0
+    words, names = taken_from(words)
     if len(words) != 1:
         print(__doc__, end='', file=sys.stderr)
         return 2
-    json.dump(object_of(read_output(words[0])), sys.stdout, separators=(',', ':'))
+    json.dump(object_of(restored(read_output(words[0]), names)), sys.stdout, separators=(',', ':'))
     print()
     return 0
