@@ -3,21 +3,23 @@
 import re
 
 NAME = re.compile(r'[A-Za-z0-9._-]{1,40}')
-MONTH = (r'(?:jan(?:uary|uar)?|feb(?:ruary|ruar)?|m[aä]r(?:ch|z)?|apr(?:il)?|ma[iy]|june?|juni|july?|juli|aug(?:ust)?|sept?(?:ember)?|o[ck]t(?:ober)?|'
-         r'nov(?:ember)?|de[cz](?:ember)?)')
-DATE = re.compile(r'\d{4}-\d\d?-\d\d?(?: .*)?|\d\d?[./]\d\d?[./]\d{2,4}|\d\d?[-. /]+%s\.?(?:[-. /]+\d{2,4})?|%s\.?[-. /]+\d{2,4}' % (MONTH, MONTH), re.IGNORECASE)
+MONTH = (r'(?:jan(?:uary|uar)?|feb(?:ruary|ruar)?|m[aä]r(?:ch|z)?|apr(?:il)?|ma[iy]|june?|juni|july?|juli|aug(?:ust)?|'
+         r'sept?(?:ember)?|o[ck]t(?:ober)?|nov(?:ember)?|de[cz](?:ember)?)\.?')
+DATE = re.compile(r'\d{4}-\d\d?-\d\d?(?: .*)?|\d\d?[./]\d\d?[./]\d{2,4}|'
+                  r'\d\d?[-. /]+%s(?:[-. /]+\d{2,4})?|%s[-. /]+\d{2,4}' % (MONTH, MONTH), re.IGNORECASE)
 POWER = re.compile(r'[+-]?\d+(?:[.,]\d+)?[eE][+-]?\d+')
 # A power as spreadsheets and programs write one; 12E4 is more likely a name.
 SHORTENED = re.compile(r'[+-]?\d[.,]\d+[eE][+-]?\d+|[+-]?\d+[eE][+-]\d+')
 TOTALS = ('total', 'sum', 'summe', 'gesamt', 'somme', 'totale', 'suma', 'grand total', 'subtotal', 'zwischensumme')
 THOUSANDS = re.compile('[ \u00a0\u2009\u202f\'\u2019]')  # what sets thousands apart and never stands before tenths
 ERRORS = ('#N/A', '#NV', '#REF!', '#WERT!', '#VALUE!', '#NAME?', '#DIV/0!')
-AS_TEXT = ('give the column the type Text where the spreadsheet reads the table (Excel: Data, From Text/CSV; LibreOffice: the window that opens), '
-           'and write it again')
+AS_TEXT = ('give the column the type Text where the spreadsheet reads the table (Excel: Data, From Text/CSV; '
+           'LibreOffice: the window that opens), and write it again')
 
 
 class Unread(ValueError):
-    """Why a cell says nothing that can be used, and what to do about it. `cause` is the same for all cells with this cause."""
+    """Why a cell says nothing that can be used, and what to do about it. All cells of one cause have the same
+    `cause`."""
 
     def __init__(self, why, cause=None):
         super().__init__(why)
@@ -58,10 +60,12 @@ def name(text, takes_dates=False, names=None):
     if NAME.fullmatch(text):
         return text
     if re.fullmatch('[A-Za-z0-9._-]+', text):
-        raise Unread('it has %d characters, and a name has at most 40: shorten it, or say --names FILE, which keeps a short one for it' % len(text), 'long')
+        raise Unread('it has %d characters, and a name has at most 40: shorten it, or say --names FILE, which keeps a '
+                     'short one for it' % len(text), 'long')
     bad = sorted(set(re.sub(r'[A-Za-z0-9._-]', '', text)))
-    raise Unread('a name has letters without accents, digits, and the signs - _ . alone: put something else for %s, or say --names FILE, which keeps a name '
-                 'that fits for it' % ' '.join('the blank' if sign == ' ' else '"%s"' % sign for sign in bad), 'signs')
+    told = ' '.join('the blank' if sign == ' ' else '"%s"' % sign for sign in bad)
+    raise Unread('a name has letters without accents, digits, and the signs - _ . alone: put something else for %s, '
+                 'or say --names FILE, which keeps a name that fits for it' % told, 'signs')
 
 
 def _groups(text, mark):
@@ -78,7 +82,8 @@ def whole(text, decimal, least, most):
     if DATE.fullmatch(text):
         raise Unread('a spreadsheet has made a date of it: ' + AS_TEXT)
     if POWER.fullmatch(text):
-        raise Unread('the spreadsheet has shortened it to a power of ten: widen the column, format it as a number without decimals')
+        raise Unread('the spreadsheet has shortened it to a power of ten: widen the column, format it as a number '
+                     'without decimals')
     if text.startswith('-'):
         raise Unread('it is below 0: correct it')
     digits = text.lstrip('+')
@@ -108,22 +113,26 @@ def number_of_letters(text):
 
 
 class Pattern:
-    """How locations are written: {aisle}, {slot} and {side} with other signs between them, and what stands for the sides. Any other word in braces stands
-    for letters and digits that aren't used. Without {side} the sides say whether a slot is odd or even, as houses of a street are numbered, or all are one."""
+    """How locations are written: {aisle}, {slot} and {side} with other signs between them, and what stands for the
+    sides. Any other word in braces stands for letters and digits that aren't used. Without {side} odd and even slots
+    lie on the two sides, as houses of a street are numbered, or all on one."""
 
     def __init__(self, text, sides, aisles=None, letters=False):
         self.parts = re.findall(r'\{(\w+)\}', text)
         self.text, self.letters = text, letters
         self.sides = {key.lower(): side for key, side in sides.items()}
         self.aisles = {key.lower(): number for key, number in (aisles or {}).items()}
-        if not {'aisle', 'slot'} <= set(self.parts) or len(set(self.parts)) < len(self.parts) or 'side' not in self.parts and not self.is_numbered():
-            raise Unread('a pattern of locations has {aisle}, {slot} and {side} once each, as in {aisle}-{side}-{slot}; what is not used has a name of its own, as '
-                         '{level}; and without {side} say --sides odd=L,even=R, where odd slots lie on the left, or --sides all=L')
+        if not self.is_whole():
+            raise Unread('a pattern of locations has {aisle}, {slot} and {side} once each, as in '
+                         '{aisle}-{side}-{slot}; what is not used has a name of its own, as {level}; and without '
+                         '{side} say --sides odd=L,even=R, where odd slots lie on the left, or --sides all=L')
         pieces = re.split(r'(\{\w+\})', text)
         self.form = re.compile(''.join(self.piece(each) for each in pieces), re.IGNORECASE)
 
-    def is_numbered(self):
-        return set(self.sides) in ({'odd', 'even'}, {'all'})
+    def is_whole(self):
+        """Whether the pattern has what a location is made of, each part once."""
+        says_side = 'side' in self.parts or set(self.sides) in ({'odd', 'even'}, {'all'})
+        return says_side and {'aisle', 'slot'} <= set(self.parts) and len(set(self.parts)) == len(self.parts)
 
     def unused(self):
         """The parts that say nothing of a location."""
@@ -133,12 +142,13 @@ class Pattern:
         """The expression for a piece of the pattern."""
         if not re.fullmatch(r'\{\w+\}', text):
             return re.escape(text)
-        known = {'slot': r'\d{1,5}', 'side': self.words(self.sides),
-                 'aisle': self.words(self.aisles) if self.aisles else '[A-Za-z]{1,2}' if self.letters else r'\d{1,5}'}
+        aisles = self.words(self.aisles) if self.aisles else '[A-Za-z]{1,2}' if self.letters else r'\d{1,5}'
+        known = {'slot': r'\d{1,5}', 'side': self.words(self.sides), 'aisle': aisles}
         return '(?P<%s>%s)' % (text[1:-1], known.get(text[1:-1], '[A-Za-z0-9]+'))
 
     @staticmethod
     def words(known):
+        """The expression for one of some words."""
         return '|'.join(sorted(map(re.escape, known), key=len, reverse=True))
 
     def read(self, text):
@@ -148,8 +158,8 @@ class Pattern:
             if DATE.fullmatch(text):
                 raise Unread('a spreadsheet has made a date of it: ' + AS_TEXT)
             sides = ' with %s for the side' % ' or '.join(sorted(self.sides)) if 'side' in self.parts else ''
-            raise Unread('it is not of the form %s%s: say how locations are written with --location and --sides, and with --letters or --aisles where aisles '
-                         'have letters' % (self.text, sides))
+            raise Unread('it is not of the form %s%s: say how locations are written with --location and --sides, and '
+                         'with --letters or --aisles where aisles have letters' % (self.text, sides))
         return '%d-%d-%s' % self.place(found)
 
     def place(self, found):

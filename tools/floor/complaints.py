@@ -4,8 +4,8 @@ from collections import namedtuple
 
 SHOWN = 10
 
-# A cell with the number of its line, the name of its column and its place in the row, counted from 0, why it can't be read, and the cause, which other
-# cells may share.
+# A cell with the number of its line, the name of its column and its place in the row, counted from 0, why it can't be
+# read, and the cause, which other cells may share.
 Cell = namedtuple('Cell', 'line column place text why cause')
 
 
@@ -48,4 +48,5 @@ def of_cause(cells):
     first = cells[0]
     if len(cells) == 1:
         return of_cell(first)
-    return 'column %d (%s), %d cells: %s; the first is "%s" in line %d' % (first.place + 1, first.column, len(cells), first.why, first.text, first.line)
+    return 'column %d (%s), %d cells: %s; the first is "%s" in line %d' % (
+        first.place + 1, first.column, len(cells), first.why, first.text, first.line)

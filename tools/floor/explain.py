@@ -3,8 +3,10 @@
 usage: tools/wave explain plan --layout FILE --stock FILE --orders FILE --desks FILE --capacity C [..]
        tools/wave explain check|audit|make ..
 
-The words are those of the run that was refused. With --names FILE, the file of `tools/wave import`, the lines behind the first have the texts of before in
-the place of names. The words and files are read as docs/FORMATS.md says, by a program of this script's own, up to the
+With --names FILE, the file of `tools/wave import`, the lines behind the first have the texts of before in the place of
+names.
+
+The words are those of the run that was refused. The words and files are read as docs/FORMATS.md says, by a program of this script's own, up to the
 first thing that is wrong; with --store 1 so is the file waveplan.store of the working directory, which is left as it is. A `store fault` that a failing or
 full disk caused is not seen here: look at the disk then. Nothing here is proved; the line that waveplan prints is the one that counts, and the first line
 here is the same.

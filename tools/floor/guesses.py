@@ -1,4 +1,5 @@
-"""Guesses at what a table means whose heading or cells can't be read as they stand: nothing is read by a guess, it only says with which options to try again."""
+"""Guesses at what a table means whose heading or cells can't be read as they stand. Nothing is read by a guess: it only
+says with which options to try again."""
 
 import re
 
@@ -6,19 +7,21 @@ from .cells import DATE, Pattern, Unread, is_total, whole
 
 # Words of headings, in small letters and without signs, by the column that they mostly stand for.
 WORDS = {
-    'location': 'location locationid loc bin binlocation storagebin place shelf platz lagerplatz stellplatz lagerort fach position'.split(),
-    'article': 'article articleno articlenumber articleid artikel artikelnummer artikelnr item itemno itemnumber itemid sku material materialnummer product '
-               'productid productcode partnumber'.split(),
-    'on_hand': 'onhand onhandqty qty quantity qtyonhand stock bestand lagerbestand menge available verfügbar units anzahl count amount'.split(),
-    'order': 'order orderno ordernumber orderid salesorder auftrag auftragsnummer auftragnr auftragsnr bestellung bestellnummer'.split(),
-    'quantity': 'quantity qty orderedqty menge bestellmenge anzahl stück stueck amount units pieces pcs'.split(),
-    'desk': 'desk deskno desknumber station terminal packplatz packtisch arbeitsplatz workplace'.split(),
-    'command': 'command action befehl kommando aktion'.split(),
-    'wave': 'wave waveid waveno welle'.split(),
-    'arguments': 'arguments argumente args'.split(),
+    'location': 'location locationid loc bin binlocation storagebin place shelf platz lagerplatz stellplatz lagerort '
+                'fach position',
+    'article': 'article articleno articlenumber articleid artikel artikelnummer artikelnr item itemno itemnumber '
+               'itemid sku material materialnummer product productid productcode partnumber',
+    'on_hand': 'onhand onhandqty qty quantity qtyonhand stock bestand lagerbestand menge available verfügbar units '
+               'anzahl count amount',
+    'order': 'order orderno ordernumber orderid salesorder auftrag auftragsnummer auftragnr auftragsnr bestellung '
+             'bestellnummer',
+    'quantity': 'quantity qty orderedqty menge bestellmenge anzahl stück stueck amount units pieces pcs',
+    'desk': 'desk deskno desknumber station terminal packplatz packtisch arbeitsplatz workplace',
+    'command': 'command action befehl kommando aktion',
 }
+WORDS = {column: words.split() for column, words in WORDS.items()}
 NEAR = 30  # rows among which a heading is looked for
-LONGEST_PATTERNS = 400  # cells by which patterns are judged
+MOST_JUDGED = 400  # cells by which patterns are judged
 
 
 def plain(word):
@@ -27,12 +30,11 @@ def plain(word):
 
 def column_in(heading, column, taken):
     """The word of a heading that mostly stands for a column, None where none or more than one does."""
-    words = [word for word in heading if word and word not in taken]
-    for is_like in (lambda word: plain(word) in WORDS.get(column, ()), lambda word: any(each in plain(word) for each in WORDS.get(column, ()) if len(each) > 3)):
-        found = [word for word in words if is_like(word)]
-        if found:
-            return found[0] if len(found) == 1 else None
-    return None
+    words, known = [word for word in heading if word and word not in taken], WORDS[column]
+    same = [word for word in words if plain(word) in known]
+    like = [word for word in words if any(len(each) > 3 and each in plain(word) for each in known)]
+    found = same or like
+    return found[0] if len(found) == 1 else None
 
 
 def columns_in(heading, wanted):
@@ -48,7 +50,8 @@ def columns_in(heading, wanted):
 
 
 def rows_above(rows, wanted):
-    """The first row that may be the heading, and the words for its columns: among the rows with their numbers that a table begins with."""
+    """The number of the first row that may be the heading, among those that a table begins with, and the words for its
+    columns."""
     for number, cells in rows[:NEAR]:
         found = columns_in(cells, wanted)
         if found is not None:
@@ -84,41 +87,53 @@ def shape_of(text):
 
 
 def location_options(texts):
-    """The options by which most of these locations are read, with words of the pattern for what isn't used; none where nothing is found."""
-    texts = [text for text in texts[:LONGEST_PATTERNS] if text and not DATE.fullmatch(text) and not is_total(text)]
+    """The options by which most of these locations are read, none where nothing is found."""
+    texts = [text for text in texts[:MOST_JUDGED] if text and not DATE.fullmatch(text) and not is_total(text)]
     shapes = [shape_of(text) for text in texts]
     if not shapes:
         return {}
     shape = max(sorted(set(shapes)), key=shapes.count)
     columns = list(zip(*(parts_of(text) for text, each in zip(texts, shapes) if each == shape)))
-    options = roles_of(shape, columns)
+    options = options_of(shape, columns)
     return options if options and is_better(options, texts) else {}
 
 
-def roles_of(shape, columns):
-    """The pattern of a shape: which of its parts is the aisle, the slot and the side."""
-    is_fixed = [kind not in 'a0' or kind == 'a' and len(set(column)) == 1 and (len(set(columns[0])) > 1 or shape[place + 1:place + 2] == ('0',))
-                for place, (kind, column) in enumerate(zip(shape, columns))]
-    open_parts = [place for place in range(len(shape)) if not is_fixed[place]]
-    side = next((place for place in reversed(open_parts) if shape[place] == 'a' and 1 <= len({each.upper() for each in columns[place]}) <= 2 and place), None)
-    numbered = [place for place in open_parts if place != side]
-    if len(numbered) < 2 or shape[numbered[1]] != '0':
+def is_fixed(shape, column, place):
+    """Whether a part of a shape is the same sign or word in all locations: letters only where digits follow them."""
+    if shape[place] not in ('a', '0'):
+        return True
+    return shape[place] == 'a' and len(set(column)) == 1 and shape[place + 1:place + 2] == ('0',)
+
+
+def side_of(shape, columns, places):
+    """The place of the part that says the side: the last letters behind the first part that are one word or two."""
+    for place in reversed(places[1:]):
+        if shape[place] == 'a' and len({each.upper() for each in columns[place]}) <= 2:
+            return place
+    return None
+
+
+def options_of(shape, columns):
+    """The options for locations of a shape: the first part is the aisle, the next number the slot."""
+    places = [place for place in range(len(shape)) if not is_fixed(shape, columns[place], place)]
+    side = side_of(shape, columns, places)
+    others = [place for place in places if place != side]
+    if len(others) < 2 or shape[others[1]] != '0':
         return {}
-    names = {numbered[0]: '{aisle}', numbered[1]: '{slot}', **({side: '{side}'} if side is not None else {})}
-    names.update((place, '{level}' if count == 0 else '{part%d}' % count) for count, place in enumerate(numbered[2:]))
+    names = dict(zip(others, ['{aisle}', '{slot}', '{level}', *('{part%d}' % number for number in range(len(others)))]))
+    names.update({} if side is None else {side: '{side}'})
     options = {'location': ''.join(names.get(place, columns[place][0]) for place in range(len(shape)))}
-    if shape[numbered[0]] == 'a':
-        options['letters'] = True
-    return {**options, 'sides': sides_of({each.upper() for each in columns[side]} if side is not None else None)}
+    options.update({'letters': True} if shape[others[0]] == 'a' else {})
+    return {**options, 'sides': sides_of(None if side is None else {each.upper() for each in columns[side]})}
 
 
 def sides_of(words):
-    """What stands for the left and the right side."""
+    """What stands for the left and the right side. Without words slots are numbered through both sides."""
     if words is None:
         return {'odd': 'L', 'even': 'R'}
     if words <= {'L', 'R'}:
         return {'L': 'L', 'R': 'R'}
-    return dict(zip(sorted(words), 'LR')) if len(words) == 2 else {**{word: 'L' for word in words}, '?': 'R'}
+    return dict(zip([*sorted(words), '?'], 'LR'))
 
 
 def is_better(options, texts):
@@ -126,4 +141,4 @@ def is_better(options, texts):
     def read(pattern):
         return sum(bool(pattern.form.fullmatch(text)) for text in texts)
     usual = Pattern('{aisle}-{slot}-{side}', {'L': 'L', 'R': 'R'})
-    return read(Pattern(options['location'], options['sides'], letters=options.get('letters', False))) > read(usual)
+    return read(Pattern(options['location'], options['sides'], letters='letters' in options)) > read(usual)

@@ -2,28 +2,35 @@
 
 usage: tools/wave import stock|orders|desks FILE [options] -o stock.csv
 
-FILE is a text of rows with a heading, or - for standard input: commas, semicolons or tabs between the cells; UTF-8 with or without a mark, UTF-16
-with its mark. The columns may stand in any order, and empty rows are passed over. What can't be read is told on standard error, a line for each cause
-with what to do, and then nothing is written; the last line has the options with which it may be read, as far as that can be guessed. Nothing here is
-proved; waveplan reads what comes of it by its own tests. Options stand before or behind the other words.
+FILE is a text of rows with a heading, or - for standard input: commas, semicolons or tabs between the cells; UTF-8 with
+or without a mark, UTF-16 with its mark. The columns may stand in any order, and empty rows are passed over. What can't
+be read is told on standard error, a line for each cause with what to do, and then nothing is written; the last line has
+the options with which it may be read, as far as that can be guessed. Nothing here is proved; waveplan reads what comes
+of it by its own tests. Options stand before or behind the other words.
 
-  -o FILE                  write FILE, whole or not at all, in the place of standard output; it may be the file that is read
+  -o FILE                  write FILE, whole or not at all, in the place of standard output; it may be the file that is
+                           read
   --all                    tell every cell that can't be read, and not ten of them
-  --columns NAME=WORD,..   the words of the heading: of a stock location, article, on_hand; of orders order, article, quantity; of desks desk,
-                           command, and either arguments, with all that stands right of it, or wave, order, location, article, quantity
+  --columns NAME=WORD,..   the words of the heading: of a stock location, article, on_hand; of orders order, article,
+                           quantity; of desks desk, command, and either arguments, with all that stands right of it, or
+                           wave, order, location, article, quantity
   --skip N                 so many lines of title stand above the heading
   --skip-last N            so many rows at the end are no records, as a row of totals
   --separator NAME         comma, semicolon or tab, where the heading doesn't show which
   --encoding NAME          utf-8, utf-16 or latin-1, where it isn't UTF-8 or UTF-16 with a mark
-  --decimal SIGN           . or , : the sign before tenths. Then 36.0 is 36, and the other sign may set thousands apart: 1,200 is 1200
-  --location PATTERN       how locations are written, {aisle}-{slot}-{side} where it isn't said; for instance {aisle}-{side}-{slot} for 01-A-05. What
-                           isn't used, as a level or a bin, has a name of its own: {aisle}-{slot}-{side}-{level}
-  --sides WORD=L,WORD=R    what stands for the left and the right side, L=L,R=R where it isn't said; small letters and capitals are the same. Of a
-                           pattern without {side}: odd=L,even=R, where slots 1 and 2 face each other, or all=L
+  --decimal SIGN           . or , : the sign before tenths. Then 36.0 is 36, and the other sign may set thousands apart:
+                           1,200 is 1200
+  --location PATTERN       how locations are written, {aisle}-{slot}-{side} where it isn't said; for instance
+                           {aisle}-{side}-{slot} for 01-A-05. What isn't used, as a level or a bin, has a name of its
+                           own: {aisle}-{slot}-{side}-{level}
+  --sides WORD=L,WORD=R    what stands for the left and the right side, L=L,R=R where it isn't said; small letters and
+                           capitals are the same. Of a pattern without {side}: odd=L,even=R, where slots 1 and 2 face
+                           each other, or all=L
   --aisles WORD=N,WORD=N   the number of each aisle that has letters
   --letters                aisles have letters: A is 1, B is 2, AA is 27
-  --names FILE             names with blanks, slashes or other letters get names that fit, and FILE keeps both: the same for the same text in every
-                           table and run. tools/sheets, to-csv, to-json and explain print the texts again with --names FILE
+  --names FILE             names with blanks, slashes or other letters get names that fit, and FILE keeps both: the same
+                           for the same text in every table and run. tools/sheets, to-csv, to-json and explain print the
+                           texts again with --names FILE
   --take-dates             names that look like dates or powers, as 10-Apr or 4.7E12, are names
 
 Status: 0; 1 where a cell can't be read; 2 where the file or the words can't be.
@@ -42,13 +49,18 @@ from .trouble import Trouble, read_bytes
 
 MOST_ON_HAND, MOST_QUANTITY, MOST_DESKS = 1000000, 100000, 8
 MOST_ROWS, MOST_PLACES, MOST_ORDERS, MOST_LINES, MOST_COMMANDS = 25600, 1000, 10000, 50, 10000
-COLUMNS = {'stock': ['location', 'article', 'on_hand'], 'orders': ['order', 'article', 'quantity'], 'desks': ['desk', 'command']}
+COLUMNS = {'stock': ['location', 'article', 'on_hand'], 'orders': ['order', 'article', 'quantity'],
+           'desks': ['desk', 'command']}
 ARGUMENTS = ['arguments', 'wave', 'order', 'location', 'article', 'quantity']
 HEADINGS = {'stock': 'location,article,on_hand', 'orders': 'order,article,quantity', 'desks': 'desk,command,arguments'}
 NUMBERS = {'on_hand': (0, MOST_ON_HAND), 'quantity': (1, MOST_QUANTITY), 'desk': (1, MOST_DESKS)}
-FORMS = {'submit': [], 'allot': ['wave'], 'release': ['wave'], 'cancel': ['wave'], 'pick': ['wave', 'order', 'location', 'quantity'],
-         'missing': ['wave', 'order', 'location', 'quantity'], 'receive': ['location', 'article', 'quantity']}
+FORMS = {'submit': [], 'allot': ['wave'], 'release': ['wave'], 'cancel': ['wave'],
+         'pick': ['wave', 'order', 'location', 'quantity'], 'missing': ['wave', 'order', 'location', 'quantity'],
+         'receive': ['location', 'article', 'quantity']}
 MOST_GUESSES = 6
+USUAL = {'location': '{aisle}-{slot}-{side}', 'sides': {'L': 'L', 'R': 'R'}}
+REPEATED = ('skip', 'skip_last', 'separator', 'encoding', 'columns', 'decimal', 'location', 'sides', 'aisles',
+            'letters', 'names', 'take_dates')
 
 
 class Reader:
@@ -110,8 +122,9 @@ def read_stock(reader, rows):
 def tell_twice(reader, number, text, location, first):
     """Tells that a location stands in two rows."""
     unused = reader.pattern.unused()
-    why = 'line %d has it too, as %s: waveplan would say "refused stock row %d location-twice". Join the two, or correct one%s' % (
-        first, location, len(reader.records) + 1, ', or have {%s} make a slot of its own' % unused[0] if unused else '')
+    more = ', or have {%s} make a slot of its own' % unused[0] if unused else ''
+    why = ('line %d has it too, as %s: waveplan would say "refused stock row %d location-twice". Join the two, or '
+           'correct one%s' % (first, location, len(reader.records) + 1, more))
     reader.tell(number, 'location', text, why, 'twice')
 
 
@@ -119,8 +132,8 @@ def note_articles(reader, lines):
     """Notes which articles lie at more than one location."""
     if lines:
         article, numbers = next(iter(lines.items()))
-        reader.notes.append('%d articles lie at more than one location, as %s in lines %s: waveplan takes all these rows, and says nothing of it' % (
-            len(lines), article, ' and '.join(map(str, numbers[:2]))))
+        reader.notes.append('%d articles lie at more than one location, as %s in lines %d and %d: waveplan takes all '
+                            'these rows, and says nothing of it' % (len(lines), article, *numbers[:2]))
 
 
 def read_orders(reader, rows):
@@ -129,7 +142,8 @@ def read_orders(reader, rows):
         fields = reader.row(number, cells, COLUMNS['orders'])
         lines[fields[0]] = lines.get(fields[0], 0) + 1
         if fields[0] and lines[fields[0]] == MOST_LINES + 1:
-            reader.tell(number, 'order', fields[0], 'an order has at most %d lines: join lines of one article, or divide it' % MOST_LINES)
+            reader.tell(number, 'order', fields[0], 'an order has at most %d lines: join lines of one article, or '
+                        'divide it' % MOST_LINES)
         if len(lines) == MOST_ORDERS + 1 and lines[fields[0]] == 1:
             reader.tell(number, 'order', fields[0], 'there are at most %d orders: leave some out' % MOST_ORDERS)
         reader.records.append(fields)
@@ -156,13 +170,14 @@ def orders_in(text, names):
 
 
 def texts_of(reader, cells, word):
-    """The arguments of a command with their columns: all cells from `arguments` on, or those of the columns of its form."""
+    """The arguments of a command with their columns: all cells from `arguments` on, or those of its form's columns."""
     if 'arguments' in reader.places:
         texts = cells[reader.places['arguments']:]
         while texts and not texts[-1]:
             texts.pop()
         forms = FORMS[word] or ['wave'] + ['order'] * max(1, len(texts) - 1)
-        return list(zip(forms, texts + [''] * (len(forms) - len(texts)))) + [('further', text) for text in texts[len(forms):]]
+        forms += ['further'] * (len(texts) - len(forms))
+        return list(zip(forms, texts + [''] * (len(forms) - len(texts))))
     if word == 'submit':
         orders = orders_in(reader.at(cells, 'order'), reader.names)
         return [('wave', reader.at(cells, 'wave')), *[('order', order) for order in orders or ['']]]
@@ -174,7 +189,8 @@ def argument_of(reader, number, word, column, text):
     if column == 'further':
         reader.tell(number, column, text, 'a %s has no further field: leave it out' % word)
     elif not text and column not in reader.places and 'arguments' not in reader.places:
-        reader.tell(number, column, text, 'a %s wants it, and the heading has no column for it: say which it is with --columns %s=NAME' % (word, column))
+        reader.tell(number, column, text, 'a %s wants it, and the heading has no column for it: say which it is with '
+                    '--columns %s=NAME' % (word, column))
     elif not text and word == 'submit' and column == 'order':
         reader.tell(number, column, text, 'it is empty: a submit names the orders of its wave')
     else:
@@ -223,13 +239,13 @@ def asked_words(words):
     known.add_argument('--separator', choices=list(sheet_files.SEPARATORS))
     known.add_argument('--encoding', choices=list(sheet_files.ENCODINGS))
     known.add_argument('--decimal', choices=['.', ','])
-    known.add_argument('--location', default='{aisle}-{slot}-{side}')
+    known.add_argument('--location', default=USUAL['location'])
     known.add_argument('--names')
     known.add_argument('-o', '--output')
     known.add_argument('kind', nargs='?', choices=[*COLUMNS, None])
     known.add_argument('file', nargs='?')
     asked = known.parse_intermixed_args(words)
-    asked.sides = asked.sides or {'L': 'L', 'R': 'R'}
+    asked.sides = asked.sides or USUAL['sides']
     return asked
 
 
@@ -237,8 +253,10 @@ def table_of(asked):
     """The rows with the heading, and the places of the columns."""
     unknown = set(asked.columns) - {*COLUMNS[asked.kind], *(ARGUMENTS if asked.kind == 'desks' else ())}
     if unknown:
-        raise Trouble('a file of %s has no column %s; it has %s' % (asked.kind, ', '.join(sorted(unknown)), ', '.join(COLUMNS[asked.kind])))
-    if asked.sides and not set(asked.sides.values()) <= {'L', 'R'} or 'all' not in asked.sides and len(set(asked.sides.values())) < 2:
+        raise Trouble('a file of %s has no column %s; it has %s' % (
+            asked.kind, ', '.join(sorted(unknown)), ', '.join(COLUMNS[asked.kind])))
+    sides = set(asked.sides.values())
+    if sides != {'L', 'R'} and not (sides < {'L', 'R'} and 'all' in asked.sides):
         raise Trouble('--sides says what stands for L and what stands for R, as in A=L,B=R')
     text = sheet_files.text_of(asked.data, asked.encoding)
     rows = sheet_files.rows_of(text, asked.separator, asked.skip, asked.skip_last)
@@ -250,7 +268,8 @@ def table_of(asked):
 
 
 def table_by_guesses(asked):
-    """The rows and places, read by what is asked and, where that can't be, by what is guessed; with what was told and guessed."""
+    """The rows and places, read by what is asked and, where that can't be, by what is guessed; with what was told and
+    guessed."""
     told, guessed = [], {}
     for _ in range(MOST_GUESSES):
         try:
@@ -268,9 +287,11 @@ def note_unused(reader, rows):
     used = {*reader.places.values()}
     unused = [word for place, word in enumerate(rows[0][1]) if place < last and place not in used and word]
     if unused:
-        reader.notes.append('the columns %s are used for nothing' % ', '.join(unused) if len(unused) > 1 else 'the column %s is used for nothing' % unused[0])
-    if reader.pattern.unused():
-        reader.notes.append('%s: not used; two locations that differ in nothing else are one' % ', '.join(reader.pattern.unused()))
+        told = 'the columns %s are used for nothing' if len(unused) > 1 else 'the column %s is used for nothing'
+        reader.notes.append(told % ', '.join(unused))
+    parts = reader.pattern.unused()
+    if parts:
+        reader.notes.append('%s: not used; two locations that differ in nothing else are one' % ', '.join(parts))
 
 
 def options_for(reader, rows, guessed):
@@ -293,12 +314,9 @@ def options_for(reader, rows, guessed):
 
 def given_options(asked, found):
     """All options for another try: those that were given, and those that were found, which go before."""
-    given = {}
-    for option in ('skip', 'skip_last', 'separator', 'encoding', 'columns', 'decimal', 'location', 'sides', 'aisles', 'letters', 'names', 'take_dates'):
-        value = found.get(option, getattr(asked, option))
-        if value and not (option == 'location' and value == '{aisle}-{slot}-{side}') and not (option == 'sides' and value == {'L': 'L', 'R': 'R'}):
-            given[option] = value
-    return ' '.join(sheet_files.option_text(*each) for each in given.items())
+    values = {option: found.get(option, getattr(asked, option)) for option in REPEATED}
+    return ' '.join(sheet_files.option_text(option, value) for option, value in values.items()
+                    if value and value != USUAL.get(option))
 
 
 def tell(reader, told, found):
@@ -309,14 +327,18 @@ def tell(reader, told, found):
     if cells:
         print('import: %d cells of %s cannot be read; nothing was written' % (len(cells), asked.file), file=sys.stderr)
     if found:
-        print('import: it may be read so: tools/import %s %s %s -o %s' % (
-            asked.kind, shlex.quote(asked.file), given_options(asked, found), shlex.quote(asked.output or asked.kind + '.csv')), file=sys.stderr)
+        to = shlex.quote(asked.output or asked.kind + '.csv')
+        words = (asked.kind, shlex.quote(asked.file), given_options(asked, found), to)
+        print('import: it may be read so: tools/import %s %s %s -o %s' % words, file=sys.stderr)
 
 
 def test_output(asked):
     """Fails where the shell has emptied the file that is to be read, since it is standard output too."""
-    if asked.file != '-' and os.path.isfile(asked.file) and not asked.output and os.path.samestat(os.stat(asked.file), os.fstat(sys.stdout.fileno())):
-        raise Trouble('%s stands behind > too, so the shell has emptied it before it was read: take it from where it came, and say -o %s' % (asked.file, asked.file))
+    if asked.output or asked.file == '-' or not os.path.isfile(asked.file):
+        return
+    if os.path.samestat(os.stat(asked.file), os.fstat(sys.stdout.fileno())):
+        raise Trouble('%s stands behind > too, so the shell has emptied it before it was read: take it from where it '
+                      'came, and say -o %s' % (asked.file, asked.file))
 
 
 def write(reader):

@@ -1,6 +1,8 @@
-"""Names that fit for texts that don't: a file keeps both, so that the same text has the same name in every table and run, and two texts never one.
+"""Names that fit for texts that don't: a file keeps both, so that the same text has the same name in every table and
+run, and two texts never have one.
 
-The file is a table with the heading name,text. Texts that fit are kept too: so none of them is given to another text later.
+The file is a table with the heading name,text. Texts that fit are kept too: so none of them is given to another text
+later.
 """
 
 import csv
@@ -16,14 +18,16 @@ from .trouble import Trouble, read_bytes
 
 LONGEST = 40
 LETTERS = {'ä': 'ae', 'ö': 'oe', 'ü': 'ue', 'ß': 'ss', 'æ': 'ae', 'ø': 'oe', 'å': 'aa', 'œ': 'oe', 'ł': 'l', 'đ': 'd'}
-NAMED = {'pick': (1, 2), 'missing': (1, 2), 'receive': (2,)}  # which words of a command are names, where not all behind the first are
+LETTERS.update({letter.upper(): text.upper() for letter, text in LETTERS.items() if letter != 'ß'})
+# Which words of a command are names, where not all behind the first are.
+NAMED = {'pick': (1, 2), 'missing': (1, 2), 'receive': (2,)}
 
 
 def fitted(text):
     """A name that fits, as near to a text as it goes."""
     if NAME.fullmatch(text):
         return text
-    spelled = ''.join(LETTERS.get(letter.lower(), letter) if letter.islower() else LETTERS.get(letter.lower(), letter).upper() for letter in text)
+    spelled = ''.join(LETTERS.get(letter, letter) for letter in text)
     plain = unicodedata.normalize('NFKD', spelled).encode('ascii', 'ignore').decode()
     name = re.sub('[^A-Za-z0-9._-]+', '-', plain).strip('-')[:LONGEST]
     return name if re.search('[A-Za-z]', name) else ('N-' + name)[:LONGEST].rstrip('-')
@@ -43,7 +47,8 @@ class Names:
             raise Trouble('%s is no file of names: its first line is not name,text' % self.path)
         for number, row in enumerate(rows[1:], 2):
             if len(row) != 2 or not NAME.fullmatch(row[0]) or row[0] in self.text_of or row[1] in self.name_of:
-                raise Trouble('row %d of %s is not a name that fits and a text, or one of them stands above already' % (number, self.path))
+                raise Trouble('row %d of %s is not a name that fits and a text, or one of them stands above already'
+                              % (number, self.path))
             self.keep(*row)
 
     def keep(self, name, text):
@@ -89,6 +94,14 @@ def _reply(words, texts):
     return words[:first] + [texts.get(word, word) for word in words[first:]]
 
 
+def _restored_entry(entry, texts):
+    return entry._replace(command=_command(entry.command, texts), reply=_reply(entry.reply, texts))
+
+
+def _restored_picker(picker, texts):
+    return picker._replace(batches=[_batch_name(each, texts) for each in picker.batches])
+
+
 def _restore_wave(wave, texts):
     wave.name = texts.get(wave.name, wave.name)
     for batch in wave.batches:
@@ -108,16 +121,15 @@ def _batch_name(name, texts):
 
 
 def restored(day, path):
-    """A day with the texts that a file of names keeps in the place of their names; the day as it is where no file is given."""
+    """A day with the texts that a file of names keeps in the place of their names; unchanged where no file is given."""
     texts = texts_of(path)
     if texts:
-        day.entries = [entry._replace(command=_command(entry.command, texts), reply=_reply(entry.reply, texts)) for entry in day.entries]
+        day.entries = [_restored_entry(entry, texts) for entry in day.entries]
         day.refills, day.rows = ([_with_texts(each, texts) for each in records] for records in (day.refills, day.rows))
         for wave in day.waves:
             _restore_wave(wave, texts)
         if day.crew:
-            pickers = [picker._replace(batches=[_batch_name(each, texts) for each in picker.batches]) for picker in day.crew.pickers]
-            day.crew = day.crew._replace(pickers=pickers)
+            day.crew = day.crew._replace(pickers=[_restored_picker(picker, texts) for picker in day.crew.pickers])
     return day
 
 

@@ -28,20 +28,24 @@ def text_of(data, encoding=None):
             raise Trouble('this is %s and no table of text: %s' % (kind, HOW_TO_SAVE))
     name = encoding or ('utf-16' if data[:2] in (b'\xff\xfe', b'\xfe\xff') else 'utf-8')
     if not encoding and b'\0' in data[:200] and name == 'utf-8':
-        raise Guessed('this is UTF-16 without a mark: say so with --encoding utf-16, or %s' % HOW_TO_SAVE, encoding='utf-16')
+        raise Guessed('this is UTF-16 without a mark: say so with --encoding utf-16, or %s' % HOW_TO_SAVE,
+                      encoding='utf-16')
     try:
         return data.decode('utf-16-le' if name == 'utf-16' and data[:2] not in (b'\xff\xfe', b'\xfe\xff') else ENCODINGS[name])
     except UnicodeDecodeError:
         if name == 'utf-8':
-            raise Guessed('this is not UTF-8: say --encoding latin-1 where it comes from an old Windows program', encoding='latin-1') from None
+            raise Guessed('this is not UTF-8: say --encoding latin-1 where it comes from an old Windows program',
+                          encoding='latin-1') from None
         raise Trouble('this is not %s: leave --encoding out, or name another' % name.upper()) from None
 
 
 def _separator(lines):
-    """The separator that stands most often in the first line, where it stands in the next one too; else the one that most lines have as often."""
+    """The separator that stands most often in the first line, where it stands in the next one too; else the one that
+    most lines have as often."""
     first, *others = [line for line in lines if line.strip()][:guesses.NEAR] or ['']
     if first.lower().startswith('sep='):
-        raise Guessed('the first line is "%s": say --skip 1, and --separator where it is not found' % first.strip(), skip=1)
+        raise Guessed('the first line is "%s": say --skip 1, and --separator where it is not found' % first.strip(),
+                      skip=1)
     best = max(SEPARATORS.values(), key=first.count)
     if best in first and (not others or best in others[0]):
         return best
@@ -72,8 +76,8 @@ def rows_of(text, separator=None, skip=0, skip_last=0):
 
 
 def columns_of(rows, names, known, optional=()):
-    """The place of each column in the rows, by the heading: the words that were given for it, its own name, or for optional ones its plural, in small
-    letters or capitals."""
+    """The place of each column in the rows, by the heading: the words that were given for it, its own name, or for
+    optional ones its plural, in small letters or capitals."""
     if not rows:
         raise Trouble('there is no heading: the file has no row that is not empty')
     number, heading = rows[0]
@@ -82,7 +86,8 @@ def columns_of(rows, names, known, optional=()):
         wanted = [names[name].lower()] if name in names else [name, name + 's'] if name in optional else [name]
         found = [place for place, cell in enumerate(words) if cell in wanted]
         if len(found) > 1:
-            raise Trouble('the heading in line %d has %s %d times: name the columns differently' % (number, names.get(name, name), len(found)))
+            raise Trouble('the heading in line %d has %s %d times: name the columns differently'
+                          % (number, names.get(name, name), len(found)))
         if found:
             places[name] = found[0]
         elif name in names or name not in optional:
@@ -93,14 +98,16 @@ def columns_of(rows, names, known, optional=()):
 def _no_column(rows, names, wanted, name):
     """What is told of a heading that lacks a column, with a guess at where it stands."""
     number, heading = rows[0]
-    told = 'the heading in line %d has no column %s; it has: %s.' % (number, names.get(name, name), ', '.join(filter(None, heading)) or 'nothing')
+    told = 'the heading in line %d has no column %s; it has: %s.' % (
+        number, names.get(name, name), ', '.join(filter(None, heading)) or 'nothing')
     at = None if names else guesses.rows_above(rows, wanted)
     if at is None:
-        return Trouble('%s Say which it is with --columns %s=NAME, and --skip N where N lines of title stand above the heading' % (told, name))
+        return Trouble('%s Say which it is with --columns %s=NAME, and --skip N where N lines of title stand above the '
+                       'heading' % (told, name))
     line, columns = at
     options = {**({'skip': line - 1} if line != number else {}), **({'columns': columns} if columns else {})}
-    return Guessed('%s It seems to be line %d%s: say so with %s' % (
-        told, line, ', with other words' if columns else '', ' and '.join(option_text(*each) for each in options.items())), **options)
+    words, how = ', with other words' if columns else '', ' and '.join(option_text(*each) for each in options.items())
+    return Guessed('%s It seems to be line %d%s: say so with %s' % (told, line, words, how), **options)
 
 
 def option_text(name, value):

@@ -1,14 +1,16 @@
 """Keeps beside a store what a planner needs of the run before. The launcher calls it; nothing here is proved.
 
-usage: tools/keep-store before FOLDER WORD ..
+usage: tools/keep-store before FOLDER|- WORD ..
        tools/keep-store after STATUS WORD ..
 
-The words are those of a run. Before it, FOLDER is the number under which the launcher has the working directory open: it is locked, so that one run at
-a time uses the store, for as long as the launcher and its program have it open. Where another run has it, or another program has locked the store, this
-one waits for at most ten seconds. Then the store is copied to waveplan.store.before, and the digest of the desk file is kept in waveplan.store.desks.
-After a run that was refused, and so added nothing, both are put back.
+The words are those of a run. Before it, FOLDER is the number under which the launcher has the working directory open,
+or - where it can't be opened. It is locked, so that one run at a time uses the store, for as long as the launcher and
+its program have it open. Where another run has it, or another program has locked the store, this one waits for at most
+ten seconds. Then the store is copied to waveplan.store.before, and the digest of the desk file is kept in
+waveplan.store.desks. After a run that was refused, and so added nothing, both are put back.
 
-Status: 0 where the run is to go on, 7 where another run has the store, 130 where it was asked on a terminal whether to go on, and the answer was no.
+Status: 0 where the run is to go on, 7 where another run has the store, 130 where it was asked on a terminal whether to
+go on, and the answer was no.
 """
 
 import contextlib
@@ -29,7 +31,8 @@ DESKS = stores.NAME + '.desks'
 MOST_WAITED, MOST_READ = 10, 16777216
 STORE_FAULT, DECLINED = 7, 130
 REFUSED = (1, 2, 3)  # the statuses of runs that leave the store as it was
-TWICE = 'this desk file was given to the last run over this store: its commands are answered a second time, so that what was received counts twice'
+TWICE = ('this desk file was given to the last run over this store: its commands are answered a second time, so that '
+         'what was received counts twice')
 
 
 def say(text):
@@ -46,7 +49,9 @@ def job_of(words):
 
 
 def is_locked(file, how):
-    """Whether another has locked a file against this way to lock it. Where the system knows no such locks nobody has."""
+    """Whether another has locked a file against this way to lock it. Where a system has no such locks nobody has."""
+    if file is None:
+        return False
     try:
         fcntl.flock(file, how | fcntl.LOCK_NB)
     except BlockingIOError:
@@ -140,12 +145,14 @@ def before(folder, job):
     """What is done before a run."""
     if not is_free_in_time(folder):
         print('store fault', flush=True)
-        say('another run has used %s for ten seconds: this one has done nothing, and ends with 7. Run it again later' % stores.NAME)
+        say('another run has used %s for ten seconds: this one has done nothing, and ends with 7. Run it again later'
+            % stores.NAME)
         return STORE_FAULT
     first = beginning()
     has_records = bool(stores.records(first))
     if not has_records and first not in (b'', stores.CLOSED):
-        say('the first bytes of %s are no record of a store: this run empties it. Its bytes are kept in %s' % (stores.NAME, BEFORE))
+        say('the first bytes of %s are no record of a store: this run empties it. Its bytes are kept in %s'
+            % (stores.NAME, BEFORE))
     digest, (last, _) = digest_of(job.files['desks']), kept_digests()
     if has_records and digest and digest == last and not may_go_on():
         say('nothing was run')
@@ -160,7 +167,8 @@ def after(status, job):
     """What is done after a run."""
     is_taken = status == STORE_FAULT and is_store_locked()
     if is_taken:
-        say('another run has taken %s meanwhile: this one has done nothing. Run it again once that one has ended' % stores.NAME)
+        say('another run has taken %s meanwhile: this one has done nothing. Run it again once that one has ended'
+            % stores.NAME)
     if status in REFUSED or is_taken:
         if os.path.lexists(OLD):
             os.replace(OLD, BEFORE)
@@ -177,8 +185,11 @@ def main(words):
     job = job_of(words[2:])
     if job is None:
         return 0
+    if words[1] == '-':
+        say('this folder cannot be read, and so not locked: another run over the store is not kept away')
+    number = None if words[1] == '-' else int(words[1])
     try:
-        return before(int(words[1]), job) if words[0] == 'before' else after(int(words[1]), job)
+        return before(number, job) if words[0] == 'before' else after(number, job)
     except OSError as why:
         say('%s: %s, so what is kept beside the store is not whole' % (why.filename, why.strerror))
         return 0

@@ -12,7 +12,8 @@ def write(path, text):
     if os.path.exists(path) and not os.path.isfile(path):
         raise Trouble('%s cannot be written: it is no plain file' % path)
     try:
-        with tempfile.NamedTemporaryFile('w', encoding='utf-8', newline='', dir=os.path.dirname(path), delete=False) as it:
+        folder = os.path.dirname(path)
+        with tempfile.NamedTemporaryFile('w', encoding='utf-8', newline='', dir=folder, delete=False) as it:
             _fill(it, text, path)
     except OSError as why:
         raise Trouble('%s cannot be written: %s' % (path, why.strerror)) from None

@@ -429,7 +429,7 @@ class Lacking(Repository):
         self.assertEqual(self.call('plan', PATH=path), ('proved plan\n', '', 6))
         out, told, _ = self.call('plan', '--store', '1', PATH=path)
         self.assertEqual((out, len(told.splitlines())), ('proved plan --store 1\n', 1))
-        self.assertIn('without python3 here', told)
+        self.assertIn('python3 is missing here', told)
 
     def test_a_home(self):
         self.lacks('neither HOME nor XDG_CACHE_HOME is set', HOME=None, XDG_CACHE_HOME=None)
@@ -476,7 +476,7 @@ class Released(unittest.TestCase):
     def test_a_run_with_a_store_says_what_is_left_out(self):
         out, told, status = self.call('plan', '--store', '1')
         self.assertEqual((out, status), ('proved plan --store 1\n', 0))
-        self.assertIn('without python3 here the store is not copied', told)
+        self.assertIn('python3 is missing here', told)
 
     def test_a_release_that_is_not_whole(self):
         os.remove(f'{self.room}/bin/waveplan')
