@@ -13,8 +13,10 @@ with --pickers, as docs/CREWS.md says it, the crew: each batch with one picker, 
 of each wave's linear bound: it holds the bound, which is found again for waves with at most 1,000 permitted batches, and is narrow where it says so. None
 may stand there where it isn't asked for. Where a file is refused, the line that tells it is judged.
 
-A day that was planned with --store 1 is judged with the store as it was before the run: in the folder of the last run this finds the copy that the
-launcher keeps, waveplan.store.before, by itself, or where --store 1 says so; else --store-before names a copy, or /dev/null where there was none. Its records are read and answered again, or the first that is refused is told; the journal has their entries and then those of the desks, and sheets,
+A day that was planned with --store 1 is judged with the store as it was before the run. In the folder of the last run
+this finds the copy that the launcher keeps, waveplan.store.before, by itself, or where --store 1 says so; else
+--store-before names a copy, or /dev/null where there was none. Its
+records are read and answered again, or the first that is refused is told; the journal has their entries and then those of the desks, and sheets,
 refills and crew are those of the desks' entries alone. With --store-after that file is judged too, as it is after the run. With --stored the journal
 may begin with any entries that are answered right.
 
@@ -121,7 +123,7 @@ def judged(asked, job, answer):
 
 
 def is_stored(asked, job, answer):
-    """Whether nothing is said of a store, and the answer's journal begins with the records of the copy that the launcher keeps here."""
+    """Whether nothing is said of a store, and the answer's journal begins with the records of the launcher's copy."""
     if job.mode != 'plan' or asked.stored or asked.store is not None or asked.store_before is not None:
         return False
     bodies = stores.records(bytes_of(store_keeping.BEFORE) or b'')

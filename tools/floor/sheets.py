@@ -8,9 +8,10 @@ with its cost, its bound and how far the two are apart, between what its linear 
 would walk, where it was planned with --rules, refused commands with their reasons, short articles. Then come the pickers with their carts, where it was
 planned with --pickers, the refills, and a page for each cart: who walks it, its orders, a drawing of its tour, and its picks in the order of the walk,
 each with a box to tick. Waves that were cancelled later have no pages. Of a day that goes on from a store there are pages of what went out in the last
-run; the first page names the waves of earlier runs, and those of them that were cancelled later. With --drawing one drawing alone is written.
-With --names, the file of `tools/wave import`, the texts of before stand in the place of names. Lines of
+run; the first page names the waves of earlier runs, and those of them that were cancelled later. With --drawing one drawing alone is written. Lines of
 kinds that this script doesn't know are passed over. Nothing here is proved; the output that it reads is.
+
+With --names, the file of `tools/wave import`, the texts of before stand in the place of names.
 
 Status: 0, or 2 where DAY is no output of a plan or FILE isn't its layout, with the reason on standard error.
 """

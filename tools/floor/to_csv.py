@@ -6,8 +6,9 @@ DAY is the output of `waveplan plan`, or - for standard input. FOLDER is made wh
 picks.csv (with each pick's place in the walk), refills.csv, pickers.csv and stock.csv, each with a heading, as RFC 4180 has it: commas, quotes where
 they are needed, line ends as CR LF. In waves.csv the bracket of the linear bound, and in batches.csv what the three rules walk and the number of the
 picker, are empty where the day doesn't tell them, and pickers.csv has its heading alone. Of a day that goes on from a store the journal and the stock are
-of all runs, and the other tables of the last one.
-With --names, the file of `tools/wave import`, the texts of before stand in the place of names. Nothing here is proved; the output that it reads is.
+of all runs, and the other tables of the last one. Nothing here is proved; the output that it reads is.
+
+With --names, the file of `tools/wave import`, the texts of before stand in the place of names.
 
 Status: 0, or 2 where DAY is no output of a plan or FOLDER can't be written, with the reason on standard error.
 """

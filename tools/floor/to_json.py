@@ -4,8 +4,10 @@ usage: tools/wave to-json [--names FILE] DAY > day.json
 
 DAY is the output of `waveplan plan`, or - for standard input. The object has `journal`, `waves` with their batches, tours, picks and certificates,
 `refills`, `stock`, and `crew` where the day has one; each pick has its place in the walk, and each batch its `rules`, and each wave
-its `root`, where they are told. Of a day that goes on from a store the journal and the stock are of all runs, and the rest of the last one.
-With --names, the file of `tools/wave import`, the texts of before stand in the place of names. Nothing here is proved; the output that it reads is.
+its `root`, where they are told. Of a day that goes on from a store the journal and the stock are of all runs, and the rest of the last one. Nothing here
+is proved; the output that it reads is.
+
+With --names, the file of `tools/wave import`, the texts of before stand in the place of names.
 
 Status: 0, or 2 where DAY is no output of a plan, with the reason on standard error.
 """

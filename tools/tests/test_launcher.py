@@ -115,10 +115,10 @@ class Repository(unittest.TestCase):
         return out, told, called.returncode
 
     def program(self, text):
-        """Puts a script in the place of the proved program."""
-        write(f'{self.kit}/seconds', '0')
-        self.wait()
-        write(f'{self.home}/out/waveplan', '#!/bin/bash\n' + text, is_program=True)
+        """Puts a script in the place of the proved program of these sources."""
+        write(f'{self.home}/out/waveplan', text, is_program=True)
+        digest = subprocess.run([f'{self.home}/tools/sources'], stdout=subprocess.PIPE, text=True, check=True).stdout
+        write(f'{self.home}/out/waveplan.sources', digest)
 
     def proofs(self):
         """How many proofs were begun."""
@@ -195,7 +195,7 @@ class Launching(Repository):
         self.assertEqual(self.proofs(), 0)
 
     def test_bad_words_are_followed_by_the_usage(self):
-        self.program('echo refused words bad-words\nexit 1\n')
+        self.program('#!/bin/sh\necho refused words bad-words\nexit 1\n')
         out, told, status = self.call('plan')
         self.assertEqual((out, status), ('refused words bad-words\n', 1))
         self.assertIn('usage: waveplan plan', told)
@@ -381,7 +381,7 @@ class Signals(Repository):
         self.assertNotIn('running already', self.call('--prove')[1])
 
     def test_a_signal_to_the_launcher_reaches_the_program(self):
-        self.program('trap "echo got INT; exit 3" INT\ntrap "echo got TERM; exit 3" TERM\necho begun >&2\nwhile :; do sleep 0.1; done\n')
+        self.program('#!/bin/bash\ntrap "echo got INT; exit 3" INT\ntrap "echo got TERM; exit 3" TERM\necho begun >&2\nwhile :; do sleep 0.1; done\n')
         for number, to_group, due in ((signal.SIGINT, True, 130), (signal.SIGINT, False, 130), (signal.SIGTERM, False, 143)):
             run = self.start('plan')
             self.assertEqual(run.stderr.readline(), 'begun\n')
@@ -390,7 +390,7 @@ class Signals(Repository):
             self.assertEqual((out.splitlines()[0], run.returncode), (f'got {signal.Signals(number).name[3:]}', due))
 
     def test_a_program_that_a_signal_stops_is_told(self):
-        self.program('kill -SEGV $$\n')
+        self.program('#!/bin/sh\nkill -SEGV $$\n')
         self.assertEqual(self.call('plan'), ('', 'waveplan: the program was stopped by signal 11\n', 139))
 
 
@@ -425,7 +425,7 @@ class Lacking(Repository):
         usual = ('env', 'bash', 'cat', 'cut', 'dirname', 'find', 'readlink', 'sha256sum', 'sort', 'xargs', 'sed', 'mktemp', 'tail', 'iconv', 'rm', 'sleep')
         path = self.path_with(*usual)
         self.lacks('no python3 on the path.*install Python 3.8', PATH=path)
-        self.wait()
+        self.program('#!/bin/sh\necho proved "$@"\nexit 6\n')
         self.assertEqual(self.call('plan', PATH=path), ('proved plan\n', '', 6))
         out, told, _ = self.call('plan', '--store', '1', PATH=path)
         self.assertEqual((out, len(told.splitlines())), ('proved plan --store 1\n', 1))
@@ -433,7 +433,7 @@ class Lacking(Repository):
 
     def test_a_home(self):
         self.lacks('neither HOME nor XDG_CACHE_HOME is set', HOME=None, XDG_CACHE_HOME=None)
-        self.wait()
+        self.program('#!/bin/sh\necho proved "$@"\nexit 6\n')
         self.assertEqual(self.call('plan', HOME=None, XDG_CACHE_HOME=None), ('proved plan\n', '', 6))
 
     def test_a_home_that_can_be_written(self):
@@ -539,9 +539,7 @@ class Storing(Repository):
 
     def setUp(self):
         super().setUp()
-        write(f'{self.kit}/seconds', '0')
-        self.wait()
-        write(f'{self.home}/out/waveplan', PRETENDED_PROGRAM, is_program=True)
+        self.program(PRETENDED_PROGRAM)
         self.words = ('plan', '--layout', 'l', '--stock', 's', '--orders', 'o', '--capacity', '2', '--store', '1', '--desks', 'desks.csv')
         self.desks('1,release,W1')
 
