@@ -15,7 +15,7 @@ HOME = str(runs.TOP)
 
 # It stands for the kit: it counts proofs, and a proof takes as long, and ends, as the files beside it say.
 PRETENDED_KIT = '''#!/usr/bin/env python3
-import os, sys, time
+import os, signal, subprocess, sys, time
 ROOM = os.path.dirname(os.path.realpath(__file__))
 
 
@@ -47,8 +47,24 @@ def ci():
     return 0
 
 
+def build():
+    """Waits for what builds, which is a session of its own, and clears up after one signal, as long as no second one comes."""
+    for it in (signal.SIGTERM, signal.SIGINT):
+        signal.signal(it, lambda number, _: sys.exit(128 + number))
+    tool = subprocess.Popen(['sleep', beside('try-seconds')], start_new_session=True)
+    with open(f'{ROOM}/tools', 'a', encoding='utf-8') as it:
+        it.write(f'{tool.pid}\\n')
+    try:
+        tool.wait()
+    finally:
+        time.sleep(0.3)
+        tool.kill()
+        tool.wait()
+
+
 def try_unproved(words):
-    time.sleep(float(beside('try-seconds')))
+    if beside('try-seconds') != '0':
+        build()
     files = [it.partition('=')[2] for it in words if it.startswith('file-') and '=' in it]
     for it in files:
         with open(it, encoding='utf-8') as text:
@@ -357,7 +373,8 @@ class Signals(Repository):
             self.assertEqual(status, due)
             self.assertNotRegex(told, 'Traceback|no answer|plain')
             write(f'{self.home}/crates/above/src/lib.rt', told)
-        self.assertEqual(subprocess.run(['pgrep', '-f', f'{self.kit}/rt try'], stdout=subprocess.PIPE).stdout, b'')
+        with open(f'{self.kit}/tools', encoding='utf-8') as it:
+            self.assertEqual([os.path.exists(f'/proc/{number.strip()}') for number in it], [False, False])
         self.wait()
         self.assertEqual((self.proofs(), self.call('plan')[0]), (1, 'proved plan\n'))
 
