@@ -48,7 +48,7 @@ def ci():
 
 
 def build():
-    """Waits for what builds, which is a session of its own, and clears up after one signal, as long as no second one comes."""
+    """Waits for what builds, which is a session of its own. It clears up after one signal, where no second one comes."""
     for it in (signal.SIGTERM, signal.SIGINT):
         signal.signal(it, lambda number, _: sys.exit(128 + number))
     tool = subprocess.Popen(['sleep', beside('try-seconds')], start_new_session=True)
@@ -118,9 +118,12 @@ class Repository(unittest.TestCase):
         write(f'{self.room}/words.txt', 'words of a file\n')
 
     def start(self, *words, **where):
-        """Starts the launcher as the head of a session. `where` has what differs in the environment: None stands for what isn't set."""
-        how = {'cwd': self.room, 'stdin': subprocess.DEVNULL, 'stdout': subprocess.PIPE, 'stderr': subprocess.PIPE, 'text': True}
-        usual = {**os.environ, 'PATH': f'{self.kit}:{os.environ["PATH"]}', 'XDG_CACHE_HOME': f'{self.room}/cache', 'HOME': self.room}
+        """Starts the launcher as the head of a session. `where` has what differs in the environment, None for what isn't
+        set."""
+        how = {'cwd': self.room, 'stdin': subprocess.DEVNULL, 'stdout': subprocess.PIPE, 'stderr': subprocess.PIPE,
+               'text': True}
+        usual = {**os.environ, 'PATH': f'{self.kit}:{os.environ["PATH"]}', 'XDG_CACHE_HOME': f'{self.room}/cache',
+                 'HOME': self.room}
         where = {name: text for name, text in {**usual, **where}.items() if text is not None}
         return subprocess.Popen([f'{self.home}/waveplan', *words], env=where, start_new_session=True, **how)
 
@@ -328,7 +331,8 @@ class OtherUser(Repository):
             self.skipTest('nobody has no python3')
 
     def as_nobody(self, *words):
-        where = {'PATH': f'{self.kit}:/usr/local/bin:/usr/bin:/bin', 'XDG_CACHE_HOME': f'{self.room}/cache', 'HOME': self.room}
+        where = {'PATH': f'{self.kit}:/usr/local/bin:/usr/bin:/bin', 'XDG_CACHE_HOME': f'{self.room}/cache',
+                 'HOME': self.room}
         return subprocess.run([*NOBODY, *words], cwd=self.room, env=where, capture_output=True, text=True, timeout=60)
 
     def test_sources_that_cannot_be_written_are_proved_in_the_cache(self):
@@ -353,7 +357,7 @@ class Signals(Repository):
         write(f'{self.kit}/try-seconds', '30')
 
     def ended(self, run, number, to_group, after):
-        """What a run has told that gets a signal once it has told the text `after`; its status; and how long it took to end."""
+        """What a run has told that gets a signal once it has told the text `after`, and its status."""
         told = ''
         while after not in told:
             line = run.stderr.readline()
@@ -381,7 +385,8 @@ class Signals(Repository):
     def test_who_waits_for_a_proof_is_ended_and_the_proof_goes_on(self):
         write(f'{self.kit}/seconds', '2')
         self.ended(self.start('plan', '--layout', 'words.txt'), signal.SIGINT, False, 'unproved build')
-        for words, number, to_group, due in ((['--prove'], signal.SIGINT, True, 130), (['plan', '--store', '1'], signal.SIGTERM, False, 143)):
+        for words, number, to_group, due in ((['--prove'], signal.SIGINT, True, 130),
+                                             (['plan', '--store', '1'], signal.SIGTERM, False, 143)):
             told, status = self.ended(self.start(*words), number, to_group, 'running already')
             self.assertEqual(status, due)
             self.assertNotIn('Traceback', told)
@@ -398,8 +403,10 @@ class Signals(Repository):
         self.assertNotIn('running already', self.call('--prove')[1])
 
     def test_a_signal_to_the_launcher_reaches_the_program(self):
-        self.program('#!/bin/bash\ntrap "echo got INT; exit 3" INT\ntrap "echo got TERM; exit 3" TERM\necho begun >&2\nwhile :; do sleep 0.1; done\n')
-        for number, to_group, due in ((signal.SIGINT, True, 130), (signal.SIGINT, False, 130), (signal.SIGTERM, False, 143)):
+        self.program('#!/bin/bash\ntrap "echo got INT; exit 3" INT\ntrap "echo got TERM; exit 3" TERM\n'
+                     'echo begun >&2\nwhile :; do sleep 0.1; done\n')
+        for number, to_group, due in ((signal.SIGINT, True, 130), (signal.SIGINT, False, 130),
+                                      (signal.SIGTERM, False, 143)):
             run = self.start('plan')
             self.assertEqual(run.stderr.readline(), 'begun\n')
             (os.killpg if to_group else os.kill)(run.pid, number)
@@ -427,7 +434,8 @@ class Lacking(Repository):
         folder = f'{self.room}/bin'
         os.makedirs(folder)
         for name in names:
-            write(f'{folder}/{name}', f'#!/bin/sh\nexec {shutil.which(name, path="/usr/bin:/bin")} "$@"\n', is_program=True)
+            write(f'{folder}/{name}', f'#!/bin/sh\nexec {shutil.which(name, path="/usr/bin:/bin")} "$@"\n',
+                  is_program=True)
         return folder
 
     def test_the_kit(self):
@@ -439,7 +447,8 @@ class Lacking(Repository):
         self.lacks('is rattle-kit-12 logic 0, and the program is proved by rattle-kit-13f .*path')
 
     def test_python(self):
-        usual = ('env', 'bash', 'cat', 'cut', 'dirname', 'find', 'readlink', 'sha256sum', 'sort', 'xargs', 'sed', 'mktemp', 'tail', 'iconv', 'rm', 'sleep')
+        usual = ('env', 'bash', 'cat', 'cut', 'dirname', 'find', 'readlink', 'sha256sum', 'sort', 'xargs', 'sed',
+                 'mktemp', 'tail', 'iconv', 'rm', 'sleep')
         path = self.path_with(*usual)
         self.lacks('no python3 on the path.*install Python 3.8', PATH=path)
         self.program('#!/bin/sh\necho proved "$@"\nexit 6\n')
@@ -454,28 +463,32 @@ class Lacking(Repository):
         self.assertEqual(self.call('plan', HOME=None, XDG_CACHE_HOME=None), ('proved plan\n', '', 6))
 
     def test_a_home_that_can_be_written(self):
-        self.lacks(r'words.txt/.cache/.* can not be written \(Not a directory\): set XDG_CACHE_HOME', HOME=f'{self.room}/words.txt', XDG_CACHE_HOME=None)
+        self.lacks(r'words.txt/.cache/.* can not be written \(Not a directory\): set XDG_CACHE_HOME',
+                   HOME=f'{self.room}/words.txt', XDG_CACHE_HOME=None)
 
     def test_it_is_the_kit_of_the_gate(self):
-        with open(f'{HOME}/tools/prove', encoding='utf-8') as ours, open(f'{HOME}/tools/gate/refuse', encoding='utf-8') as gates:
-            known = re.search("^KIT = '(.*)'$", ours.read(), re.M)[1]
-            self.assertIn(f"KIT_IDENTITY = '{known}'", gates.read())
+        with open(f'{HOME}/tools/prove', encoding='utf-8') as it:
+            known = re.search("^KIT = '(.*)'$", it.read(), re.M)[1]
+        with open(f'{HOME}/tools/gate/refuse', encoding='utf-8') as it:
+            self.assertIn(f"KIT_IDENTITY = '{known}'", it.read())
 
 
 class Released(unittest.TestCase):
-    """The launcher of a release, where there are bash and env alone: no command of the core utilities, and no sources."""
+    """The launcher of a release, where there are bash and env alone: no command of the core utilities, no sources."""
 
     def setUp(self):
         self.room = tempfile.mkdtemp(prefix='waveplan-test-')
         self.addCleanup(shutil.rmtree, self.room, ignore_errors=True)
-        write(f'{self.room}/RELEASE', f'version 1.0.0\ncommit {"0123456789" * 4}\nkit rattle-kit-13f logic dac8208d650f15bf\ngate 9 passed, 0 failed\n')
+        write(f'{self.room}/RELEASE', f'version 1.0.0\ncommit {"0123456789" * 4}\n'
+              'kit rattle-kit-13f logic dac8208d650f15bf\ngate 9 passed, 0 failed\n')
         write(f'{self.room}/bin/waveplan', '#!/bin/bash\necho proved "$@"\n[ "$1" != nothing ]\n', is_program=True)
         shutil.copy2(f'{HOME}/waveplan', self.room)
         os.makedirs(f'{self.room}/path')
         os.symlink(shutil.which('bash'), f'{self.room}/path/bash')
 
     def call(self, *words, program='waveplan'):
-        ran = subprocess.run([f'{self.room}/{program}', *words], cwd=self.room, env={'PATH': f'{self.room}/path'}, capture_output=True, text=True, timeout=60)
+        ran = subprocess.run([f'{self.room}/{program}', *words], cwd=self.room, env={'PATH': f'{self.room}/path'},
+                             capture_output=True, text=True, timeout=60)
         return ran.stdout, ran.stderr, ran.returncode
 
     def test_the_program_answers_at_once(self):
@@ -520,13 +533,15 @@ class Released(unittest.TestCase):
             os.close(terminal)
 
     def test_a_long_run_tells_its_time_on_a_terminal_alone(self):
-        write(f'{self.room}/bin/waveplan', f'#!/bin/bash\n{shutil.which("sleep")} 6\necho done\nexit 6\n', is_program=True)
+        write(f'{self.room}/bin/waveplan', f'#!/bin/bash\n{shutil.which("sleep")} 6\necho done\nexit 6\n',
+              is_program=True)
         telling, quiet = self.on_a_terminal(), self.on_a_terminal(WAVEPLAN_QUIET='1')
         self.assertIn('it has run for 5 seconds', self.told_on(*telling))
         self.assertEqual(self.told_on(*quiet), '')
 
 
-# It stands for the program: it adds a record to the store, as long as the file `seconds` says, with the lock of a store where there is a file `locks`.
+# It stands for the program: it adds a record to the store, for as long as the file `seconds` says, and locks the store
+# where there is a file `locks`.
 PRETENDED_PROGRAM = """#!/usr/bin/env python3
 import fcntl, os, sys, time
 NAME = 'waveplan.store'
@@ -557,7 +572,8 @@ class Storing(Repository):
     def setUp(self):
         super().setUp()
         self.program(PRETENDED_PROGRAM)
-        self.words = ('plan', '--layout', 'l', '--stock', 's', '--orders', 'o', '--capacity', '2', '--store', '1', '--desks', 'desks.csv')
+        self.words = ('plan', '--layout', 'l', '--stock', 's', '--orders', 'o', '--capacity', '2', '--store', '1',
+                      '--desks', 'desks.csv')
         self.desks('1,release,W1')
 
     def desks(self, *lines):
@@ -611,7 +627,8 @@ class Storing(Repository):
         for answer, due in ((b'n\n', 130), (b'\n', 130), (b'y\n', 0)):
             ours, theirs = os.openpty()
             where = {**os.environ, 'XDG_CACHE_HOME': f'{self.room}/cache', 'HOME': self.room}
-            run = subprocess.Popen([f'{self.home}/waveplan', *self.words], cwd=self.room, env=where, stdin=theirs, stdout=subprocess.PIPE, stderr=theirs)
+            run = subprocess.Popen([f'{self.home}/waveplan', *self.words], cwd=self.room, env=where, stdin=theirs,
+                                   stdout=subprocess.PIPE, stderr=theirs)
             os.write(ours, answer)
             out, _ = run.communicate(timeout=60)
             self.assertEqual((run.returncode, out), (due, b'' if due else b'planned 1\n'))
@@ -636,7 +653,8 @@ class Storing(Repository):
 
     def lock_for(self, seconds):
         """Another program that has locked the store."""
-        text = f'import fcntl, time; it = open("waveplan.store", "ab"); fcntl.flock(it, fcntl.LOCK_EX); print("locked", flush=True); time.sleep({seconds})'
+        text = ('import fcntl, time; it = open("waveplan.store", "ab"); fcntl.flock(it, fcntl.LOCK_EX); '
+                f'print("locked", flush=True); time.sleep({seconds})')
         other = subprocess.Popen(['python3', '-c', text], cwd=self.room, stdout=subprocess.PIPE)
         other.stdout.readline()
         self.addCleanup(other.communicate)
