@@ -159,7 +159,8 @@ class Pattern:
                 raise Unread('a spreadsheet has made a date of it: ' + AS_TEXT)
             sides = ' with %s for the side' % ' or '.join(sorted(self.sides)) if 'side' in self.parts else ''
             raise Unread('it is not of the form %s%s: say how locations are written with --location and --sides, and '
-                         'with --letters or --aisles where aisles have letters' % (self.text, sides))
+                         'with --letters or --aisles where aisles have letters; a level or a bin is not used, and is '
+                         '{level} in --location' % (self.text, sides))
         return '%d-%d-%s' % self.place(found)
 
     def place(self, found):

@@ -175,9 +175,9 @@ def texts_of(reader, cells, word):
         texts = cells[reader.places['arguments']:]
         while texts and not texts[-1]:
             texts.pop()
-        forms = FORMS[word] or ['wave'] + ['order'] * max(1, len(texts) - 1)
-        forms += ['further'] * (len(texts) - len(forms))
-        return list(zip(forms, texts + [''] * (len(forms) - len(texts))))
+        form = FORMS[word] or ['wave'] + ['order'] * max(1, len(texts) - 1)
+        further = ['further'] * (len(texts) - len(form))
+        return list(zip(form + further, texts + [''] * (len(form) - len(texts))))
     if word == 'submit':
         orders = orders_in(reader.at(cells, 'order'), reader.names)
         return [('wave', reader.at(cells, 'wave')), *[('order', order) for order in orders or ['']]]

@@ -1,10 +1,16 @@
 """Tests of what is made of files as people have them: each usual form is read, and each usual mistake is told with what to do."""
 
+import contextlib
+import io
 import os
 import shlex
+import subprocess
+import sys
 import unittest
+import unittest.mock
 
 import runs
+from floor import entry
 
 LAYOUT = '{"version":1,"aisles":3,"slots":4,"pitch":2,"clearance":1,"spacing":5,"depot":1}'
 HEAD = 'location,article,on_hand\n'
@@ -177,8 +183,15 @@ TROUBLES = [
 
 
 def imported(kind, text, options):
-    given = text if isinstance(text, bytes) else text.encode()
-    return runs.script('import', kind, '-', *options.split(), given=given)
+    """How import ends that is called in this very process, with a table as standard input."""
+    given = io.TextIOWrapper(io.BytesIO(text if isinstance(text, bytes) else text.encode()))
+    out, told = io.StringIO(), io.StringIO()
+    with unittest.mock.patch('sys.stdin', given), contextlib.redirect_stdout(out), contextlib.redirect_stderr(told):
+        try:
+            entry.run('import', [kind, '-', *options.split()])
+        except SystemExit as ended:
+            done = subprocess.CompletedProcess([], ended.code, out.getvalue().encode(), told.getvalue().encode())
+            return runs.Done(done)
 
 
 def notes_of(done):
@@ -220,6 +233,10 @@ class Importing(unittest.TestCase):
         self.assertEqual(['and 29 cells more, which --all tells too',
                           'import: 41 cells of - cannot be read; nothing was written'], told[12:])
         self.assertEqual(1 + 1 + 39 + 1, len(imported('stock', HEAD + rows, '--all').errors.splitlines()))
+
+    def test_a_field_too_many_spoils_no_other_row(self):
+        done = imported('desks', 'desk,command,arguments\n1,release,W1,W2\n1,release,W1\n1,release,W3\n', '')
+        self.assertEqual(2, len(done.errors.splitlines()), done.errors)
 
     def test_line_numbers_are_those_of_the_file(self):
         done = imported('stock', 'Title\n\n' + HEAD + '\n"1-1-L","A\nB",5\n1-2-L,C,-5\n', '--skip 2')
@@ -280,9 +297,9 @@ class Writing(unittest.TestCase):
 
     def emptied(self):
         with open(self.folder / 'export.csv', 'wb') as to:
-            words = [runs.sys.executable, str(runs.TOOLS / 'import'), 'stock', 'export.csv']
-            ran = runs.subprocess.run(words, cwd=self.folder, stdout=to, stderr=runs.subprocess.PIPE)
-        return runs.Done(runs.subprocess.CompletedProcess(words, ran.returncode, b'', ran.stderr))
+            words = [sys.executable, str(runs.TOOLS / 'import'), 'stock', 'export.csv']
+            ran = subprocess.run(words, cwd=self.folder, stdout=to, stderr=subprocess.PIPE)
+        return runs.Done(subprocess.CompletedProcess(words, ran.returncode, b'', ran.stderr))
 
     def test_a_device_is_not_written_over(self):
         self.assertIn('no plain file', self.imported('stock', 'export.csv', '-o', '/dev/null').errors)
