@@ -13,11 +13,13 @@ WORDS = {
                'itemid sku material materialnummer product productid productcode partnumber',
     'on_hand': 'onhand onhandqty qty quantity qtyonhand stock bestand lagerbestand menge available verfügbar units '
                'anzahl count amount',
-    'order': 'order orderno ordernumber orderid salesorder auftrag auftragsnummer auftragnr auftragsnr bestellung '
-             'bestellnummer',
+    'order': 'order orderno ordernumber orderid salesorder auftrag aufträge auftraege auftragsnummer auftragnr '
+             'auftragsnr bestellung bestellungen bestellnummer',
     'quantity': 'quantity qty orderedqty menge bestellmenge anzahl stück stueck amount units pieces pcs',
-    'desk': 'desk deskno desknumber station terminal packplatz packtisch arbeitsplatz workplace',
+    'desk': 'desk deskno desknumber station terminal pult packplatz packtisch arbeitsplatz workplace',
     'command': 'command action befehl kommando aktion',
+    'wave': 'wave waveid waveno wavenumber welle',
+    'arguments': 'arguments argumente args',
 }
 WORDS = {column: words.split() for column, words in WORDS.items()}
 NEAR = 30  # rows among which a heading is looked for
@@ -46,6 +48,15 @@ def columns_in(heading, wanted):
             if word is None or ',' in word or '=' in word:
                 return None
             found[column] = word
+    return found
+
+
+def some_columns_in(heading, wanted, known):
+    """The words that are known for columns, and those of a heading that mostly stand for others, where there are any."""
+    found = dict(known)
+    for column in wanted:
+        word = column_in(heading, column, [*found.values(), 'desk', 'command']) if column not in found else None
+        found.update({column: word} if word and word.lower() != column else {})
     return found
 
 

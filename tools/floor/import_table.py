@@ -263,8 +263,18 @@ def table_of(asked):
     optional = ARGUMENTS if asked.kind == 'desks' else ()
     places = sheet_files.columns_of(rows, asked.columns, [*COLUMNS[asked.kind], *optional], optional)
     if optional and not {'arguments', 'wave'} & set(places):
-        raise Trouble('the heading has neither a column arguments nor a column wave: say which it is with --columns')
+        raise no_arguments(asked, rows[0][1])
     return rows, places
+
+
+def no_arguments(asked, heading):
+    """What is told of a heading of commands that has no column for what stands behind their words."""
+    told = 'the heading has neither a column arguments nor a column wave: say which it is with --columns'
+    columns = guesses.some_columns_in(heading, ARGUMENTS, asked.columns)
+    if not {'arguments', 'wave'} & set(columns):
+        return Trouble(told)
+    how = sheet_files.option_text('columns', columns)
+    return sheet_files.Guessed('%s. They seem to be %s' % (told, how), columns=columns)
 
 
 def table_by_guesses(asked):

@@ -55,7 +55,8 @@ class Names:
         self.name_of[text], self.text_of[name] = name, text
 
     def of(self, text):
-        """The name of a text, which it has from now on."""
+        """The name of a text, which it has from now on. Of the two ways to write an accent both are the same."""
+        text = unicodedata.normalize('NFC', text)
         if text not in self.name_of:
             wanted = name = fitted(text)
             for number in itertools.count(2):

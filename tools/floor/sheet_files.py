@@ -91,19 +91,21 @@ def columns_of(rows, names, known, optional=()):
         if found:
             places[name] = found[0]
         elif name in names or name not in optional:
-            raise _no_column(rows, names, [each for each in known if each not in optional], name)
+            raise _no_column(rows, names, [each for each in known if each in names or each not in optional])
     return places
 
 
-def _no_column(rows, names, wanted, name):
-    """What is told of a heading that lacks a column, with a guess at where it stands."""
+def _no_column(rows, names, wanted):
+    """What is told of a heading that lacks columns, with a guess at where they stand."""
     number, heading = rows[0]
+    words = [cell.lower() for cell in heading]
+    lacking = [name for name in wanted if names.get(name, name).lower() not in words]
     told = 'the heading in line %d has no column %s; it has: %s.' % (
-        number, names.get(name, name), ', '.join(filter(None, heading)) or 'nothing')
+        number, ', '.join(names.get(name, name) for name in lacking), ', '.join(filter(None, heading)) or 'nothing')
     at = None if names else guesses.rows_above(rows, wanted)
     if at is None:
-        return Trouble('%s Say which it is with --columns %s=NAME, and --skip N where N lines of title stand above the '
-                       'heading' % (told, name))
+        return Trouble('%s Say which they are with --columns %s, and --skip N where N lines of title stand above the '
+                       'heading' % (told, ','.join('%s=NAME' % name for name in lacking)))
     line, columns = at
     options = {**({'skip': line - 1} if line != number else {}), **({'columns': columns} if columns else {})}
     words, how = ', with other words' if columns else '', ' and '.join(option_text(*each) for each in options.items())
