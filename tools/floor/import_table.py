@@ -344,7 +344,7 @@ def tell(reader, told, found):
 
 def test_output(asked):
     """Fails where the shell has emptied the file that is to be read, since it is standard output too."""
-    if asked.output or asked.file == '-' or not os.path.isfile(asked.file):
+    if asked.output or asked.file == '-' or sys.stdout is None or not os.path.isfile(asked.file):
         return
     if os.path.samestat(os.stat(asked.file), os.fstat(sys.stdout.fileno())):
         raise Trouble('%s stands behind > too, so the shell has emptied it before it was read: take it from where it '
@@ -361,7 +361,7 @@ def write(reader):
     if asked.output:
         whole_files.write(asked.output, '\n'.join(lines))
     else:
-        sys.stdout.write('\n'.join(lines))
+        print('\n'.join(lines), end='')
 
 
 def main(words):

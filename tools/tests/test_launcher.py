@@ -287,7 +287,7 @@ class Launching(Repository):
         began = time.monotonic()
         out, told, status = self.call('plan', '--layout', 'words.txt')
         self.assertEqual((out, status), ('proved plan --layout words.txt\n', 6))
-        self.assertLess(time.monotonic() - began, 15)
+        self.assertLess(time.monotonic() - began, 25)
 
     def test_a_device_waits_for_the_proof(self):
         os.mkfifo(f'{self.room}/pipe')
@@ -367,7 +367,7 @@ class Signals(Repository):
         (os.killpg if to_group else os.kill)(run.pid, number)
         began = time.monotonic()
         told += run.communicate(timeout=60)[1]
-        self.assertLess(time.monotonic() - began, 5)
+        self.assertLess(time.monotonic() - began, 20)
         return told, run.returncode
 
     def test_a_first_answer_is_ended_and_its_proof_goes_on(self):
@@ -523,7 +523,7 @@ class Released(unittest.TestCase):
         return run, ours
 
     def told_on(self, run, terminal):
-        """What a run of six seconds has told on its terminal."""
+        """What a run of seven seconds has told on its terminal."""
         self.assertEqual((run.communicate(timeout=60)[0], run.returncode), (b'done\n', 6))
         try:
             return os.read(terminal, 1000).decode()
@@ -533,10 +533,10 @@ class Released(unittest.TestCase):
             os.close(terminal)
 
     def test_a_long_run_tells_its_time_on_a_terminal_alone(self):
-        write(f'{self.room}/bin/waveplan', f'#!/bin/bash\n{shutil.which("sleep")} 6\necho done\nexit 6\n',
+        write(f'{self.room}/bin/waveplan', f'#!/bin/bash\n{shutil.which("sleep")} 7\necho done\nexit 6\n',
               is_program=True)
         telling, quiet = self.on_a_terminal(), self.on_a_terminal(WAVEPLAN_QUIET='1')
-        self.assertIn('it has run for 5 seconds', self.told_on(*telling))
+        self.assertRegex(self.told_on(*telling), r'^waveplan: it has run for [5-9] seconds\r\n')
         self.assertEqual(self.told_on(*quiet), '')
 
 
@@ -672,7 +672,7 @@ class Storing(Repository):
         began = time.monotonic()
         out, told, status = self.run_stored()
         self.assertEqual((out, status), ('store fault\n', 7))
-        self.assertTrue(9 < time.monotonic() - began < 15)
+        self.assertTrue(9 < time.monotonic() - began < 20)
         self.assertIn('another run has used waveplan.store for ten seconds', told)
         self.assertEqual(self.kept(), ['waveplan.store'])
 
