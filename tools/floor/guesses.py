@@ -52,7 +52,7 @@ def columns_in(heading, wanted):
 
 
 def some_columns_in(heading, wanted, known):
-    """The words that are known for columns, and those of a heading that mostly stand for others, where there are any."""
+    """The words that are known for columns, and those of a heading that mostly stand for others, if there are any."""
     found = dict(known)
     for column in wanted:
         word = column_in(heading, column, [*found.values(), 'desk', 'command']) if column not in found else None

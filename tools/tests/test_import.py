@@ -164,7 +164,7 @@ TROUBLES = [
     ('a title above', 'stock', 'Stock of Monday\n' + STOCK, '', '--skip 1'),
     ('commands in other words', 'desks', 'Pult;Befehl;Welle;Auftr\u00e4ge\n1;submit;W1;O1\n', '',
      "desks - --columns 'desk=Pult,command=Befehl,wave=Welle,order=Auftr\u00e4ge' -o desks.csv"),
-    ('columns whose words nobody knows', 'desks', 'who,what,wave\n1,submit,W1\n', '', '--columns desk=NAME,command=NAME'),
+    ('words that nobody knows', 'desks', 'who,what,wave\n1,submit,W1\n', '', '--columns desk=NAME,command=NAME'),
     ('a title above with commas', 'stock', 'Stock, Monday, all\n' + STOCK.replace(',', ';'), '', '--skip 1'),
     ('a column left out', 'stock', 'location,article\n1-1-L,A\n', '', 'no column on_hand'),
     ('a column of another name', 'stock', 'location,article,stock\n1-1-L,A,5\n', '', 'it has: location, article, stock'),

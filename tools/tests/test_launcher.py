@@ -48,7 +48,7 @@ def ci():
 
 
 def build():
-    """Waits for what builds, which is a session of its own. It clears up after one signal, where no second one comes."""
+    """Waits for what builds, a session of its own. It clears up after one signal, where no second one comes."""
     for it in (signal.SIGTERM, signal.SIGINT):
         signal.signal(it, lambda number, _: sys.exit(128 + number))
     tool = subprocess.Popen(['sleep', beside('try-seconds')], start_new_session=True)
@@ -118,8 +118,8 @@ class Repository(unittest.TestCase):
         write(f'{self.room}/words.txt', 'words of a file\n')
 
     def start(self, *words, **where):
-        """Starts the launcher as the head of a session. `where` has what differs in the environment, None for what isn't
-        set."""
+        """Starts the launcher as the head of a session. `where` has what differs in the environment, None for what
+        isn't set."""
         how = {'cwd': self.room, 'stdin': subprocess.DEVNULL, 'stdout': subprocess.PIPE, 'stderr': subprocess.PIPE,
                'text': True}
         usual = {**os.environ, 'PATH': f'{self.kit}:{os.environ["PATH"]}', 'XDG_CACHE_HOME': f'{self.room}/cache',

@@ -151,11 +151,14 @@ class Scripts(unittest.TestCase):
             self.assertIn(told, done.output)
 
     def test_a_second_opinion_finds_the_copy_of_the_launcher(self):
-        words = [word for name, file in zip(('layout', 'stock', 'orders', 'desks'), (*runs.FILES[:3], 'cancel.csv')) for word in ('--' + name, self.folder / file)]
+        files = {**dict(zip(('layout', 'stock', 'orders'), runs.FILES)), 'desks': 'cancel.csv'}
+        words = [word for name, file in files.items() for word in ('--' + name, self.folder / file)]
         here = runs.put(self.folder / 'here', {stores.NAME + '.before': stores.file_of([SUBMIT, RELEASE])})
         elsewhere = runs.put(self.folder / 'elsewhere', {})
-        for folder, more, status in ((here, (), 0), (here, ('--store', '1'), 0), (here, ('--store', '0'), 1), (elsewhere, (), 1), (elsewhere, ('--store', '1'), 2)):
-            done = runs.script('second-opinion', *words, '--capacity', '2', *more, '-', given=CANCELLED.encode(), folder=folder)
+        for folder, more, status in ((here, '', 0), (here, '--store 1', 0), (here, '--store 0', 1),
+                                     (elsewhere, '', 1), (elsewhere, '--store 1', 2)):
+            more = ['--capacity', '2', *more.split(), '-']
+            done = runs.script('second-opinion', *words, *more, given=CANCELLED.encode(), folder=folder)
             self.assertEqual(status, done.status, (folder, more, done.output, done.errors))
             self.assertEqual(status == 0, '2 of them stored before' in done.output)
 
