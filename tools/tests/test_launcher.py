@@ -111,7 +111,8 @@ class Repository(unittest.TestCase):
             write(f'{self.home}/crates/{name}/src/{root}.rt', '')
         write(f'{self.kit}/rt', PRETENDED_KIT, is_program=True)
         write(f'{self.kit}/rt-plant-bodies', '')
-        os.symlink(sys.executable, f'{self.kit}/python3')
+        # (without what a machine adds to Python, which takes longer to start than the scripts take)
+        write(f'{self.kit}/python3', f'#!/bin/sh\nexec {sys.executable} -S "$@"\n', is_program=True)
         write(f'{self.room}/KIT-ID', 'rattle-kit-13f logic dac8208d650f15bf\n')
         write(f'{self.kit}/seconds', '0.5')
         write(f'{self.kit}/try-seconds', '0')
@@ -327,6 +328,7 @@ class OtherUser(Repository):
         os.makedirs(f'{self.room}/cache', exist_ok=True)
         os.chmod(f'{self.room}/cache', 0o777)
         os.chmod(self.kit, 0o777)
+        os.remove(f'{self.kit}/python3')
         if self.as_nobody('python3', '-c', '').returncode:
             self.skipTest('nobody has no python3')
 
@@ -655,7 +657,7 @@ class Storing(Repository):
         """Another program that has locked the store."""
         text = ('import fcntl, time; it = open("waveplan.store", "ab"); fcntl.flock(it, fcntl.LOCK_EX); '
                 f'print("locked", flush=True); time.sleep({seconds})')
-        other = subprocess.Popen(['python3', '-c', text], cwd=self.room, stdout=subprocess.PIPE)
+        other = subprocess.Popen([sys.executable, '-S', '-c', text], cwd=self.room, stdout=subprocess.PIPE)
         other.stdout.readline()
         self.addCleanup(other.communicate)
         self.addCleanup(other.kill)
