@@ -12,7 +12,7 @@ LEFT_OUT = re.compile(r'\./gate|\./waveplan --prove')
 DAY_OF = re.compile(r'The day of `examples/([\w-]+)`')
 LINES = re.compile(r'The command prints ([0-9,]{1,9}) lines')
 PAGES = {'README.md': None, 'docs/DAY.md': 'one-day'}  # each with the example whose files it begins with
-STORE, BEFORE = 'waveplan.store', 'before.store'
+STORE, BEFORE = 'waveplan.store', 'waveplan.store.before'  # the copy is the launcher's, which isn't run here
 LONGEST = 120  # seconds that a command may take
 
 
@@ -92,7 +92,7 @@ class Reader:
 
     def run(self, command, folder):
         """Runs a command, and tells whether it ended as it should."""
-        if '--store 1' in command:
+        if command.startswith('./waveplan') and '--store 1' in command:
             (folder / BEFORE).write_bytes((folder / STORE).read_bytes() if (folder / STORE).exists() else b'')
         try:
             done = subprocess.run(['sh', '-c', command], cwd=folder, stdin=subprocess.DEVNULL, stdout=subprocess.PIPE,

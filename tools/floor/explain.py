@@ -3,6 +3,9 @@
 usage: tools/wave explain plan --layout FILE --stock FILE --orders FILE --desks FILE --capacity C [..]
        tools/wave explain check|audit|make ..
 
+With --names FILE, the file of `tools/wave import`, the lines behind the first have the texts of before in the place of
+names.
+
 The words are those of the run that was refused. The words and files are read as docs/FORMATS.md says, by a program of
 this script's own, up to the first thing that is wrong; with --store 1 so is the file waveplan.store of the working
 directory, which is left as it is. A `store fault` that a failing or full disk caused is not seen here: look at the disk
@@ -20,6 +23,7 @@ from opinion.refusals import MOST_BYTES
 from opinion.words import FILES, NUMBERS, read_words
 
 from . import causes
+from .names import restored_line, taken_from, texts_of
 
 
 def bytes_of(name):
@@ -277,6 +281,8 @@ def main(words):
     if not words or words == ['--help']:
         print(__doc__, end='', file=sys.stdout if words else sys.stderr)
         return RIGHT if words else REFUSED
+    words, names = taken_from(words)
+    texts = texts_of(names)
     why = answers.refusal_of(words, bytes_of, None, bytes_of_store())
     if why is None:
         print('nothing in these words and files is refused')
@@ -286,5 +292,5 @@ def main(words):
             print('alone prints what is stored, and what is missing is given after it (docs/DAY.md)')
         return RIGHT
     print(why.line)
-    print('\n'.join(Explained(words, why).explain()))
+    print('\n'.join(restored_line(line, texts) for line in Explained(words, why).explain()))
     return WRONG

@@ -3,6 +3,7 @@ pickers."""
 
 from html import escape
 from math import comb
+from urllib.parse import quote
 
 from . import drawing
 from .output import name_of
@@ -56,7 +57,7 @@ def price(orders, capacity):
 
 
 def place_of(wave, batch):
-    return 'cart-%s-%d' % (wave.name, batch.number)
+    return 'cart-%s-%d' % (quote(wave.name, safe=''), batch.number)
 
 
 def state_of(wave):

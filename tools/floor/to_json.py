@@ -1,12 +1,14 @@
 """Writes what a plan printed as one JSON object.
 
-usage: tools/wave to-json DAY > day.json
+usage: tools/wave to-json [--names FILE] DAY > day.json
 
 DAY is the output of `waveplan plan`, or - for standard input. The object has `journal`, `waves` with their batches,
 tours, picks and certificates, `refills`, `stock`, and `crew` where the day has one; each pick has its place in the
 walk, and each batch its `rules`, and each wave its `root`, where they are told. Of a day that goes on from a store the
 journal and the stock are of all runs, and the rest of the last one. Nothing here is proved; the output that it reads
 is.
+
+With --names, the file of `tools/wave import`, the texts of before stand in the place of names.
 
 Status: 0, or 2 where DAY is no output of a plan, with the reason on standard error.
 """
@@ -17,6 +19,7 @@ import sys
 from endings import RIGHT, Trouble, Words, tell_usage
 from opinion import json_text
 
+from .names import restored
 from .output import read_output
 
 
@@ -66,6 +69,7 @@ def object_of(day):
 
 def asked_words(words):
     known = Words('to-json')
+    known.add_argument('--names')
     known.add_argument('day', nargs='?')
     return known.read(words)
 
@@ -74,6 +78,6 @@ def main(words):
     asked = asked_words(words)
     if asked.help or not asked.day:
         return tell_usage(__doc__, asked)
-    json.dump(object_of(read_output(asked.day)), sys.stdout, separators=(',', ':'))
+    json.dump(object_of(restored(read_output(asked.day), asked.names)), sys.stdout, separators=(',', ':'))
     print()
     return RIGHT

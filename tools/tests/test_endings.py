@@ -162,6 +162,10 @@ def odd_words(name):
             ['--columns', 'x'], ['--columns', 'location='], ['--columns', 'nothing=a'], ['--sides', 'a=b'],
             ['--location', '('], ['--location', '{aisle}'],
             ['--location', '{aisle}{slot}{side}['], ['--encoding', 'utf-16'], ['--encoding', 'x'],
+            ['--location', '{aisle}-{slot}-{side}-{1}'], ['--location', '{aisle}-{slot}', '--sides', 'all=L'],
+            ['--aisles', 'A=' + MOST_DIGITS], ['--aisles', 'A=0'], ['--letters', '--take-dates', '--all'],
+            ['--names', '/'], ['--names', 'day.txt'], ['--names', 'nul.csv'], ['--names', 'nowhere/names.csv'],
+            ['-o', '/'], ['-o', 'nowhere/x'], ['-o', '/dev/full'], ['-o', ''],
             ['--separator', 'tab'], ['--skip', '9' * 4000],
             ['--skip-last', '9' * 30], ['--decimal', '.', '--skip', '1'])],
         'confirm': [['day.txt', *more] for more in (['W2'], ['W1', '9' * 30], ['W1', 'x'], ['W1', MOST_DIGITS],
@@ -169,8 +173,9 @@ def odd_words(name):
                                                     ['W1', '--earlier', 'alone.txt'], ['W1', '--earlier'])],
         'sheets': [['--layout', layout, *more] for layout in ('layout.json', 'nowhere', '/', 'day.txt') for more in (
             ['day.txt', '--drawing', 'W1', 'x'], ['day.txt', '--drawing', 'W2', '1'], ['day.txt', '--drawing', 'W1'],
-            ['/'])],
+            ['/'], ['day.txt', '--names', 'nowhere'], ['day.txt', '--names', 'nul.csv'])],
         'to-csv': [['day.txt', folder] for folder in ('/dev/null/x', 'day.txt', '', '/proc/x')],
+        'to-json': [['day.txt', '--names', names] for names in ('nowhere', '/', 'stock.csv', 'nul.csv')],
         'compare': [['day.txt', other] for other in ('/', 'nowhere', '/dev/null', 'layout.json')],
         'explain': [['plan', *PLAN, '--units', MOST_DIGITS], ['plan', *PLAN, '--budget', '+' + MOST_DIGITS],
                     ['make', '--number', MOST_DIGITS],
@@ -189,7 +194,8 @@ class Floor(unittest.TestCase):
 
     @classmethod
     def setUpClass(cls):
-        cls.folder = runs.put(Path(runs.shelf().name) / 'endings', {**FILES, 'alone.txt': '\n'.join(by_hand.ALONE)})
+        cls.folder = runs.put(Path(runs.shelf().name) / 'endings', {
+            **FILES, 'alone.txt': '\n'.join(by_hand.ALONE), 'nul.csv': 'name,text\nA,%s\0\n' % ('a' * 200000)})
 
     def judge(self, name, words, given=b'', due=None, **how):
         """Runs a script, and tests how it ends."""
@@ -198,7 +204,7 @@ class Floor(unittest.TestCase):
         self.assertIn(status, (due,) if due else (endings.RIGHT, endings.WRONG, endings.REFUSED, endings.UNWRITTEN),
                       (name, words, told[:500]))
         is_help = status == endings.REFUSED and told.startswith(entry.module_of(name).__doc__[:40])
-        is_list = name == 'import' and status == endings.WRONG
+        is_list = name == 'import' and status in (endings.RIGHT, endings.WRONG, endings.REFUSED)
         self.assertTrue(is_help or is_list or told.count('\n')
                         == (status in (endings.REFUSED, *range(endings.UNWRITTEN, 200))), (name, words, told[:500]))
         self.assertNotIn('Traceback', told)
@@ -385,7 +391,7 @@ def waiting_in(pipe):
 class Processes(unittest.TestCase):
     """All scripts as processes of their own, beside each other: real devices, and a signal."""
 
-    NAMES = ('wave', 'documents', *entry.SUBCOMMANDS, *HOSTILE, *('hostile/' + name for name in HOSTILE))
+    NAMES = ('wave', 'documents', 'keep-store', *entry.SUBCOMMANDS, *HOSTILE, *('hostile/' + name for name in HOSTILE))
 
     def ended(self, name, more, **how):
         words = [str(runs.TOOLS / name), *more]
