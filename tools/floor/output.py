@@ -46,10 +46,6 @@ class Wave:
         self.cost, self.bound, self.units = facts['cost'], facts['bound'], facts.get('units')
         self.batches, self.certificate, self.root = [], None, None
 
-    def gap(self):
-        """By how many percent a better batching could be cheaper at most."""
-        return 100 * (self.cost - self.bound) / self.cost if self.cost else 0.0
-
     def orders(self):
         return [order for batch in self.batches for order in batch.orders]
 
