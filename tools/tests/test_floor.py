@@ -218,7 +218,7 @@ class Shown(unittest.TestCase):
     def test_the_object_has_rules_pickers_and_brackets(self):
         shown = json.loads(runs.script('to-json', '-', given='\n'.join(by_hand.PAIR).encode()).output)
         self.assertEqual({'name': 'return', 'length': 38, 'surplus': 12}, shown['waves'][0]['batches'][0]['rules'][1])
-        self.assertEqual({'longest': 26, 'least': 26, 'pickers': [{'number': 1, 'load': 26, 'batches': ['W1/1']}, {'number': 2, 'load': 22, 'batches': ['W1/2']}]}, shown['crew'])
+        self.assertEqual({'longest': 26, 'least': 26, 'pickers': [{'picker': 1, 'load': 26, 'batches': ['W1/1']}, {'picker': 2, 'load': 22, 'batches': ['W1/2']}]}, shown['crew'])
         plain = json.loads(runs.script('to-json', '-', given='\n'.join(by_hand.plain(by_hand.PAIR)).encode()).output)
         self.assertEqual({'low': 1800, 'high': 2880, 'over': 60, 'state': 'open'}, shown['waves'][0]['root'])
         self.assertEqual(set(), {'rules', 'root', 'crew'} & {*plain, *plain['waves'][0], *plain['waves'][0]['batches'][0]})
@@ -286,7 +286,7 @@ class GoingOn(unittest.TestCase):
 
 class Helping(unittest.TestCase):
     def test_each_script_says_how_it_is_used(self):
-        for name in ('sheets', 'to-csv', 'to-json', 'compare', 'import', 'explain', 'continue', 'confirm', 'closing-stock', 'second-opinion'):
+        for name in ('sheets', 'to-csv', 'to-json', 'from-json', 'compare', 'import', 'explain', 'continue', 'confirm', 'closing-stock', 'second-opinion'):
             done = runs.script(name, '--help')
             self.assertEqual((0, ''), (done.status, done.errors), name)
             self.assertRegex(done.output, '(?s)usage: tools/%s.*(?:not|[Nn]othing).*proved' % name)
