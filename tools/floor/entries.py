@@ -1,5 +1,7 @@
 """The commands and replies of a journal, parted into fields with names, and put together again."""
 
+import re
+
 # The fields behind the word of each command and of each reply, and behind the reason of each refusal.
 COMMANDS = {
     'submit': ('wave', 'orders'), 'allot': ('wave',), 'release': ('wave',), 'cancel': ('wave',),
@@ -16,16 +18,26 @@ REFUSALS = {
     'short': ('article', 'wanted', 'free'), 'picking': (), 'not-held': ('location',), 'too-much': ('held',), 'no-row': (),
     'other-article': ('article',), 'too-many': ('on_hand',),
 }
+LOCATION = re.compile('[0-9]{1,5}-[0-9]{1,5}-[LR]')
 WHOLE = ('quantity', 'order_count', 'units', 'wanted', 'free', 'held', 'on_hand')
 
 
 def _fields(names, words):
-    """Some words as fields. Those of a kind that isn't known here stand in a list."""
+    """Some words as fields. Those of a kind that isn't known here stand in a list. Fails where words of a known kind aren't
+    as they should be."""
     if names and names[-1] == 'orders' and words:
         return dict(zip(names, [*words[:len(names) - 1], words[len(names) - 1:]]))
-    if names is None or len(names) != len(words):
+    if names is None:
         return {'arguments': words}
-    return {name: int(word) if name in WHOLE else word for name, word in zip(names, words)}
+    if len(names) != len(words):
+        raise ValueError('%d words where %s are due' % (len(words), ' '.join(names) or 'none'))
+    return {name: _value(name, word) for name, word in zip(names, words)}
+
+
+def _value(name, word):
+    if name == 'location' and not LOCATION.fullmatch(word):
+        raise ValueError('%s is no location' % word)
+    return int(word) if name in WHOLE else word
 
 
 def _words(names, fields):

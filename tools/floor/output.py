@@ -3,6 +3,7 @@ a store the journal and the stock are of the whole history, and sheets, refills 
 
 from collections import namedtuple
 
+from . import entries
 from .trouble import Trouble, read_bytes
 
 Entry = namedtuple('Entry', 'number desk command reply')  # the command and the reply are lists of words
@@ -133,6 +134,7 @@ class _Reader:
         if not arrow:
             raise ValueError
         number, desk, *command = told.split(' ')
+        entries.command_of(command), entries.reply_of(reply.split(' '))
         self.day.entries.append(Entry(int(number), int(desk), command, reply.split(' ')))
 
     def wave(self, text, words):
