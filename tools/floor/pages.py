@@ -66,9 +66,9 @@ def of_totals(day, told):
              ('carts', thousands(len(batches))), ('length of the tours', length(total, told.unit)), ('lines', thousands(lines)),
              ('units', thousands(sum(pick.quantity for batch in batches for pick in batch.picks)))]
     facts += [length_of_line(total, lines, told.unit)] if lines else []
-    facts += [('by the rule ' + escape(name), '%s, %s more' % (length(long, told.unit), percent(long - toured, toured))) for name, long, toured in of_each_rule(day)]
     apart = '<p class="facts">Waves that were cancelled later don\'t count in these figures.</p>' if len(waves) < len(day.waves) else ''
-    return '<div class="totals">%s</div>%s' % (''.join('<div>%s<b>%s</b></div>' % fact for fact in facts), apart) if batches else ''
+    boxes = ''.join('<div>%s<b>%s</b></div>' % fact for fact in facts)
+    return '<div class="totals">%s</div>%s%s' % (boxes, apart, of_rules(day, told)) if batches else ''
 
 
 def of_waves(day, told):
@@ -88,9 +88,9 @@ def of_each_rule(day):
     return [(name, long, toured) for name, long in walks.items()]
 
 
-def of_rules(day):
+def of_rules(day, told):
     rows = [(cell(escape(name)), number(long), number(long - toured), cell(percent(long - toured, toured), 'right')) for name, long, toured in of_each_rule(day)]
-    return '<h2>By usual rules</h2>' + table(('rule', '>length of all walks', '>longer than the tours by', '>that is'), rows) if rows else ''
+    return '<h2>By usual rules</h2>' + table(('rule', '>' + length_of('walk', told), '>longer than the tours by', '>that is'), rows) if rows else ''
 
 
 def of_roots(day):
@@ -164,7 +164,7 @@ def of_planner(day, told, omitted=None):
     head = '<h1>%s</h1><p class="facts">%s; %s.</p>' % (
         escape(told.name), escape(told.run), 'lengths in %s' % escape(told.unit) if told.unit else 'lengths in the unit of the layout file')
     return '<section>%s%s</section>' % (head, ''.join((of_omitted(omitted), of_totals(day, told), waves, of_earlier(day), of_short(day), of_refused(day),
-                                                       of_rules(day), of_roots(day), of_loads(day, told), of_carts(day, told))))
+                                                       of_roots(day), of_loads(day, told), of_carts(day, told))))
 
 
 def of_refills(day, told):

@@ -270,7 +270,8 @@ class Planner(unittest.TestCase):
 
     def test_rules_and_carts_by_length(self):
         page = sheets(written('pair.txt', by_hand.PAIR))
-        self.assertIn('<div>by the rule return<b>60, 25.0\u202f% more</b></div>', page)
+        told = page.split('class="totals"')[1].split('<h2>')[1]
+        self.assertIn('<td>return</td><td class="right">60</td><td class="right">12</td><td class="right">25.0\u202f%</td>', told)
         self.assertEqual(['W1/1</a> 26', 'W1/2</a> 22'], re.findall(r'<li><a href="#cart-W1-\d">(.*?)</li>', page))
 
     def test_the_day_is_that_of_the_file(self):
