@@ -62,11 +62,16 @@ CERTIFICATES = {
 
 # What Python's reader of JSON says, in other words.
 JSON_FAULTS = {
-    "Expecting ',' delimiter": 'a comma is missing here, or a bracket', "Expecting ':' delimiter": 'a colon is missing behind a key',
-    'Expecting property name enclosed in double quotes': 'a key in double quotes is due here: a comma is too many, or the quotes are not straight',
-    'Expecting value': 'a value is due here: a comma is too many, or something stands here that is no number, text, list or object',
-    'Extra data': 'something stands behind the end', 'Unterminated string starting at': 'the quote that is opened here is not closed',
-    'Illegal trailing comma before end of object': 'this comma is too many', 'Illegal trailing comma before end of array': 'this comma is too many',
+    "Expecting ',' delimiter": 'a comma is missing here, or a bracket',
+    "Expecting ':' delimiter": 'a colon is missing behind a key',
+    'Expecting property name enclosed in double quotes':
+        'a key in double quotes is due here: a comma is too many, or the quotes are not straight',
+    'Expecting value':
+        'a value is due here: a comma is too many, or something stands here that is no number, text, list or object',
+    'Extra data': 'something stands behind the end',
+    'Unterminated string starting at': 'the quote that is opened here is not closed',
+    'Illegal trailing comma before end of object': 'this comma is too many',
+    'Illegal trailing comma before end of array': 'this comma is too many',
 }
 
 
@@ -108,15 +113,18 @@ def _place(text, place):
 
 def of_spacings(value, aisles):
     """What is wrong with the list of spacings: what it is, how many there are, or one of them."""
-    wrong = [(place, each) for place, each in enumerate(value, 1) if type(each) is not int] if isinstance(value, list) else []
-    if not isinstance(value, list) or wrong:
-        told = 'number %d of them is %s, which is no whole number' % (wrong[0][0], as_json(wrong[0][1])) if wrong else 'it is no list'
-        return told, 'whole numbers in brackets with commas between them, as [300,300]'
+    cure = 'whole numbers in brackets with commas between them, as [300,300]'
+    if not isinstance(value, list):
+        return 'it is no list', cure
+    wrong = [(place, as_json(each)) for place, each in enumerate(value, 1) if type(each) is not int]
+    if wrong:
+        return 'number %d of them is %s, which is no whole number' % wrong[0], cure
     if len(value) != aisles - 1:
         return ('there are %d spacings, and between %d aisles there are %d' % (len(value), aisles, aisles - 1),
                 'give one less than there are aisles, or correct the aisles')
     place, each = next((place, each) for place, each in enumerate(value, 1) if not 1 <= each <= 10000)
-    return 'number %d of them is %d, which is not in the range 1 to 10,000' % (place, each), 'correct it; perhaps in a larger unit of length, for all lengths'
+    return ('number %d of them is %d, which is not in the range 1 to 10,000' % (place, each),
+            'correct it; perhaps in a larger unit of length, for all lengths')
 
 
 def of_journal(data, line):
@@ -130,7 +138,8 @@ def of_journal(data, line):
         return 'it is a file of %s' % named[0], 'name the output of a plan'
     if line == '1' and first.startswith(('refused ', 'read fault ')):
         return 'the plan was refused, and printed no journal', 'explain the words of that plan'
-    return 'it is not the entry with the next number', 'it was changed, left out or cut: take the output as it was printed'
+    return ('it is not the entry with the next number',
+            'it was changed, left out or cut: take the output as it was printed')
 
 
 def field_name(file, record, field):
@@ -223,11 +232,14 @@ def of_location(text):
         for sign in letter[1].upper():
             number = 26 * number + ord(sign) - 64
         return ('its aisle is a letter, and it has no side',
-                'a location is an aisle, a slot and a side, all as 3-17-L: aisles are numbers, so write %d for %s; the side is L or R; where the last number is '
-                'a level, its rows are joined into one. tools/import reads other forms of the three with --location' % (number, letter[1]))
+                'a location is an aisle, a slot and a side, as 3-17-L: aisles are numbers, so write %d for %s; the '
+                'side is L or R; where the last number is a level, its rows are joined into one. tools/import reads other '
+                'forms of the three with --location'
+                % (number, letter[1]))
     if re.fullmatch(r'\d+-\d+(-\d+)?', text):
         return 'it has no side', 'write L or R behind the aisle and the slot, as 3-17-L'
-    return 'it is not of the form 3-17-L: aisle, slot, side', 'write it so; tools/import reads other forms with --location'
+    return ('it is not of the form 3-17-L: aisle, slot, side',
+            'write it so; tools/import reads other forms with --location')
 
 
 def of_number(text):

@@ -80,7 +80,8 @@ def held_after(held, wave, commands):
 
 
 def held_of(day, name, batch, commands):
-    """What a wave, or one of its batches, still holds after some commands. Fails where there is no such wave to be picked."""
+    """What a wave, or one of its batches, still holds after some commands. Fails where there is no such wave to be
+    picked."""
     wave = day.wave(name)
     if wave.cancelled:
         raise Trouble('wave %s was cancelled later, and holds nothing' % wave.name)

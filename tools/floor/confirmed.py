@@ -31,7 +31,8 @@ def read_confirmed(path):
     rows = _rows(path)
     heading = [cell.lower() for cell in rows[0][1]] if rows else []
     if not set(COLUMNS) <= set(heading):
-        raise Trouble('%s has the heading "%s"; it should have wave,order,location,quantity' % (path, ','.join(heading)))
+        raise Trouble('%s has the heading "%s"; it should have wave,order,location,quantity'
+                      % (path, ','.join(heading)))
     places, found = [heading.index(column) for column in COLUMNS], {}
     for line, cells in rows[1:]:
         wave, order, location, units = (cells[place] if place < len(cells) else '' for place in places)

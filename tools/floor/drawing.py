@@ -10,10 +10,12 @@ LETTERS = 14  # how high numbers are: 7 points and more on a page of A4, which s
 HIGH_TAG, DOT = 15, 2.8  # the height of a stop's number with its ground, and the radius of its dots
 STEPS = (1, 2, 5, 10, 20, 50)  # every which aisle or slot has its number
 
-STYLE = ('<style>.aisle{stroke:#d5d5d5;stroke-width:6}.cross{stroke:#e6e6e6;stroke-width:3}.tick{stroke:#999;stroke-width:1}'
-         '.way{fill:none;stroke:#1463b0;stroke-width:1.8;stroke-linejoin:round}.head{fill:#1463b0}.stop{fill:#000}.lead{stroke:#000;stroke-width:.8}'
+STYLE = ('<style>.aisle{stroke:#d5d5d5;stroke-width:6}.cross{stroke:#e6e6e6;stroke-width:3}'
+         '.tick{stroke:#999;stroke-width:1}.way{fill:none;stroke:#1463b0;stroke-width:1.8;stroke-linejoin:round}'
+         '.head{fill:#1463b0}.stop{fill:#000}.lead{stroke:#000;stroke-width:.8}'
          '.tag{fill:#fff;stroke:#000;stroke-width:1}.depot{fill:#111}'
-         'text{font-family:Arial,Helvetica,sans-serif;font-size:%dpx;text-anchor:middle}.slot{text-anchor:end}.slot,.num{fill:#333}.n{font-weight:700}</style>' % LETTERS)
+         'text{font-family:Arial,Helvetica,sans-serif;font-size:%dpx;text-anchor:middle}'
+         '.slot{text-anchor:end}.slot,.num{fill:#333}.n{font-weight:700}</style>' % LETTERS)
 
 
 class Scale:
@@ -25,7 +27,8 @@ class Scale:
         wide = (WIDE - LEFT - RIGHT) / across if across else 0
         self.high = min(max(self.deep * wide, LOW), HIGH - TOP - BOTTOM) if across else HIGH - TOP - BOTTOM
         self.height = self.high + TOP + BOTTOM
-        self.places = [LEFT + layout.across(aisle) * wide if wide else WIDE / 2 for aisle in range(1, layout.aisles + 1)]
+        self.places = [LEFT + layout.across(aisle) * wide if wide else WIDE / 2
+                       for aisle in range(1, layout.aisles + 1)]
 
     def x(self, aisle):
         return self.places[aisle - 1]
@@ -70,8 +73,8 @@ def _touches(scale, left, right):
 
 
 def numbered(layout):
-    """The aisles whose numbers are shown: all, every second, every fifth and so on, of which no two touch; where none of these serves, one after
-    another as there is room."""
+    """The aisles whose numbers are shown: all, every second, every fifth and so on, of which no two touch; where none
+    of these serves, one after another as there is room."""
     scale = scale_of(layout)
     for step in STEPS:
         aisles = _every(step, layout.aisles)
@@ -87,14 +90,16 @@ def _ticks(layout):
     """The slots whose numbers are shown: the first, the last, and some between, as there is room."""
     room = scale_of(layout).high / (LETTERS + 2)
     step = next(step for step in STEPS if layout.slots / step <= min(12, room))
-    return sorted({1, *range(step, layout.slots - step // 2, step), layout.slots}) if step > 1 else list(range(1, layout.slots + 1))
+    between = range(step, layout.slots - step // 2, step) if step > 1 else range(1, layout.slots)
+    return sorted({1, *between, layout.slots})
 
 
 def block(layout):
     """The aisles of a layout with their numbers, which all its drawings share."""
     scale, end = scale_of(layout), layout.slots + 1
     parts = [_line('cross', scale.point((1, slot)), scale.point((layout.aisles, slot))) for slot in (0, end)]
-    parts += [_line('aisle', scale.point((aisle, 0)), scale.point((aisle, end))) for aisle in range(1, layout.aisles + 1)]
+    parts += [_line('aisle', scale.point((aisle, 0)), scale.point((aisle, end)))
+              for aisle in range(1, layout.aisles + 1)]
     for aisle in numbered(layout):
         parts += [_text('num', scale.x(aisle), y, aisle) for y in (scale.y(end) - 20, scale.y(0) + 33)]
     for slot in _ticks(layout):
@@ -155,14 +160,16 @@ class Ground:
         if left < self.left or right > WIDE - 1 or top < self.low or low > self.high:
             return False
         bands = range(int(top // HIGH_TAG), int(low // HIGH_TAG) + 1)
-        return not any(left < box[2] and box[0] < right and top < box[3] and box[1] < low for band in bands for box in self.bands.get(band, ()))
+        return not any(left < box[2] and box[0] < right and top < box[3] and box[1] < low for band in bands
+                       for box in self.bands.get(band, ()))
 
     def take(self, *box):
         for band in range(int(box[1] // HIGH_TAG), int(box[3] // HIGH_TAG) + 1):
             self.bands.setdefault(band, []).append(box)
 
     def place(self, x, y, wide, is_left):
-        """Where a number of a width stands that belongs to a point: beside it where there is room, else as near as there is."""
+        """Where a number of a width stands that belongs to a point: beside it where there is room, else as near as
+        there is."""
         for across, down in OFFSETS:
             middle, line = x + (-across if is_left else across), y + down
             box = (middle - wide / 2, line - HIGH_TAG / 2, middle + wide / 2, line + HIGH_TAG / 2)
@@ -172,7 +179,8 @@ class Ground:
         return x, y
 
 
-# Where a number is tried, from its point: the nearest first, where a step up or down, or to the side without a dot, counts as two.
+# Where a number is tried, from its point: the nearest first, where a step up or down, or to the side without a dot,
+# counts as two.
 OFFSETS = sorted(((across, down) for across in range(-240, 241, 5) for down in range(-440, 441, 4)),
                  key=lambda it: (it[0] if it[0] > 0 else 5 - 2 * it[0]) + 2 * abs(it[1]))
 
@@ -185,24 +193,29 @@ def _dots(scale, point, sides):
 
 def _tag(x, y, number, wide):
     """The number of a stop, on a ground of its own."""
-    ground = '<rect class="tag" x="%.1f" y="%.1f" width="%.1f" height="%d" rx="3"/>' % (x - wide / 2, y - HIGH_TAG / 2, wide, HIGH_TAG)
+    ground = '<rect class="tag" x="%.1f" y="%.1f" width="%.1f" height="%d" rx="3"/>' % (
+        x - wide / 2, y - HIGH_TAG / 2, wide, HIGH_TAG)
     return ground + '<text class="n" x="%.1f" y="%.1f">%d</text>' % (x, y + 0.36 * LETTERS, number)
 
 
 def tags(layout, walk):
-    """Where the stops of a batch in walking order have their dots and their numbers: for each its dots, and the middle and the width of its number."""
+    """Where the stops of a batch in walking order have their dots and their numbers: for each its dots, and the middle
+    and the width of its number."""
     scale, found = scale_of(layout), []
-    ground, dots = Ground(scale), [_dots(scale, point, sorted({pick.location[-1] for pick in picks})) for point, picks in walk]
+    ground, dots = Ground(scale), [_dots(scale, point, sorted({pick.location[-1] for pick in picks}))
+                                   for point, picks in walk]
     for x, y in (dot for some in dots for dot in some):
         ground.take(x - DOT, y - DOT, x + DOT, y + DOT)
     for number, ((point, _), some) in enumerate(zip(walk, dots), 1):
         wide = wide_of(number) + 6
-        found.append((some, ground.place(*scale.point(point), wide, some[0][0] < scale.x(point[0]) and len(some) == 1), wide))
+        is_left = len(some) == 1 and some[0][0] < scale.x(point[0])
+        found.append((some, ground.place(*scale.point(point), wide, is_left), wide))
     return found
 
 
 def stops(layout, walk):
-    """The stops of a batch in walking order, numbered from 1, each with a line to its number where that doesn't stand beside it."""
+    """The stops of a batch in walking order, numbered from 1, each with a line to its number where that doesn't stand
+    beside it."""
     below, above = [], []
     for number, (dots, (x, y), wide) in enumerate(tags(layout, walk), 1):
         below += ['<circle class="stop" cx="%.1f" cy="%.1f" r="%s"/>' % (*dot, DOT) for dot in dots]

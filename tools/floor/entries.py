@@ -13,9 +13,11 @@ REPLIES = {
     'refilled': ('quantity',), 'lost': ('article', 'quantity'),
 }
 REFUSALS = {
-    'no-orders': (), 'wave-full': ('order_count',), 'known-wave': (), 'unknown-order': ('order',), 'order-twice': ('order',),
+    'no-orders': (), 'wave-full': ('order_count',), 'known-wave': (), 'unknown-order': ('order',),
+    'order-twice': ('order',),
     'order-taken': ('order', 'wave'), 'over-cart': ('order', 'units'), 'unknown-wave': (), 'wrong-state': ('state',),
-    'short': ('article', 'wanted', 'free'), 'picking': (), 'not-held': ('location',), 'too-much': ('held',), 'no-row': (),
+    'short': ('article', 'wanted', 'free'), 'picking': (), 'not-held': ('location',), 'too-much': ('held',),
+    'no-row': (),
     'other-article': ('article',), 'too-many': ('on_hand',),
 }
 LOCATION = re.compile('[0-9]{1,5}-[0-9]{1,5}-[LR]')
@@ -23,8 +25,8 @@ WHOLE = ('quantity', 'order_count', 'units', 'wanted', 'free', 'held', 'on_hand'
 
 
 def _fields(names, words):
-    """Some words as fields. Those of a kind that isn't known here stand in a list. Fails where words of a known kind aren't
-    as they should be."""
+    """Some words as fields. Those of a kind that isn't known here stand in a list. Fails where words of a known kind
+    aren't as they should be."""
     if names and names[-1] == 'orders' and words:
         return dict(zip(names, [*words[:len(names) - 1], words[len(names) - 1:]]))
     if names is None:
@@ -59,7 +61,8 @@ def reply_of(words):
 def line_of(entry):
     """The line of an entry that was parted into fields."""
     command, reply = entry['command'], entry['reply']
-    told = [str(entry['entry']), str(entry['desk']), command['word'], *_words(COMMANDS.get(command['word'], ()), command)]
+    told = [str(entry['entry']), str(entry['desk']), command['word'],
+            *_words(COMMANDS.get(command['word'], ()), command)]
     if reply['word'] == 'refused':
         answer = ['refused', reply['reason'], *_words(REFUSALS.get(reply['reason'], ()), reply)]
     else:

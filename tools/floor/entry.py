@@ -15,7 +15,8 @@ from pathlib import Path
 from . import trouble
 
 SUBCOMMANDS = {'import': 'import_table', 'explain': 'explain', 'sheets': 'sheets', 'continue': 'continue_day', 'confirm': 'confirm',
-               'closing-stock': 'closing_stock', 'to-csv': 'to_csv', 'to-json': 'to_json', 'from-json': 'from_json', 'compare': 'compare', 'second-opinion': 'second_opinion'}
+               'closing-stock': 'closing_stock', 'to-csv': 'to_csv', 'to-json': 'to_json', 'from-json': 'from_json',
+               'compare': 'compare', 'second-opinion': 'second_opinion'}
 
 
 def module_of(name):

@@ -225,7 +225,7 @@ class Explained:
     def of_store_record(self):
         self.say('record', '%s, counted from 0: %s' % (self.parts[3], shown(self.why.text.rstrip(b'\n'))))
         if self.parts[3] == '0':
-            return self.cause('it is no line of a journal: the file is no store of a day, or one whose beginning was changed',
+            return self.cause('it is no line of a journal: the file is no store of a day, or its beginning was changed',
                               'keep a copy of the file, and look what it is; begin in another folder')
         told = 'it is not the line of the entry of this number' if self.why.text.endswith(b'\n') else 'it has no line feed at its end'
         self.cause(told + ': something else than the program wrote it, or changed it',
@@ -260,11 +260,13 @@ def line_of(data, record):
 
 
 def of_no_store():
-    """What is to be said of a store without a record, though there is a file: a run takes it as an empty one, and writes over it."""
+    """What is to be said of a store without a record, though there is a file: a run takes it as an empty one, and
+    writes over it."""
     data = bytes_of_store()
     if data and not stores.records(data) and data != stores.CLOSED:
         yield 'file     %s' % os.path.abspath(stores.NAME)
-        yield 'beware   it has %d bytes and no record of a store: a run takes it as an empty store, and writes over it' % len(data)
+        yield ('beware   it has %d bytes and no record of a store: a run takes it as an empty store, and writes over it'
+               % len(data))
         yield 'cure     look what it is; move it away, or run in another folder'
 
 

@@ -25,7 +25,8 @@ def lines_of_batch(batch):
     for pick in sorted(batch['picks'], key=lambda it: (place_of(it['location']), batch['orders'].index(it['order']))):
         yield 'pick %s %s %d %s' % (pick['location'], pick['article'], pick['quantity'], pick['order'])
     if 'rules' in batch:
-        yield 'rules %s' % ' '.join('%s %d %d' % (rule['name'], rule['length'], rule['surplus']) for rule in batch['rules'])
+        yield 'rules %s' % ' '.join('%s %d %d' % (rule['name'], rule['length'], rule['surplus'])
+                                    for rule in batch['rules'])
 
 
 def lines_of_wave(wave):
@@ -73,7 +74,7 @@ def read_object(path):
         raise Trouble('%s is no JSON: %s' % (path, why)) from None
     told = found.get('format') if isinstance(found, dict) else None
     if told != FORMAT:
-        raise Trouble('%s has %s where "format": "%s" is due: it is of to-json of another version, or of another program'
+        raise Trouble('%s has %s where "format": "%s" is due: it is of another version of to-json, or no object of it'
                       % (path, '"format": %s' % json.dumps(told) if told is not None else 'no "format"', FORMAT))
     return found
 

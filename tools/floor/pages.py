@@ -4,7 +4,7 @@ from html import escape
 from math import comb
 
 from . import drawing
-from .cart_pages import Told, of_batch, place_of
+from .cart_pages import Told, of_batch, place_of, told_unit
 from .figures import hundredths, length, length_of_line, percent, thousands
 from .look import SCRIPT, STYLE
 from .output import name_of
@@ -36,7 +36,8 @@ def bar(value, most):
 
 def table(headings, rows, cls='names'):
     heads = ''.join('<th%s>%s</th>' % (' class="right"' if head.startswith('>') else '', head.lstrip('>')) for head in headings)
-    return '<table class="%s"><thead><tr>%s</tr></thead><tbody>%s</tbody></table>' % (cls, heads, ''.join('<tr>%s</tr>' % ''.join(row) for row in rows))
+    body = ''.join('<tr>%s</tr>' % ''.join(row) for row in rows)
+    return '<table class="%s"><thead><tr>%s</tr></thead><tbody>%s</tbody></table>' % (cls, heads, body)
 
 
 def price(orders, capacity):
@@ -47,7 +48,8 @@ def price(orders, capacity):
 def state_of(wave):
     told = 'proven: no way to put its orders into carts is shorter'
     if wave.state != 'proven':
-        told = 'open: a better one may be there. A budget of %s pays for a node of its tree' % thousands(price(wave.size, wave.capacity))
+        budget = thousands(price(wave.size, wave.capacity))
+        told = 'open: a better one may be there. A budget of %s pays for a node of its tree' % budget
     return told + ('. <b>Cancelled later</b>' if wave.cancelled else '')
 
 
@@ -62,18 +64,27 @@ def of_totals(day, told):
     batches = [batch for wave in waves for batch in wave.batches]
     total, lines = sum(batch.length for batch in batches), sum(len(batch.picks) for batch in batches)
     proven = sum(wave.state == 'proven' for wave in waves)
-    facts = [('waves proven', '%d of %d, %s' % (proven, len(waves), percent(proven, len(waves)))), ('orders', thousands(sum(wave.size for wave in waves))),
-             ('carts', thousands(len(batches))), ('length of the tours', length(total, told.unit)), ('lines', thousands(lines)),
+    facts = [('waves proven', '%d of %d, %s' % (proven, len(waves), percent(proven, len(waves)))),
+             ('orders', thousands(sum(wave.size for wave in waves))), ('carts', thousands(len(batches))),
+             ('length of the tours', length(total, told.unit)), ('lines', thousands(lines)),
              ('units', thousands(sum(pick.quantity for batch in batches for pick in batch.picks)))]
     facts += [length_of_line(total, lines, told.unit)] if lines else []
-    apart = '<p class="facts">Waves that were cancelled later don\'t count in these figures.</p>' if len(waves) < len(day.waves) else ''
+    apart = '<p class="facts">Waves that were cancelled later don\'t count in these figures.</p>'
     boxes = ''.join('<div>%s<b>%s</b></div>' % fact for fact in facts)
+    apart = apart if len(waves) < len(day.waves) else ''
     return '<div class="totals">%s</div>%s%s' % (boxes, apart, of_rules(day, told)) if batches else ''
 
 
-def of_waves(day, told):
-    rows = [(cell('<a href="#%s">%s</a>' % (place_of(wave, wave.batches[0]), escape(wave.name)) if wave.batches and not wave.cancelled else escape(wave.name), 'name'),
-             number(wave.size), number(len(wave.batches)), number(wave.cost), number(wave.bound), cell(percent(wave.cost - wave.bound, wave.cost) or percent(0, 1), 'right'), cell(state_of(wave)))
+def link_of(wave):
+    """The name of a wave, with a way to its first page where it has one."""
+    if wave.cancelled or not wave.batches:
+        return escape(wave.name)
+    return '<a href="#%s">%s</a>' % (place_of(wave, wave.batches[0]), escape(wave.name))
+
+
+def of_waves(day):
+    rows = [(cell(link_of(wave), 'name'), number(wave.size), number(len(wave.batches)), number(wave.cost),
+             number(wave.bound), cell(percent(wave.cost - wave.bound, wave.cost or 1), 'right'), cell(state_of(wave)))
             for wave in day.waves]
     return table(('wave', '>orders', '>carts', '>length', '>bound', '>gap at most', 'state'), rows)
 
@@ -89,18 +100,22 @@ def of_each_rule(day):
 
 
 def of_rules(day, told):
-    rows = [(cell(escape(name)), number(long), number(long - toured), cell(percent(long - toured, toured), 'right')) for name, long, toured in of_each_rule(day)]
-    return '<h2>By usual rules</h2>' + table(('rule', '>' + length_of('walk', told), '>longer than the tours by', '>that is'), rows) if rows else ''
+    rows = [(cell(escape(name)), number(long), number(long - toured), cell(percent(long - toured, toured), 'right'))
+            for name, long, toured in of_each_rule(day)]
+    heads = ('rule', '>' + length_of('walk', told), '>longer than the tours by', '>that is')
+    return '<h2>By usual rules</h2>' + table(heads, rows) if rows else ''
 
 
 def of_roots(day):
-    """Between what the linear bound of each wave lies, from its low side rounded down to its high side rounded up: nothing where the search ended before."""
+    """Between what the linear bound of each wave lies, from its low side rounded down to its high side rounded up:
+    nothing where the search ended before."""
     rows = []
     for wave in (wave for wave in day.waves if wave.root):
         low, high, over, state = wave.root
-        sides = [hundredths(100 * low // over), hundredths(-(-100 * high // over))] if state == 'narrow' else ['&ndash;', '&ndash;']
-        rows.append((cell(escape(wave.name), 'name'), *(cell(side, 'right') for side in sides),
-                     cell('narrow' if state == 'narrow' else '%s: the search ended before it told anything' % escape(state))))
+        sides, state = [hundredths(100 * low // over), hundredths(-(-100 * high // over))], escape(state)
+        if state != 'narrow':
+            sides, state = ['&ndash;', '&ndash;'], state + ': the search ended before it told anything'
+        rows.append((cell(escape(wave.name), 'name'), *(cell(side, 'right') for side in sides), cell(state)))
     return '<h2>Linear bounds</h2>' + table(('wave', '>at least', '>at most', 'state'), rows) if rows else ''
 
 
@@ -111,7 +126,8 @@ def of_refused(day):
 
 
 def of_short(day):
-    """The articles that a wave lacks: the last refusal of each wave that didn't get its stock later, and what was lost of waves that go on."""
+    """The articles that a wave lacks: the last refusal of each wave that didn't get its stock later, and what was lost
+    of waves that go on."""
     given_up, short = cancelled(day), {}
     for entry in day.entries:
         if entry.reply[:2] == ['refused', 'short']:
@@ -119,15 +135,18 @@ def of_short(day):
             short[entry.command[1]] = (article, number(wanted), number(free), number(wanted - free))
         elif entry.reply in (['allotted'], ['released']):
             short.pop(entry.command[1], None)
-    rows = [(cell(escape(wave), 'name'), cell(escape(article), 'name'), *told) for wave, (article, *told) in short.items() if wave not in given_up]
-    rows += [(cell(escape(entry.command[1]), 'name'), cell(escape(entry.reply[1]), 'name'), number(int(entry.reply[2])), cell('lost', 'right'), number(int(entry.reply[2])))
+    rows = [(cell(escape(wave), 'name'), cell(escape(article), 'name'), *told)
+            for wave, (article, *told) in short.items() if wave not in given_up]
+    rows += [(cell(escape(entry.command[1]), 'name'), cell(escape(entry.reply[1]), 'name'),
+              number(int(entry.reply[2])), cell('lost', 'right'), number(int(entry.reply[2])))
              for entry in day.entries if entry.reply[0] == 'lost' and entry.command[1] not in given_up]
     return '<h2>Short articles</h2>' + table(('wave', 'article', '>wanted', '>free', '>lacking'), rows) if rows else ''
 
 
 def of_earlier(day):
     """The waves that went out in earlier runs over the same store."""
-    names = ['%s%s' % (escape(name), ' (<b>cancelled later</b>)' if is_cancelled else '') for name, is_cancelled in day.earlier().items()]
+    names = ['%s%s' % (escape(name), ' (<b>cancelled later</b>)' if is_cancelled else '')
+             for name, is_cancelled in day.earlier().items()]
     return '<p class="facts">Went out in earlier runs, which have printed their sheets: %s.</p>' % ', '.join(names) if names else ''
 
 
@@ -135,7 +154,8 @@ def of_loads(day, told):
     """A bar for the load of each picker."""
     if not day.crew:
         return ''
-    rows = [(cell('picker %d' % each.number), number(each.load), bar(each.load, day.crew.longest)) for each in day.crew.pickers]
+    rows = [(cell('picker %d' % each.number), number(each.load), bar(each.load, day.crew.longest))
+            for each in day.crew.pickers]
     return '<h2>Loads of the pickers</h2>' + table(('picker', '>' + length_of('load', told), ''), rows, 'loads')
 
 
@@ -145,8 +165,10 @@ def length_of(word, told):
 
 def of_carts(day, told):
     """The carts that are walked, the longest first."""
-    carts = sorted(((batch.length, name_of(wave, batch), place_of(wave, batch)) for wave in walked(day) for batch in wave.batches), key=lambda it: -it[0])
-    rows = ''.join('<li><a href="#%s">%s</a> %s</li>' % (place, escape(name), thousands(long)) for long, name, place in carts)
+    carts = sorted(((batch.length, name_of(wave, batch), place_of(wave, batch)) for wave in walked(day)
+                    for batch in wave.batches), key=lambda it: -it[0])
+    rows = ''.join('<li><a href="#%s">%s</a> %s</li>' % (place, escape(name), thousands(long))
+                   for long, name, place in carts)
     return '<h2>Carts by %s</h2><ol class="carts">%s</ol>' % (length_of('length', told), rows) if rows else ''
 
 
@@ -155,31 +177,38 @@ def of_omitted(omitted):
     if not omitted:
         return ''
     void = ' These pages of it are void: %s.' % escape(', '.join(omitted.void)) if omitted.void else ''
-    return '<p class="facts"><b>%d carts</b> have no page here: those of %s still hold.%s</p>' % (len(omitted.same), escape(omitted.path), void)
+    return '<p class="facts"><b>%d carts</b> have no page here: those of %s still hold.%s</p>' % (
+        len(omitted.same), escape(omitted.path), void)
 
 
 def of_planner(day, told, omitted=None):
     """The first page."""
-    waves = of_waves(day, told) if day.waves else '<p>No wave went out%s.</p>' % (' in this run' if day.earlier() else '')
-    head = '<h1>%s</h1><p class="facts">%s; %s.</p>' % (
-        escape(told.name), escape(told.run), 'lengths in %s' % escape(told.unit) if told.unit else 'lengths in the unit of the layout file')
-    return '<section>%s%s</section>' % (head, ''.join((of_omitted(omitted), of_totals(day, told), waves, of_earlier(day), of_short(day), of_refused(day),
-                                                       of_roots(day), of_loads(day, told), of_carts(day, told))))
+    none = '<p>No wave went out%s.</p>' % (' in this run' if day.earlier() else '')
+    waves = of_waves(day) if day.waves else none
+    head = '<h1>%s</h1><p class="facts">%s; %s.</p>' % (escape(told.name), escape(told.run), told_unit(told))
+    parts = (of_omitted(omitted), of_totals(day, told), waves, of_earlier(day), of_short(day), of_refused(day),
+             of_roots(day), of_loads(day, told), of_carts(day, told))
+    return '<section>%s%s</section>' % (head, ''.join(parts))
 
 
 def of_refills(day, told):
     """The page of units that are held elsewhere than the sheets say and are still to be picked."""
     rows = []
     for left in left_refills(day):
-        cart = name_of(left.wave, left.batch) if left.wave else escape(left.refill.wave) + ' (its sheet is of an earlier run)'
-        picker = told.pickers.get(cart, '') if left.wave else ''
-        rows.append((cell(left.refill.location, 'name big'), cell(escape(left.article), 'name'), cell(thousands(left.units), 'right big'), cell(escape(left.refill.order), 'name'),
-                     cell('<a href="#%s">%s</a>' % (place_of(left.wave, left.batch), escape(cart)) if left.wave else cart), cell(picker, 'right'),
-                     cell('<input type="checkbox">')))
+        cart, picker = escape(left.refill.wave) + ' (its sheet is of an earlier run)', ''
+        if left.wave:
+            name = name_of(left.wave, left.batch)
+            cart = '<a href="#%s">%s</a>' % (place_of(left.wave, left.batch), escape(name))
+            picker = told.pickers.get(name, '')
+        rows.append((cell(left.refill.location, 'name big'), cell(escape(left.article), 'name'),
+                     cell(thousands(left.units), 'right big'), cell(escape(left.refill.order), 'name'),
+                     cell(cart), cell(picker, 'right'), cell('<input type="checkbox">')))
     head = ('<h1>Refills</h1><p class="facts">%s</p><p class="fields"><span>Name</span><span>Time</span></p>'
-            '<p class="facts">These units were missing where a sheet says; as many are held here in their stead, and are still to be picked.</p>' % escape(told.run))
+            '<p class="facts">These units were missing where a sheet says; as many are held here in their stead, '
+            'and are still to be picked.</p>' % escape(told.run))
     heads = ('location', 'article', '>take', 'order', 'wave and cart', '>picker', 'done')
-    return '<section data-key="%s/refills">%s%s</section>' % (escape(told.name), head, table(heads, rows)) if rows else ''
+    body = head + table(heads, rows)
+    return '<section data-key="%s/refills">%s</section>' % (escape(told.name), body) if rows else ''
 
 
 def of_crew(day, told):
@@ -189,9 +218,11 @@ def of_crew(day, told):
     rows = [(number(each.number), number(each.load), cell(', '.join(
         '<a href="#%s">%s</a>' % (pages[name], escape(name)) if name in pages else escape(name) + ' (cancelled later)' for name in each.batches)))
         for each in day.crew.pickers]
-    text = '<p class="facts">%s</p><p class="facts">The longest load is %s; no way to deal these carts to as many pickers has one below %s.</p>' % (
+    text = ('<p class="facts">%s</p><p class="facts">The longest load is %s; no way to deal these carts to as many '
+            'pickers has one below %s.</p>') % (
         escape(told.run), thousands(day.crew.longest), thousands(day.crew.least))
-    return '<section><h1>Pickers</h1>%s%s</section>' % (text, table(('>picker', '>' + length_of('load', told), 'wave and cart'), rows))
+    heads = ('>picker', '>' + length_of('load', told), 'wave and cart')
+    return '<section><h1>Pickers</h1>%s%s</section>' % (text, table(heads, rows))
 
 
 def told_of(day, name, run, unit=None, codes=False):
@@ -200,8 +231,10 @@ def told_of(day, name, run, unit=None, codes=False):
 
 
 def of_day(layout, day, told, wanted=None, omitted=None):
-    """The whole file, piece by piece. Waves that were cancelled later have no pages. Where carts are wanted these alone are there, without other pages."""
-    yield ('<!DOCTYPE html>\n<html lang="en"><head><meta charset="utf-8"><meta name="viewport" content="width=device-width,initial-scale=1">'
+    """The whole file, piece by piece. Waves that were cancelled later have no pages. Where carts are wanted these
+    alone are there, without other pages."""
+    yield ('<!DOCTYPE html>\n<html lang="en"><head><meta charset="utf-8">'
+           '<meta name="viewport" content="width=device-width,initial-scale=1">'
            '<title>%s</title><style>%s</style></head><body>\n' % (escape(told.name), STYLE))
     yield '<svg width="0" height="0" style="position:absolute" aria-hidden="true">%s<defs><g id="block">%s</g></defs></svg>\n' % (
         drawing.STYLE, drawing.block(layout))

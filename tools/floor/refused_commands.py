@@ -11,7 +11,8 @@ from .trouble import read_bytes
 REASONS = {
     'no-orders': ('no order is named', 'name 1 to 64 orders behind the wave'),
     'wave-full': ('{order_count} orders are named, and a wave has at most 64', 'divide them among waves'),
-    'known-wave': ('a wave of that name is there', 'take another name: one is used once a day, also where its wave was cancelled'),
+    'known-wave': ('a wave of that name is there',
+                   'take another name: one is used once a day, also where its wave was cancelled'),
     'unknown-order': ('the order file has no order {order}', 'correct the name, or add the order to the order file'),
     'order-twice': ('{order} is named twice', 'name it once'),
     'order-taken': ('{order} lies in wave {wave}, which is not cancelled', 'leave it out, or cancel that wave first'),
@@ -20,12 +21,15 @@ REASONS = {
     'unknown-wave': ('no wave {wave} was submitted', 'submit it first, or correct its name'),
     'wrong-state': ('wave {wave} is {state}', ''),
     'short': ('the orders of {wave} want {wanted} of {article} together, and {free} are free',
-              'receive units, or cancel a wave that holds some, and give the command again; or submit the other orders alone'),
-    'picking': ('a unit of {wave} was picked already', 'pick what is left, or tell it missing: it is too late to cancel the wave'),
-    'not-held': ('the wave holds nothing for {order} at {location}', 'take an order and a location of its sheet or of the refills'),
+              'receive units, or cancel a wave that holds some, and give it again; or submit the other orders alone'),
+    'picking': ('a unit of {wave} was picked already',
+                'pick what is left, or tell it missing: it is too late to cancel the wave'),
+    'not-held': ('the wave holds nothing for {order} at {location}',
+                 'take an order and a location of its sheet or of the refills'),
     'too-much': ('{held} are held there for {order}, and {quantity} were told',
-                 'tell at most {held}: what was told missing is not picked too, and tools/confirm --after leaves it out'),
-    'no-row': ('the stock file has no record for {location}', 'add one with 0 units to the stock file with which the day began'),
+                 'tell at most {held}: what was told missing is not picked too; tools/confirm --after leaves it out'),
+    'no-row': ('the stock file has no record for {location}',
+               'add one with 0 units to the stock file with which the day began'),
     'other-article': ('the row at {location} is of {article}', 'correct the location or the article'),
     'too-many': ('{on_hand} are on hand at {location}, and a row has at most 1,000,000', 'receive fewer units there'),
 }
@@ -41,7 +45,8 @@ def is_done(entry):
 
 
 def last_before(entries, entry, wave, words, done=True):
-    """The last entry before one whose command is one of some words for a wave, of those that were done or were refused."""
+    """The last entry before one whose command is one of some words for a wave, of those that were done or were
+    refused."""
     found = [each for each in entries[:entry.number]
              if each.command[0] in words and each.command[1:2] == [wave] and is_done(each) == done]
     return found[-1] if found else None
@@ -77,7 +82,8 @@ def explained(entries, entry, orders):
     """The lines that explain one refused command."""
     fields, reason = {**command_of(entry.command), **reply_of(entry.reply)}, entry.reply[1]
     known = REASONS if 'arguments' not in fields else {}
-    cause, cure = known.get(reason, ('this script does not know the command or the reason', 'look it up in docs/FORMATS.md'))
+    unknown = ('this script does not know the command or the reason', 'look it up in docs/FORMATS.md')
+    cause, cure = known.get(reason, unknown)
     yield 'entry    %d, desk %d: %s -> %s' % (entry.number, entry.desk, ' '.join(entry.command), ' '.join(entry.reply))
     yield 'cause    %s%s' % (cause.format_map(fields), told_before(entries, entry, reason))
     if reason == 'unknown-order' and closest(entry.reply[2], {order for order, _, _ in orders}):
@@ -87,13 +93,16 @@ def explained(entries, entry, orders):
     later = [each for each in entries[entry.number + 1:] if each.command == entry.command and is_done(each)]
     if later:
         yield 'later    entry %d was answered %s' % (later[0].number, ' '.join(later[0].reply))
-    yield 'cure     %s' % (CURES_OF_STATE.get(fields.get('state'), 'see docs/RULES.md') if reason == 'wrong-state' else cure.format_map(fields))
+    if reason == 'wrong-state':
+        cure = CURES_OF_STATE.get(fields.get('state'), 'see docs/RULES.md')
+    yield 'cure     %s' % cure.format_map(fields)
 
 
 def lines_of_orders(path):
     """The lines of an order file that are whole: an order, an article and the units."""
-    found = [record.fields for record in tables.records(read_bytes(path))]
-    texts = [[field.decode('utf-8', 'replace') for field in fields] for fields in found if len(fields) == 3 and tables.NUMBER.fullmatch(fields[2])]
+    rows = [record.fields for record in tables.records(read_bytes(path))]
+    whole = [fields for fields in rows if len(fields) == 3 and tables.NUMBER.fullmatch(fields[2])]
+    texts = [[field.decode('utf-8', 'replace') for field in fields] for fields in whole]
     return [(order, article, int(units)) for order, article, units in texts]
 
 

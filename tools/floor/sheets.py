@@ -1,24 +1,26 @@
-"""Makes sheets for pickers of what a plan printed: one HTML file, to be looked at in any browser or on a phone, and to be printed on A4.
+"""Makes sheets for pickers of what a plan printed: one HTML file, for any browser or phone, and to be printed on A4.
 
 usage: tools/wave sheets --layout FILE [options] DAY > day.html
        tools/wave sheets --layout FILE --drawing WAVE BATCH DAY > tour.svg
 
-DAY is the output of `waveplan plan`, or - for standard input, and FILE the layout file of that day. The first page is for the planner: the day, its
-totals, each wave with its cost, its bound and how far the two are apart, short articles, refused commands with their reasons, what usual rules would
-walk, where it was planned with --rules, between what its linear bounds lie, where it was planned with --root, the load of each picker, where it was
-planned with --pickers, and the carts by length. Then come the pickers with their carts, the refills that are still to be picked, and pages for each cart:
-who walks it, its orders, a drawing of its tour, and its picks in the order of the walk, each with a box to tick. A browser keeps the ticks. Waves that were
-cancelled later have no pages. What was told missing is marked at its pick, with the place in its stead. Of a day that goes on from a store there are pages
-of what went out in the last run; the first page names the waves of earlier runs, and those of them that were cancelled later.
+DAY is the output of `waveplan plan`, or - for standard input, and FILE the layout file of that day. The first page is
+for the planner: the day, its totals, each wave with its cost, its bound and how far the two are apart, short articles,
+refused commands with their reasons, what usual rules would walk, where it was planned with --rules, between what its
+linear bounds lie, where it was planned with --root, the load of each picker, where it was planned with --pickers, and
+the carts by length. Then come the pickers with their carts, the refills that are still to be picked, and pages for each
+cart: who walks it, its orders, a drawing of its tour, and its picks in the order of the walk, each with a box to tick.
+A browser keeps the ticks. Waves that were cancelled later have no pages. What was told missing is marked at its pick,
+with the place in its stead. Of a day that goes on from a store there are pages of what went out in the last run; the
+first page names the waves of earlier runs, and those of them that were cancelled later.
 
-  --unit UNIT      the unit of length of the layout file, as cm; of mm, cm, dm and m the planner's page tells metres a line
+  --unit UNIT      the unit of length of the layout file, as cm; of mm, cm, dm and m metres a line are told
   --day NAME       the name of the day on its pages, the date of the run where it isn't said
   --run TEXT       when the plan was run, the time at which DAY was written where it isn't said
   --codes          bar codes of the location and the article beside each pick, Code 128
   --wave W         the carts of this wave alone, without the first pages
   --cart K         with --wave, this cart of it alone
-  --since DAY      leaves out the carts whose pages this earlier output of the day has too, and names those of its pages that are void now
-  --earlier DAY    of a day with a store the output of an earlier run, whose carts have pages then too; may stand more than once
+  --since DAY      leaves out the carts whose pages this earlier output of the day has too, and names its void pages
+  --earlier DAY    of a day with a store the output of an earlier run, whose carts have pages too; as often as needed
   --drawing W K    the drawing of one cart alone, as SVG
 
 Lines of kinds that this script doesn't know are passed over. Nothing here is proved; the output that it reads is.
@@ -88,7 +90,8 @@ def main(words):
     if asked.drawing:
         print(drawing.drawing(layout, batch_of(day, *asked.drawing)))
         return 0
-    wanted, omitted = wanted_of(day, asked), unchanged(asked.since, read_output(asked.since), day) if asked.since else None
+    wanted = wanted_of(day, asked)
+    omitted = unchanged(asked.since, read_output(asked.since), day) if asked.since else None
     sys.stdout.reconfigure(encoding='utf-8')
     sys.stdout.writelines(list(pages.of_day(layout, day, told_of(day, asked), wanted, omitted)))
     return 0

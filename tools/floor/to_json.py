@@ -22,7 +22,8 @@ FORMAT = 'waveplan 1'
 
 
 def entry_of(entry):
-    return {'entry': entry.number, 'desk': entry.desk, 'command': command_of(entry.command), 'reply': reply_of(entry.reply)}
+    return {'entry': entry.number, 'desk': entry.desk, 'command': command_of(entry.command),
+            'reply': reply_of(entry.reply)}
 
 
 def batch_of(batch):
@@ -33,7 +34,8 @@ def batch_of(batch):
 
 
 def wave_of(wave):
-    found = {'wave': wave.name, 'entry': wave.entry, 'order_count': wave.size, 'capacity': wave.capacity, 'cost': wave.cost,
+    found = {'wave': wave.name, 'entry': wave.entry, 'order_count': wave.size, 'capacity': wave.capacity,
+             'cost': wave.cost,
              'bound': wave.bound, 'state': wave.state, 'cancelled_later': wave.cancelled,
              'batches': [batch_of(batch) for batch in wave.batches],
              'certificate': json.loads(wave.certificate) if wave.certificate else None}

@@ -10,15 +10,20 @@ Unchanged = namedtuple('Unchanged', 'path same void')
 def _page(day, wave, batch, found):
     """All that stands on the page of a cart and may change."""
     told = [(key, tuple(some)) for key, some in found.items() if key[0] == wave.name and key[1] in batch.orders]
-    return batch.length, batch.orders, batch.tour, batch.picks, batch.rules, wave.units, len(wave.batches), day.picker_of().get('%s/%d' % (wave.name, batch.number)), told
+    picker = day.picker_of().get('%s/%d' % (wave.name, batch.number))
+    facts = (wave.units, len(wave.batches), picker, told)
+    return batch.length, batch.orders, batch.tour, batch.picks, batch.rules, facts
 
 
 def _pages(day):
     found = missing(day)
-    return {(wave.name, batch.number): _page(day, wave, batch, found) for wave in day.waves if not wave.cancelled for batch in wave.batches}
+    return {(wave.name, batch.number): _page(day, wave, batch, found) for wave in day.waves if not wave.cancelled
+            for batch in wave.batches}
 
 
 def unchanged(path, earlier, day):
-    """The carts of a day whose pages an earlier output has, and the names of that output's carts that are no longer there, or are others now."""
+    """The carts of a day whose pages an earlier output has, and the names of that output's carts that are no longer
+    there, or are others now."""
     old, new = _pages(earlier), _pages(day)
-    return Unchanged(path, {key for key in new if old.get(key) == new[key]}, ['%s/%d' % key for key in old if old[key] != new.get(key)])
+    return Unchanged(path, {key for key in new if old.get(key) == new[key]},
+                     ['%s/%d' % key for key in old if old[key] != new.get(key)])

@@ -40,7 +40,8 @@ ALONE = [
 NOBODY = ['journal', 'end journal', 'refills', 'end refills', 'crew longest 0 least 0', 'picker 1 load 0 batches', 'end crew',
           'stock', '1-1-L D 5 5 0', '1-4-L A 5 5 0', '2-4-L B 5 5 0', '3-1-L C 5 5 0', 'end stock', 'end', '']
 
-# Units are missing and held elsewhere: of W1 three, of which one is picked since and one is missing again, and one is lost; of W2, which is cancelled later.
+# Units are missing and held elsewhere: of W1 three, of which one is picked since and one is missing again, and one is
+# lost; of W2, which is cancelled later.
 # W3 is short at first and goes out later; W4 stays short.
 MISSING = [
     'journal',

@@ -1,4 +1,5 @@
-"""Tests of what is explained of places in files, of bytes that a terminal would obey, of stores, and of commands that a journal has refused."""
+"""Tests of what is explained of places in files, of bytes that a terminal would obey, of stores, and of commands that
+a journal has refused."""
 
 import re
 import unittest
@@ -14,7 +15,8 @@ SECOND = '{"version":2,"aisles":3,"slots":4,"pitch":2,"clearance":1,"spacings":[
 
 # A layout, and words of what is explained.
 LAYOUTS = [
-    ('{\n "version":1,\n "aisles":3 "slots":4}', ['place    line 3, column 13:  "aisles":3 "slots":4}', 'a comma is missing here']),
+    ('{\n "version":1,\n "aisles":3 "slots":4}',
+     ['place    line 3, column 13:  "aisles":3 "slots":4}', 'a comma is missing here']),
     (LAYOUT.replace('}', ',}'), ['place    line 1, column 81', 'a comma is too many']),
     (LAYOUT + '}', ['place    line 1, column 81', 'something stands behind the end']),
     (LAYOUT.replace('"', '\u201c'), ['line 1, column 2', 'the quotes are not straight']),
@@ -23,7 +25,8 @@ LAYOUTS = [
     (LAYOUT.replace('3', '1e999'), ['a number beyond all numbers']),
     (SECOND.replace('[5,5]', '[5,5,5]'), ['there are 3 spacings, and between 3 aisles there are 2']),
     (SECOND.replace('[5,5]', '[5,20000]'), ['number 2 of them is 20000, which is not in the range 1 to 10,000']),
-    (SECOND.replace('[5,5]', '[5,"12"]'), ['key      spacings: [5, "12"]', 'number 2 of them is "12", which is no whole number']),
+    (SECOND.replace('[5,5]', '[5,"12"]'),
+     ['key      spacings: [5, "12"]', 'number 2 of them is "12", which is no whole number']),
     (SECOND.replace('[5,5]', '7'), ['it is no list']),
     (LAYOUT.replace('"aisles":3', '"aisles":"12"'), ['key      aisles: "12"']),
     (LAYOUT.replace('"aisles":3', '"aisles":true'), ['key      aisles: true']),
@@ -31,7 +34,8 @@ LAYOUTS = [
 ]
 
 # A text in place of a location, and words of what is explained.
-LOCATIONS = [('A-01-03', 'its aisle is a letter, and it has no side'), ('C-01-03', 'write 3 for C'), ('AA.1.3', 'write 27 for AA'), ('01-03', 'it has no side'),
+LOCATIONS = [('A-01-03', 'its aisle is a letter, and it has no side'), ('C-01-03', 'write 3 for C'),
+             ('AA.1.3', 'write 27 for AA'), ('01-03', 'it has no side'),
              ('1-1-X', 'aisle, slot, side')]
 
 
@@ -77,7 +81,9 @@ class Explained(unittest.TestCase):
     def test_a_store_that_is_no_journal(self):
         store = b'\x01\x00\x00\x00\x1e0 1 submit W1 O1 -> submitted\n\x00'
         words = 'audit --layout layout.json --stock stock.csv --orders orders.csv --journal'.split()
-        for name, data, told in (('waveplan.store', store, 'it is the store of a day'), ('j', STOCK, 'it is a file of stock'), ('j', 'read fault stock\n', 'the plan was refused')):
+        for name, data, told in (('waveplan.store', store, 'it is the store of a day'),
+                                 ('j', STOCK, 'it is a file of stock'),
+                                 ('j', 'read fault stock\n', 'the plan was refused')):
             done = self.explained({name: data}, [*words, name])
             self.holds_with_the_program(done, [*words, name])
             self.assertIn(told, done.output)
@@ -88,21 +94,25 @@ class Explained(unittest.TestCase):
         (self.folder / 'waveplan.store').write_bytes(b'hello')
         done = runs.script('explain', *PLAN, '--store', '1', folder=self.folder)
         self.assertEqual(0, done.status)
-        self.assertIn('it has 5 bytes and no record of a store: a run takes it as an empty store, and writes over it', done.output)
+        self.assertIn('it has 5 bytes and no record of a store: a run takes it as an empty store, and writes over it',
+                      done.output)
         runs.waveplan(*PLAN, '--store', '1', folder=self.folder)
         self.assertNotIn(b'hello', (self.folder / 'waveplan.store').read_bytes())
 
 
 class Journals(unittest.TestCase):
     def journal(self, text, *more, **files):
-        folder = runs.put(Path(runs.shelf().name) / 'journal', {'day.txt': text, **{name + '.csv': told for name, told in files.items()}})
+        folder = runs.put(Path(runs.shelf().name) / 'journal',
+                          {'day.txt': text, **{name + '.csv': told for name, told in files.items()}})
         return runs.script('explain', 'journal', 'day.txt', *more, folder=folder)
 
     def test_each_refused_command_has_its_cause_and_cure(self):
-        done = self.journal('\n'.join(by_hand.MISSING), '--orders', 'orders.csv', orders='order,article,quantity\nO3,B,3\nO3,B,1\nO3,A,7\nO4,C,9\nO1,B,5\n')
+        done = self.journal('\n'.join(by_hand.MISSING), '--orders', 'orders.csv',
+                            orders='order,article,quantity\nO3,B,3\nO3,B,1\nO3,A,7\nO4,C,9\nO1,B,5\n')
         told = done.output.split('\n\n')
         self.assertEqual((1, '', 3), (done.status, done.errors, len(told)))
-        self.assertEqual(['entry    10, desk 1: release W3 -> refused short B 4 2', 'cause    the orders of W3 want 4 of B together, and 2 are free',
+        self.assertEqual(['entry    10, desk 1: release W3 -> refused short B 4 2',
+                          'cause    the orders of W3 want 4 of B together, and 2 are free',
                           'orders   O3 wants 4', 'later    entry 12 was answered released'], told[0].splitlines()[:4])
         self.assertIn('1 are held there for O2, and 9 were told', told[1])
         self.assertIn('O4 wants 9', told[2])
@@ -118,11 +128,14 @@ class Journals(unittest.TestCase):
         self.assertIn('does not know', self.journal(REFUSALS.replace('refused known-wave', 'refused later B')).output)
 
     def test_what_stands_before_is_named(self):
-        text = REFUSALS.split('0 1 submit')[0] + ('0 1 submit W1 O1 -> submitted\n1 1 submit W2 O1 -> refused order-taken O1 W1\n2 1 release W2 -> refused unknown-wave\n'
-                                                  '3 1 submit W1 O2 -> refused known-wave\n4 1 release W1 -> released\n5 1 allot W1 -> refused wrong-state released\n'
-                                                  '6 1 submit W3 O11 -> refused unknown-order O11\nend journal\n') + REFUSALS.split('end journal\n')[1]
+        lines = ['0 1 submit W1 O1 -> submitted', '1 1 submit W2 O1 -> refused order-taken O1 W1',
+                 '2 1 release W2 -> refused unknown-wave', '3 1 submit W1 O2 -> refused known-wave',
+                 '4 1 release W1 -> released', '5 1 allot W1 -> refused wrong-state released',
+                 '6 1 submit W3 O11 -> refused unknown-order O11']
+        text = '\n'.join(['journal', *lines, 'end journal', 'refills', 'end refills', 'stock', 'end stock', 'end', ''])
         told = self.journal(text, '--orders', 'orders.csv', orders=ORDERS).output
-        for line in ('no wave W2 was submitted: entry 1 would have, and was refused too', 'a wave of that name is there, since entry 0',
+        for line in ('no wave W2 was submitted: entry 1 would have, and was refused too',
+                     'a wave of that name is there, since entry 0',
                      'wave W1 is released, since entry 4', 'perhaps  O1'):
             self.assertIn(line, told)
 

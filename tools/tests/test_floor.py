@@ -79,7 +79,8 @@ class Sheets(unittest.TestCase):
         self.assertNotIn('Short articles', self.page)  # the wave had its drum later
 
     def test_it_needs_no_other_file_and_no_network(self):
-        self.assertIsNone(re.search(r'(?:src|href)="(?!#)|url\(|@import|fetch|XMLHttp|https?:(?!//www\.w3\.org/2000/svg")', self.page))
+        network = r'(?:src|href)="(?!#)|url\(|@import|fetch|XMLHttp|https?:(?!//www\.w3\.org/2000/svg")'
+        self.assertIsNone(re.search(network, self.page))
 
     def test_each_drawing_is_well_formed(self):
         drawings = re.findall(r'<svg xmlns.*?</svg>', self.page)
@@ -176,7 +177,8 @@ class Shown(unittest.TestCase):
         folder = runs.put(Path(runs.shelf().name) / 'shown', {'day.txt': '\n'.join(by_hand.PAIR), 'layout.json': by_hand.LAYOUT})
         page = sheets(folder / 'day.txt', folder / 'layout.json').output
         for text in ('s-shape 26 (0 longer), return 38 (12 longer), largest-gap 26 (0 longer)', '<h2>By usual rules</h2>',
-                     '<td>return</td><td class="right">60</td><td class="right">12</td><td class="right">25.0\u202f%</td>', 'The longest load is 26; ',
+                     '<td>return</td><td class="right">60</td><td class="right">12</td>'
+                     '<td class="right">25.0\u202f%</td>', 'The longest load is 26; ',
                      '<td class="right">2</td><td class="right">22</td><td><a href="#cart-W1-2">W1/2</a></td>'):
             self.assertIn(text, page)
         self.assertIn('Walked by picker <b>2</b>', page.split('Wave W1, cart 2 of 2')[1])
@@ -188,10 +190,13 @@ class Shown(unittest.TestCase):
     def test_brackets_are_shown(self):
         thirds = '\n'.join(by_hand.PAIR).replace('1800 2880 over 60 open', '290000 290001 over 3 narrow')
         folder = runs.put(Path(runs.shelf().name) / 'brackets', {'day.txt': '\n'.join(by_hand.PAIR), 'thirds.txt': thirds, 'layout.json': by_hand.LAYOUT})
-        for name, sides, state in (('day.txt', ('&ndash;', '&ndash;'), 'open: the search ended before it told anything'),
+        for name, sides, state in (('day.txt', ('&ndash;', '&ndash;'),
+                                    'open: the search ended before it told anything'),
                                    ('thirds.txt', ('96\u202f666.66', '96\u202f667.00'), 'narrow')):
             page = sheets(folder / name, folder / 'layout.json').output
-            self.assertIn('<tr><td class="name">W1</td>%s<td>%s</td></tr>' % (''.join('<td class="right">%s</td>' % side for side in sides), state), page.split('<h2>Linear bounds</h2>')[1])
+            self.assertIn('<tr><td class="name">W1</td>%s<td>%s</td></tr>'
+                          % (''.join('<td class="right">%s</td>' % side for side in sides), state),
+                          page.split('<h2>Linear bounds</h2>')[1])
 
     def test_brackets_are_told_and_compared(self):
         for lines, due in ((by_hand.PAIR, ['1800', '2880', '60', 'open']), (by_hand.plain(by_hand.PAIR), [''] * 4)):
@@ -218,7 +223,9 @@ class Shown(unittest.TestCase):
     def test_the_object_has_rules_pickers_and_brackets(self):
         shown = json.loads(runs.script('to-json', '-', given='\n'.join(by_hand.PAIR).encode()).output)
         self.assertEqual({'name': 'return', 'length': 38, 'surplus': 12}, shown['waves'][0]['batches'][0]['rules'][1])
-        self.assertEqual({'longest': 26, 'least': 26, 'pickers': [{'picker': 1, 'load': 26, 'batches': ['W1/1']}, {'picker': 2, 'load': 22, 'batches': ['W1/2']}]}, shown['crew'])
+        self.assertEqual({'longest': 26, 'least': 26,
+                          'pickers': [{'picker': 1, 'load': 26, 'batches': ['W1/1']},
+                                      {'picker': 2, 'load': 22, 'batches': ['W1/2']}]}, shown['crew'])
         plain = json.loads(runs.script('to-json', '-', given='\n'.join(by_hand.plain(by_hand.PAIR)).encode()).output)
         self.assertEqual({'low': 1800, 'high': 2880, 'over': 60, 'state': 'open'}, shown['waves'][0]['root'])
         self.assertEqual(set(), {'rules', 'root', 'crew'} & {*plain, *plain['waves'][0], *plain['waves'][0]['batches'][0]})
@@ -286,7 +293,8 @@ class GoingOn(unittest.TestCase):
 
 class Helping(unittest.TestCase):
     def test_each_script_says_how_it_is_used(self):
-        for name in ('sheets', 'to-csv', 'to-json', 'from-json', 'compare', 'import', 'explain', 'continue', 'confirm', 'closing-stock', 'second-opinion'):
+        for name in ('sheets', 'to-csv', 'to-json', 'from-json', 'compare', 'import', 'explain', 'continue', 'confirm',
+                     'closing-stock', 'second-opinion'):
             done = runs.script(name, '--help')
             self.assertEqual((0, ''), (done.status, done.errors), name)
             self.assertRegex(done.output, '(?s)usage: tools/%s.*(?:not|[Nn]othing).*proved' % name)
