@@ -86,7 +86,7 @@ def of_waves(day):
     rows = [(cell(link_of(wave), 'name'), number(wave.size), number(len(wave.batches)), number(wave.cost),
              number(wave.bound), cell(percent(wave.cost - wave.bound, wave.cost or 1), 'right'), cell(state_of(wave)))
             for wave in day.waves]
-    return table(('wave', '>orders', '>carts', '>length', '>bound', '>gap at most', 'state'), rows)
+    return '<h2>Waves</h2>' + table(('wave', '>orders', '>carts', '>length', '>bound', '>gap at most', 'state'), rows)
 
 
 def of_each_rule(day):
