@@ -3,6 +3,8 @@ have."""
 
 from html import escape
 
+from .trouble import Trouble
+
 # Of each value from 0 to 105 the widths of its three bars and three spaces, in turn; the stop sign has one bar more.
 WIDTHS = '''
 212222 222122 222221 121223 121322 131222 122213 122312 132212 221213 221312 231212 112232 122132 122231 113222 123122
@@ -20,6 +22,8 @@ QUIET, HIGH = 10, 32
 
 def widths_of(text):
     """The widths of bars and spaces in turn: the start, a value for each sign, the check, the stop."""
+    if not all(' ' <= sign <= '~' for sign in text):
+        raise Trouble('%s has a sign that no name has, so that it has no bar code' % ascii(text))
     values = [START, *(ord(sign) - 32 for sign in text)]
     check = (START + sum(place * value for place, value in enumerate(values))) % 103
     return ''.join(WIDTHS[value] for value in [*values, check]) + STOP

@@ -40,7 +40,7 @@ def row_of(told, wave, stop, pick, place):
     """The rows of one pick, and how high they are on paper."""
     notes = remark(told.missing, (wave.name, pick.order, pick.location))
     order = '<b>%d</b> %s' % (place, escape(pick.order))
-    cells = (str(stop), pick.location, escape(pick.article), thousands(pick.quantity), order, '<input type="checkbox">')
+    cells = (str(stop), escape(pick.location), escape(pick.article), thousands(pick.quantity), order, '<input type="checkbox">')
     row = ''.join('<td>%s</td>' % cell for cell in cells)
     text = '<tr%s>%s</tr>' % (' class="has-note"' if notes or told.codes else '', row)
     high = max(ROW, LINE * max(lines_of(pick.article, ARTICLE), lines_of(pick.order, ORDER)) + 2.5)

@@ -36,9 +36,16 @@ def _fields(names, words):
     return {name: _value(name, word) for name, word in zip(names, words)}
 
 
-def _value(name, word):
-    if name == 'location' and not LOCATION.fullmatch(word):
+def location_of(word):
+    """A location. Fails where a word is none."""
+    if not LOCATION.fullmatch(word):
         raise ValueError('%s is no location' % word)
+    return word
+
+
+def _value(name, word):
+    if name == 'location':
+        return location_of(word)
     return int(word) if name in WHOLE else word
 
 

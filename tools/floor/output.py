@@ -144,7 +144,7 @@ class _Reader:
         elif words[0] == 'tour':
             wave.batches[-1].tour = [tuple(map(int, point.split('-'))) for point in words[1:]]
         elif words[0] == 'pick':
-            wave.batches[-1].picks.append(Pick(words[1], words[2], int(words[3]), words[4]))
+            wave.batches[-1].picks.append(Pick(entries.location_of(words[1]), words[2], int(words[3]), words[4]))
         elif words[0] == 'rules':
             wave.batches[-1].rules = [Rule(words[place], int(words[place + 1]), int(words[place + 2])) for place in range(1, len(words), 3)]
         elif words[0] == 'certificate':
@@ -154,7 +154,8 @@ class _Reader:
 
     def refills(self, text, words):
         if words[0] == 'refill':
-            self.day.refills.append(Refill(int(words[1]), words[2], words[3], words[4], int(words[5])))
+            location = entries.location_of(words[4])
+            self.day.refills.append(Refill(int(words[1]), words[2], words[3], location, int(words[5])))
 
     def crew(self, text, words):
         if words[0] == 'picker':

@@ -2,6 +2,7 @@
 
 from html import escape
 from math import comb
+from zlib import crc32
 
 from . import drawing
 from .cart_pages import Told, of_batch, place_of, told_unit
@@ -200,15 +201,15 @@ def of_refills(day, told):
             name = name_of(left.wave, left.batch)
             cart = '<a href="#%s">%s</a>' % (place_of(left.wave, left.batch), escape(name))
             picker = told.pickers.get(name, '')
-        rows.append((cell(left.refill.location, 'name big'), cell(escape(left.article), 'name'),
+        rows.append((cell(escape(left.refill.location), 'name big'), cell(escape(left.article), 'name'),
                      cell(thousands(left.units), 'right big'), cell(escape(left.refill.order), 'name'),
                      cell(cart), cell(picker, 'right'), cell('<input type="checkbox">')))
     head = ('<h1>Refills</h1><p class="facts">%s</p><p class="fields"><span>Name</span><span>Time</span></p>'
             '<p class="facts">These units were missing where a sheet says; as many are held here in their stead, '
             'and are still to be picked.</p>' % escape(told.run))
     heads = ('location', 'article', '>take', 'order', 'wave and cart', '>picker', 'done')
-    body = head + table(heads, rows)
-    return '<section data-key="%s/refills">%s</section>' % (escape(told.name), body) if rows else ''
+    key, body = escape(told.name), table(heads, rows)
+    return '<section data-key="%s/refills/%08x">%s%s</section>' % (key, crc32(body.encode()), head, body) if rows else ''
 
 
 def of_crew(day, told):

@@ -23,7 +23,8 @@ def _pages(day):
 
 def unchanged(path, earlier, day):
     """The carts of a day whose pages an earlier output has, and the names of that output's carts that are no longer
-    there, or are others now."""
+    there, or are others now. Carts of an earlier run over the same store hold as long as their waves do."""
     old, new = _pages(earlier), _pages(day)
-    return Unchanged(path, {key for key in new if old.get(key) == new[key]},
-                     ['%s/%d' % key for key in old if old[key] != new.get(key)])
+    held = {name for name, is_cancelled in day.earlier().items() if not is_cancelled}
+    void = ['%s/%d' % key for key in old if old[key] != new.get(key) and key[0] not in held]
+    return Unchanged(path, {key for key in new if old.get(key) == new[key]}, void)

@@ -195,7 +195,7 @@ class Phone(unittest.TestCase):
         day = written('missing.txt', by_hand.MISSING)
         keys = [re.findall('data-key="(.*?)"', sheets(day, '--day', name)) for name in ('Monday', 'Tuesday')]
         self.assertEqual(['Monday/refills', 'Monday/W1/1', 'Monday/W3/1'],
-                         [key.rpartition('/')[0] if 'refills' not in key else key for key in keys[0]])
+                         [key.rpartition('/')[0] for key in keys[0]])
         self.assertFalse(set(keys[0]) & set(keys[1]))
         other = written('other.txt',
                         [line.replace('pick 1-1-L A 3 O1', 'pick 1-1-L A 4 O1') for line in by_hand.MISSING])
@@ -281,10 +281,23 @@ class Some(unittest.TestCase):
     def test_carts_of_an_earlier_run_have_pages_with_its_output(self):
         first = by_hand.MISSING.index('wave W3 entry 12 orders 1 capacity 2 cost 4 bound 4 proven')
         end = by_hand.MISSING.index('end journal')
-        earlier = by_hand.MISSING[:9] + ['end journal'] + by_hand.MISSING[end + 1:first] + by_hand.MISSING[first + 6:]
+        sheets_then = [line.replace(' cancelled later', '') for line in by_hand.MISSING[end + 1:first]]
+        earlier = by_hand.MISSING[:8] + ['end journal'] + sheets_then + by_hand.MISSING[first + 6:]
         later = by_hand.MISSING[:end + 1] + by_hand.MISSING[first:]
-        page = sheets(written('noon.txt', later), '--earlier', written('morning.txt', earlier), '--wave', 'W1')
+        noon, morning = written('noon.txt', later), written('morning.txt', earlier)
+        page = sheets(noon, '--earlier', morning, '--wave', 'W1')
         self.assertEqual(['W1'], re.findall(r'<h1>Wave (\S+), cart', page))
+        page = sheets(noon, '--since', morning)
+        self.assertEqual(['W3'], re.findall(r'<h1>Wave (\S+), cart', page))
+        self.assertIn('These pages of it are void: W2/1.', page)
+
+    def test_what_is_no_location_is_told(self):
+        for text in ('1-1-<script>', '1-1', '1-1-L-L'):
+            lines = [line.replace('pick 1-2-L', 'pick ' + text) for line in by_hand.MISSING]
+            done = runs.script('sheets', '--layout', written('bad.txt', lines).parent / 'layout.json', '-',
+                               given='\n'.join(lines).encode())
+            self.assertEqual((2, ''), (done.status, done.output))
+            self.assertIn('is not as a plan prints it', done.errors)
 
 
 class Planner(unittest.TestCase):
