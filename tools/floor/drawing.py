@@ -12,10 +12,10 @@ STEPS = (1, 2, 5, 10, 20, 50)  # every which aisle or slot has its number
 
 STYLE = ('<style>.aisle{stroke:#d5d5d5;stroke-width:6}.cross{stroke:#e6e6e6;stroke-width:3}'
          '.tick{stroke:#999;stroke-width:1}.way{fill:none;stroke:#1463b0;stroke-width:1.8;stroke-linejoin:round}'
-         '.head{fill:#1463b0}.stop{fill:#000}.lead{stroke:#000;stroke-width:.8}'
+         '.head{fill:#1463b0}.stop{stroke:#000;stroke-width:%s;stroke-linecap:round}.lead{stroke:#000;stroke-width:.8}'
          '.tag{fill:#fff;stroke:#000;stroke-width:1}.depot{fill:#111}'
          'text{font-family:Arial,Helvetica,sans-serif;font-size:%dpx;text-anchor:middle}'
-         '.slot{text-anchor:end}.slot,.num{fill:#333}.n{font-weight:700}</style>' % LETTERS)
+         '.slot{text-anchor:end}.slot,.num{fill:#333}.n{font-weight:700}</style>' % (2 * DOT, LETTERS))
 
 
 class Scale:
@@ -52,6 +52,11 @@ def high_on(layout, wide):
 
 def _line(cls, left, right):
     return '<line class="%s" x1="%.1f" y1="%.1f" x2="%.1f" y2="%.1f"/>' % (cls, *left, *right)
+
+
+def _path(cls, pieces):
+    """Many shapes of one kind as one element, which opens faster than as many."""
+    return '<path class="%s" d="%s"/>' % (cls, ''.join(pieces)) if any(pieces) else ''
 
 
 def _text(cls, x, y, text):
@@ -136,8 +141,8 @@ def _head(left, right):
     if length < 16:
         return ''
     x, y, along, up = (x0 + x1) / 2, (y0 + y1) / 2, (x1 - x0) / length * 5, (y1 - y0) / length * 5
-    return '<path class="head" d="M%.1f %.1fL%.1f %.1fL%.1f %.1fZ"/>' % (x + along, y + up, x - along + up * 0.7, y - up - along * 0.7,
-                                                                       x - along - up * 0.7, y - up + along * 0.7)
+    return 'M%.1f %.1fL%.1f %.1fL%.1f %.1fZ' % (x + along, y + up, x - along + up * 0.7, y - up - along * 0.7,
+                                                x - along - up * 0.7, y - up + along * 0.7)
 
 
 def way(layout, tour):
@@ -146,7 +151,7 @@ def way(layout, tour):
     places = [scale.point(point) for point in corners(tour)]
     pieces = [_aside(left, right) for left, right in zip(places, places[1:])]
     points = ' '.join('%.1f,%.1f' % place for piece in pieces for place in piece)
-    return '<polyline class="way" points="%s"/>' % points + ''.join(_head(*piece) for piece in pieces)
+    return '<polyline class="way" points="%s"/>' % points + _path('head', [_head(*piece) for piece in pieces])
 
 
 class Ground:
@@ -179,10 +184,11 @@ class Ground:
         return x, y
 
 
-# Where a number is tried, from its point: the nearest first, where a step up or down, or to the side without a dot,
-# counts as two.
-OFFSETS = sorted(((across, down) for across in range(-240, 241, 5) for down in range(-440, 441, 4)),
-                 key=lambda it: (it[0] if it[0] > 0 else 5 - 2 * it[0]) + 2 * abs(it[1]))
+# Where a number is tried, from its point, by small steps near it and by large ones far from it: the nearest first, where
+# a step up or down, or to the side without a dot, counts as two.
+NEAR = [(across, down) for across in range(-60, 61, 5) for down in range(-60, 61, 4)]
+FAR = [(across, down) for across in range(-960, 961, 30) for down in range(-448, 449, 16)]
+OFFSETS = sorted({*NEAR, *FAR}, key=lambda it: ((it[0] if it[0] > 0 else 5 - 2 * it[0]) + 2 * abs(it[1]), it))
 
 
 def _dots(scale, point, sides):
@@ -191,11 +197,9 @@ def _dots(scale, point, sides):
     return [(x + (4 if side == 'R' else -4), y) for side in sides]
 
 
-def _tag(x, y, number, wide):
-    """The number of a stop, on a ground of its own."""
-    ground = '<rect class="tag" x="%.1f" y="%.1f" width="%.1f" height="%d" rx="3"/>' % (
-        x - wide / 2, y - HIGH_TAG / 2, wide, HIGH_TAG)
-    return ground + '<text class="n" x="%.1f" y="%.1f">%d</text>' % (x, y + 0.36 * LETTERS, number)
+def _box(x, y, wide):
+    """The ground of a stop's number."""
+    return 'M%.1f %.1fh%.1fv%dh-%.1fz' % (x - wide / 2, y - HIGH_TAG / 2, wide, HIGH_TAG, wide)
 
 
 def tags(layout, walk):
@@ -216,14 +220,15 @@ def tags(layout, walk):
 def stops(layout, walk):
     """The stops of a batch in walking order, numbered from 1, each with a line to its number where that doesn't stand
     beside it."""
-    below, above = [], []
+    leads, points, boxes, numbers = [], [], [], []
     for number, (dots, (x, y), wide) in enumerate(tags(layout, walk), 1):
-        below += ['<circle class="stop" cx="%.1f" cy="%.1f" r="%s"/>' % (*dot, DOT) for dot in dots]
         near = min(dots, key=lambda dot: abs(dot[0] - x))
         if abs(near[1] - y) > 1 or abs(near[0] - x) > wide / 2 + 8:
-            below.append(_line('lead', near, (x, y)))
-        above.append(_tag(x, y, number, wide))
-    return ''.join(below + above)
+            leads.append('M%.1f %.1fL%.1f %.1f' % (*near, x, y))
+        points += ['M%.1f %.1fh0' % dot for dot in dots]
+        boxes.append(_box(x, y, wide))
+        numbers.append(_text('n', x, y + 0.36 * LETTERS, number))
+    return ''.join([_path('lead', leads), _path('stop', points), _path('tag', boxes), *numbers])
 
 
 def drawing(layout, batch, shared=None, titled=''):
