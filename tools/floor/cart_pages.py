@@ -46,12 +46,17 @@ def row_of(told, wave, stop, pick, place):
     high = max(ROW, LINE * max(lines_of(pick.article, ARTICLE), lines_of(pick.order, ORDER)) + 2.5)
     if notes:
         note = '; '.join(notes)
-        text += '<tr class="note%s"><td colspan="6">%s</td></tr>' % (' has-note' if told.codes else '', escape(note))
+        text += '<tr class="note%s"><td colspan="6">%s</td></tr>' % (' has-note' if told.codes else '', _unbroken(escape(note)))
         high += max(NOTE, LINE * lines_of(note, 60) + 2.5)
     if told.codes:
         text += '<tr class="codes"><td colspan="6">%s%s</td></tr>' % (bar_code(pick.location), bar_code(pick.article))
         high += CODES
     return text, high
+
+
+def _unbroken(text):
+    """A text whose locations are broken at no hyphen."""
+    return re.sub(r'\d+-\d+-[LR]', r'<nobr>\g<0></nobr>', text)
 
 
 def sheets_of(rows, first, later):
@@ -125,4 +130,4 @@ def of_batch(layout, told, wave, batch):
         rest = picks_of(some) if some else ''
         pages.append('<div class="page%s">%s%s</div>' % (' again' if page > 1 else '', head, rest))
     key = escape(key_of(told, wave, batch))
-    return '<section class="cart" id="%s" data-key="%s">%s</section>' % (place_of(wave, batch), key, ''.join(pages))
+    return '<section id="%s" class="cart" data-key="%s">%s</section>' % (place_of(wave, batch), key, ''.join(pages))

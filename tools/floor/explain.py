@@ -224,10 +224,10 @@ class Explained:
 
     def of_store_record(self):
         self.say('record', '%s, counted from 0: %s' % (self.parts[3], shown(self.why.text.rstrip(b'\n'))))
-        if self.parts[3] == '0':
-            return self.cause('it is no line of a journal: the file is no store of a day, or its beginning was changed',
-                              'keep a copy of the file, and look what it is; begin in another folder')
         told = 'it is not the line of the entry of this number' if self.why.text.endswith(b'\n') else 'it has no line feed at its end'
+        if self.parts[3] == '0':
+            return self.cause(told + ': the file is no store of a journal, or its beginning was changed',
+                              'keep a copy of the file, and look what it is; begin in another folder')
         self.cause(told + ': something else than the program wrote it, or changed it',
                    'the records before it are right: keep a copy of the file, and look at what changed it')
 

@@ -15,8 +15,8 @@ th{border-bottom:.5mm solid #000;vertical-align:bottom}thead{display:table-heade
 .head .run{grid-column:1/3}.fields{grid-column:1/3;display:flex;gap:6mm;height:9mm;align-items:flex-end}
 .fields span{flex:1;border-bottom:.3mm solid #000}
 .picks{table-layout:fixed}.picks td{word-break:break-all;vertical-align:middle}
-.picks th:nth-child(1){width:13mm}.picks th:nth-child(2){width:30mm}
-.picks th:nth-child(4){width:24mm}.picks th:nth-child(5){width:48mm}.picks th:nth-child(6){width:14mm}
+.picks tr>:nth-child(1){width:13mm}.picks tr>:nth-child(2){width:30mm}
+.picks tr>:nth-child(4){width:24mm}.picks tr>:nth-child(5){width:48mm}.picks tr>:nth-child(6){width:14mm}
 .picks :is(td,th):is(:nth-child(1),:nth-child(4)){text-align:right}
 .picks td:nth-child(2),.picks td:nth-child(4),.big{font-size:14pt;font-weight:700;line-height:1.2}
 .picks .note td{font-size:11pt;font-weight:700;border-bottom-style:dashed;text-align:left;word-break:normal}
@@ -41,10 +41,10 @@ input:checked::after{content:"\\2713";display:block;font:700 16pt/6mm sans-serif
 table:not(.picks){display:block;overflow-x:auto}.carts{columns:1}.picks,.picks tbody{display:block}
 .picks thead{display:none}
 .picks tr{display:grid;grid-template-columns:2.1em 1fr auto 44px;border-bottom:1px solid #888;padding:4px 0}
-.picks .has-note{border-bottom:0}.picks td{border:0!important;padding:1px 4px}
+.picks .has-note{border-bottom:0}.picks tr>td:nth-child(n){width:auto;border:0;padding:1px 4px}
 .picks td:nth-child(3){grid-area:2/2/3/4}.picks td:nth-child(4){grid-area:1/3}
 .picks td:nth-child(5){grid-area:3/2/4/4}.picks td:nth-child(6){grid-area:1/4/4/5;align-self:center}
-.picks .note,.picks .codes{display:block}.picks .codes td{padding-left:2.1em}
+.picks .note,.picks .codes{display:block}.picks .codes>td:first-child{padding-left:2.1em}
 .code{max-width:100%;display:block;margin:10px 0}input{width:36px;height:36px}
 input:checked::after{line-height:32px}}
 @media print{body{margin:0;padding:0;max-width:none}section,.page{break-after:page}

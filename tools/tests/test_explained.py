@@ -90,7 +90,7 @@ class Explained(unittest.TestCase):
         (self.folder / 'waveplan.store').write_bytes(b'\x01\x00\x00\x00\x05hello\x00')
         done = runs.script('explain', *PLAN, '--store', '1', folder=self.folder)
         self.holds_with_the_program(done, [*PLAN, '--store', '1'])
-        self.assertIn('the file is no store of a day', done.output)
+        self.assertIn('the file is no store of a journal', done.output)
         (self.folder / 'waveplan.store').write_bytes(b'hello')
         done = runs.script('explain', *PLAN, '--store', '1', folder=self.folder)
         self.assertEqual(0, done.status)
