@@ -56,7 +56,7 @@ def row_of(told, wave, stop, pick, place):
 
 def _unbroken(text):
     """A text whose locations are broken at no hyphen."""
-    return re.sub(r'\d+-\d+-[LR]', r'<nobr>\g<0></nobr>', text)
+    return re.sub(r'\d+-\d+-[LR]', r'<span class="place">\g<0></span>', text)
 
 
 def sheets_of(rows, first, later):

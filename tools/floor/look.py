@@ -22,7 +22,7 @@ th{border-bottom:.5mm solid #000;vertical-align:bottom}thead{display:table-heade
 .picks .note td{font-size:11pt;font-weight:700;border-bottom-style:dashed;text-align:left;word-break:normal}
 .code path{stroke:#000;stroke-width:32;fill:none}.code{margin-right:4mm}
 .picks .codes td{padding-left:8mm;text-align:left;line-height:0}
-.has-note td{border-bottom:0}
+.has-note td{border-bottom:0}.place{white-space:nowrap}
 input{appearance:none;-webkit-appearance:none;width:7mm;height:7mm;border:.5mm solid #000;border-radius:1mm}
 input{margin:0;background:#fff;vertical-align:top}
 input:checked::after{content:"\\2713";display:block;font:700 16pt/6mm sans-serif;text-align:center}
