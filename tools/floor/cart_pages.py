@@ -39,14 +39,14 @@ def key_of(told, wave, batch):
 def row_of(told, wave, stop, pick, place):
     """The rows of one pick, and how high they are on paper."""
     notes = remark(told.missing, (wave.name, pick.order, pick.location))
-    order = '<b>%d</b> %s' % (place, escape(pick.order))
-    cells = (str(stop), escape(pick.location), escape(pick.article), thousands(pick.quantity), order, '<input type="checkbox">')
+    cells = (str(stop), escape(pick.location), escape(pick.article), thousands(pick.quantity),
+             '<b>%d</b> %s' % (place, escape(pick.order)), '<input type="checkbox">')
     row = ''.join('<td>%s</td>' % cell for cell in cells)
     text = '<tr%s>%s</tr>' % (' class="has-note"' if notes or told.codes else '', row)
     high = max(ROW, LINE * max(lines_of(pick.article, ARTICLE), lines_of(pick.order, ORDER)) + 2.5)
     if notes:
-        note = '; '.join(notes)
-        text += '<tr class="note%s"><td colspan="6">%s</td></tr>' % (' has-note' if told.codes else '', _unbroken(escape(note)))
+        note, more = '; '.join(notes), ' has-note' if told.codes else ''
+        text += '<tr class="note%s"><td colspan="6">%s</td></tr>' % (more, _unbroken(escape(note)))
         high += max(NOTE, LINE * lines_of(note, 60) + 2.5)
     if told.codes:
         text += '<tr class="codes"><td colspan="6">%s%s</td></tr>' % (bar_code(pick.location), bar_code(pick.article))

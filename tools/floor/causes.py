@@ -233,8 +233,8 @@ def of_location(text):
             number = 26 * number + ord(sign) - 64
         return ('its aisle is a letter, and it has no side',
                 'a location is an aisle, a slot and a side, as 3-17-L: aisles are numbers, so write %d for %s; the '
-                'side is L or R; where the last number is a level, its rows are joined into one. tools/import reads other '
-                'forms of the three with --location'
+                'side is L or R; where the last number is a level, its rows are joined into one. tools/import reads '
+                'other forms of the three with --location'
                 % (number, letter[1]))
     if re.fullmatch(r'\d+-\d+(-\d+)?', text):
         return 'it has no side', 'write L or R behind the aisle and the slot, as 3-17-L'

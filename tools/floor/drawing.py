@@ -184,8 +184,8 @@ class Ground:
         return x, y
 
 
-# Where a number is tried, from its point, by small steps near it and by large ones far from it: the nearest first, where
-# a step up or down, or to the side without a dot, counts as two.
+# Where a number is tried, from its point, by small steps near it and by large ones far from it: the nearest first,
+# where a step up or down, or to the side without a dot, counts as two.
 NEAR = [(across, down) for across in range(-60, 61, 5) for down in range(-60, 61, 4)]
 FAR = [(across, down) for across in range(-960, 961, 30) for down in range(-448, 449, 16)]
 OFFSETS = sorted({*NEAR, *FAR}, key=lambda it: ((it[0] if it[0] > 0 else 5 - 2 * it[0]) + 2 * abs(it[1]), it))

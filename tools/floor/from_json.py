@@ -13,7 +13,7 @@ import json
 import sys
 
 from .entries import line_of
-from .since import place_of
+from .since import by_location
 from .to_json import FORMAT
 from .trouble import Trouble, read_bytes
 
@@ -22,7 +22,8 @@ def lines_of_batch(batch):
     """The lines of a batch. Its picks are printed by their locations, and at one by the order of the wave."""
     yield 'batch %d length %d orders %s' % (batch['batch'], batch['length'], ' '.join(batch['orders']))
     yield 'tour %s' % ' '.join('%d-%d' % tuple(point) for point in batch['tour'])
-    for pick in sorted(batch['picks'], key=lambda it: (place_of(it['location']), batch['orders'].index(it['order']))):
+    places = {order: place for place, order in enumerate(batch['orders'])}
+    for pick in sorted(batch['picks'], key=lambda it: (by_location(it['location']), places[it['order']])):
         yield 'pick %s %s %d %s' % (pick['location'], pick['article'], pick['quantity'], pick['order'])
     if 'rules' in batch:
         yield 'rules %s' % ' '.join('%s %d %d' % (rule['name'], rule['length'], rule['surplus'])

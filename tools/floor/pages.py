@@ -208,8 +208,9 @@ def of_refills(day, told):
             '<p class="facts">These units were missing where a sheet says; as many are held here in their stead, '
             'and are still to be picked.</p>' % escape(told.run))
     heads = ('location', 'article', '>take', 'order', 'wave and cart', '>picker', 'done')
-    key, body = escape(told.name), table(heads, rows)
-    return '<section data-key="%s/refills/%08x">%s%s</section>' % (key, crc32(body.encode()), head, body) if rows else ''
+    body = table(heads, rows)
+    key = '%s/refills/%08x' % (escape(told.name), crc32(body.encode()))
+    return '<section data-key="%s">%s%s</section>' % (key, head, body) if rows else ''
 
 
 def of_crew(day, told):

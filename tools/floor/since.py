@@ -44,10 +44,10 @@ def left_refills(day):
         held[key] = held.get(key, 0) - units
         if units > 0 and refill.wave not in given_up:
             found.append(Left(refill, articles.get(refill.location, ''), units, wave, batch))
-    return sorted(found, key=lambda left: (place_of(left.refill.location), left.refill.entry))
+    return sorted(found, key=lambda left: (by_location(left.refill.location), left.refill.entry))
 
 
-def place_of(location):
+def by_location(location):
     """A location as something to sort by: its aisle, its slot, its side."""
     aisle, slot, side = location.split('-')
     return int(aisle), int(slot), side
