@@ -87,7 +87,7 @@ def held_of(day, name, batch, commands):
         raise Trouble('wave %s was cancelled later, and holds nothing' % wave.name)
     batches = [each for each in wave.batches if batch in (None, each.number)]
     if not batches:
-        raise Trouble('wave %s has no batch %d, but 1 to %d' % (wave.name, batch, len(wave.batches)))
+        raise Trouble('wave %s has no batch %s, but 1 to %d' % (wave.name, batch or 'at all', len(wave.batches)))
     return held_after(still_held(day, wave, batches), wave.name, commands)
 
 

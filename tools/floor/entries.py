@@ -56,6 +56,9 @@ def _words(names, fields):
 
 
 def command_of(words):
+    """A command as fields. Each has an argument, of whatever kind it is."""
+    if len(words) < 2:
+        raise ValueError('%s has no argument' % words[0])
     return {'word': words[0], **_fields(COMMANDS.get(words[0]), words[1:])}
 
 

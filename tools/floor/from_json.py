@@ -89,9 +89,9 @@ def main(words):
         return 2
     found = read_object(words[0])
     try:
-        text = ''.join(line + '\n' for line in lines_of(found))
+        text = ''.join(line + '\n' for line in lines_of(found)).encode()
     except (KeyError, TypeError, ValueError, AttributeError) as why:
         raise Trouble('%s is not as to-json writes it, and docs/TABLES.md says: %s %s'
                       % (words[0], type(why).__name__, why)) from None
-    sys.stdout.write(text)
+    sys.stdout.buffer.write(text)
     return 0

@@ -93,6 +93,12 @@ def slot_of(location):
     return int(aisle), int(slot)
 
 
+def _point(text):
+    """A point of a tour."""
+    aisle, slot = text.split('-')
+    return int(aisle), int(slot)
+
+
 def _facts(words):
     """The pairs of a name and a number at the beginning of some words, and the words behind them."""
     facts, place = {}, 0
@@ -142,8 +148,9 @@ class _Reader:
         if words[0] == 'batch':
             wave.batches.append(Batch(int(words[1]), int(words[3]), words[5:]))
         elif words[0] == 'tour':
-            wave.batches[-1].tour = [tuple(map(int, point.split('-'))) for point in words[1:]]
+            wave.batches[-1].tour = [_point(point) for point in words[1:]]
         elif words[0] == 'pick':
+            wave.batches[-1].orders.index(words[4])
             wave.batches[-1].picks.append(Pick(entries.location_of(words[1]), words[2], int(words[3]), words[4]))
         elif words[0] == 'rules':
             wave.batches[-1].rules = [Rule(words[place], int(words[place + 1]), int(words[place + 2])) for place in range(1, len(words), 3)]

@@ -17,6 +17,7 @@ import sys
 
 from .entries import command_of, reply_of
 from .output import read_output
+from .trouble import Trouble
 
 FORMAT = 'waveplan 1'
 
@@ -63,6 +64,9 @@ def main(words):
     if len(words) != 1:
         print(__doc__, end='', file=sys.stderr)
         return 2
-    json.dump(object_of(read_output(words[0])), sys.stdout, separators=(',', ':'))
-    print()
+    try:
+        text = json.dumps(object_of(read_output(words[0])), separators=(',', ':'))
+    except ValueError as why:
+        raise Trouble('%s has a certificate that is no JSON: %s' % (words[0], why)) from None
+    print(text)
     return 0

@@ -119,6 +119,13 @@ class Json(unittest.TestCase):
             self.assertIn(why, done.errors)
             self.assertNotIn('Traceback', done.errors)
 
+    def test_an_output_that_was_changed_is_told(self):
+        for old, new in (('pick 1-4-L A 1 O1', 'pick 1-4-L A 1 O9'), ('tour 1-0', 'tour 1-0-3'), ('tour 1-0 ', 'tour 1 '),
+                         ('certificate {', 'certificate [{'), ('pick 3-1-L', 'pick 3-1'), ('0 1 submit W1 O1 O2 O3', '0 1 submit')):
+            done = runs.script('to-json', '-', given=BY_HAND['PAIR'].replace(old, new).encode())
+            self.assertEqual((2, ''), (done.status, done.output), new)
+            self.assertRegex(done.errors, 'is not as a plan prints it|a certificate that is no JSON')
+
     def test_the_validator_finds_faults(self):
         good = object_of(BY_HAND['PAIR'])
         entry = good['journal'][0]
