@@ -49,15 +49,18 @@ def records(desk, word, wave, told):
 
 
 def new_commands(day, path):
-    """The commands of a desk file that a day hasn't answered: those behind all that its journal has, or all, where it
-    hasn't these."""
+    """The commands of a desk file that a day hasn't answered: those beyond the whole journal, where the file has it;
+    else, as with a store, those behind the journal's last commands, where the file begins with these, or all."""
     try:
         scripts = tables.read_desks(read_bytes(path))
     except Refusal as why:
         raise Trouble('%s is no desk file: %s; tools/explain says why' % (path, why.line)) from None
     found = [command for desk in sorted(scripts) for command in scripts[desk]]
-    answered = collections.Counter(' '.join(entry.command) for entry in day.entries)
-    return _beyond(answered, found) if not answered - collections.Counter(map(command_text, found)) else found
+    texts, answered = list(map(command_text, found)), [' '.join(entry.command) for entry in day.entries]
+    if not collections.Counter(answered) - collections.Counter(texts):
+        return _beyond(answered, found)
+    most = min(len(texts), len(answered))
+    return found[max(count for count in range(most + 1) if answered[len(answered) - count:] == texts[:count]):]
 
 
 def _beyond(answered, commands):

@@ -120,8 +120,9 @@ class Json(unittest.TestCase):
             self.assertNotIn('Traceback', done.errors)
 
     def test_an_output_that_was_changed_is_told(self):
-        for old, new in (('pick 1-4-L A 1 O1', 'pick 1-4-L A 1 O9'), ('tour 1-0', 'tour 1-0-3'), ('tour 1-0 ', 'tour 1 '),
-                         ('certificate {', 'certificate [{'), ('pick 3-1-L', 'pick 3-1'), ('0 1 submit W1 O1 O2 O3', '0 1 submit')):
+        for old, new in (('pick 1-4-L A 1 O1', 'pick 1-4-L A 1 O9'), ('tour 1-0', 'tour 1-0-3'),
+                         ('tour 1-0 ', 'tour 1 '), ('certificate {', 'certificate [{'), ('pick 3-1-L', 'pick 3-1'),
+                         ('0 1 submit W1 O1 O2 O3', '0 1 submit')):
             done = runs.script('to-json', '-', given=BY_HAND['PAIR'].replace(old, new).encode())
             self.assertEqual((2, ''), (done.status, done.output), new)
             self.assertRegex(done.errors, 'is not as a plan prints it|a certificate that is no JSON')
@@ -206,6 +207,10 @@ class Confirmed(unittest.TestCase):
                             desks=day + '1,missing,W3,O3,1-2-L,1\n')
         self.assertEqual('1,missing,W3,O3,1-2-L,1\n1,pick,W3,O3,1-2-L,2\n', done.output)
         self.assertEqual(self.confirm('W1').output, self.confirm('W1', '--after', 'desks.csv', desks=day).output)
+        last = heading + ''.join(day.splitlines(True)[-4:])  # what a run over a store was given last
+        for more, due in (('', '1-2-L,1\n1,pick,W1,O1,3-1-L,1\n'), ('1,missing,W1,O1,3-1-L,1\n', '1-2-L,1\n')):
+            done = self.confirm('W1', '--after', 'desks.csv', desks=last + more)
+            self.assertEqual('1,pick,W1,O2,%s1,pick,W1,O1,3-3-L,1\n' % due, done.output)
         done = self.confirm('W1', '--after', 'desks.csv', desks='no desk file\n')
         self.assertEqual(2, done.status)
         self.assertIn('is no desk file: refused desks row 1 columns', done.errors)
