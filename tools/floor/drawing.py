@@ -4,7 +4,7 @@ import functools
 from html import escape
 
 WIDE, HIGH, LOW = 1000, 520, 150  # the drawing's width, and its greatest and least height, in units of its own
-LEFT, RIGHT, TOP, BOTTOM = 50, 32, 38, 42  # margins
+LEFT, RIGHT, TOP, BOTTOM = 50, 36, 38, 42  # margins
 ASIDE = 2.6  # how far to the right of its line a way is drawn, so that there and back are two lines
 LETTERS = 14  # how high numbers are: 7 points and more on a page of A4, which shows the width as 186 millimetres
 HIGH_TAG, DOT = 15, 2.8  # the height of a stop's number with its ground, and the radius of its dots
