@@ -9,16 +9,8 @@ from .cart_pages import Told, of_batch, place_of, told_unit
 from .figures import hundredths, length, length_of_line, percent, thousands
 from .look import SCRIPT, STYLE
 from .output import name_of
+from .refused_commands import cause_of
 from .since import cancelled, left_refills, missing
-
-REASONS = {
-    'no-orders': 'no order was named', 'wave-full': 'more orders were named than the 64 that a wave has', 'known-wave': 'a wave of that name is there',
-    'unknown-order': 'the order file has no such order', 'order-twice': 'the order is named twice', 'order-taken': 'the order lies in another wave',
-    'over-cart': 'the order has more units than a cart holds', 'unknown-wave': 'there is no such wave', 'wrong-state': 'the wave is in another state',
-    'short': 'too little is free', 'picking': 'a unit of the wave was picked', 'not-held': 'nothing is held there for the order',
-    'too-much': 'less is held there', 'no-row': 'no row lies there', 'other-article': 'another article lies there',
-    'too-many': 'the row would have more than a million',
-}
 
 
 def cell(text, cls=''):
@@ -121,8 +113,9 @@ def of_roots(day):
 
 
 def of_refused(day):
-    rows = [(number(entry.number), number(entry.desk), cell(escape(' '.join(entry.command))), cell(escape(' '.join(entry.reply[1:]))),
-             cell(REASONS.get(entry.reply[1], ''))) for entry in day.refused()]
+    rows = [(number(entry.number), number(entry.desk), cell(escape(' '.join(entry.command))),
+             cell(escape(' '.join(entry.reply[1:]))), cell(escape(cause_of(day.entries, entry))))
+            for entry in day.refused()]
     return '<h2>Refused commands</h2>' + table(('>entry', '>desk', 'command', 'refused', 'why'), rows) if rows else ''
 
 

@@ -47,9 +47,8 @@ def is_done(entry):
 def last_before(entries, entry, wave, words, done=True):
     """The last entry before one whose command is one of some words for a wave, of those that were done or were
     refused."""
-    found = [each for each in entries[:entry.number]
-             if each.command[0] in words and each.command[1:2] == [wave] and is_done(each) == done]
-    return found[-1] if found else None
+    return next((each for each in reversed(entries[:entry.number])
+                 if each.command[0] in words and each.command[1:2] == [wave] and is_done(each) == done), None)
 
 
 def told_before(entries, entry, reason):
@@ -78,24 +77,44 @@ def wanting(entries, entry, orders):
     return ', '.join('%s wants %d' % each for each in wants.items())
 
 
+def fields_of(entry):
+    """The fields of a command and of its reply; where both have one of a name, that of the reply."""
+    return {**command_of(entry.command), **reply_of(entry.reply)}
+
+
+def cause_of(entries, entry):
+    """Why a command was refused, nothing where the command or the reason isn't known here."""
+    fields, reason = fields_of(entry), entry.reply[1]
+    if reason not in REASONS or 'arguments' in fields:
+        return ''
+    return REASONS[reason][0].format_map(fields) + told_before(entries, entry, reason)
+
+
+def cure_of(entry):
+    fields, reason = fields_of(entry), entry.reply[1]
+    if reason == 'wrong-state':
+        return CURES_OF_STATE.get(fields['state'], 'see docs/RULES.md')
+    return REASONS[reason][1].format_map(fields)
+
+
 def explained(entries, entry, orders):
     """The lines that explain one refused command."""
-    fields, reason = {**command_of(entry.command), **reply_of(entry.reply)}, entry.reply[1]
-    known = REASONS if 'arguments' not in fields else {}
-    unknown = ('this script does not know the command or the reason', 'look it up in docs/FORMATS.md')
-    cause, cure = known.get(reason, unknown)
+    cause, reason = cause_of(entries, entry), entry.reply[1]
     yield 'entry    %d, desk %d: %s -> %s' % (entry.number, entry.desk, ' '.join(entry.command), ' '.join(entry.reply))
-    yield 'cause    %s%s' % (cause.format_map(fields), told_before(entries, entry, reason))
-    if reason == 'unknown-order' and closest(entry.reply[2], {order for order, _, _ in orders}):
-        yield 'perhaps  %s' % closest(entry.reply[2], {order for order, _, _ in orders})
+    if not cause:
+        yield 'cause    this script does not know the command or the reason'
+        yield 'cure     look it up in docs/FORMATS.md'
+        return
+    yield 'cause    %s' % cause
+    near = closest(entry.reply[2], {order for order, _, _ in orders}) if reason == 'unknown-order' else None
+    if near:
+        yield 'perhaps  %s' % near
     if reason == 'short' and wanting(entries, entry, orders):
         yield 'orders   %s' % wanting(entries, entry, orders)
     later = [each for each in entries[entry.number + 1:] if each.command == entry.command and is_done(each)]
     if later:
         yield 'later    entry %d was answered %s' % (later[0].number, ' '.join(later[0].reply))
-    if reason == 'wrong-state':
-        cure = CURES_OF_STATE.get(fields.get('state'), 'see docs/RULES.md')
-    yield 'cure     %s' % cure.format_map(fields)
+    yield 'cure     %s' % cure_of(entry)
 
 
 def lines_of_orders(path):

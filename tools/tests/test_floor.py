@@ -74,7 +74,7 @@ class Sheets(unittest.TestCase):
         self.assertNotIn('Wave MON-10.00, cart', self.page)
 
     def test_the_first_page_tells_what_was_refused_and_what_is_short(self):
-        self.assertIn('too little is free', self.page)
+        self.assertIn('the orders of MON-13.00 want 1 of DRUM-DR2400 together, and 0 are free', self.page)
         self.assertIn('release MON-13.00</td><td>short DRUM-DR2400 1 0', self.page)
         self.assertNotIn('Short articles', self.page)  # the wave had its drum later
 
@@ -103,7 +103,8 @@ class Sheets(unittest.TestCase):
         folder = runs.put(Path(runs.shelf().name) / 'later', {'day.txt': LATER, 'layout.json': SMALL})
         done = sheets(folder / 'day.txt', folder / 'layout.json')
         self.assertEqual('', done.errors)
-        for text in ('2 units of 8 that the cart holds', 'By usual rules the walk is: s-shape 2 (0 longer)', 'W1/1', 'more units than a cart holds'):
+        for text in ('2 units of 8 that the cart holds', 'By usual rules the walk is: s-shape 2 (0 longer)', 'W1/1',
+                     'O2 has 9 units, all its lines together, and a cart holds fewer'):
             self.assertIn(text, done.output)
 
     def test_what_is_no_output_is_told(self):
