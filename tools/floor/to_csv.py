@@ -6,9 +6,9 @@ DAY is the output of `waveplan plan`, or - for standard input. FOLDER is made wh
 journal.csv, waves.csv, batches.csv, picks.csv (with each pick's place in the walk), refills.csv, pickers.csv and
 stock.csv, each with a heading, as RFC 4180 has it: commas, quotes where they are needed, line ends as CR LF. In
 waves.csv the bracket of the linear bound, and in batches.csv what the three rules walk and the number of the picker,
-are empty where the day doesn't tell them, and pickers.csv has its heading alone. Of a day that goes on from a store the
-journal and the stock are of all runs, and the other tables of the last one. Nothing here is proved; the output that it
-reads is.
+are empty where the day doesn't tell them, and pickers.csv has its heading alone. docs/TABLES.md has all fields. Of a
+day that goes on from a store the journal and the stock are of all runs, and the other tables of the last one. Nothing
+here is proved; the output that it reads is.
 
 With --names, the file of `tools/wave import`, the texts of before stand in the place of names.
 
@@ -42,8 +42,8 @@ def journal(day):
 
 
 def waves(day):
-    yield ('wave entry orders capacity units batches cost bound state cancelled_later root_low root_high root_over '
-           'root_state').split()
+    yield ('wave entry order_count capacity units batches cost bound state cancelled_later root_low root_high '
+           'root_over root_state').split()
     for wave in day.waves:
         units = '' if wave.units is None else wave.units
         yield [wave.name, wave.entry, wave.size, wave.capacity, units, len(wave.batches), wave.cost, wave.bound,

@@ -376,8 +376,9 @@ class MessyDays(unittest.TestCase):
         runs.put(folder, {'day.txt': done.output})
         self.assertIn('T\u00fcr 0', runs.script('sheets', '--layout', 'layout.json', '--names', 'names.csv', 'day.txt',
                                                 folder=folder).output)
-        self.assertIn('submit Mo 08:00 SO 1 SO 2',
-                      runs.script('to-json', 'day.txt', '--names', 'names.csv', folder=folder).output)
+        shown = runs.script('to-json', 'day.txt', '--names', 'names.csv', folder=folder).output
+        self.assertIn('{"word":"submit","wave":"Mo 08:00","orders":["SO 1","SO 2"]}', shown)
+        self.assertIn("'Mo 08:00' is no name", runs.script('from-json', '-', given=shown.encode()).errors)
         runs.script('to-csv', '--names', 'names.csv', 'day.txt', 'tables', folder=folder)
         self.assertIn('Mo 08:00', (folder / 'tables' / 'waves.csv').read_text(encoding='utf-8'))
         runs.put(folder, {'stock.csv': (folder / 'stock.csv').read_text().replace('Tuer-0,', 'Tuer-0,x')})
