@@ -84,15 +84,15 @@ def status_of(main, name):
         return status
     except (Exception, KeyboardInterrupt) as why:
         status, told = ending_of(why)
-    _tell('%s: %s\n' % (name, told.replace('\n', ' ')))
+    tell('%s: %s' % (name, told.replace('\n', ' ')))
     return status
 
 
-def _tell(line):
+def tell(line):
     """Writes a line to standard error, if there is one that takes it."""
     try:
         if sys.stderr is not None:
-            sys.stderr.write(line)
+            sys.stderr.write(line + '\n')
             sys.stderr.flush()
     except (OSError, ValueError):
         pass

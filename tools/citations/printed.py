@@ -12,8 +12,10 @@ LEFT_OUT = re.compile(r'\./gate|\./waveplan --prove')
 DAY_OF = re.compile(r'The day of `examples/([\w-]+)`')
 LINES = re.compile(r'The command prints ([0-9,]{1,9}) lines')
 PAGES = {'README.md': None, 'docs/DAY.md': 'one-day'}  # each with the example whose files it begins with
-STORE, BEFORE = 'waveplan.store', 'before.store'
+STORE, BEFORE = 'waveplan.store', 'waveplan.store.before'  # the copy is the launcher's, which isn't run here
 LONGEST = 120  # seconds that a command may take
+TELLING = ('tools/wave compare', 'tools/wave explain')  # commands that end with 1 where they have something to tell
+CONFIRMED = 'wave,order,location,quantity\nMON-08.00,SO-10235,1-42-R,8\n'
 
 
 def all_of(pages, top, program):
@@ -37,6 +39,7 @@ def _set_up(folder, top, program, example):
     if example:
         rows = (folder / 'stock.csv').read_text().split('\n')[1:]
         (folder / 'export.csv').write_text('\n'.join(['Platz,Artikel,Bestand', *rows]))
+        (folder / 'confirmed.csv').write_text(CONFIRMED)
     return folder
 
 
@@ -92,7 +95,7 @@ class Reader:
 
     def run(self, command, folder):
         """Runs a command, and tells whether it ended as it should."""
-        if '--store 1' in command:
+        if command.startswith('./waveplan') and '--store 1' in command:
             (folder / BEFORE).write_bytes((folder / STORE).read_bytes() if (folder / STORE).exists() else b'')
         try:
             done = subprocess.run(['sh', '-c', command], cwd=folder, stdin=subprocess.DEVNULL, stdout=subprocess.PIPE,
@@ -102,7 +105,7 @@ class Reader:
         self.last = done.stdout.decode('utf-8', 'replace')
         if command.startswith('./waveplan plan'):
             self.keep(command, folder)
-        right = done.returncode == 0 or done.returncode == 1 and command.startswith('tools/wave compare')
+        right = done.returncode == 0 or done.returncode == 1 and command.startswith(TELLING)
         told = (done.stderr or done.stdout).decode('utf-8', 'replace').strip().split('\n')[-1]
         return self.place, None if right else 'it ends with status %d: %s: %s' % (done.returncode, command, told)
 

@@ -2,7 +2,10 @@
 same in general."""
 
 import difflib
+import json
 import re
+
+from opinion import json_text
 
 FIELDS = {
     'stock': ['location', 'article', 'on_hand'],
@@ -70,6 +73,88 @@ CERTIFICATES = {
     'out-of-range': ('the form is right, but a number is not in its range, or a slot is not in the layout',
                      'look whether it is the right layout'),
 }
+
+
+# What Python's reader of JSON says, in other words.
+JSON_FAULTS = {
+    "Expecting ',' delimiter": 'a comma is missing here, or a bracket',
+    "Expecting ':' delimiter": 'a colon is missing behind a key',
+    'Expecting property name enclosed in double quotes':
+        'a key in double quotes is due here: a comma is too many, or the quotes are not straight',
+    'Expecting value':
+        'a value is due here: a comma is too many, or something stands here that is no number, text, list or object',
+    'Extra data': 'something stands behind the end',
+    'Unterminated string starting at': 'the quote that is opened here is not closed',
+    'Illegal trailing comma before end of object': 'this comma is too many',
+    'Illegal trailing comma before end of array': 'this comma is too many',
+}
+
+
+def as_json(value):
+    """A value as it stands in a file of JSON."""
+    if isinstance(value, json_text.Number):
+        return value.text
+    if isinstance(value, list):
+        return '[%s]' % ', '.join(map(as_json, value))
+    return json.dumps(value, ensure_ascii=False, default=as_json)
+
+
+def of_not_json(data):
+    """Where a file stops to be JSON, and why."""
+    if data.startswith(b'\xef\xbb\xbf'):
+        return 'line 1, column 1', 'the file is not JSON: it begins with a byte order mark'
+    try:
+        json.loads(data.decode('utf-8'))
+    except UnicodeDecodeError as why:
+        before = data[:why.start].decode('utf-8')
+        return _place(before + '?', len(before)), 'the file is not JSON: a byte stands here that is no UTF-8'
+    except json.JSONDecodeError as why:
+        return _place(why.doc, why.pos), 'the file is not JSON: ' + JSON_FAULTS.get(why.msg, why.msg)
+    except (ValueError, RecursionError):
+        pass
+    try:
+        json_text.read(data)
+    except json_text.NotJson as why:
+        return '', 'the file is not JSON: %s' % why
+    return '', 'the file is not JSON'
+
+
+def _place(text, place):
+    """A place in a text as its line and column, with the line."""
+    before = text[:place].split('\n')
+    line = text.split('\n')[len(before) - 1]
+    return 'line %d, column %d: %s' % (len(before), len(before[-1]) + 1, line[:80])
+
+
+def of_spacings(value, aisles):
+    """What is wrong with the list of spacings: what it is, how many there are, or one of them."""
+    cure = 'whole numbers in brackets with commas between them, as [300,300]'
+    if not isinstance(value, list):
+        return 'it is no list', cure
+    wrong = [(place, as_json(each)) for place, each in enumerate(value, 1) if type(each) is not int]
+    if wrong:
+        return 'number %d of them is %s, which is no whole number' % wrong[0], cure
+    if len(value) != aisles - 1:
+        return ('there are %d spacings, and between %d aisles there are %d' % (len(value), aisles, aisles - 1),
+                'give one less than there are aisles, or correct the aisles')
+    place, each = next((place, each) for place, each in enumerate(value, 1) if not 1 <= each <= 10000)
+    return ('number %d of them is %d, which is not in the range 1 to 10,000' % (place, each),
+            'correct it; perhaps in a larger unit of length, for all lengths')
+
+
+def of_journal(data, line):
+    """Why a line is not of a journal, where the file is another than an output."""
+    if data.startswith((b'\x01', b'\x00')):
+        return ('it is the store of a day, and no output of a plan',
+                'give an output: a plan with --store 1 and a desk file of the heading alone prints the whole journal')
+    first = re.split(rb'[\r\n]', data, 1)[0].decode('utf-8', 'replace')
+    named = [name for name, heading in HEADINGS.items() if first == heading]
+    if line == '1' and named:
+        return 'it is a file of %s' % named[0], 'name the output of a plan'
+    if line == '1' and first.startswith(('refused ', 'read fault ')):
+        return 'the plan was refused, and printed no journal', 'explain the words of that plan'
+    return ('it is not the entry with the next number',
+            'it was changed, left out or cut: take the output as it was printed')
 
 
 def field_name(file, record, field):
@@ -154,12 +239,29 @@ def of_name(name, text):
             return 'a spreadsheet has made a date of it', 'format the column as text, and write it again'
         if re.fullmatch(r'(?i)(grand )?total|sum|summe|gesamt', text):
             return 'the record is a row of totals', 'leave it out'
-        return ('it is not of the form 3-17-L: aisle, slot, side',
-                'write it so; tools/import reads other forms with --location')
+        return of_location(text)
     if len(text) > 40:
         return 'it has %d characters' % len(text), 'a name has at most 40'
     bad = ' '.join('a blank' if sign == ' ' else sign for sign in sorted(set(re.sub(r'[A-Za-z0-9._-]', '', text))))
     return 'it has %s' % bad, 'a name has letters without accents, digits, and - _ . alone'
+
+
+def of_location(text):
+    """Why a text is no location."""
+    letter = re.fullmatch(r'([A-Za-z]{1,2})[-. /]?(\d+)[-. /](\d+)', text)
+    if letter:
+        number = 0
+        for sign in letter[1].upper():
+            number = 26 * number + ord(sign) - 64
+        return ('its aisle is a letter, and it has no side',
+                'a location is an aisle, a slot and a side, as 3-17-L: aisles are numbers, so write %d for %s; the '
+                'side is L or R; where the last number is a level, its rows are joined into one. tools/import reads '
+                'other forms of the three with --location'
+                % (number, letter[1]))
+    if re.fullmatch(r'\d+-\d+(-\d+)?', text):
+        return 'it has no side', 'write L or R behind the aisle and the slot, as 3-17-L'
+    return ('it is not of the form 3-17-L: aisle, slot, side',
+            'write it so; tools/import reads other forms with --location')
 
 
 def of_number(text):

@@ -2,11 +2,18 @@
 
 usage: tools/wave explain plan --layout FILE --stock FILE --orders FILE --desks FILE --capacity C [..]
        tools/wave explain check|audit|make ..
+       tools/wave explain journal DAY [--orders FILE]
+
+With --names FILE, the file of `tools/wave import`, the lines behind the first have the texts of before in the place of
+names.
 
 The words are those of the run that was refused. The words and files are read as docs/FORMATS.md says, by a program of
 this script's own, up to the first thing that is wrong; with --store 1 so is the file waveplan.store of the working
 directory, which is left as it is. A `store fault` that a failing or full disk caused is not seen here: look at the disk
 then. Nothing here is proved; the line that waveplan prints is the one that counts, and the first line here is the same.
+
+With `journal` each command is explained that was refused in the journal of DAY, the output of a plan; with the order
+file it is told which orders want an article that is short. Bytes that a terminal would obey are shown as \\x1b.
 
 Status: 0 where nothing is refused, 1 where something is, which is explained, 2 where there are no words.
 """
@@ -14,12 +21,13 @@ Status: 0 where nothing is refused, 1 where something is, which is explained, 2 
 import os
 import sys
 
-from endings import REFUSED, RIGHT, WRONG
-from opinion import answers, stores, tables
+from endings import REFUSED, RIGHT, WRONG, Words, tell_usage
+from opinion import answers, json_text, stores, tables
 from opinion.refusals import MOST_BYTES
 from opinion.words import FILES, NUMBERS, read_words
 
-from . import causes
+from . import causes, refused_commands
+from .names import restored_line, taken_from, texts_of
 
 
 def bytes_of(name):
@@ -53,8 +61,13 @@ def bytes_of_store():
 
 def shown(value):
     if isinstance(value, bytes):
-        value = value.decode('utf-8', 'replace')
+        value = value.decode('utf-8', 'backslashreplace')
     return str(value) if len(str(value)) <= 80 else str(value)[:80] + '..'
+
+
+def visible(text):
+    """A text with all signs that a terminal would obey, or not show, as their numbers."""
+    return ''.join(sign if sign.isprintable() else ascii(sign)[1:-1] for sign in text)
 
 
 class Explained:
@@ -65,7 +78,7 @@ class Explained:
         self.parts = why.line.split(' ')
 
     def say(self, title, text):
-        self.lines.append('%-8s %s' % (title, text))
+        self.lines.append(visible('%-8s %s' % (title, text)))
 
     def cause(self, cause, cure):
         self.say('cause', cause)
@@ -135,13 +148,26 @@ class Explained:
 
     def of_layout(self):
         self.say('file', self.file('layout'))
-        why = self.parts[2]
-        told, cure = causes.LAYOUTS[why]
+        why, value = self.parts[2], self.why.text
+        if why == 'not-json':
+            return self.of_not_json(self.file('layout'), causes.LAYOUTS[why][1])
         if self.why.field:
-            self.say('key', '%s%s' % (self.why.field, '' if self.why.text is None else ': ' + shown(self.why.text)))
-        elif self.why.text is not None:
-            self.say('key', shown(self.why.text))
-        self.cause(told, cure)
+            self.say('key', self.why.field + ('' if value is None else ': ' + shown(causes.as_json(value))))
+        elif value is not None:
+            self.say('key', 'end: %s' % shown(causes.as_json(value)) if why == 'not-end' else shown(value))
+        if self.why.field == 'spacings' and value is not None:
+            return self.cause(*causes.of_spacings(value, self.layout_object()['aisles']))
+        return self.cause(*causes.LAYOUTS[why])
+
+    def layout_object(self):
+        return json_text.read(bytes_of(self.file('layout')))
+
+    def of_not_json(self, path, cure):
+        """Where a file is no JSON, and why."""
+        place, cause = causes.of_not_json(bytes_of(path))
+        if place:
+            self.say('place', place)
+        self.cause(cause, cure)
 
     def of_row(self, name, row, why):
         path = self.file(name)
@@ -196,6 +222,8 @@ class Explained:
             self.say('node', '%s of the tree, in preorder from 0' % self.parts[3])
             told, cure = causes.NODES[self.parts[4]]
             return self.cause(told + (': %s' % ' '.join(self.parts[5:]) if self.parts[5:] else ''), cure)
+        if self.parts[2] == 'not-json':
+            return self.of_not_json(self.file('certificate'), causes.CERTIFICATES['not-json'][1])
         return self.cause(*causes.CERTIFICATES[self.parts[2]])
 
     def of_journal(self):
@@ -206,8 +234,7 @@ class Explained:
             if data.startswith(b'\xef\xbb\xbf') or b'\r' in data[:200]:
                 return self.cause('the file has a byte order mark, or line ends as CR LF',
                                   'save it as the program wrote it: UTF-8 without a mark, line ends as LF')
-            return self.cause('it is not the entry with the next number',
-                              'it was changed, left out or cut: take the output as it was printed')
+            return self.cause(*causes.of_journal(data, self.parts[3]))
         self.say('command', shown(self.why.text))
         if ' over-cart ' in self.why.line:
             return self.cause('whether an order is too much for a cart is answered by the units that a cart holds: %s'
@@ -234,6 +261,9 @@ class Explained:
         self.say('record', '%s, counted from 0: %s' % (self.parts[3], shown(self.why.text.rstrip(b'\n'))))
         has_end = self.why.text.endswith(b'\n')
         told = 'it is not the line of the entry of this number' if has_end else 'it has no line feed at its end'
+        if self.parts[3] == '0':
+            return self.cause(told + ': the file is no store of a journal, or its beginning was changed',
+                              'keep a copy of the file, and look what it is; begin in another folder')
         self.cause(told + ': something else than the program wrote it, or changed it',
                    'the records before it are right: keep a copy of the file, and look at what changed it')
 
@@ -272,11 +302,39 @@ def line_of(data, record):
     return '' if before + 1 == record.number else ', line %d of the file' % (before + 1)
 
 
+def of_no_store():
+    """What is to be said of a store without a record, though there is a file: a run takes it as an empty one, and
+    writes over it."""
+    data = bytes_of_store()
+    if data and not stores.records(data) and data != stores.CLOSED:
+        yield 'file     %s' % os.path.abspath(stores.NAME)
+        yield ('beware   it has %d bytes and no record of a store: a run takes it as an empty store, and writes over it'
+               % len(data))
+        yield 'cure     look what it is; move it away, or run in another folder'
+
+
+def explain_journal(words, texts):
+    """Explains the commands that a journal has refused, with texts in the place of names."""
+    known = Words('explain journal')
+    known.add_argument('day', nargs='?')
+    known.add_argument('--orders')
+    asked = known.read(words)
+    if asked.help or not asked.day:
+        return tell_usage(__doc__, asked)
+    lines = refused_commands.of_journal(asked.day, asked.orders)
+    print('\n'.join(visible(restored_line(line, texts)) for line in lines) or 'no command was refused')
+    return WRONG if lines else RIGHT
+
+
 def main(words):
     words = words[1:] if words and os.path.basename(words[0]) == 'waveplan' else words
     if not words or words == ['--help']:
         print(__doc__, end='', file=sys.stdout if words else sys.stderr)
         return RIGHT if words else REFUSED
+    words, names = taken_from(words)
+    texts = texts_of(names)
+    if words[:1] == ['journal']:
+        return explain_journal(words[1:], texts)
     why = answers.refusal_of(words, bytes_of, None, bytes_of_store())
     if why is None:
         print('nothing in these words and files is refused')
@@ -284,7 +342,8 @@ def main(words):
             print('where the run said `store fault`, the disk failed or is full: look at it; then a run with a desk '
                   'file of the heading')
             print('alone prints what is stored, and what is missing is given after it (docs/DAY.md)')
+            print(''.join(visible(line) + '\n' for line in of_no_store()), end='')
         return RIGHT
     print(why.line)
-    print('\n'.join(Explained(words, why).explain()))
+    print('\n'.join(restored_line(line, texts) for line in Explained(words, why).explain()))
     return WRONG

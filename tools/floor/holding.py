@@ -14,7 +14,7 @@ def still_held(day, wave, batches):
     for entry in day.entries[wave.entry:]:
         is_told = entry.command[0] in ('pick', 'missing') and entry.reply[0] != 'refused'
         if is_told and entry.command[1] == wave.name and entry.command[2] in orders:
-            _add(held, entry.command[2], _plain(entry.command[3]), -int(entry.command[4]))
+            _add(held, entry.command[2], plain(entry.command[3]), -int(entry.command[4]))
             for refill in refills.get(entry.number, ()):
                 _add(held, refill.order, refill.location, refill.quantity)
     return {key: units for key, units in held.items() if units}
@@ -24,7 +24,7 @@ def _add(held, order, location, units):
     held[order, location] = held.get((order, location), 0) + units
 
 
-def _plain(location):
+def plain(location):
     """A location without leading zeros, as the sheets have it."""
     aisle, slot, side = location.split('-')
     return '%d-%d-%s' % (int(aisle), int(slot), side)

@@ -5,6 +5,7 @@ crew of the last run alone."""
 import re
 from collections import namedtuple
 
+from . import entries
 from .trouble import Trouble, read_bytes
 
 Entry = namedtuple('Entry', 'number desk command reply')  # the command and the reply are lists of words
@@ -79,10 +80,6 @@ class Wave:
         self.cost, self.bound, self.units = facts['cost'], facts['bound'], facts.get('units')
         self.batches, self.certificate, self.root = [], None, None
 
-    def gap(self):
-        """By how many percent a better batching could be cheaper at most."""
-        return 100 * (self.cost - self.bound) / self.cost if self.cost else 0.0
-
     def orders(self):
         return [order for batch in self.batches for order in batch.orders]
 
@@ -129,6 +126,12 @@ def name_of(wave, batch):
 
 def slot_of(location):
     aisle, slot, _ = location.split('-')
+    return int(aisle), int(slot)
+
+
+def _point(text):
+    """A point of a tour."""
+    aisle, slot = text.split('-')
     return int(aisle), int(slot)
 
 
@@ -181,6 +184,7 @@ class _Reader:
             raise ValueError
         test_form(FORMS, ' '.join(command))
         test_form(REPLIES, reply)
+        entries.command_of(command), entries.reply_of(reply.split(' '))
         self.day.entries.append(Entry(int(number), int(desk), command, reply.split(' ')))
 
     def wave(self, text, words):
@@ -189,11 +193,11 @@ class _Reader:
         if words[0] == 'batch':
             wave.batches.append(Batch(int(words[1]), int(words[3]), words[5:]))
         elif words[0] == 'tour':
-            wave.batches[-1].tour = [tuple(map(int, point.split('-'))) for point in words[1:]]
+            wave.batches[-1].tour = [_point(point) for point in words[1:]]
         elif words[0] == 'pick':
             if words[4] not in wave.batches[-1].orders:
                 raise ValueError
-            wave.batches[-1].picks.append(Pick(words[1], words[2], int(words[3]), words[4]))
+            wave.batches[-1].picks.append(Pick(entries.location_of(words[1]), words[2], int(words[3]), words[4]))
         elif words[0] == 'rules':
             wave.batches[-1].rules = [Rule(words[place], int(words[place + 1]), int(words[place + 2]))
                                       for place in range(1, len(words), 3)]
@@ -205,7 +209,8 @@ class _Reader:
     def refills(self, text, words):
         test_form(REFILLS, text)
         if words[0] == 'refill':
-            self.day.refills.append(Refill(int(words[1]), words[2], words[3], words[4], int(words[5])))
+            location = entries.location_of(words[4])
+            self.day.refills.append(Refill(int(words[1]), words[2], words[3], location, int(words[5])))
 
     def crew(self, text, words):
         test_form(PICKERS, text)

@@ -20,11 +20,12 @@ is refused, the line that tells it is judged.
 With `plan` before the words, or with one of --budget, --workers and --store, the words are all those of the plan. Then
 each wave is worked as far as its budget pays, which is 2000000 where none is given, and so is each open bracket.
 
-A day that was planned with --store 1 is judged with --store-before, a copy of its waveplan.store from before the run,
-or /dev/null where there was none: its records are read and answered again, or the first that is refused is told; the
-journal has their entries and then those of the desks, and sheets, refills and crew are those of the desks' entries
-alone. With --store-after that file is judged too, as it is after the run. With --stored, or with --store 1 and no
---store-before, the journal may begin with any entries that are answered right.
+A day that was planned with --store 1 is judged with the store as it was before the run. In the folder of the last run
+this finds the copy that the launcher keeps, waveplan.store.before, by itself, or where --store 1 says so; else
+--store-before names a copy, or /dev/null where there was none. Its records are read and answered again, or the first
+that is refused is told; the journal has their entries and then those of the desks, and sheets, refills and crew are
+those of the desks' entries alone. With --store-after that file is judged too, as it is after the run. With --stored, or
+with --store 1 and no copy, the journal may begin with any entries that are answered right.
 
 This is a plain program, written from the documents; nothing that it says is proved, and no promise of waveplan rests on
 it. With --units the carts hold so many units.
@@ -39,6 +40,8 @@ from endings import RIGHT, WRONG, Trouble, Words, shortened, tell_usage
 from opinion import answers, days, stores
 from opinion.refusals import MOST_BYTES, Refusal
 from opinion.words import FILES, GIVEN, NUMBERS, Job, number
+
+from . import store_keeping
 
 KINDS = {'desks': 'plan', 'certificate': 'check', 'journal': 'audit'}
 OF_A_MODE = {name for names in FILES.values() for name in names}
@@ -88,6 +91,8 @@ def job_of(asked):
     names, numbers = FILES[modes[0]], numbers_of(asked)
     if not all(getattr(asked, name) for name in names):
         return None
+    if modes[0] == 'plan' and numbers['store'] and not asked.stored and asked.store_before is None:
+        asked.store_before = store_keeping.BEFORE if os.path.lexists(store_keeping.BEFORE) else None
     has_store = asked.store_before is not None
     if has_store and (modes[0] != 'plan' or asked.stored or asked.store and not numbers['store']):
         return None
@@ -156,11 +161,23 @@ def answer_of(asked):
     return answer
 
 
+def is_stored(asked, job, answer):
+    """Whether nothing is said of a store, and the answer's journal begins with the records of the launcher's copy."""
+    if job.mode != 'plan' or asked.stored or asked.store is not None or asked.store_before is not None:
+        return False
+    bodies = stores.records(bytes_of(store_keeping.BEFORE, stores.MOST_BYTES + 1) or b'')
+    return bool(bodies) and answer.startswith(b'journal\n' + b''.join(bodies))
+
+
 def main(words):
     asked = asked_words(words)
     job = None if asked.help else job_of(asked)
     if job is None:
         return tell_usage(__doc__, asked)
-    wrong, told = judged(asked, job, answer_of(asked))
+    answer = answer_of(asked)
+    wrong, told = judged(asked, job, answer)
+    if wrong and is_stored(asked, job, answer):
+        asked.store_before = store_keeping.BEFORE
+        wrong, told = judged(asked, job_of(asked), answer)
     print('wrong: %s' % wrong if wrong else 'right: %s' % told)
     return WRONG if wrong else RIGHT

@@ -1,14 +1,16 @@
 """Writes what a plan printed as tables that other programs read.
 
-usage: tools/wave to-csv DAY FOLDER
+usage: tools/wave to-csv [--names FILE] DAY FOLDER
 
 DAY is the output of `waveplan plan`, or - for standard input. FOLDER is made where it isn't there, and gets
 journal.csv, waves.csv, batches.csv, picks.csv (with each pick's place in the walk), refills.csv, pickers.csv and
 stock.csv, each with a heading, as RFC 4180 has it: commas, quotes where they are needed, line ends as CR LF. In
 waves.csv the bracket of the linear bound, and in batches.csv what the three rules walk and the number of the picker,
-are empty where the day doesn't tell them, and pickers.csv has its heading alone. Of a day that goes on from a store the
-journal and the stock are of all runs, and the other tables of the last one. Nothing here is proved; the output that it
-reads is.
+are empty where the day doesn't tell them, and pickers.csv has its heading alone. docs/TABLES.md has all fields. Of a
+day that goes on from a store the journal and the stock are of all runs, and the other tables of the last one. Nothing
+here is proved; the output that it reads is.
+
+With --names, the file of `tools/wave import`, the texts of before stand in the place of names.
 
 Status: 0, or 2 where DAY is no output of a plan, or 4 where FOLDER can't be written, with the reason on standard error.
 """
@@ -18,6 +20,7 @@ import os
 
 from endings import RIGHT, Unwritten, Words, tell_usage
 
+from .names import restored
 from .output import name_of, read_output
 
 FIELDS = {'pick': ('order', 'location', 'quantity'), 'missing': ('order', 'location', 'quantity'),
@@ -39,8 +42,8 @@ def journal(day):
 
 
 def waves(day):
-    yield ('wave entry orders capacity units batches cost bound state cancelled_later root_low root_high root_over '
-           'root_state').split()
+    yield ('wave entry order_count capacity units batches cost bound state cancelled_later root_low root_high '
+           'root_over root_state').split()
     for wave in day.waves:
         units = '' if wave.units is None else wave.units
         yield [wave.name, wave.entry, wave.size, wave.capacity, units, len(wave.batches), wave.cost, wave.bound,
@@ -92,6 +95,7 @@ TABLES = {'journal': journal, 'waves': waves, 'batches': batches, 'picks': picks
 
 def asked_words(words):
     known = Words('to-csv')
+    known.add_argument('--names')
     known.add_argument('day', nargs='?')
     known.add_argument('folder', nargs='?')
     return known.read(words)
@@ -101,7 +105,7 @@ def main(words):
     asked = asked_words(words)
     if asked.help or not asked.folder:
         return tell_usage(__doc__, asked)
-    day = read_output(asked.day)
+    day = restored(read_output(asked.day), asked.names)
     tables = {name: list(rows(day)) for name, rows in TABLES.items()}
     try:
         os.makedirs(asked.folder, exist_ok=True)

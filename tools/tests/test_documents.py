@@ -51,7 +51,7 @@ class Documents(unittest.TestCase):
 
     def faults(self, text):
         page = Page('docs/PAGE.md', '# A heading\n\n%s\n' % text)
-        found = [*checks.links(page, [*self.pages, page]), *checks.quoted(page, self.sources),
+        found = [*checks.links(page, [*self.pages, page], self.sources), *checks.quoted(page, self.sources),
                  *checks.clauses(page, self.sources)]
         return [why for _, why in found if why]
 
@@ -65,8 +65,7 @@ class Documents(unittest.TestCase):
 
     def test_counts(self):
         """A number that is counted is right in the text, and one more is not."""
-        texts = ('the %d that may wait', '%d crates', '%d small tests stay in libraries', '%d edits in `edits/`',
-                 '%d wrong edits in `must-fail/`')
+        texts = ('the %d that may wait', '%d crates', '%d edits in `edits/`', '%d wrong edits in `must-fail/`')
         counted = counts.counted_of(self.sources)
         for text in texts:
             due = next(due for form, due in counted.items() if counts.re.search(form, text % 7))

@@ -128,7 +128,7 @@ WORDS = [
     ('check --layout layout.json --certificate stock.csv', 'certificate not-json', 'not JSON'),
     ('check --layout layout.json --certificate layout.json', 'certificate bad-shape', 'form of a certificate'),
     ('audit --layout layout.json --stock stock.csv --orders orders.csv --journal stock.csv', 'journal line 1',
-     'not the entry with the next number'),
+     'it is a file of stock'),
     ('make --number 1 --aisles 2 --orders 501 --desks 1 --wave 1 --capacity 1', 'words too-many-waves 501',
      'fewer orders'),
 ]

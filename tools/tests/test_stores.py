@@ -175,6 +175,19 @@ class Scripts(unittest.TestCase):
             self.assertEqual(status, done.status, (words, done.output, done.errors))
             self.assertIn(told, done.output)
 
+    def test_a_second_opinion_finds_the_copy_of_the_launcher(self):
+        files = {**dict(zip(('layout', 'stock', 'orders'), runs.FILES)), 'desks': 'cancel.csv'}
+        words = [word for name, file in files.items() for word in ('--' + name, self.folder / file)]
+        here = runs.put(self.folder / 'here', {stores.NAME + '.before': stores.file_of([SUBMIT, RELEASE])})
+        elsewhere = runs.put(self.folder / 'elsewhere', {})
+        for folder, more, status, finds in ((here, '', 0, True), (here, '--store 1', 0, True),
+                                            (here, '--store 0', 1, False), (here, '--stored', 0, False),
+                                            (elsewhere, '', 1, False), (elsewhere, '--store 1', 0, False)):
+            more = ['--capacity', '2', *more.split(), '-']
+            done = runs.script('second-opinion', *words, *more, given=CANCELLED.encode(), folder=folder)
+            self.assertEqual(status, done.status, (folder, more, done.output, done.errors))
+            self.assertEqual(finds, '2 of them stored before' in done.output)
+
     def test_a_second_opinion_on_what_is_left(self):
         for after, status in (('after', 0), ('before', 1)):
             done = self.judged(CANCELLED, 'cancel.csv', 'before', '--store-after', self.folder / after)
