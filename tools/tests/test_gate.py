@@ -1,5 +1,6 @@
 """Tests of what the gate's own scripts judge: refused edits, weights, functions that may wait, and statuses."""
 import contextlib
+import errno
 import importlib.machinery
 import importlib.util
 import io
@@ -17,8 +18,11 @@ GATE = f'{HOME}/tools/gate'
 sys.path.append(GATE)
 import copies
 import edits
+import ending
+import endings
 import judge
 import kit
+from in_process import ended
 
 
 def write(path, text):
@@ -561,3 +565,68 @@ make*) exit 5 ;;
 *no.json*) echo refused layout not-json; exit 2 ;;
 *) echo bound 68 2>&- || exit 4 ;;
 esac"""
+
+
+class Failing(io.RawIOBase):
+    """What an output goes to that can't be written."""
+
+    def __init__(self, number):
+        super().__init__()
+        self.number = number
+
+    def writable(self):
+        return True
+
+    def write(self, data):
+        raise OSError(self.number, os.strerror(self.number))
+
+
+class BadInputs(unittest.TestCase):
+    """The gate's scripts over wrong words, without a kit, with another one, and with outputs that can't be written."""
+
+    SCRIPTS = ('refuse', 'weigh', 'waits', 'statuses', 'changed', 'sum-up', 'printed', 'lines-to-read', '../release')
+    WORDS = (['--unknown'], ['nowhere', 'nothing'], ['9' * 5000], ['', ''], ['/dev/null', '--table'], ['--anew', '\x1b[2J'],
+             ['--from'], ['--from', 'nowhere'], ['--whole', 'x', 'y'], ['--without', '--without'], ['x' * 200, '--write'])
+
+    def setUp(self):
+        self.room = tempfile.mkdtemp(prefix='waveplan-test-')
+        self.addCleanup(shutil.rmtree, self.room, ignore_errors=True)
+
+    def told(self, name, words, path, out):
+        """How a script ends over these words, with this search path, and an output of this kind."""
+        module = script(name)
+        kept = os.environ['PATH'], os.environ.get('XDG_CACHE_HOME')
+        os.environ.update(PATH=path, XDG_CACHE_HOME=self.room)
+        try:
+            return ended(lambda: ending.status_of(module.main, words, module.__doc__), name, out=out)
+        finally:
+            os.environ['PATH'] = kept[0]
+            os.environ.pop('XDG_CACHE_HOME')
+            os.environ.update({'XDG_CACHE_HOME': kept[1]} if kept[1] else {})
+
+    def paths(self):
+        """Search paths without a kit, and with one that isn't the known one."""
+        write(f'{self.room}/other/bin/rt', '#!/bin/sh\n')
+        os.chmod(f'{self.room}/other/bin/rt', 0o755)
+        write(f'{self.room}/other/KIT-ID', 'another kit\n')
+        os.makedirs(f'{self.room}/none', exist_ok=True)
+        return f'{self.room}/none', f'{self.room}/other/bin'
+
+    def test_each_ends_with_one_line_and_a_status_of_the_table(self):
+        for name in self.SCRIPTS:
+            tried = 0
+            for path in self.paths():
+                for words in self.WORDS:
+                    for out in (io.BytesIO(), None):
+                        status, told = self.told(name, words, path, out)
+                        self.assertIn(status, (endings.REFUSED, endings.UNWRITTEN), (name, words, told))
+                        self.assertEqual(told.count('\n'), 1, (name, words, told))
+                        tried += 1
+            self.assertGreaterEqual(tried, 40)
+
+    def test_help_is_told_and_an_output_that_can_not_be_written_is_a_status(self):
+        for name in self.SCRIPTS:
+            self.assertEqual(self.told(name, ['--help'], self.room, io.BytesIO())[0], endings.RIGHT)
+            for number in (errno.ENOSPC, errno.EPIPE):
+                status, told = self.told(name, ['--help'], self.room, Failing(number))
+                self.assertEqual((status, told.count('\n')), (endings.UNWRITTEN, 1), (name, told))
