@@ -1,7 +1,7 @@
 """Writes the commands that tell a wave, one of its batches, or a list of what was picked, as picked and missing.
 
-usage: tools/wave confirm DAY WAVE [BATCH] [--desk N] [--after DESKS] [--earlier DAY] .. >> desks.csv
-       tools/wave confirm DAY --from FILE [--desk N] [--after DESKS] [--earlier DAY] .. >> desks.csv
+usage: tools/wave confirm DAY WAVE [BATCH] [--desk N] [--after DESKS] [--names FILE] [--earlier DAY] .. >> desks.csv
+       tools/wave confirm DAY --from FILE [--desk N] [--after DESKS] [--names FILE] [--earlier DAY] .. >> desks.csv
 
 DAY is the output of `waveplan plan`, or - for standard input. With a wave there is one record
 `N,pick,WAVE,ORDER,LOCATION,QUANTITY` for all that the wave, or the batch of this number, still holds at the end of the
@@ -16,6 +16,9 @@ stays held.
 With --after the commands of DESKS that DAY hasn't answered yet come before these records: what they tell as picked or
 missing is left out. DESKS may be the file to which the records are added. What is held elsewhere by them is confirmed
 after the next plan.
+
+With --names, the file of `tools/wave import`, the texts of before may stand in the place of names, as they do on sheets
+that were printed with it.
 
 Of a day that goes on from a store DAY is the last output, and --earlier names the outputs of earlier runs: the wave's
 sheet stands in one of them, and refills may in others. Nothing here is proved; the output that it reads is.
@@ -34,6 +37,7 @@ from opinion.stock_book import command_text
 
 from .confirmed import read_confirmed
 from .holding import still_held
+from .names import named_by
 from .output import read_output, with_earlier
 from .trouble import Trouble, read_bytes
 
@@ -115,6 +119,7 @@ def asked_words(words):
     known.add_argument('batch', nargs='?', type=int)
     known.add_argument('--earlier', action='append', default=[])
     known.add_argument('--after')
+    known.add_argument('--names')
     known.add_argument('--from', dest='table')
     return known.read(words)
 
@@ -124,11 +129,12 @@ def main(words):
     if asked.help or not asked.day or bool(asked.wave) == bool(asked.table):
         return tell_usage(__doc__, asked)
     day = with_earlier(read_output(asked.day), asked.earlier)
-    commands = new_commands(day, asked.after) if asked.after else []
+    commands, named = new_commands(day, asked.after) if asked.after else [], named_by(asked.names)
     if asked.wave:
-        found = [(asked.wave, {}, held_of(day, asked.wave, asked.batch, commands))]
+        wave = named(asked.wave)
+        found = [(wave, {}, held_of(day, wave, asked.batch, commands))]
     else:
-        found = list(of_table(day, read_confirmed(asked.table), commands))
+        found = list(of_table(day, read_confirmed(asked.table, named), commands))
     for word, place in (('missing', 1), ('pick', 2)):
         for told in found:
             sys.stdout.writelines(line + '\n' for line in records(asked.desk, word, told[0], told[place]))

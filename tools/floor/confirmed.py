@@ -26,8 +26,9 @@ def _rows(path):
         raise Trouble('%s is no table: line %d: %s' % (path, reader.line_num, why)) from None
 
 
-def read_confirmed(path):
-    """What was picked: by wave, and in it by order and location, the units and the line that told them last."""
+def read_confirmed(path, named):
+    """What was picked: by wave, and in it by order and location, the units and the line that told them last. `named`
+    gives the names of the texts that stand there."""
     rows = _rows(path)
     heading = [cell.lower() for cell in rows[0][1]] if rows else []
     if not set(COLUMNS) <= set(heading):
@@ -39,6 +40,6 @@ def read_confirmed(path):
         if not LOCATION.fullmatch(location) or not NUMBER.fullmatch(units) or not wave or not order:
             raise Trouble('line %d of %s is not a wave, an order, a location as 3-17-L and a number: %s'
                           % (line, path, ','.join(cells)))
-        told, key = found.setdefault(wave, {}), (order, plain(location))
+        told, key = found.setdefault(named(wave), {}), (named(order), plain(location))
         told[key] = (told.get(key, (0, 0))[0] + int(units), line)
     return found

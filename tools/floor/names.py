@@ -79,11 +79,22 @@ class Names:
         whole_files.write(self.path, to.getvalue())
 
 
-def texts_of(path):
-    """The texts that a file of names keeps for names; none where there is no such file."""
-    if path and not os.path.exists(path):
+def kept_in(path):
+    """The names of a file that is there."""
+    if not os.path.exists(path):
         raise Trouble('%s cannot be read: there is no file of names of this name' % path)
-    return Names(path).changed() if path else {}
+    return Names(path)
+
+
+def texts_of(path):
+    """The texts that a file of names keeps for names; none where no file is given."""
+    return kept_in(path).changed() if path else {}
+
+
+def named_by(path):
+    """What gives a text the name that a file keeps for it, and leaves it as it is where there is none."""
+    known = kept_in(path).name_of if path else {}
+    return lambda text: known.get(unicodedata.normalize('NFC', text), text)
 
 
 def _command(words, texts):

@@ -21,7 +21,7 @@ CITED = [
     ('`write_planned`', 'nothing is called write_planned'),
     ('`Store::append`', None), ('`Store::append_nothing`', 'nothing is called'), ('`wp_top`', None),
     ('`wp_bottom`', 'nothing is called'),
-    ('`--units 30`', None), ('`--unit 30`', 'there is no option --unit'), ('`tools/sheets`', None),
+    ('`--units 30`', None), ('`--pieces 30`', 'there is no option --pieces'), ('`tools/sheets`', None),
     ('`tools/nothing`', 'there is no'),
     ('`tools/wave sheets --layout FILE DAY`', None), ('`tools/wave sheet DAY`', 'no subcommand sheet'),
     ('`tools/confirm DAY --nothing`', 'there is no option --nothing'), ('`./waveplan plan --capacity 3`', None),

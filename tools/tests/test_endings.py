@@ -194,6 +194,7 @@ def odd_words(name):
                                                     ['--from', 'nowhere'], ['W1', '--from', 'picked.csv'],
                                                     ['W1', '--after', 'nowhere'], ['W1', '--after', 'stock.csv'],
                                                     ['--from', 'orders.csv'], ['--from', '/'],
+                                                    ['W1', '--names', 'nul.csv'], ['W1', '--names', 'nowhere'],
                                                     ['W1', '--earlier', 'nowhere'],
                                                     ['W1', '--earlier', 'alone.txt'], ['W1', '--earlier'])],
         'sheets': [['--layout', layout, *more] for layout in ('layout.json', 'nowhere', '/', 'day.txt') for more in (

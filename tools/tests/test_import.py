@@ -374,10 +374,18 @@ class MessyDays(unittest.TestCase):
         self.assertEqual(0, done.status, done.output)
         self.assertIn('1 1 release Mo-08-00 -> released', done.output)
         runs.put(folder, {'day.txt': done.output})
-        self.assertIn('T\u00fcr 0', runs.script('sheets', '--layout', 'layout.json', '--names', 'names.csv', 'day.txt',
-                                                folder=folder).output)
+        words = ('sheets', '--layout', 'layout.json', '--names', 'names.csv', 'day.txt')
+        page = runs.script(*words, folder=folder).output
+        for text in ('T\u00fcr 0', 'href="#cart-Mo%2008%3A00-1"', '<section id="cart-Mo%2008%3A00-1"'):
+            self.assertIn(text, page)
+        self.assertIn('have no page here', runs.script(*words, '--since', 'day.txt', folder=folder).output)
+        self.assertIn('leave --codes or --names out', runs.script(*words, '--codes', folder=folder).errors)
         shown = runs.script('to-json', 'day.txt', '--names', 'names.csv', folder=folder).output
         self.assertIn('{"word":"submit","wave":"Mo 08:00","orders":["SO 1","SO 2"]}', shown)
+        runs.put(folder, {'picked.csv': 'wave,order,location,quantity\nMo 08:00,SO 1,1-1-L,3\n'})
+        for words in (('Mo 08:00',), ('--from', 'picked.csv')):
+            self.assertIn('1,pick,Mo-08-00,SO-1,1-1-L,3\n', runs.script('confirm', 'day.txt', *words, '--names',
+                                                                       'names.csv', folder=folder).output)
         self.assertIn("'Mo 08:00' is no name", runs.script('from-json', '-', given=shown.encode()).errors)
         runs.script('to-csv', '--names', 'names.csv', 'day.txt', 'tables', folder=folder)
         self.assertIn('Mo 08:00', (folder / 'tables' / 'waves.csv').read_text(encoding='utf-8'))
