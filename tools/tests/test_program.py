@@ -5,7 +5,6 @@ import os
 import re
 import sys
 import unittest
-from concurrent.futures import ThreadPoolExecutor
 from pathlib import Path
 
 import by_hand
@@ -270,11 +269,6 @@ class Fuzzing(unittest.TestCase):
     def fuzzed(self, program, mode, count, *more):
         return runs.script('fuzz', program, '--mode', mode, '--runs', count, *more)
 
-    def test_nothing_is_wrong_with_the_program(self):
-        for mode in ('plan', 'check', 'audit', 'make', 'store', 'words'):
-            done = self.fuzzed(runs.PROGRAM, mode, 60)
-            self.assertEqual(0, done.status, done.output + done.errors)
-
     def planted(self, place, fault):
         """What is found of a fault that is planted behind the program."""
         _, mode, pattern, new, status = fault
@@ -285,14 +279,31 @@ class Fuzzing(unittest.TestCase):
         count = 80 if place < len(FAULTS) else 400
         return self.fuzzed(program, mode, count, '--to-wrong', '--corpus', runs.PROGRAM)
 
-    def test_each_planted_fault_is_found(self):
-        faults = FAULTS + CART_FAULTS + SHOWN_FAULTS + STORE_FAULTS
-        with ThreadPoolExecutor(2) as pool:
-            found = list(pool.map(self.planted, range(len(faults)), faults))
-        for (name, mode, *_), done in zip(faults, found):
-            with self.subTest(name):
-                self.assertEqual(1, done.status, done.output + done.errors)
-                self.assertRegex(done.output, 'wrong: %s run' % mode)
+
+def test_that_nothing_is_wrong(mode):
+    """A test that nothing is wrong with the program in this mode."""
+    def test(self):
+        done = self.fuzzed(runs.PROGRAM, mode, 60)
+        self.assertEqual(0, done.status, done.output + done.errors)
+    return test
+
+
+def test_that_it_is_found(place, fault):
+    """A test that this fault, planted behind the program, is found."""
+    def test(self):
+        done = self.planted(place, fault)
+        self.assertEqual(1, done.status, done.output + done.errors)
+        self.assertRegex(done.output, 'wrong: %s run' % fault[1])
+    return test
+
+
+# A test for each mode and for each fault, so that they run beside each other.
+for known in ('plan', 'check', 'audit', 'make', 'store', 'words'):
+    setattr(Fuzzing, 'test_nothing_is_wrong_in_mode_%s' % known, test_that_nothing_is_wrong(known))
+for number, known in enumerate(FAULTS + CART_FAULTS + SHOWN_FAULTS + STORE_FAULTS):
+    name = re.sub(r'\W+', '_', known[0])
+    setattr(Fuzzing, 'test_it_finds_%02d_%s' % (number, name), test_that_it_is_found(number, known))
+del test_that_nothing_is_wrong, test_that_it_is_found
 
 
 if __name__ == '__main__':
