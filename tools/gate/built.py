@@ -12,7 +12,7 @@ def programs(rt, crates, kept):
     crate = next(it for it in crates if it.name == PROGRAM)
     below = {it.name for it in crate.below()}
     if kit.take_libraries(rt, kept, [it for it in crates if it.name in below]) or not kit.take(kept, crate):
-        raise kit.Missing(f'rt ci has built no {PROGRAM} of these files')
+        raise kit.NotProved(f'rt ci has built no {PROGRAM} of these files')
     return [f'{crate.folder}/out/{it}' for it in kept.made(crate, False)]
 
 

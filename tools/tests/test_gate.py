@@ -585,8 +585,9 @@ class BadInputs(unittest.TestCase):
     """The gate's scripts over wrong words, without a kit, with another one, and with outputs that can't be written."""
 
     SCRIPTS = ('refuse', 'weigh', 'waits', 'statuses', 'changed', 'sum-up', 'printed', 'lines-to-read', '../release')
-    WORDS = (['--unknown'], ['nowhere', 'nothing'], ['9' * 5000], ['', ''], ['/dev/null', '--table'], ['--anew', '\x1b[2J'],
-             ['--from'], ['--from', 'nowhere'], ['--whole', 'x', 'y'], ['--without', '--without'], ['x' * 200, '--write'])
+    WORDS = (['--unknown'], ['nowhere', 'nothing'], ['9' * 5000], ['', ''], ['/dev/null', '--table'], ['--from'],
+             ['--anew', '\x1b[2J'], ['--from', 'nowhere'], ['--whole', 'x', 'y'], ['--without', '--without'],
+             ['x' * 200, '--write'])
 
     def setUp(self):
         self.room = tempfile.mkdtemp(prefix='waveplan-test-')
@@ -623,6 +624,19 @@ class BadInputs(unittest.TestCase):
                         self.assertEqual(told.count('\n'), 1, (name, words, told))
                         tried += 1
             self.assertGreaterEqual(tried, 40)
+
+    def test_within_a_gate_what_is_not_proved_is_left_out(self):
+        def main(words):
+            raise kit.NotProved('rt ci has built no program')
+
+        for where, due in (('', endings.REFUSED), (self.room, endings.RIGHT)):
+            os.environ[kit.SHARED] = where
+            self.addCleanup(os.environ.pop, kit.SHARED, None)
+            out = io.BytesIO()
+            out.close = lambda: None
+            status, told = ended(lambda: ending.status_of(main, [], ''), 'statuses', out=out)
+            self.assertEqual(status, due)
+            self.assertEqual(b'0 passed, 0 failed\n' in out.getvalue(), due == endings.RIGHT)
 
     def test_help_is_told_and_an_output_that_can_not_be_written_is_a_status(self):
         for name in self.SCRIPTS:
