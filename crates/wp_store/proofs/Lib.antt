@@ -4,3 +4,4 @@ pub mod Moments
 pub mod Reading
 pub mod Tearing
 pub mod Told
+pub mod Untold

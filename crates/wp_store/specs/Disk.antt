@@ -1,6 +1,23 @@
--- What the calls of a disk do to its file, and what a crash may leave of it. An image is a content of the file that a crash leaves.
-use Rattle.std.specs.Prelude.{◌≡◌, ◌⊎◌, ℕ, ◌+◌, ◌-◌, ◌^◌, ◌<◌, ◌≤◌, max, min, List, ◌++◌, length, take, drop, Option, Some}
+-- What a disk tells, what the calls of a disk do to its file, and what a crash may leave of it. An image is a content of the file that a crash leaves.
+use Rattle.std.specs.Prelude.{◌≡◌, ◌⊎◌, ℕ, ◌+◌, ◌-◌, ◌^◌, ◌<◌, ◌≤◌, max, min, List, ◌++◌, length, take, drop, Option, Some, is_some}
 use Rattle.wp_store.specs.Records.{most_store_bytes}
+
+-- what a disk tells
+pub record DiskTold : Type 1 where
+  -- what a read gives, where that is told; where it isn't, nothing is told of images and syncs either
+  pub holds : Option (List ℕ)
+  -- the images that a crash may leave now
+  pub images : List ℕ → Type 0
+  -- the moment, as a number that never falls
+  pub moment : ℕ
+  -- the images that a crash might have left at some moment since that one, in a call or between two
+  pub images_since : ℕ → List ℕ → Type 0
+  -- how many syncs have succeeded, and at which moment each did, by its number from 1 on
+  pub syncs : ℕ
+  pub sync_at : ℕ → ℕ
+  -- how often the disk has failed, and how often it was called
+  pub faults : ℕ
+  pub calls : ℕ
 
 -- a claim on the bytes of a disk, where it tells them
 abbrev pub WhereTold : Option (List ℕ) → (List ℕ → Type 0) → Type 0
@@ -31,44 +48,84 @@ pub record Cut (n : ℕ) (old new : List ℕ) : Type 0 where
   pub no_shorter : min n (length old) ≤ length new
   pub front : new ≡ take (length new) old
 
--- each new image is an old image after this step
-abbrev pub Follows : (List ℕ → List ℕ → Type 0) → (List ℕ → Type 0) → (List ℕ → Type 0) → Type 0
-Follows step old new = (image : List ℕ) → new image → (from : List ℕ) × old from × step from image
-
--- each new image is an old one
-abbrev pub Within : (List ℕ → Type 0) → (List ℕ → Type 0) → Type 0
-Within old new = (image : List ℕ) → new image → old image
+-- the file is as it was
+abbrev pub Stays : List ℕ → List ℕ → Type 0
+Stays old new = new ≡ old
 
 -- the file is the only image
 abbrev pub Only : List ℕ → (List ℕ → Type 0) → Type 0
 Only file images = (image : List ℕ) → images image → image ≡ file
 
--- Time goes on in a call: an image at some moment since t is one of those that there might have been before, or one of those of now.
-pub record Elapses (before now : ℕ) (past since : ℕ → List ℕ → Type 0) (images : List ℕ → Type 0) : Type 0 where
-  pub later : before ≤ now
-  pub nothing_else : (t : ℕ) (image : List ℕ) → t ≤ before → since t image → past t image ⊎ images image
-  pub keeps : (t : ℕ) (image : List ℕ) → t ≤ before → past t image → since t image
+-- one more, unless a count stands at the end of its type
+abbrev pub one_more : ℕ → ℕ
+one_more n = max n (min (n + 1) (2 ^ 64 - 1))
+
+-- no sync succeeded
+abbrev pub NoSync : DiskTold → DiskTold → Type 0
+NoSync old new = new.syncs ≡ old.syncs
+
+-- one sync succeeded, as the call ended
+pub record OneSync (old new : DiskTold) : Type 0 where
+  pub counted : new.syncs ≡ old.syncs + 1
+  pub now : new.sync_at new.syncs ≡ new.moment
+  pub later : old.moment < new.moment
+
+-- What one call on a disk may change of what it tells, where it makes this step of a file. Whether its bytes are told stays. Each image is one from before
+-- the call after the step. Time goes on: an image at some moment since t is one of those that there might have been before, or one of those of now. The
+-- syncs that had succeeded stay as they are. No count falls, and it is one call more.
+pub record OneCall (Step : List ℕ → List ℕ → Type 0) (old new : DiskTold) : Type 0 where
+  pub told : is_some new.holds ≡ is_some old.holds
+  pub images : (image : List ℕ) → new.images image → (from : List ℕ) × old.images from × Step from image
+  pub later : old.moment ≤ new.moment
+  pub nothing_else : (t : ℕ) (image : List ℕ) → t ≤ old.moment → new.images_since t image → old.images_since t image ⊎ new.images image
+  pub keeps : (t : ℕ) (image : List ℕ) → t ≤ old.moment → old.images_since t image → new.images_since t image
+  pub syncs : NoSync old new ⊎ OneSync old new
+  pub sync_at : (k : ℕ) → k ≤ old.syncs → new.sync_at k ≡ old.sync_at k
+  pub faults : old.faults ≤ new.faults
+  pub calls : new.calls ≡ one_more old.calls
+
+-- What several calls may change of what a disk tells, of which so many at most are made, and so many syncs at most succeed.
+pub record GoesOn (calls syncs : ℕ) (old new : DiskTold) : Type 0 where
+  pub told : is_some new.holds ≡ is_some old.holds
+  pub later : old.moment ≤ new.moment
+  pub least_syncs : old.syncs ≤ new.syncs
+  pub most_syncs : new.syncs ≤ old.syncs + syncs
+  pub sync_at : (k : ℕ) → k ≤ old.syncs → new.sync_at k ≡ old.sync_at k
+  pub syncs_later : (k : ℕ) → old.syncs < k → k ≤ new.syncs → old.moment < new.sync_at k
+  pub syncs_by_now : (k : ℕ) → old.syncs < k → k ≤ new.syncs → new.sync_at k ≤ new.moment
+  pub least_calls : old.calls ≤ new.calls
+  pub most_calls : new.calls ≤ old.calls + calls
+  pub faults : old.faults ≤ new.faults
+
+-- so many syncs have succeeded, the last as the calls ended
+pub record EndsSynced (syncs : ℕ) (old new : DiskTold) : Type 0 where
+  pub counted : new.syncs ≡ old.syncs + syncs
+  pub now : new.sync_at new.syncs ≡ new.moment
 
 -- every image at a moment since the old disk has P
-pub record LeavesOnly {D : Type 0} (moment : D → ℕ) (images_since : D → ℕ → List ℕ → Type 0) (old new : D) (P : List ℕ → Type 0) : Type 0 where
-  pub later : moment old ≤ moment new
-  pub each : (image : List ℕ) → images_since new (moment old) image → P image
+pub record LeavesOnly (old new : DiskTold) (P : List ℕ → Type 0) : Type 0 where
+  pub later : old.moment ≤ new.moment
+  pub each : (image : List ℕ) → new.images_since old.moment image → P image
   -- for calls that began earlier
-  pub before : (t : ℕ) (image : List ℕ) → t ≤ moment old → images_since new t image → images_since old t image ⊎ P image
+  pub before : (t : ℕ) (image : List ℕ) → t ≤ old.moment → new.images_since t image → old.images_since t image ⊎ P image
 
--- no sync succeeded in a call, and those that had succeeded still have
-abbrev pub NoSync : (ℕ → Type 0) → (ℕ → Type 0) → Type 0
-NoSync old new = (t : ℕ) → (new t → old t) × (old t → new t)
-
--- the same, but for a sync that ended with the call
-abbrev pub SyncsNow : ℕ → ℕ → (ℕ → Type 0) → (ℕ → Type 0) → Type 0
-SyncsNow before now old new = (t : ℕ) → (new t → old t ⊎ ((t ≡ now) × (before < t))) × (old t → new t)
-
--- a sync that has succeeded did so before these calls began, or in them; and those that had succeeded still have
-abbrev pub SyncsIn : {D : Type 0} → (D → ℕ) → (D → ℕ → Type 0) → D → D → Type 0
-SyncsIn moment synced old new = (t : ℕ) → (synced new t → synced old t ⊎ (moment old < t)) × (synced old t → synced new t)
+-- every image at a moment since the sync of this number has P
+abbrev pub SinceSync : DiskTold → ℕ → (List ℕ → Type 0) → Type 0
+SinceSync disk k P = (image : List ℕ) → disk.images_since (disk.sync_at k) image → P image
 
 -- every image at a moment since a sync that succeeded in these calls has P
-abbrev pub SinceSyncs : {D : Type 0} → (D → ℕ) → (D → ℕ → List ℕ → Type 0) → (D → ℕ → Type 0) → D → D → (List ℕ → Type 0) → Type 0
-SinceSyncs moment images_since synced old new P =
-    (t : ℕ) → moment old < t → synced new t → (image : List ℕ) → images_since new t image → P image
+abbrev pub SinceSyncs : DiskTold → DiskTold → (List ℕ → Type 0) → Type 0
+SinceSyncs old new P = (k : ℕ) → old.syncs < k → k ≤ new.syncs → SinceSync new k P
+
+-- What is so of each disk, at every moment.
+pub record IsDisk (disk : DiskTold) : Type 0 where
+  -- the disk as it reads is one of its images
+  pub reads_as_an_image : (bytes : List ℕ) → disk.holds ≡ Some bytes → disk.images bytes
+  -- this moment is one of those since an earlier one
+  pub counts_now : (t : ℕ) (image : List ℕ) → t ≤ disk.moment → disk.images image → disk.images_since t image
+  -- since this moment there is no other
+  pub only_now : (image : List ℕ) → disk.images_since disk.moment image → disk.images image
+  -- what there was since a moment there was since each earlier one
+  pub since_earlier : (t u : ℕ) (image : List ℕ) → t ≤ u → disk.images_since u image → disk.images_since t image
+  -- no sync succeeded at a later moment than this one
+  pub no_later_sync : (k : ℕ) → 1 ≤ k → k ≤ disk.syncs → disk.sync_at k ≤ disk.moment

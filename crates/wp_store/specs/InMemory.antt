@@ -1,8 +1,8 @@
 -- A disk in memory, as clauses see it.
-use Rattle.std.specs.Prelude.{◌≡◌, ◌⊎◌, ℕ, ◌+◌, ◌-◌, ◌^◌, ◌≤◌, min, max, Bool, false, ◌==◌, ◌||◌, nat_le, nat_lt, if◌then◌else◌, List, [], ◌∷◌, length, take, map, reverse, vec_len, vec_capacity, Vec, Option, Some, None}
+use Rattle.std.specs.Prelude.{◌≡◌, ◌⊎◌, ℕ, ◌+◌, ◌-◌, ◌≤◌, Bool, false, ◌==◌, ◌||◌, nat_le, nat_lt, if◌then◌else◌, List, [], ◌∷◌, length, take, map, reverse, vec_len, vec_capacity, Vec, Option, Some, None}
 use Rattle.std.specs.declared.alloc.Global.{Global}
 use Rattle.std.specs.List.{list_any}
-use Rattle.wp_store.specs.Disk.{Torn, Cut, written_over}
+use Rattle.wp_store.specs.Disk.{DiskTold, Torn, Cut, one_more, written_over}
 use Rattle.wp_store.specs.declared.done.Done.{Done}
 use Rattle.wp_store.specs.declared.done.Kind.{Kind}
 use Rattle.wp_store.specs.declared.done.Kind.TheVariants as kind
@@ -34,10 +34,6 @@ pub record PlannedCalls : Type 0 where
   pub size : ℕ
   pub made : ℕ
   pub faults : ℕ
-
--- one more, unless the count stands at the end of its type
-abbrev pub one_more : ℕ → ℕ
-one_more n = max n (min (n + 1) (2 ^ 64 - 1))
 
 -- so many calls were made that the next one is after the stop
 abbrev pub is_stopped : Option ℕ → ℕ → Bool
@@ -85,12 +81,19 @@ abbrev pub IsImageSince : List ℕ → List DiskCall → ℕ → List ℕ → Ty
 IsImageSince first [] t image = (t ≤ 0) × (image ≡ first)
 IsImageSince first (call ∷ done) t image = ((t ≤ length done + 1) × IsImage first (call ∷ done) image) ⊎ IsImageSince first done t image
 
--- a sync was done at this moment
-abbrev pub IsSyncedAt : List DiskCall → ℕ → Type 0
-IsSyncedAt [] t = ⊥
-IsSyncedAt (Wrote place n after ∷ done) t = IsSyncedAt done t
-IsSyncedAt (CutTo n after ∷ done) t = IsSyncedAt done t
-IsSyncedAt (Synced after ∷ done) t = (t ≡ length done + 1) ⊎ IsSyncedAt done t
+-- how many syncs were done
+abbrev pub sync_count : List DiskCall → ℕ
+sync_count [] = 0
+sync_count (Wrote place n after ∷ done) = sync_count done
+sync_count (CutTo n after ∷ done) = sync_count done
+sync_count (Synced after ∷ done) = sync_count done + 1
+
+-- the moment of the sync of this number, from 1 on; 0 where there is none
+abbrev pub sync_moment : List DiskCall → ℕ → ℕ
+sync_moment [] k = 0
+sync_moment (Wrote place n after ∷ done) k = sync_moment done k
+sync_moment (CutTo n after ∷ done) k = sync_moment done k
+sync_moment (Synced after ∷ done) k = if k == sync_count done + 1 then length done + 1 else sync_moment done k
 
 -- a write of this piece at this place fails
 abbrev pub write_fails : DiskInMemory → ℕ → List ℕ → Bool
@@ -104,6 +107,19 @@ after_done disk failed call =
 -- what a read gives of a disk
 abbrev pub disk_bytes : DiskInMemory → List ℕ
 disk_bytes disk = bytes_after disk.first disk.done
+
+-- what such a disk tells: all
+abbrev pub mem_told : DiskInMemory → DiskTold
+mem_told disk = record {
+  holds = Some (disk_bytes disk);
+  images = IsImage disk.first disk.done;
+  moment = length disk.done;
+  images_since = IsImageSince disk.first disk.done;
+  syncs = sync_count disk.done;
+  sync_at = sync_moment disk.done;
+  faults = disk.calls.faults;
+  calls = disk.calls.made;
+}
 
 -- the disk after a write, a cut, a sync and a read
 abbrev pub after_write : DiskInMemory → ℕ → List ℕ → DiskInMemory

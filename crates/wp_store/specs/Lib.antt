@@ -5,3 +5,4 @@ pub mod Moments
 pub mod Records
 pub mod Spans
 pub mod Store
+pub mod Untold

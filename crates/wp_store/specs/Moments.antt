@@ -1,7 +1,9 @@
 -- The laws of a disk's images and moments, for a disk in memory.
-use Rattle.std.specs.Prelude.{◌≡◌, ℕ, ◌≤◌, ◌<◌, List, [], ◌∷◌, length, Option, Some, refl}
+use Rattle.std.specs.Prelude.{◌≡◌, ℕ, ◌+◌, ◌≤◌, ◌<◌, List, [], ◌∷◌, length, Option, Some, refl}
 use Rattle.std.proofs.Common.{inl, inr, arith, sym}
-use Rattle.wp_store.specs.InMemory.{DiskCall, Wrote, CutTo, Synced, IsImage, IsImageSince, IsSyncedAt, bytes_after}
+use Rattle.std.proofs.lemmas.Bool.Decides.{nat_tests}
+use Rattle.wp_store.specs.Disk.{IsDisk}
+use Rattle.wp_store.specs.InMemory.{DiskCall, DiskInMemory, Wrote, CutTo, Synced, IsImage, IsImageSince, bytes_after, mem_told, sync_count, sync_moment}
 
 -- what a read gives is an image
 pub read_is_image : (first : List ℕ) (done : List DiskCall) → IsImage first done (bytes_after first done)
@@ -42,9 +44,19 @@ since_is_earlier first (call ∷ done) t u image le (inl now) = let at = now.0 i
 since_is_earlier first (call ∷ done) t u image le (inr past) = inr (since_is_earlier first done t u image le past)
 
 -- no sync was done later
-pub synced_by_now : (done : List DiskCall) (t : ℕ) → IsSyncedAt done t → t ≤ length done
-synced_by_now [] t at = absurd at
-synced_by_now (Wrote place n after ∷ done) t at = let by = synced_by_now done t at in omega arith
-synced_by_now (CutTo n after ∷ done) t at = let by = synced_by_now done t at in omega arith
-synced_by_now (Synced after ∷ done) t (inl now) = omega arith
-synced_by_now (Synced after ∷ done) t (inr at) = let by = synced_by_now done t at in omega arith
+pub synced_by_now : (done : List DiskCall) (k : ℕ) → sync_moment done k ≤ length done
+synced_by_now [] k = omega arith
+synced_by_now (Wrote place n after ∷ done) k = let by = synced_by_now done k in omega arith
+synced_by_now (CutTo n after ∷ done) k = let by = synced_by_now done k in omega arith
+synced_by_now (Synced after ∷ done) k = let by = synced_by_now done k in
+    grind (arith, nat_tests)
+
+-- a disk in memory is a disk
+pub mem_is_disk : (disk : DiskInMemory) → IsDisk (mem_told disk)
+mem_is_disk disk = record {
+  reads_as_an_image = λ bytes told. told_is_image disk.first disk.done bytes told;
+  counts_now = λ t image le now. now_is_since disk.first disk.done t image le now;
+  only_now = λ image since. since_is_now disk.first disk.done image since;
+  since_earlier = λ t u image le since. since_is_earlier disk.first disk.done t u image le since;
+  no_later_sync = λ k some few. synced_by_now disk.done k;
+}

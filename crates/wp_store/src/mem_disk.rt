@@ -1,7 +1,7 @@
-ghost use Rattle.std.specs.Prelude.{◌≡◌, ◌⊎◌, ◌<◌, ◌≤◌, ◌↔◌, ℕ, List, [], Some, true, false, length, take, is_some, is_err, option_map, vec_len, if◌then◌else◌, IsTrue, IfOk, OnOk, OnErr, IsErrOf};
-ghost use Rattle.wp_store.specs.Disk.{WhereTold, Rose, IsTooLong, written_over, Torn, Cut, Follows, Within, Only, Elapses, NoSync, SyncsNow};
-ghost use Rattle.wp_store.specs.InMemory.{disk_bytes, kept_after, after_write, after_cut, after_sync, after_read, write_fails, next_fails, IsImage, IsImageSince, IsSyncedAt};
-ghost use Rattle.wp_store.specs.Moments.{told_is_image, now_is_since, since_is_now, since_is_earlier, synced_by_now};
+ghost use Rattle.std.specs.Prelude.{◌≡◌, ◌≤◌, ◌↔◌, [], Some, length, is_err, vec_len, if◌then◌else◌, IsTrue, IfOk, OnOk, OnErr, IsErrOf};
+ghost use Rattle.wp_store.specs.Disk.{WhereTold, Rose, IsTooLong, Torn, Cut, Stays, OneCall, NoSync, OneSync};
+ghost use Rattle.wp_store.specs.InMemory.{disk_bytes, kept_after, mem_told, after_write, after_cut, after_sync, after_read, write_fails, next_fails, IsImage};
+ghost use Rattle.wp_store.specs.Moments.{mem_is_disk};
 
 use crate::calls::Calls;
 use crate::disk::{Disk, DiskFailed, DiskFault};
@@ -83,43 +83,20 @@ impl MemDisk {
 }
 
 impl Disk for MemDisk {
-    ghost holds = { λ disk. Some (disk_bytes disk) };
+    ghost told = { mem_told };
 
-    ghost images = { λ disk. IsImage disk.first disk.done };
-
-    ghost moment = { λ disk. length disk.done };
-
-    ghost images_since = { λ disk. IsImageSince disk.first disk.done };
-
-    ghost synced = { λ disk. IsSyncedAt disk.done };
-
-    ghost faults = { λ disk. disk.calls.faults };
-
-    ghost reads_as_an_image = { λ disk bytes told. told_is_image disk.first disk.done bytes told };
-
-    ghost counts_now = { λ disk t image le now. now_is_since disk.first disk.done t image le now };
-
-    ghost only_now = { λ disk image since. since_is_now disk.first disk.done image since };
-
-    ghost since_earlier = { λ disk t u image le since. since_is_earlier disk.first disk.done t u image le since };
-
-    ghost no_later_sync = { λ disk t at. synced_by_now disk.done t at };
+    ghost is_disk = { mem_is_disk };
 
     /// A read fails exactly where the call is to fail, and changes no bytes.
     fn read(&mut self, alloc: Global) -> Result<Vec<u8>, DiskFault>
         ensures planned { IsErrOf result DiskFault.Failed ↔ IsTrue (next_fails self.old.calls) }
         ensures after { self.new ≡ after_read self.old }
-        ensures bytes { IfOk result (λ read. WhereTold (Some (disk_bytes self.old)) (λ told. read.items ≡ told)) }
-        ensures too_long { IsErrOf result DiskFault.TooLong
-            → WhereTold (Some (disk_bytes self.old)) (λ told. IsTooLong told × (self.new.calls.faults ≡ self.old.calls.faults)) }
-        ensures long { WhereTold (Some (disk_bytes self.old)) (λ told.
-            IsTooLong told → ¬ Rose self.old.calls.faults self.new.calls.faults
-            → IsErrOf result DiskFault.TooLong ⊎ IsErrOf result DiskFault.Memory) }
-        ensures time { Elapses (length self.old.done) (length self.new.done)
-            (IsImageSince self.old.first self.old.done) (IsImageSince self.new.first self.new.done)
-            (IsImage self.new.first self.new.done) }
-        ensures counts { self.old.calls.faults ≤ self.new.calls.faults }
+        ensures bytes { IfOk result (λ read. read.items ≡ disk_bytes self.old) }
+        ensures too_long { IsErrOf result DiskFault.TooLong → WhereTold (Some (disk_bytes self.old)) IsTooLong }
+        ensures short { OnOk result (WhereTold (Some (disk_bytes self.old)) (λ bytes. IsTooLong bytes → ⊥)) }
+        ensures calls { OneCall Stays (mem_told self.old) (mem_told self.new) }
         ensures failed { IsErrOf result DiskFault.Failed → Rose self.old.calls.faults self.new.calls.faults }
+        ensures sound { (IsErrOf result DiskFault.Failed → ⊥) → self.new.calls.faults ≡ self.old.calls.faults }
     {
         let fails = self.calls.next_fails();
         self.calls.count(fails);
@@ -137,14 +114,10 @@ impl Disk for MemDisk {
         requires { place ≤ length (disk_bytes self.old) }
         ensures planned { is_err result ≡ write_fails self.old place piece.now }
         ensures after { self.new ≡ after_write self.old place piece.now }
-        ensures images { Follows (Torn place (length piece.now))
-            (IsImage self.old.first self.old.done) (IsImage self.new.first self.new.done) }
-        ensures time { Elapses (length self.old.done) (length self.new.done)
-            (IsImageSince self.old.first self.old.done) (IsImageSince self.new.first self.new.done)
-            (IsImage self.new.first self.new.done) }
-        ensures syncs { NoSync (IsSyncedAt self.old.done) (IsSyncedAt self.new.done) }
-        ensures counts { self.old.calls.faults ≤ self.new.calls.faults }
+        ensures calls { OneCall (Torn place (length piece.now)) (mem_told self.old) (mem_told self.new) }
+        ensures unsynced { NoSync (mem_told self.old) (mem_told self.new) }
         ensures failed { OnErr result (Rose self.old.calls.faults self.new.calls.faults) }
+        ensures sound { OnOk result (self.new.calls.faults ≡ self.old.calls.faults) }
     {
         let fails = self.calls.next_fails() || piece.len() as u64 > self.calls.size() - place;
         if !fails {
@@ -163,14 +136,10 @@ impl Disk for MemDisk {
     fn cut(&mut self, size: u64) -> Result<(), DiskFailed>
         ensures planned { is_err result ≡ next_fails self.old.calls }
         ensures after { self.new ≡ after_cut self.old size }
-        ensures images { Follows (Cut size)
-            (IsImage self.old.first self.old.done) (IsImage self.new.first self.new.done) }
-        ensures time { Elapses (length self.old.done) (length self.new.done)
-            (IsImageSince self.old.first self.old.done) (IsImageSince self.new.first self.new.done)
-            (IsImage self.new.first self.new.done) }
-        ensures syncs { NoSync (IsSyncedAt self.old.done) (IsSyncedAt self.new.done) }
-        ensures counts { self.old.calls.faults ≤ self.new.calls.faults }
+        ensures calls { OneCall (Cut size) (mem_told self.old) (mem_told self.new) }
+        ensures unsynced { NoSync (mem_told self.old) (mem_told self.new) }
         ensures failed { OnErr result (Rose self.old.calls.faults self.new.calls.faults) }
+        ensures sound { OnOk result (self.new.calls.faults ≡ self.old.calls.faults) }
     {
         let fails = self.calls.next_fails();
         if !fails {
@@ -185,15 +154,11 @@ impl Disk for MemDisk {
     fn sync(&mut self) -> Result<(), DiskFailed>
         ensures planned { is_err result ≡ next_fails self.old.calls }
         ensures after { self.new ≡ after_sync self.old }
-        ensures images { Within (IsImage self.old.first self.old.done) (IsImage self.new.first self.new.done) }
-        ensures time { Elapses (length self.old.done) (length self.new.done)
-            (IsImageSince self.old.first self.old.done) (IsImageSince self.new.first self.new.done)
-            (IsImage self.new.first self.new.done) }
-        ensures syncs { SyncsNow (length self.old.done) (length self.new.done)
-            (IsSyncedAt self.old.done) (IsSyncedAt self.new.done) }
-        ensures unsynced { OnErr result (NoSync (IsSyncedAt self.old.done) (IsSyncedAt self.new.done)) }
-        ensures counts { self.old.calls.faults ≤ self.new.calls.faults }
+        ensures calls { OneCall Stays (mem_told self.old) (mem_told self.new) }
+        ensures synced { OnOk result (OneSync (mem_told self.old) (mem_told self.new)) }
+        ensures unsynced { OnErr result (NoSync (mem_told self.old) (mem_told self.new)) }
         ensures failed { OnErr result (Rose self.old.calls.faults self.new.calls.faults) }
+        ensures sound { OnOk result (self.new.calls.faults ≡ self.old.calls.faults) }
     {
         let fails = self.calls.next_fails();
         if !fails {

@@ -1,8 +1,8 @@
-ghost use Rattle.std.specs.Prelude.{◌≡◌, ◌⊎◌, ◌↔◌, ◌+◌, ◌*◌, ◌<◌, ◌≤◌, ◌++◌, [], ◌∷◌, ℕ, List, true, false, length, is_some, is_err, vec_capacity, IfOk, OnOk, OnErr, IsErrOf};
+ghost use Rattle.std.specs.Prelude.{◌≡◌, ◌↔◌, ◌+◌, ◌*◌, ◌<◌, ◌≤◌, ◌++◌, [], ◌∷◌, ℕ, List, true, false, length, is_err, vec_capacity, OnOk, OnErr, IsErrOf};
 ghost use Rattle.std.proofs.Props.{props};
-ghost use Rattle.wp_store.specs.Disk.{WhereTold, Rose, LeavesOnly, SyncsIn};
+ghost use Rattle.wp_store.specs.Disk.{WhereTold, Rose, GoesOn, EndsSynced, LeavesOnly};
 ghost use Rattle.wp_store.specs.Records.{records_of, most_records, room_bytes, most_body_bytes};
-ghost use Rattle.wp_store.specs.Store.{IsSettled, IsWithOrWithout, StandsFor};
+ghost use Rattle.wp_store.specs.Store.{IsSettledAt, HasCounted, IsWithOrWithout, StandsFor, GainsRecord};
 
 use crate::disk::Disk;
 use crate::faults::AppendFault;
@@ -15,8 +15,8 @@ pub struct Store<'a, D: Disk> {
     count: u32,
     room: Vec<u8>,
     is_broken: bool,
-    ghost settled: { is_broken ≡ false → WhereTold (D.holds disk.now) (λ told. IsSettled told (D.images disk.now) place) } by { Prim.hlevel props },
-    ghost counted: { is_broken ≡ false → WhereTold (D.holds disk.now) (λ told. count ≡ length (records_of told)) } by { Prim.hlevel props },
+    ghost settled: { is_broken ≡ false → IsSettledAt (D.told disk.now) place } by { Prim.hlevel props },
+    ghost counted: { is_broken ≡ false → HasCounted (D.told disk.now) count } by { Prim.hlevel props },
     ghost bounded: { place ≤ room_bytes * count },
     ghost most: { count ≤ most_records },
     ghost has_room: { room_bytes ≤ vec_capacity room },
@@ -37,8 +37,8 @@ impl<'a, D: Disk> Drop for Store<'a, D> {
 impl<'a, D: Disk> Store<'a, D> {
     /// Over a disk whose file is at rest, with its closed byte at this place.
     pub(crate) fn over(disk: &'a mut D, place: u64, count: u32, room: Vec<u8>) -> Store<'a, D>
-        requires settled { WhereTold (D.holds disk.old) (λ told. IsSettled told (D.images disk.old) place) }
-        requires counted { WhereTold (D.holds disk.old) (λ told. count ≡ length (records_of told)) }
+        requires settled { IsSettledAt (D.told disk.old) place }
+        requires counted { HasCounted (D.told disk.old) count }
         requires bounded { place ≤ room_bytes * count }
         requires most { count ≤ most_records }
         requires room { room_bytes ≤ vec_capacity room }
@@ -75,36 +75,40 @@ impl<'a, D: Disk> Store<'a, D> {
     pub fn count(&self) -> u32
         ensures count { result ≡ self.now.count }
         ensures most { result ≤ most_records }
-        ensures records { self.now.is_broken ≡ false → WhereTold (D.holds self.now.disk.now) (λ told. result ≡ length (records_of told)) }
+        ensures records { self.now.is_broken ≡ false → HasCounted (D.told self.now.disk.now) result }
     {
         self.count
     }
 
     /// Stores a record. At `Ok` it is acknowledged: from then on every image has it. At every moment of the call, and after
-    /// `Disk`, every image has the records from before it, or these and the body. `Disk` comes only where the disk's count
-    /// rose in this call. `Broken` comes exactly where an earlier append of this store answered `Disk`; then nothing is called
+    /// `Disk`, every image has the records from before it, or these and the body. It makes four calls at most, of which two are
+    /// syncs; at `Ok` both have succeeded, the second as it ended. `Disk` comes only where the disk's count of faults rose in
+    /// this call, and without it the count stands. `Broken` comes exactly where an earlier append of this store answered `Disk`; then nothing is called
     /// on the disk, and the store is to be opened again. It takes no memory.
     pub fn append(&mut self, body: &[u8]) -> Result<(), AppendFault>
         requires some { 1 ≤ length body.now }
         requires few { length body.now ≤ most_body_bytes }
         requires room { self.old.count < most_records }
         ensures same_reference { self.new.disk.ghost_name ≡ self.old.disk.ghost_name }
-        ensures told { is_some (D.holds self.new.disk.now) ≡ is_some (D.holds self.old.disk.now) }
         ensures broken { IsErrOf result AppendFault.Broken ↔ (self.old.is_broken ≡ true) }
         ensures breaks { self.new.is_broken ≡ is_err result }
         ensures untouched { self.old.is_broken ≡ true → self.new.disk.now ≡ self.old.disk.now }
         ensures count { OnOk result (self.new.count ≡ self.old.count + 1) }
         ensures same_count { OnErr result (self.new.count ≡ self.old.count) }
-        ensures stored { OnOk result (WhereTold (D.holds self.old.disk.now) (λ told. WhereTold (D.holds self.new.disk.now)
-            (StandsFor (records_of told ++ body.now ∷ [])))) }
-        ensures acknowledged { OnOk result (WhereTold (D.holds self.old.disk.now) (λ told. (image : List ℕ) → D.images self.new.disk.now image
-            → StandsFor (records_of told ++ body.now ∷ []) image)) }
-        ensures any_moment { self.old.is_broken ≡ false → WhereTold (D.holds self.old.disk.now) (λ told.
-            LeavesOnly D.moment D.images_since self.old.disk.now self.new.disk.now (IsWithOrWithout (records_of told) body.now)) }
-        ensures later { D.moment self.old.disk.now ≤ D.moment self.new.disk.now }
-        ensures syncs { SyncsIn D.moment D.synced self.old.disk.now self.new.disk.now }
-        ensures counts { D.faults self.old.disk.now ≤ D.faults self.new.disk.now }
-        ensures disk { IsErrOf result AppendFault.Disk → Rose (D.faults self.old.disk.now) (D.faults self.new.disk.now) }
+        ensures stored { OnOk result (GainsRecord (D.told self.old.disk.now) (D.told self.new.disk.now) body.now) }
+        ensures acknowledged { OnOk result (WhereTold (D.told self.old.disk.now).holds (λ bytes. (image : List ℕ)
+            → (D.told self.new.disk.now).images image → StandsFor (records_of bytes ++ body.now ∷ []) image)) }
+        ensures any_moment { self.old.is_broken ≡ false → WhereTold (D.told self.old.disk.now).holds (λ bytes.
+            LeavesOnly (D.told self.old.disk.now) (D.told self.new.disk.now) (IsWithOrWithout (records_of bytes) body.now)) }
+        ensures course { GoesOn 4 2 (D.told self.old.disk.now) (D.told self.new.disk.now) }
+        ensures synced { OnOk result (WhereTold (D.told self.old.disk.now).holds (λ _.
+            EndsSynced 2 (D.told self.old.disk.now) (D.told self.new.disk.now))) }
+        ensures unsynced { OnErr result (WhereTold (D.told self.old.disk.now).holds (λ _.
+            (D.told self.new.disk.now).syncs ≤ (D.told self.old.disk.now).syncs + 1)) }
+        ensures disk { IsErrOf result AppendFault.Disk
+            → Rose (D.told self.old.disk.now).faults (D.told self.new.disk.now).faults }
+        ensures healthy { (IsErrOf result AppendFault.Disk → ⊥)
+            → (D.told self.new.disk.now).faults ≡ (D.told self.old.disk.now).faults }
     {
         if self.is_broken {
             return Err(AppendFault::Broken);

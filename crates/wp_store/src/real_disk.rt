@@ -1,5 +1,6 @@
-ghost use Rattle.std.specs.Prelude.{◌≡◌, ◌≤◌, ℕ, None, vec_len, IfOk};
-ghost use Rattle.wp_store.specs.Disk.{Rose};
+ghost use Rattle.std.specs.Prelude.{◌≡◌, ◌≤◌, vec_len, IfOk};
+ghost use Rattle.wp_store.specs.Disk.{Rose, one_more};
+ghost use Rattle.wp_store.specs.Untold.{untold, untold_is_disk};
 
 use crate::disk::{Disk, DiskFailed, DiskFault};
 use crate::records::MOST_STORE_BYTES;
@@ -23,32 +24,36 @@ pub struct RealDisk<'a, R: FileSystem> {
     rt: &'a R,
     file: Option<R::File>,
     faults: u64,
+    calls: u64,
 }
 
 impl<'a, R: FileSystem> Model for RealDisk<'a, R> {
-    ghost use Rattle.std.specs.Prelude.{ℕ};
+    ghost use Rattle.wp_store.specs.Untold.{Counts};
 
-    ghost Value = { ℕ };
+    ghost Value = { Counts };
 
-    ghost view = { λ s. s.faults };
+    ghost view = { λ s. record { faults = s.faults; calls = s.calls } };
 }
 
 impl<'a, R: FileSystem> RealDisk<'a, R> {
     /// The store's file of this runtime, which hasn't failed yet.
     pub fn of(rt: &'a R) -> RealDisk<'a, R>
-        ensures { result ≡ 0 }
+        ensures { result ≡ record { faults = 0; calls = 0 } }
     {
         RealDisk {
             rt,
             file: None,
             faults: 0,
+            calls: 0,
         }
     }
 
-    // The open file, which is put back after the call.
+    // The open file, which is put back after the call that it is opened for.
     fn opened(&mut self) -> io::Result<R::File>
-        ensures { self.new ≡ self.old }
+        ensures faults { self.new.faults ≡ self.old.faults }
+        ensures calls { self.new.calls ≡ one_more self.old.calls }
     {
+        self.calls = self.calls.saturating_add(1);
         match self.file.take() {
             Some(file) => Ok(file),
             None => open_apart(self.rt),
@@ -57,8 +62,9 @@ impl<'a, R: FileSystem> RealDisk<'a, R> {
 
     // One more fault. A count at its end stands.
     fn fault(&mut self) -> DiskFailed
-        ensures rises { self.old ≤ self.new }
-        ensures rose { Rose self.old self.new }
+        ensures rises { self.old.faults ≤ self.new.faults }
+        ensures rose { Rose self.old.faults self.new.faults }
+        ensures calls { self.new.calls ≡ self.old.calls }
     {
         self.faults = self.faults.saturating_add(1);
         DiskFailed
@@ -66,8 +72,10 @@ impl<'a, R: FileSystem> RealDisk<'a, R> {
 
     // Want of memory is told as it is, and every other error is counted as a fault.
     fn fault_of(&mut self, error: &io::Error) -> DiskFault
-        ensures rises { self.old ≤ self.new }
-        ensures rose { result ≡ DiskFault.Failed → Rose self.old self.new }
+        ensures rises { self.old.faults ≤ self.new.faults }
+        ensures rose { result ≡ DiskFault.Failed → Rose self.old.faults self.new.faults }
+        ensures sound { (result ≡ DiskFault.Failed → ⊥) → self.new.faults ≡ self.old.faults }
+        ensures calls { self.new.calls ≡ self.old.calls }
     {
         if error.kind() == io::ErrorKind::OutOfMemory {
             return DiskFault::Memory;
@@ -78,27 +86,9 @@ impl<'a, R: FileSystem> RealDisk<'a, R> {
 }
 
 impl<'a, R: FileSystem> Disk for RealDisk<'a, R> {
-    ghost holds = { λ _. None };
+    ghost told = { untold };
 
-    ghost images = { λ _ _. Unit {0} };
-
-    ghost moment = { λ _. 0 };
-
-    ghost images_since = { λ _ _ _. Unit {0} };
-
-    ghost synced = { λ _ _. ⊥ };
-
-    ghost faults = { λ s. s };
-
-    ghost reads_as_an_image = { λ _ _ _. tt };
-
-    ghost counts_now = { λ _ _ _ _ _. tt };
-
-    ghost only_now = { λ _ _ _. tt };
-
-    ghost since_earlier = { λ _ _ _ _ _ _. tt };
-
-    ghost no_later_sync = { λ _ _ at. absurd at };
+    ghost is_disk = { untold_is_disk };
 
     fn read(&mut self, alloc: Global) -> Result<Vec<u8>, DiskFault> {
         let mut file = match self.opened() {

@@ -1,7 +1,7 @@
-ghost use Rattle.std.specs.Prelude.{false, ◌≡◌, ◌⊎◌, ◌+◌, ◌*◌, ◌<◌, ◌≤◌, ℕ, List, length, is_some, vec_len, vec_capacity, IfOk, OnOk, OnErr, IsErrOf};
-ghost use Rattle.wp_store.specs.Disk.{WhereTold, Rose, IsTooLong, Only, LeavesOnly, SinceSyncs, SyncsIn};
+ghost use Rattle.std.specs.Prelude.{false, ◌≡◌, ◌*◌, ◌<◌, ◌≤◌, length, vec_len, vec_capacity, IfOk, OnOk, OnErr, IsErrOf};
+ghost use Rattle.wp_store.specs.Disk.{WhereTold, Rose, IsTooLong, GoesOn, EndsSynced, LeavesOnly, SinceSyncs};
 ghost use Rattle.wp_store.specs.Records.{records_of, stored_bytes, room_bytes, most_records};
-ghost use Rattle.wp_store.specs.Store.{IsSettled, StandsFor};
+ghost use Rattle.wp_store.specs.Store.{HasRecords, IsBeforeOrStandsFor, IsDurable, IsSettledAt, KeepsRecords, StandsFor};
 
 use crate::bodies::{Bodies, Read, read_bodies};
 use crate::disk::{Disk, DiskFailed};
@@ -38,17 +38,17 @@ fn found(alloc: Global, bytes: Vec<u8>) -> Result<Recovered, AllocError>
 
 /// Cuts the file at the end of its records, and writes a closed byte there. The file is on the disk before.
 fn close<D: Disk>(disk: &mut D, place: u64) -> Result<(), DiskFailed>
-    requires durable { WhereTold (D.holds disk.old) (λ told. Only told (D.images disk.old)) }
-    requires place { WhereTold (D.holds disk.old) (λ told. place ≡ stored_bytes (records_of told)) }
-    ensures told { is_some (D.holds disk.new) ≡ is_some (D.holds disk.old) }
-    ensures settled { OnOk result (WhereTold (D.holds disk.new) (λ now. IsSettled now (D.images disk.new) place)) }
-    ensures same { OnOk result (WhereTold (D.holds disk.old) (λ told. WhereTold (D.holds disk.new) (StandsFor (records_of told)))) }
-    ensures any_moment { WhereTold (D.holds disk.old) (λ told.
-        LeavesOnly D.moment D.images_since disk.old disk.new (StandsFor (records_of told))) }
-    ensures later { D.moment disk.old ≤ D.moment disk.new }
-    ensures syncs { SyncsIn D.moment D.synced disk.old disk.new }
-    ensures counts { D.faults disk.old ≤ D.faults disk.new }
-    ensures failed { OnErr result (Rose (D.faults disk.old) (D.faults disk.new)) }
+    requires durable { IsDurable (D.told disk.old) }
+    requires place { WhereTold (D.told disk.old).holds (λ bytes. place ≡ stored_bytes (records_of bytes)) }
+    ensures settled { OnOk result (IsSettledAt (D.told disk.new) place) }
+    ensures same { OnOk result (KeepsRecords (D.told disk.old) (D.told disk.new)) }
+    ensures any_moment { WhereTold (D.told disk.old).holds (λ bytes.
+        LeavesOnly (D.told disk.old) (D.told disk.new) (StandsFor (records_of bytes))) }
+    ensures course { GoesOn 4 2 (D.told disk.old) (D.told disk.new) }
+    ensures synced { OnOk result (WhereTold (D.told disk.old).holds (λ _.
+        EndsSynced 2 (D.told disk.old) (D.told disk.new))) }
+    ensures failed { OnErr result (Rose (D.told disk.old).faults (D.told disk.new).faults) }
+    ensures sound { OnOk result ((D.told disk.new).faults ≡ (D.told disk.old).faults) }
 {
     // The cut has to be on the disk first: behind a byte that is torn open, what stood there would count.
     cut_and_sync(disk, place)?;
@@ -57,22 +57,19 @@ fn close<D: Disk>(disk: &mut D, place: u64) -> Result<(), DiskFailed>
 
 /// Reads the records of a disk whose file is on it, and repairs the file's end.
 fn repair<D: Disk>(alloc: Global, disk: &mut D) -> Result<Recovered, OpenFault>
-    requires durable { WhereTold (D.holds disk.old) (λ told. Only told (D.images disk.old)) }
-    ensures told { is_some (D.holds disk.new) ≡ is_some (D.holds disk.old) }
-    ensures records { IfOk result (λ found. WhereTold (D.holds disk.old) (λ told. found.bodies ≡ records_of told)) }
-    ensures settled { IfOk result (λ found. WhereTold (D.holds disk.new) (λ now. IsSettled now (D.images disk.new) found.place)) }
-    ensures same { OnOk result (WhereTold (D.holds disk.old) (λ told. WhereTold (D.holds disk.new) (StandsFor (records_of told)))) }
-    ensures any_moment { WhereTold (D.holds disk.old) (λ told.
-        LeavesOnly D.moment D.images_since disk.old disk.new (StandsFor (records_of told))) }
-    ensures later { D.moment disk.old ≤ D.moment disk.new }
-    ensures syncs { SyncsIn D.moment D.synced disk.old disk.new }
-    ensures counts { D.faults disk.old ≤ D.faults disk.new }
-    ensures failed { IsErrOf result OpenFault.Disk → Rose (D.faults disk.old) (D.faults disk.new) }
-    ensures too_long { IsErrOf result OpenFault.TooLong
-        → WhereTold (D.holds disk.old) IsTooLong }
-    ensures long { WhereTold (D.holds disk.old) (λ told.
-        IsTooLong told → ¬ Rose (D.faults disk.old) (D.faults disk.new)
-        → IsErrOf result OpenFault.TooLong ⊎ IsErrOf result OpenFault.Memory) }
+    requires durable { IsDurable (D.told disk.old) }
+    ensures records { IfOk result (λ found. WhereTold (D.told disk.old).holds (λ bytes. found.bodies ≡ records_of bytes)) }
+    ensures settled { IfOk result (λ found. IsSettledAt (D.told disk.new) found.place) }
+    ensures same { OnOk result (KeepsRecords (D.told disk.old) (D.told disk.new)) }
+    ensures any_moment { WhereTold (D.told disk.old).holds (λ bytes.
+        LeavesOnly (D.told disk.old) (D.told disk.new) (StandsFor (records_of bytes))) }
+    ensures course { GoesOn 5 2 (D.told disk.old) (D.told disk.new) }
+    ensures synced { OnOk result (WhereTold (D.told disk.old).holds (λ _.
+        EndsSynced 2 (D.told disk.old) (D.told disk.new))) }
+    ensures failed { IsErrOf result OpenFault.Disk → Rose (D.told disk.old).faults (D.told disk.new).faults }
+    ensures sound { (IsErrOf result OpenFault.Disk → ⊥) → (D.told disk.new).faults ≡ (D.told disk.old).faults }
+    ensures too_long { IsErrOf result OpenFault.TooLong → WhereTold (D.told disk.old).holds IsTooLong }
+    ensures short { OnOk result (WhereTold (D.told disk.old).holds (λ bytes. IsTooLong bytes → ⊥)) }
 {
     let bytes = disk.read(alloc)?;
     let found = found(alloc, bytes)?;
@@ -81,32 +78,31 @@ fn repair<D: Disk>(alloc: Global, disk: &mut D) -> Result<Recovered, OpenFault>
 }
 
 /// Syncs a disk, reads its records, and repairs its end: the file is cut at the end of the records, and one closed byte is
-/// written there, each on the disk before the next call.
+/// written there, each on the disk before the next call. It makes six calls at most, of which three are syncs; at `Ok` all three
+/// have succeeded, the last as it ended.
 ///
 /// Since each sync of this call that succeeded, the first of them the one that it begins with, every image has just the records
 /// of what a read gave as it began; a sync that succeeds doesn't change that. Until then every image is one of those that there
-/// were. `Disk` comes only where the disk's count rose in this call, and `TooLong` where the disk's read answers it; with any
-/// other answer than `Disk` a sync of this call succeeded.
+/// were. `Disk` comes only where the disk's count of faults rose in this call, and without it the count stands. Where the bytes
+/// are told, `TooLong` comes exactly where they are too many, unless the disk fails or memory runs out. With any other answer
+/// than `Disk` a sync of this call succeeded.
 pub fn recover<D: Disk>(alloc: Global, disk: &mut D) -> Result<Recovered, OpenFault>
-    ensures told { is_some (D.holds disk.new) ≡ is_some (D.holds disk.old) }
-    ensures records { IfOk result (λ found. WhereTold (D.holds disk.old) (λ told. found.bodies ≡ records_of told)) }
-    ensures settled { IfOk result (λ found. WhereTold (D.holds disk.new) (λ now. IsSettled now (D.images disk.new) found.place)) }
-    ensures same { OnOk result (WhereTold (D.holds disk.old) (λ told. WhereTold (D.holds disk.new) (StandsFor (records_of told)))) }
-    ensures since_syncs { WhereTold (D.holds disk.old) (λ told.
-        SinceSyncs D.moment D.images_since D.synced disk.old disk.new (StandsFor (records_of told))) }
-    ensures any_moment { WhereTold (D.holds disk.old) (λ told.
-        LeavesOnly D.moment D.images_since disk.old disk.new (λ image. D.images disk.old image ⊎ StandsFor (records_of told) image)) }
-    ensures synced { (IsErrOf result OpenFault.Disk → ⊥) → WhereTold (D.holds disk.old) (λ _.
-        (t : ℕ) × (D.moment disk.old < t) × D.synced disk.new t) }
-    ensures later { D.moment disk.old ≤ D.moment disk.new }
-    ensures syncs { SyncsIn D.moment D.synced disk.old disk.new }
-    ensures counts { D.faults disk.old ≤ D.faults disk.new }
-    ensures failed { IsErrOf result OpenFault.Disk → Rose (D.faults disk.old) (D.faults disk.new) }
-    ensures too_long { IsErrOf result OpenFault.TooLong
-        → WhereTold (D.holds disk.old) IsTooLong }
-    ensures long { WhereTold (D.holds disk.old) (λ told.
-        IsTooLong told → ¬ Rose (D.faults disk.old) (D.faults disk.new)
-        → IsErrOf result OpenFault.TooLong ⊎ IsErrOf result OpenFault.Memory) }
+    ensures records { IfOk result (λ found. WhereTold (D.told disk.old).holds (λ bytes. found.bodies ≡ records_of bytes)) }
+    ensures settled { IfOk result (λ found. IsSettledAt (D.told disk.new) found.place) }
+    ensures same { OnOk result (KeepsRecords (D.told disk.old) (D.told disk.new)) }
+    ensures since_syncs { WhereTold (D.told disk.old).holds (λ bytes.
+        SinceSyncs (D.told disk.old) (D.told disk.new) (StandsFor (records_of bytes))) }
+    ensures any_moment { WhereTold (D.told disk.old).holds (λ bytes.
+        LeavesOnly (D.told disk.old) (D.told disk.new) (IsBeforeOrStandsFor (D.told disk.old) (records_of bytes))) }
+    ensures course { GoesOn 6 3 (D.told disk.old) (D.told disk.new) }
+    ensures first { (IsErrOf result OpenFault.Disk → ⊥) → WhereTold (D.told disk.old).holds (λ _.
+        (D.told disk.old).syncs < (D.told disk.new).syncs) }
+    ensures synced { OnOk result (WhereTold (D.told disk.old).holds (λ _.
+        EndsSynced 3 (D.told disk.old) (D.told disk.new))) }
+    ensures failed { IsErrOf result OpenFault.Disk → Rose (D.told disk.old).faults (D.told disk.new).faults }
+    ensures sound { (IsErrOf result OpenFault.Disk → ⊥) → (D.told disk.new).faults ≡ (D.told disk.old).faults }
+    ensures too_long { IsErrOf result OpenFault.TooLong → WhereTold (D.told disk.old).holds IsTooLong }
+    ensures short { OnOk result (WhereTold (D.told disk.old).holds (λ bytes. IsTooLong bytes → ⊥)) }
 {
     disk.sync()?;
     repair(alloc, disk)
@@ -122,8 +118,8 @@ impl Recovered {
 
     /// A store over the disk that these records were found on.
     pub fn into_store<'a, D: Disk>(self, disk: &'a mut D) -> Store<'a, D>
-        requires settled { WhereTold (D.holds disk.old) (λ now. IsSettled now (D.images disk.old) self.place) }
-        requires same { WhereTold (D.holds disk.old) (StandsFor self.bodies) }
+        requires settled { IsSettledAt (D.told disk.old) self.place }
+        requires same { HasRecords (D.told disk.old) self.bodies }
         ensures same_reference { result.disk.ghost_name ≡ disk.entry.ghost_name }
         ensures disk { result.disk.now ≡ disk.old }
         ensures count { result.count ≡ length self.bodies }
@@ -139,8 +135,8 @@ impl Recovered {
 
     /// A store over the disk that these records were found on, and the records.
     pub fn open<'a, D: Disk>(self, disk: &'a mut D) -> Opened<'a, D>
-        requires settled { WhereTold (D.holds disk.old) (λ now. IsSettled now (D.images disk.old) self.place) }
-        requires same { WhereTold (D.holds disk.old) (StandsFor self.bodies) }
+        requires settled { IsSettledAt (D.told disk.old) self.place }
+        requires same { HasRecords (D.told disk.old) self.bodies }
         ensures same_reference { result.store.disk.ghost_name ≡ disk.entry.ghost_name }
         ensures disk { result.store.disk.now ≡ disk.old }
         ensures bodies { result.bodies ≡ self.bodies }
@@ -175,26 +171,23 @@ impl<'a, D: Disk> Drop for Opened<'a, D> {
     }
 }
 
-/// Recovers a disk and opens a store over it, for whoever needs nothing of the disk where that fails: what is promised of the
-/// disk then, and at every moment of the call, is said of `recover`, which this calls first. Nothing is called on the disk
-/// after that.
+/// Recovers a disk and opens a store over it. What is promised of the disk where that fails, at every moment of the call, is
+/// said of `recover`, which this calls first. Nothing is called on the disk after that. `Disk` comes only where the disk's count
+/// of faults rose in this call.
 pub fn open<D: Disk>(alloc: Global, disk: &mut D) -> Result<Opened<'_, D>, OpenFault>
     ensures same_reference { IfOk result (λ opened. opened.store.disk.ghost_name ≡ disk.entry.ghost_name) }
-    ensures records { IfOk result (λ opened. WhereTold (D.holds disk.old) (λ told. opened.bodies ≡ records_of told)) }
+    ensures records { IfOk result (λ opened. WhereTold (D.told disk.old).holds (λ bytes. opened.bodies ≡ records_of bytes)) }
     ensures count { IfOk result (λ opened. opened.store.count ≡ length opened.bodies) }
     ensures sound { IfOk result (λ opened. opened.store.is_broken ≡ false) }
-    ensures stored { IfOk result (λ opened. WhereTold (D.holds opened.store.disk.now) (StandsFor opened.bodies)) }
-    ensures told { IfOk result (λ opened. is_some (D.holds opened.store.disk.now) ≡ is_some (D.holds disk.old)) }
-    ensures since_syncs { IfOk result (λ opened. WhereTold (D.holds disk.old) (λ told.
-        SinceSyncs D.moment D.images_since D.synced disk.old opened.store.disk.now (StandsFor (records_of told)))) }
-    ensures any_moment { IfOk result (λ opened. WhereTold (D.holds disk.old) (λ told.
-        LeavesOnly D.moment D.images_since disk.old opened.store.disk.now
-        (λ image. D.images disk.old image ⊎ StandsFor (records_of told) image))) }
-    ensures synced { IfOk result (λ opened. WhereTold (D.holds disk.old) (λ _.
-        (t : ℕ) × (D.moment disk.old < t) × D.synced opened.store.disk.now t)) }
-    ensures syncs { IfOk result (λ opened. SyncsIn D.moment D.synced disk.old opened.store.disk.now) }
-    ensures counts { IfOk result (λ opened. D.faults disk.old ≤ D.faults opened.store.disk.now) }
-    ensures too_long { IsErrOf result OpenFault.TooLong → WhereTold (D.holds disk.old) IsTooLong }
+    ensures stored { IfOk result (λ opened. HasRecords (D.told opened.store.disk.now) opened.bodies) }
+    ensures since_syncs { IfOk result (λ opened. WhereTold (D.told disk.old).holds (λ bytes.
+        SinceSyncs (D.told disk.old) (D.told opened.store.disk.now) (StandsFor (records_of bytes)))) }
+    ensures any_moment { IfOk result (λ opened. WhereTold (D.told disk.old).holds (λ bytes.
+        LeavesOnly (D.told disk.old) (D.told opened.store.disk.now) (IsBeforeOrStandsFor (D.told disk.old) (records_of bytes)))) }
+    ensures course { IfOk result (λ opened. GoesOn 6 3 (D.told disk.old) (D.told opened.store.disk.now)) }
+    ensures synced { IfOk result (λ opened. WhereTold (D.told disk.old).holds (λ _.
+        EndsSynced 3 (D.told disk.old) (D.told opened.store.disk.now))) }
+    ensures too_long { IsErrOf result OpenFault.TooLong → WhereTold (D.told disk.old).holds IsTooLong }
 {
     let recovered = recover(alloc, disk)?;
     Ok(recovered.open(disk))

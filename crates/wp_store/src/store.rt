@@ -1,7 +1,7 @@
-ghost use Rattle.std.specs.Prelude.{◌≡◌, ◌+◌, ◌*◌, ◌<◌, ◌≤◌, ◌++◌, [], ◌∷◌, ◌^◌, length, is_some, vec_capacity, OnOk, OnErr};
-ghost use Rattle.wp_store.specs.Disk.{WhereTold, Rose, Only, LeavesOnly, SyncsIn};
+ghost use Rattle.std.specs.Prelude.{◌≡◌, ◌+◌, ◌*◌, ◌<◌, ◌≤◌, ◌++◌, [], ◌∷◌, ◌^◌, length, vec_capacity, OnOk, OnErr};
+ghost use Rattle.wp_store.specs.Disk.{WhereTold, Rose, GoesOn, EndsSynced, LeavesOnly};
 ghost use Rattle.wp_store.specs.Records.{records_of, length_bytes, most_records, most_body_bytes, room_bytes};
-ghost use Rattle.wp_store.specs.Store.{IsSettled, IsWithOrWithout, StandsFor};
+ghost use Rattle.wp_store.specs.Store.{IsSettledAt, IsWithOrWithout, GainsRecord};
 
 use crate::disk::{Disk, DiskFailed};
 use crate::steps::write_and_sync;
@@ -31,23 +31,23 @@ pub(crate) fn append_at<D: Disk>(
     piece: &[u8],
     body: &[u8],
 ) -> Result<(), DiskFailed>
-    requires settled { WhereTold (D.holds disk.old) (λ told. IsSettled told (D.images disk.old) place) }
+    requires settled { IsSettledAt (D.told disk.old) place }
     requires fits { place + 1 < 2 ^ 64 }
-    requires room { WhereTold (D.holds disk.old) (λ told. length (records_of told) < most_records) }
+    requires room { WhereTold (D.told disk.old).holds (λ bytes. length (records_of bytes) < most_records) }
     requires piece { piece.now ≡ length_bytes (length body.now) ++ body.now ++ 0 ∷ [] }
     requires some { 1 ≤ length body.now }
     requires few { length body.now ≤ most_body_bytes }
-    ensures told { is_some (D.holds disk.new) ≡ is_some (D.holds disk.old) }
-    ensures settled { OnOk result (WhereTold (D.holds disk.new) (λ now.
-        IsSettled now (D.images disk.new) (place + 5 + length body.now))) }
-    ensures stored { OnOk result (WhereTold (D.holds disk.old) (λ told. WhereTold (D.holds disk.new)
-        (StandsFor (records_of told ++ body.now ∷ [])))) }
-    ensures any_moment { WhereTold (D.holds disk.old) (λ told.
-        LeavesOnly D.moment D.images_since disk.old disk.new (IsWithOrWithout (records_of told) body.now)) }
-    ensures later { D.moment disk.old ≤ D.moment disk.new }
-    ensures syncs { SyncsIn D.moment D.synced disk.old disk.new }
-    ensures counts { D.faults disk.old ≤ D.faults disk.new }
-    ensures failed { OnErr result (Rose (D.faults disk.old) (D.faults disk.new)) }
+    ensures settled { OnOk result (IsSettledAt (D.told disk.new) (place + 5 + length body.now)) }
+    ensures stored { OnOk result (GainsRecord (D.told disk.old) (D.told disk.new) body.now) }
+    ensures any_moment { WhereTold (D.told disk.old).holds (λ bytes.
+        LeavesOnly (D.told disk.old) (D.told disk.new) (IsWithOrWithout (records_of bytes) body.now)) }
+    ensures course { GoesOn 4 2 (D.told disk.old) (D.told disk.new) }
+    ensures synced { OnOk result (WhereTold (D.told disk.old).holds (λ _.
+        EndsSynced 2 (D.told disk.old) (D.told disk.new))) }
+    ensures unsynced { OnErr result (WhereTold (D.told disk.old).holds (λ _.
+        (D.told disk.new).syncs ≤ (D.told disk.old).syncs + 1)) }
+    ensures failed { OnErr result (Rose (D.told disk.old).faults (D.told disk.new).faults) }
+    ensures sound { OnOk result ((D.told disk.new).faults ≡ (D.told disk.old).faults) }
 {
     write_and_sync(disk, place + 1, piece)?;
     write_and_sync(disk, place, &[1])

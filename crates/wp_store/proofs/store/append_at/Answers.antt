@@ -1,10 +1,10 @@
 use Rattle.std.proofs.Common.{◌≡◌, inl, sym, ◌∙◌, ap, subst, ℕ, ◌+◌, ◌++◌, List, [], ◌∷◌, length, Some}
 use Rattle.wp_store.specs.Records.{records_of, stored_bytes}
-use Rattle.wp_store.specs.Store.{IsWithOrWithout, IsAtRest, IsSettled, StandsFor}
+use Rattle.wp_store.specs.Store.{IsWithOrWithout, IsAtRest, IsSettledAt, GainsRecord, StandsFor}
 use Rattle.wp_store.proofs.Crash.{closed_within, behind_keeps, mark_leaves, appended, appended_rests, appended_place}
-use Rattle.wp_store.proofs.Moments.{weakened, joined, syncs_joined}
+use Rattle.wp_store.proofs.Moments.{weakened, joined, course_joined, ends_joined}
 use Rattle.std.specs.Prelude.{option_map}
-use Rattle.wp_store.specs.Disk.{WhereTold, written_over}
+use Rattle.wp_store.specs.Disk.{EndsSynced, WhereTold, written_over}
 use Rattle.wp_store.proofs.Told.{told_before, on_ok, on_both, same_some}
 use Rattle.wp_store.proofs.store.append_at.Goals as goal
 
@@ -20,7 +20,7 @@ write_and_sync-requires-clause-durable g c bytes told = (c.requires.settled byte
 pub returns-in_err-write_and_sync-clause-any_moment : goal.returns-in_err-write_and_sync-clause-any_moment
 returns-in_err-write_and_sync-clause-any_moment g c bytes told =
     let s = c.requires.settled bytes told in
-    weakened g.D.Disk.moment g.D.Disk.images_since _ _ _ (IsWithOrWithout (records_of bytes) c.args.body.now) (c.write_and_sync.ensures.any_moment bytes told)
+    weakened _ _ _ (IsWithOrWithout (records_of bytes) c.args.body.now) (c.write_and_sync.ensures.any_moment bytes told)
     (λ image torn. inl (behind_keeps bytes c.args.place s.at_rest s.place_is _ image torn))
 
 -- and the write over it leaves them, or them and the body
@@ -28,24 +28,31 @@ pub returns-clause-any_moment : goal.returns-clause-any_moment
 returns-clause-any_moment g c bytes told =
     let s = c.requires.settled bytes told in
     let P = IsWithOrWithout (records_of bytes) c.args.body.now in
-    let first = weakened g.D.Disk.moment g.D.Disk.images_since _ _ _ P (c.write_and_sync.ensures.any_moment bytes told)
+    let first = weakened _ _ _ P (c.write_and_sync.ensures.any_moment bytes told)
     (λ image torn. inl (behind_keeps bytes c.args.place s.at_rest s.place_is _ image torn)) in
     let piece = c.args.piece.now in
-    let staged : g.D.Disk.holds c.write_and_sync.new.disk ≡ Some (written_over (c.args.place + 1) piece bytes) =
+    let staged : (g.D.Disk.told c.write_and_sync.new.disk).holds ≡ Some (written_over (c.args.place + 1) piece bytes) =
     c.in_ok-write_and_sync.ensures.written ∙ ap (option_map (written_over (c.args.place + 1) piece)) told in
-    let second = weakened g.D.Disk.moment g.D.Disk.images_since _ _ _ P (c.write_and_sync-2.ensures.any_moment _ staged)
+    let second = weakened _ _ _ P (c.write_and_sync-2.ensures.any_moment _ staged)
     (mark_leaves bytes c.args.place s.at_rest s.place_is c.args.body.now c.requires.some c.requires.few (c.requires.room bytes told) piece c.requires.piece) in
-    joined g.D.Disk.moment g.D.Disk.images_since _ _ _ P first second
+    joined _ _ _ P first second
 
-pub returns-clause-syncs : goal.returns-clause-syncs
-returns-clause-syncs g c =
-    syncs_joined g.D.Disk.moment g.D.Disk.synced _ _ _ c.write_and_sync.ensures.later c.write_and_sync.ensures.syncs c.write_and_sync-2.ensures.syncs
+pub returns-clause-course : goal.returns-clause-course
+returns-clause-course g c = course_joined 2 2 1 1 _ _ _ c.write_and_sync.ensures.course c.write_and_sync-2.ensures.course
+
+-- the sync after the piece, and the one after its mark
+pub returns-clause-synced : goal.returns-clause-synced
+returns-clause-synced g c = on_both {R = WhereTold (g.D.Disk.told c.args.disk.now).holds (λ bytes. EndsSynced 2 (g.D.Disk.told c.args.disk.now) (g.D.Disk.told c.write_and_sync-2.new.disk))}
+    c.write_and_sync-2.result
+    (λ written synced bytes told. ends_joined 1 1 _ _ _ (c.in_ok-write_and_sync.ensures.synced bytes told)
+    (synced _ (c.in_ok-write_and_sync.ensures.written ∙ ap (option_map (written_over (c.args.place + 1) c.args.piece.now)) told)))
+    c.write_and_sync-2.ensures.written c.write_and_sync-2.ensures.synced
 
 pub returns-clause-stored : goal.returns-clause-stored
-returns-clause-stored g c = on_ok {Q = WhereTold (g.D.Disk.holds c.args.disk.now) (λ told. WhereTold (g.D.Disk.holds c.write_and_sync-2.new.disk) (StandsFor (records_of told ++ c.args.body.now ∷ [])))} _ (λ written bytes told now is.
+returns-clause-stored g c = on_ok {Q = GainsRecord (g.D.Disk.told c.args.disk.now) (g.D.Disk.told c.write_and_sync-2.new.disk) c.args.body.now} _ (λ written bytes told now is.
     let s = c.requires.settled bytes told in
     let piece = c.args.piece.now in
-    let staged : g.D.Disk.holds c.write_and_sync.new.disk ≡ Some (written_over (c.args.place + 1) piece bytes) =
+    let staged : (g.D.Disk.told c.write_and_sync.new.disk).holds ≡ Some (written_over (c.args.place + 1) piece bytes) =
     c.in_ok-write_and_sync.ensures.written ∙ ap (option_map (written_over (c.args.place + 1) piece)) told in
     let all : Some now ≡ Some (written_over c.args.place (1 ∷ []) (written_over (c.args.place + 1) piece bytes)) =
     sym is ∙ written ∙ ap (option_map (written_over c.args.place (1 ∷ []))) staged in
@@ -54,7 +61,7 @@ returns-clause-stored g c = on_ok {Q = WhereTold (g.D.Disk.holds c.args.disk.now
     c.write_and_sync-2.ensures.written
 
 pub returns-clause-settled : goal.returns-clause-settled
-returns-clause-settled g c = on_both {R = WhereTold (g.D.Disk.holds c.write_and_sync-2.new.disk) (λ now. IsSettled now (g.D.Disk.images c.write_and_sync-2.new.disk) (c.args.place + 5 + length c.args.body.now))} _ (λ written durable now is.
+returns-clause-settled g c = on_both {R = IsSettledAt (g.D.Disk.told c.write_and_sync-2.new.disk) (c.args.place + 5 + length c.args.body.now)} _ (λ written durable now is.
     let staged = c.in_ok-write_and_sync.ensures.written in
     let piece = c.args.piece.now in
     let mid = told_before _ (written_over c.args.place (1 ∷ [])) now (sym is ∙ written) in

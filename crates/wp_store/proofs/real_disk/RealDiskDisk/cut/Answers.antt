@@ -1,12 +1,19 @@
+use Rattle.std.proofs.Common.{arith, ap}
 use Rattle.wp_store.proofs.Tearing.{cut_not}
+use Rattle.wp_store.proofs.Untold.{untold_call}
+use Rattle.wp_store.specs.Untold.{Counts}
 use Rattle.wp_store.proofs.real_disk.RealDiskDisk.cut.Goals as goal
 
--- every content is an image where none is told
-pub returns-in_default-clause-images : goal.returns-in_default-clause-images
-returns-in_default-clause-images g c image any = (image, any, cut_not _ image)
+pub returns-in_default-clause-calls : goal.returns-in_default-clause-calls
+returns-in_default-clause-calls g c =
+    untold_call _ _ _ (cut_not _) (omega (arith, c.fault.ensures.rises, c.opened.ensures.faults)) (omega (arith, c.fault.ensures.calls, c.opened.ensures.calls))
 
-pub returns-in-Ok-answer-clause-images : goal.returns-in-Ok-answer-clause-images
-returns-in-Ok-answer-clause-images g c image any = (image, any, cut_not _ image)
+pub returns-in-Ok-answer-clause-calls : goal.returns-in-Ok-answer-clause-calls
+returns-in-Ok-answer-clause-calls g c =
+    untold_call _ _ _ (cut_not _) (omega (arith, c.opened.ensures.faults, ap (λ (k : Counts). k.faults) c.self.view_is))
+    (omega (arith, c.opened.ensures.calls, ap (λ (k : Counts). k.calls) c.self.view_is))
 
-pub returns-in-Err-clause-images : goal.returns-in-Err-clause-images
-returns-in-Err-clause-images g c image any = (image, any, cut_not _ image)
+pub returns-in-Err-clause-calls : goal.returns-in-Err-clause-calls
+returns-in-Err-clause-calls g c =
+    untold_call _ _ _ (cut_not _) (omega (arith, c.fault-in-Err.ensures.rises, c.opened.ensures.faults, ap (λ (k : Counts). k.faults) c.self.view_is))
+    (omega (arith, c.fault-in-Err.ensures.calls, c.opened.ensures.calls, ap (λ (k : Counts). k.calls) c.self.view_is))
