@@ -1,14 +1,14 @@
 //! `waveplan` plans the picking of waves in a warehouse.
 #![tactic(auto)]
 
-ghost use Rattle.std.specs.Prelude.{◌≡◌, ◌≢◌, ◌≤◌, ◌∷◌, [], map, drop, codes, string_bytes, IfOk, IfErr, OnErr};
+ghost use Rattle.std.specs.Prelude.{◌≡◌, ◌≢◌, ◌∷◌, [], map, drop, codes, string_bytes, IfOk, IfErr, OnErr};
 ghost use Rattle.std.specs.IoError.{error_kind};
 ghost use Rattle.std.specs.Process.{exit_status};
 ghost use Rattle.std.specs.Vec.Iter.{into_iter_items};
 ghost use Rattle.std.specs.declared.io.ErrorKind.TheVariants.{InvalidData};
 ghost use Rattle.waveplan.specs.Given.{EndsFor, LacksWords};
 ghost use Rattle.wp_top.specs.Ends.{asked_by};
-ghost use Rattle.wp_top.specs.Promise.{AsksForStore, Keeps, course};
+ghost use Rattle.wp_top.specs.Promise.{Keeps, course};
 ghost use Rattle.wp_top.specs.Stores.{disk_course};
 ghost use Rattle.wp_words.specs.Words.{job_said};
 
@@ -71,12 +71,9 @@ fn end_of<R: Threads + Wait + Sync, F: Files, K: Sink, G: Gate, D: Disk>(
     disk: &mut D,
 ) -> ExitCode
     ensures runs { IfOk words (λ words. Keeps (asked_by words.items) (course (F.told files.old) (K.told out.old) (F.told files.new) (K.told out.new)
-        (disk_course D.holds D.moment D.images_since D.synced D.faults disk.old disk.new)) (exit_status result)) }
+        (disk_course (D.told disk.old) (D.told disk.new))) disk.old disk.new (exit_status result)) }
     ensures lacks { OnErr words (LacksWords (course (F.told files.old) (K.told out.old) (F.told files.new) (K.told out.new)
-        (disk_course D.holds D.moment D.images_since D.synced D.faults disk.old disk.new)) (exit_status result)) }
-    ensures untouched { IfOk words (λ words. ¬ AsksForStore (asked_by words.items) → disk.new ≡ disk.old) }
-    ensures unopened { 1 ≤ exit_status result → exit_status result ≤ 3 → disk.new ≡ disk.old }
-    ensures unread { OnErr words (disk.new ≡ disk.old) }
+        (disk_course (D.told disk.old) (D.told disk.new))) disk.old disk.new (exit_status result)) }
 {
     match words {
         Ok(words) => {
@@ -98,15 +95,13 @@ fn run_given<R: Threads + Wait + Sync, F: Files, K: Sink, G: Gate, D: Disk>(
 ) -> ExitCode
     ensures given { IfOk given (λ given. EndsFor (asked_by (drop 1 (into_iter_items given)))
         (course (F.told files.old) (K.told out.old) (F.told files.new) (K.told out.new)
-        (disk_course D.holds D.moment D.images_since D.synced D.faults disk.old disk.new)) (exit_status result)) }
+        (disk_course (D.told disk.old) (D.told disk.new))) disk.old disk.new (exit_status result)) }
     ensures bad { OnErr given (EndsFor (job_said (codes "plan" ∷ []))
         (course (F.told files.old) (K.told out.old) (F.told files.new) (K.told out.new)
-        (disk_course D.holds D.moment D.images_since D.synced D.faults disk.old disk.new)) (exit_status result)) }
-    ensures untouched { IfOk given (λ given. ¬ AsksForStore (asked_by (drop 1 (into_iter_items given))) → disk.new ≡ disk.old) }
-    ensures unopened { 1 ≤ exit_status result → exit_status result ≤ 3 → disk.new ≡ disk.old }
+        (disk_course (D.told disk.old) (D.told disk.new))) disk.old disk.new (exit_status result)) }
     ensures lacks { IfErr given (λ fault. error_kind fault ≢ InvalidData → LacksWords
         (course (F.told files.old) (K.told out.old) (F.told files.new) (K.told out.new)
-        (disk_course D.holds D.moment D.images_since D.synced D.faults disk.old disk.new)) (exit_status result)) }
+        (disk_course (D.told disk.old) (D.told disk.new))) disk.old disk.new (exit_status result)) }
 {
     end_of(
         resources,

@@ -1,9 +1,9 @@
 -- Days that are planned, by the history with which they began.
-use Rattle.std.proofs.Common.{◌≡◌, refl, ap, inl, inr, ℕ, ◌+◌, ◌≤◌, List, [], ◌∷◌, length, drop, map, Result, Ok, Err, arith}
+use Rattle.std.proofs.Common.{◌≡◌, ◌∙◌, refl, sym, ap, ℕ, ◌+◌, ◌≤◌, List, [], ◌∷◌, length, drop, map, Result, Ok, Err, arith}
 use Rattle.std.proofs.lemmas.List.Elements.{All-cons, All-head, All-nil, All-tail}
 use Rattle.std.specs.Borrow.{Bor}
 use Rattle.std.specs.List.{All}
-use Rattle.std.specs.Prelude.{◌⊎◌, IsErrOf, OnOk, false, is_err, true}
+use Rattle.std.specs.Prelude.{IsErrOf, OnErr, OnOk, false, is_err, true}
 use Rattle.wp_desk.specs.GoingOn.{new_entries}
 use Rattle.wp_floor.proofs.Floors.{is_opening}
 use Rattle.wp_journal.proofs.Replayed.{lines_count}
@@ -14,16 +14,16 @@ use Rattle.wp_model.specs.History.{History, Script, opened}
 use Rattle.wp_model.specs.Opening.{Opening}
 use Rattle.wp_model.specs.Warehouse.{Layout}
 use Rattle.wp_planner.specs.Terms.{Terms}
-use Rattle.wp_store.specs.Disk.{IsTooLong, Rose, WhereTold}
+use Rattle.wp_store.specs.Disk.{DiskTold, IsTooLong, WhereTold}
 use Rattle.wp_store.specs.declared.faults.AppendFault.{AppendFault}
 use Rattle.wp_store.specs.declared.faults.AppendFault.TheVariants as append_fault
 use Rattle.wp_store.specs.declared.faults.OpenFault.{OpenFault}
 use Rattle.wp_store.specs.declared.faults.OpenFault.TheVariants as open_fault
 use Rattle.wp_top.proofs.PlanJournals.{day_is}
 use Rattle.wp_top.specs.Planned.{HasCrew, IsDayOver, IsToldOf}
-use Rattle.wp_top.specs.Runs.{IsHistoryOf, command_count}
+use Rattle.wp_top.specs.Runs.{AreNewOf, IsHistoryOf, command_count}
 use Rattle.wp_top.specs.Stops.{StopsFor, of_appends, of_records, of_store, stop_at_open}
-use Rattle.wp_top.specs.Stores.{AreAllKept, AreRecordsOn, DiskCourse, GoesOnFromStore, HasFailed}
+use Rattle.wp_top.specs.Stores.{AreAllKept, AreRecordsOn, DiskCourse, GoesOnFromStore, HasFailed, disk_course}
 use Rattle.wp_top.specs.declared.complaint.Complaint.TheVariants as complaint
 use Rattle.wp_top.specs.declared.complaint.Stop.{Stop}
 use Rattle.wp_top.specs.declared.complaint.Stop.TheVariants as stop
@@ -46,7 +46,7 @@ fresh_over disk store layout opening terms scripts day other answers told dealt 
 -- one that began with the history of a store
 pub stored_over : (disk : DiskCourse) (store : ℕ) (layout : Layout) (opening : Opening) (terms : Terms) (scripts : List Script) (start : History)
     (day : DayPlans) → store ≡ 1 → GoesOnFromStore disk opening (command_count scripts) start → IsHistoryOf opening scripts start day.run.machine
-    → IsToldOf layout terms start day.run → HasCrew terms day.run day.crew → AreAllKept disk start day.run.machine
+    → IsToldOf layout terms start day.run → HasCrew terms day.run day.crew → AreAllKept disk (new_entries start day.run.machine)
     → IsDayOver disk store layout opening terms scripts day
 stored_over disk store layout opening terms scripts start day uses from answers told dealt kept = record {
   start = start;
@@ -76,7 +76,7 @@ stored_is_day opening scripts bodies start history read are begins few answers =
 
 -- opening a store stops a run for its causes
 pub open_stops : (disk : DiskCourse) (opening : Opening) (commands : ℕ) (why : OpenFault) → (why ≡ open_fault.Disk → HasFailed disk)
-    → (why ≡ open_fault.TooLong → WhereTold disk.holds IsTooLong) → StopsFor (of_store disk opening commands) (stop_at_open why)
+    → (why ≡ open_fault.TooLong → WhereTold disk.old.holds IsTooLong) → StopsFor (of_store disk opening commands) (stop_at_open why)
 open_stops disk opening commands open_fault.Disk failed long = failed refl
 open_stops disk opening commands open_fault.TooLong failed long = (store_finding.TooLong, refl, long refl)
 open_stops disk opening commands open_fault.Memory failed long = tt
@@ -84,20 +84,35 @@ open_stops disk opening commands open_fault.Memory failed long = tt
 -- a day goes on from what was recovered
 pub from_store : (disk : DiskCourse) (opening : Opening) (commands : ℕ) (bodies : List (List ℕ)) (start : History) → AreRecordsOn disk bodies
     → LinesBegin opening bodies start [] → length bodies + commands ≤ 10000
-    → ((HasFailed disk → ⊥) → WhereTold disk.holds (λ told. IsTooLong told → ⊥)) → GoesOnFromStore disk opening commands start
+    → WhereTold disk.old.holds (λ told. IsTooLong told → ⊥) → GoesOnFromStore disk opening commands start
 from_store disk opening commands bodies start records begins few short =
     record { bodies = bodies; records = records; begins = begins; few = few; short = short }
 
--- what was opened wasn't too long
-pub not_too_long : {A : Type 0} (result : Result A OpenFault) {a : A} → result ≡ Ok a
-    → IsErrOf result open_fault.TooLong ⊎ IsErrOf result open_fault.Memory → ⊥
-not_too_long (Err why) is other = cc is
-not_too_long (Ok a) is (inl long) = cc long
-not_too_long (Ok a) is (inr memory) = cc memory
+-- a day goes on from what was recovered, by the list of it that was replayed
+pub from_recovered : (disk : DiskCourse) (opening : Opening) (commands : ℕ) (recovered bodies : List (List ℕ)) (start : History) → bodies ≡ recovered
+    → AreRecordsOn disk recovered → LinesBegin opening bodies start [] → length bodies + commands ≤ 10000
+    → WhereTold disk.old.holds (λ told. IsTooLong told → ⊥) → GoesOnFromStore disk opening commands start
+from_recovered disk opening commands recovered bodies start same records begins few short =
+    from_store disk opening commands bodies start (λ bytes told. same ∙ records bytes told) begins few short
 
--- a count that rose has risen later
-pub rose_later : (old mid new : ℕ) → Rose old mid → mid ≤ new → Rose old new
-rose_later old mid new rose later = omega (arith, rose, later)
+-- the entries that a machine has after those that were recovered are the new ones
+pub after_recovered : (opening : Opening) (recovered bodies : List (List ℕ)) (start history : History) → bodies ≡ recovered → LinesBegin opening bodies start []
+    → drop (length recovered) history.entries ≡ new_entries start history
+after_recovered opening recovered bodies start history same begins =
+    ap (λ (all : List (List ℕ)). drop (length all) history.entries) (sym same) ∙ new_are_after opening bodies start history begins
+
+-- and those of a day that answers its scripts
+pub are_new_of : (disk : DiskCourse) (opening : Opening) (scripts : List Script) (recovered bodies : List (List ℕ)) (start history : History) → bodies ≡ recovered
+    → AreRecordsOn disk recovered → LinesBegin opening bodies start [] → length bodies + command_count scripts ≤ 10000
+    → WhereTold disk.old.holds (λ told. IsTooLong told → ⊥) → IsHistoryOf opening scripts start history
+    → AreNewOf disk opening scripts (drop (length recovered) history.entries)
+are_new_of disk opening scripts recovered bodies start history same records begins few short answers = record {
+  start = start;
+  from = from_recovered disk opening (command_count scripts) recovered bodies start same records begins few short;
+  history = history;
+  answers = answers;
+  new = after_recovered opening recovered bodies start history same begins;
+}
 
 -- what holds of values holds of the references to them
 pub each_by_reference : {A : Type 0} (P : A → Type 0) (xs : List (Bor A)) → All P (map (λ x. x.now) xs) → All (λ x. P x.now) xs
@@ -109,6 +124,16 @@ each_by_reference P (x ∷ xs) all =
 pub if_appended : {T E : Type 0} {P : Type 0} (result : Result T E) → is_err result ≡ false → OnOk result P → P
 if_appended (Ok done) fine holds = holds
 if_appended (Err why) fine holds = cc fine
+
+-- what holds of one that is an error
+pub if_failed : {T E : Type 0} {P : Type 0} (result : Result T E) → is_err result ≡ true → OnErr result P → P
+if_failed (Ok done) failed holds = cc failed
+if_failed (Err why) failed holds = holds
+
+-- one that isn't an error didn't fail at the disk
+pub no_error : {T : Type 0} (result : Result T AppendFault) → is_err result ≡ false → IsErrOf result append_fault.Disk → ⊥
+no_error (Ok done) fine failed = cc failed
+no_error (Err why) fine failed = cc fine
 
 -- one that is an error, of a store that isn't broken, failed at the disk
 pub disk_failed : {T : Type 0} (result : Result T AppendFault) → is_err result ≡ true → (IsErrOf result append_fault.Broken → ⊥)
@@ -133,15 +158,12 @@ records_stop disk opening bodies commands (stop.Complaint (complaint.Wrong found
 records_stop disk opening bodies commands (stop.Complaint complaint.Store) are stops = absurd stops
 records_stop disk opening bodies commands stop.Memory are stops = tt
 
--- so does what stops it while entries are added, after the count was no lower
-pub appends_stop : (disk : DiskCourse) (opening : Opening) (commands before : ℕ) (s : Stop) → disk.faults ≤ before
-    → StopsFor (of_appends before disk.faults') s → StopsFor (of_store disk opening commands) s
-appends_stop disk opening commands before (stop.Complaint (complaint.Words why)) later stops = absurd stops
-appends_stop disk opening commands before (stop.Complaint (complaint.Refused f why)) later stops = absurd stops
-appends_stop disk opening commands before (stop.Complaint (complaint.Fault f)) later stops = absurd stops
-appends_stop disk opening commands before (stop.Complaint (complaint.Wrong found)) later stops = absurd stops
-appends_stop disk opening commands before (stop.Complaint complaint.Store) later stops = rose_before disk.faults before disk.faults' later stops
-  where
-    rose_before : (old mid new : ℕ) → old ≤ mid → Rose mid new → Rose old new
-    rose_before old mid new le rose = omega (arith, le, rose)
-appends_stop disk opening commands before stop.Memory later stops = tt
+-- so does what stops it while entries are added, after calls in which the count didn't fall
+pub appends_stop : (old mid new : DiskTold) (opening : Opening) (commands : ℕ) (s : Stop) → old.faults ≤ mid.faults
+    → StopsFor (of_appends (disk_course mid new)) s → StopsFor (of_store (disk_course old new) opening commands) s
+appends_stop old mid new opening commands (stop.Complaint (complaint.Words why)) later stops = absurd stops
+appends_stop old mid new opening commands (stop.Complaint (complaint.Refused f why)) later stops = absurd stops
+appends_stop old mid new opening commands (stop.Complaint (complaint.Fault f)) later stops = absurd stops
+appends_stop old mid new opening commands (stop.Complaint (complaint.Wrong found)) later stops = absurd stops
+appends_stop old mid new opening commands (stop.Complaint complaint.Store) later stops = omega (arith, later, stops)
+appends_stop old mid new opening commands stop.Memory later stops = tt

@@ -1,6 +1,7 @@
 -- What the jobs come to.
 use Rattle.std.proofs.Common.{◌≡◌, ◌∙◌, refl, sym, ap, subst, ℕ, ⊎_elim, inl, inr, List, [], ◌∷◌, ◌++◌, None, Option, Result, Ok, Err, arith}
 use Rattle.std.specs.Prelude.{⊤, IfOk, OnOk}
+use Rattle.wp_desk.specs.GoingOn.{new_entries}
 use Rattle.wp_desk.specs.declared.day_run.DayRun.{DayRun}
 use Rattle.wp_journal.specs.Journals.{IsJournalOf, Shows}
 use Rattle.wp_machine.specs.declared.outcome.WaveHolds.{WaveHolds}
@@ -128,7 +129,7 @@ plan_files old mid new names layout opening scripts so_far was is =
 -- the output of a plan
 pub plan_is : (disk : DiskCourse) (old new : FilesTold) (names : PlanNames) (layout : Layout) (opening : Opening) (scripts : List Script) (start history : History)
     (output : List ℕ) → IsReadDay names layout opening scripts old new → IsBegun disk names.store opening (command_count scripts) start
-    → IsHistoryOf opening scripts start history → (names.store ≡ 1 → AreAllKept disk start history) → IsTextOf layout (terms_of names) start history output
+    → IsHistoryOf opening scripts start history → (names.store ≡ 1 → AreAllKept disk (new_entries start history)) → IsTextOf layout (terms_of names) start history output
     → IsOutput (Ok (plan names)) disk old new output
 plan_is disk old new names layout opening scripts start history output day begun answers kept text =
     let own = sym (with_units opening names.units day.units) in
@@ -268,6 +269,7 @@ some_kept_as disk P Q gives some = record {
   entries = some.entries;
   new = ⊎_elim (λ none. inl none) (λ are. inr (gives some.entries are)) some.new;
   kept = some.kept;
+  calls = some.calls;
 }
 
 -- the output of a make is a summary, whatever the files hold

@@ -13,7 +13,7 @@ use Rattle.wp_outside.specs.Outside.{Grows, NoneFalls, SameBytes, SinkTold}
 use Rattle.wp_top.specs.Ends.{AreNewIn, Asked, EndsAt, HasRisen, IsRefused, ReadsWithin, most_reads}
 use Rattle.wp_top.specs.Promise.{AreGoodFiles, AsksForStore, Course, IsBadFile, Keeps, StoreStands}
 use Rattle.wp_top.specs.Runs.{ComesTo, IsRight, IsWrong, UsesStore, command_count}
-use Rattle.wp_top.specs.Stops.{End, Finishes, HasEnded, IsEnding, complains, gives, number_of, status_of, text_of}
+use Rattle.wp_top.specs.Stops.{End, Finishes, HasEnded, IsEnding, IsOfInput, complains, gives, number_of, status_of, text_of}
 use Rattle.wp_top.specs.Stores.{AreSomeKept, DiskCourse, GoesOnFromStore, HasFailed, IsRefusedStore, IsToldOn}
 use Rattle.wp_top.specs.Texts.{HaveSaid, IsHeld, Said, files_of, opening_with}
 use Rattle.wp_top.specs.declared.complaint.Complaint.TheVariants as complaint
@@ -25,6 +25,7 @@ use Rattle.wp_top.specs.declared.status.Status.{Status}
 use Rattle.wp_words.specs.Words.{JobNames, audit, check, make, plan}
 use Rattle.wp_words.specs.declared.fault.WordsFault.{WordsFault}
 use Rattle.wp_top.proofs.Checks.{bound_no_fault}
+use Rattle.wp_top.proofs.Endings.{is_of_input}
 use Rattle.wp_top.proofs.RisenCounts.{bad_before_rise, none_rose}
 use Rattle.wp_top.proofs.Statuses.{due, few_statuses, part_taken, sink_rose, sink_sound, sink_stands, stands, when_done, when_fault, when_refused, when_store, when_words, when_wrong}
 use Rattle.wp_top.proofs.Statuses.{whole}
@@ -71,17 +72,17 @@ ok_no_err a fault e = cc e
 
 -- where a disk tells its bytes and its count stands, what the store has isn't both what a day goes on from and refused
 store_no_refusal : (disk : DiskCourse) (opening : Opening) (commands : ℕ) (start : History) (told : List ℕ) (found : StoreFinding) → IsToldOn disk told
-    → (HasFailed disk → ⊥) → GoesOnFromStore disk opening commands start → IsRefusedStore disk opening commands found → ⊥
-store_no_refusal disk opening commands start told store_finding.TooLong tells stands from refused = from.short stands told tells (refused told tells)
-store_no_refusal disk opening commands start told (store_finding.Record number) tells stands from (bodies, records, bad) =
+    → GoesOnFromStore disk opening commands start → IsRefusedStore disk opening commands found → ⊥
+store_no_refusal disk opening commands start told store_finding.TooLong tells from refused = from.short told tells (refused told tells)
+store_no_refusal disk opening commands start told (store_finding.Record number) tells from (bodies, records, bad) =
     let same = from.records told tells ∙ sym (records told tells) in
     whole_has_next opening bodies start bad.history bad.next bad.others (subst (λ (l : List (List ℕ)). LinesBegin opening l start []) same from.begins)
     bad.begins bad.bad
-store_no_refusal disk opening commands start told (store_finding.Entry number printed right) tells stands from (bodies, records, wrong) =
+store_no_refusal disk opening commands start told (store_finding.Entry number printed right) tells from (bodies, records, wrong) =
     let same = from.records told tells ∙ sym (records told tells) in
     whole_is_answered opening bodies start wrong.history wrong.next wrong.others number printed right
     (subst (λ (l : List (List ℕ)). LinesBegin opening l start []) same from.begins) wrong.begins wrong.misanswered
-store_no_refusal disk opening commands start told (store_finding.Entries number) tells stands from (bodies, records, many) =
+store_no_refusal disk opening commands start told (store_finding.Entries number) tells from (bodies, records, many) =
     let same = from.records told tells ∙ sym (records told tells) in
     absurd (omega (arith, ap length same, from.few, many.counted, many.many))
 
@@ -91,7 +92,7 @@ right_no_wrong : (run : Course) (job : JobNames) (said : Said) (found : Finding)
 right_no_wrong run (plan names) said (finding.Store found) stands right (uses, refused) =
     let store = stands uses in
     let from = right uses in
-    store_no_refusal run.disk (opening_with said.opening names.units) (command_count said.scripts) from.0 store.0.0 found store.0.1 store.1 from.1 refused
+    store_no_refusal run.disk (opening_with said.opening names.units) (command_count said.scripts) from.0 store.0.0 found store.0.1 from.1 refused
 right_no_wrong run (plan names) said (finding.Certificate fault) stands right wrong = wrong
 right_no_wrong run (plan names) said (finding.Journal fault) stands right wrong = wrong
 right_no_wrong run (check names) said (finding.Journal fault) stands right wrong = wrong
@@ -173,10 +174,15 @@ pub record IsFrame (asked : Asked) (run : Course) : Type 0 where
 asks_for_store : (asked : Asked) (job : JobNames) → asked ≡ Ok job → UsesStore job → AsksForStore asked
 asks_for_store asked job is uses = subst AsksForStore (sym is) uses
 
+-- what a run left of its disk
+pub record LeavesDisk {D : Type 0} (asked : Asked) (ended : Status) (disk disk' : D) : Type 0 where
+  pub untouched : (AsksForStore asked → ⊥) → disk' ≡ disk
+  pub unopened : IsOfInput ended → disk' ≡ disk
+
 -- a run that ended so keeps its promise
-keeps : (asked : Asked) (run : Course) (ended : Status) (e : End) → IsFrame asked run → IsEnding asked run.disk run.files run.files' e
-    → Finishes e run.sink run.sink' ended → Keeps asked run (number_of ended)
-keeps asked run ended e frame cause finishes =
+keeps : {D : Type 0} (asked : Asked) (run : Course) (disk disk' : D) (ended : Status) (e : End) → IsFrame asked run → LeavesDisk asked ended disk disk' → IsEnding asked run.disk run.files run.files' e
+    → Finishes e run.sink run.sink' ended → Keeps asked run disk disk' (number_of ended)
+keeps asked run disk disk' ended e frame left cause finishes =
     record {
       done = λ status. let t = whole asked run ended 0 e finishes status (inl (omega arith)) in when_done asked run e cause t.is t.took;
       words = λ status. let t = whole asked run ended 1 e finishes status (inl (omega arith)) in when_words asked run e cause t.is t.took;
@@ -193,6 +199,8 @@ keeps asked run ended e frame cause finishes =
       bad_content = λ job said found good store wrong stand. stands run ended 6 e finishes stand (ends_for_wrong asked run e job said found cause good store wrong);
       complete = λ job said good store right stand. stands run ended 0 e finishes stand (ends_for_good asked run e job said cause good store right);
       stored = λ job is uses. frame.stored (asks_for_store asked job is uses);
+      untouched = left.untouched;
+      unopened = λ some few. left.unopened (is_of_input ended some few);
       same = frame.same;
       counts = frame.counts;
       reads = frame.reads;
@@ -206,8 +214,9 @@ nothing_more None taken' same = same
 nothing_more (Some bytes) taken' same = same ∙ ap Some (sym (append-nil bytes))
 
 -- so does one that had no memory before it could end
-keeps_nothing : (asked : Asked) (run : Course) → IsFrame asked run → run.sink' ≡ run.sink → Keeps asked run 5
-keeps_nothing asked run frame same = record {
+keeps_nothing : {D : Type 0} (asked : Asked) (run : Course) (disk disk' : D) → IsFrame asked run → ((AsksForStore asked → ⊥) → disk' ≡ disk)
+    → run.sink' ≡ run.sink → Keeps asked run disk disk' 5
+keeps_nothing asked run disk disk' frame untouched same = record {
   done = λ status. absurd (omega (arith, status));
   words = λ status. absurd (omega (arith, status));
   refused = λ status. absurd (omega (arith, status));
@@ -223,6 +232,8 @@ keeps_nothing asked run frame same = record {
   bad_content = λ job said found good store wrong stand. inr refl;
   complete = λ job said good store right stand. inr refl;
   stored = λ job is uses. frame.stored (asks_for_store asked job is uses);
+  untouched = untouched;
+  unopened = λ some few. absurd (omega (arith, few));
   same = frame.same;
   counts = frame.counts;
   reads = frame.reads;
@@ -232,7 +243,8 @@ keeps_nothing asked run frame same = record {
 }
 
 -- a run that ended so, with an end or for want of memory before it had one
-pub run_keeps : (asked : Asked) (run : Course) (ended : Status) → IsFrame asked run → HasEnded asked run.disk run.files run.files' run.sink run.sink' ended
-    → Keeps asked run (number_of ended)
-run_keeps asked run ended frame (inl (e, cause, finishes)) = keeps asked run ended e frame cause finishes
-run_keeps asked run ended frame (inr (none, same)) = subst (Keeps asked run) (ap number_of (sym none)) (keeps_nothing asked run frame same)
+pub run_keeps : {D : Type 0} (asked : Asked) (run : Course) (disk disk' : D) (ended : Status) → IsFrame asked run → LeavesDisk asked ended disk disk' → HasEnded asked run.disk run.files run.files' run.sink run.sink' ended
+    → Keeps asked run disk disk' (number_of ended)
+run_keeps asked run disk disk' ended frame left (inl (e, cause, finishes)) = keeps asked run disk disk' ended e frame left cause finishes
+run_keeps asked run disk disk' ended frame left (inr (none, same)) =
+    subst (Keeps asked run disk disk') (ap number_of (sym none)) (keeps_nothing asked run disk disk' frame left.untouched same)

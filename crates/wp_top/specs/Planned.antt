@@ -1,7 +1,7 @@
 -- What a day tells, the plans of its waves, and its crew.
 use Rattle.std.specs.Prelude.{◌≡◌, ℕ, List, Option, Some, slice_get}
 use Rattle.std.specs.List.{All}
-use Rattle.wp_desk.specs.GoingOn.{GoesOnFrom}
+use Rattle.wp_desk.specs.GoingOn.{GoesOnFrom, new_entries}
 use Rattle.wp_desk.specs.declared.day_run.DayRun.{DayRun}
 use Rattle.wp_top.specs.Runs.{IsHistoryOf, command_count}
 use Rattle.wp_top.specs.Sections.{refills_told, waves_out}
@@ -49,4 +49,4 @@ pub record IsDayOver (disk : DiskCourse) (store : ℕ) (layout : Layout) (openin
   pub answers : IsHistoryOf opening scripts start day.run.machine
   pub told : IsToldOf layout terms start day.run
   pub dealt : HasCrew terms day.run day.crew
-  pub kept : store ≡ 1 → AreAllKept disk start day.run.machine
+  pub kept : store ≡ 1 → AreAllKept disk (new_entries start day.run.machine)

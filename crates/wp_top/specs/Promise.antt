@@ -84,8 +84,8 @@ pub record AreGoodFiles (asked : Asked) (run : Course) (job : JobNames) (said : 
   pub accepted : HaveSaid (IsTold run.files.holds) (files_of job) said
   pub stand : FilesStand run (files_of job)
 
--- what a run promises that was asked for this, went so and ended with this status
-pub record Keeps (asked : Asked) (run : Course) (status : ℕ) : Type 0 where
+-- what a run promises that was asked for this, went so, was given this disk and left it so, and ended with this status
+pub record Keeps {D : Type 0} (asked : Asked) (run : Course) (disk disk' : D) (status : ℕ) : Type 0 where
   -- 0: each file of the job was read once, and the sink took the output
   pub done : status ≡ 0 → (output : List ℕ) × IsOutput asked run.disk run.files run.files' output × Took run output
   -- 1: the words ask for no job, no file was read, and the sink took the line that says why
@@ -115,9 +115,12 @@ pub record Keeps (asked : Asked) (run : Course) (status : ℕ) : Type 0 where
   -- and else the run ends with 0
   pub complete : (job : JobNames) (said : Said) → AreGoodFiles asked run job said → StoreStands run job → IsRight run.disk job said → SinkStands run
       → EndsWith 0 status
-  -- however the run ends, each image of the store that a crash leaves at some moment since the run's first sync has the records that there were, then a
-  -- beginning of the new entries of a history that answers the desks, and all that were acknowledged
+  -- however the run ends, each image of the store that a crash leaves at some moment of it has the records that there were, then a beginning of the new
+  -- entries of a history that answers the desks, and all that were acknowledged
   pub stored : (job : JobNames) → asked ≡ Ok job → UsesStore job → AreSomeKept run.disk (AreNewIn asked run.disk run.files run.files')
+  -- without a store the disk is what it was, and where the words or a file are complained of
+  pub untouched : (AsksForStore asked → ⊥) → disk' ≡ disk
+  pub unopened : 1 ≤ status → status ≤ 3 → disk' ≡ disk
   -- each name holds what it held, no count falls, and there are no more reads than the job has files
   pub same : SameBytes run.files.holds run.files'.holds
   pub counts : NoneFalls run.files.faults run.files'.faults

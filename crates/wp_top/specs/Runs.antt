@@ -72,8 +72,8 @@ pub record IsPlan (disk : DiskCourse) (names : PlanNames) (said : Said) (output 
   -- where the words have pickers, all batches of the sheets are dealt to them, and the longest load is near the least that it can be
   pub crew : Option DayCrew
   pub dealt : IsCrewFor names.pickers (day_batches (waves_out start history) plans) crew
-  -- where the words have a store, all new entries are in it, whatever a crash leaves of it, before the first byte of the text is written;
-  pub kept : names.store ≡ 1 → AreAllKept disk start history
+  -- where the words have a store, all new entries are acknowledged, and whatever a crash leaves of it has them;
+  pub kept : names.store ≡ 1 → AreAllKept disk (new_entries start history)
   -- this is the text: the whole journal, the sheets, the refills of new entries, the crew, the stock after it
   pub is : output ≡ output_of history sheets (refills_told start history) (crew_text crew)
 

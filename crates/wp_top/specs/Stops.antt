@@ -25,7 +25,6 @@ use Rattle.wp_planner.specs.declared.crew.DayCrew.{DayCrew}
 use Rattle.wp_planner.specs.declared.planner.WavePlan.{WavePlan}
 use Rattle.wp_top.specs.Sections.{output_of, refills_told, waves_out}
 use Rattle.wp_top.specs.Sheets.{AreSheets}
-use Rattle.wp_store.specs.Disk.{Rose}
 use Rattle.wp_top.specs.Stores.{AreRefused, DiskCourse, HasFailed, IsRefusedStore}
 use Rattle.wp_top.specs.Summaries.{AreGoodPlans, made_files, size_of}
 use Rattle.wp_top.specs.Texts.{File, HaveSaid, IsHeld, IsTold, ReadFile, Said, Say, file_of, files_of, nothing_said, opening_with, text_in}
@@ -85,13 +84,17 @@ of_records opening bodies commands = record no_cause {
   wrong = λ found. (refused : StoreFinding) × (found ≡ finding.Store refused) × AreRefused opening bodies commands refused;
 }
 
--- why adding entries to a store does, by the disk's counts of faults before and after it
-abbrev pub of_appends : ℕ → ℕ → Causes
-of_appends before after = record no_cause { store = Rose before after }
+-- why adding entries to a store does
+abbrev pub of_appends : DiskCourse → Causes
+of_appends disk = record no_cause { store = HasFailed disk }
+
+-- what a failed disk stops a run with
+abbrev pub store_stop : Stop
+store_stop = stop.Complaint complaint.Store
 
 -- what opening a store stops a run with
 abbrev pub stop_at_open : OpenFault → Stop
-stop_at_open open_fault.Disk = stop.Complaint complaint.Store
+stop_at_open open_fault.Disk = store_stop
 stop_at_open open_fault.TooLong = stop.Complaint (complaint.Wrong (finding.Store store_finding.TooLong))
 stop_at_open open_fault.Memory = stop.Memory
 

@@ -28,7 +28,7 @@ ghost use Rattle.wp_outside.specs.Outside.{NoneFalls, SameBytes};
 ghost use Rattle.wp_top.specs.Ends.{AreNewIn, ReadsWithin, asked_by, audit_job, check_job, most_reads};
 ghost use Rattle.wp_top.specs.Promise.{AsksForStore, Keeps, course};
 ghost use Rattle.wp_top.specs.Stops.{HasEnded, IsOfInput};
-ghost use Rattle.wp_top.specs.Stores.{AreSomeKept, disk_course, no_disk};
+ghost use Rattle.wp_top.specs.Stores.{AreSomeKept, disk_course, no_disk, nothing};
 
 use crate::audit::audit_output;
 use crate::check::check_output;
@@ -54,10 +54,10 @@ fn run_job<R: Threads + Wait + Sync, F: Files, K: Sink, G: Gate, D: Disk>(
     out: &mut K,
     disk: &mut D,
 ) -> Status
-    ensures ended { HasEnded (asked_by words.now.items) (disk_course D.holds D.moment D.images_since D.synced D.faults disk.old disk.new)
+    ensures ended { HasEnded (asked_by words.now.items) (disk_course (D.told disk.old) (D.told disk.new))
         (F.told files.old) (F.told files.new) (K.told out.old) (K.told out.new) result }
-    ensures stored { AsksForStore (asked_by words.now.items) → AreSomeKept (disk_course D.holds D.moment D.images_since D.synced D.faults disk.old disk.new)
-        (AreNewIn (asked_by words.now.items) (disk_course D.holds D.moment D.images_since D.synced D.faults disk.old disk.new)
+    ensures stored { AsksForStore (asked_by words.now.items) → AreSomeKept (disk_course (D.told disk.old) (D.told disk.new))
+        (AreNewIn (asked_by words.now.items) (disk_course (D.told disk.old) (D.told disk.new))
         (F.told files.old) (F.told files.new)) }
     ensures untouched { ¬ AsksForStore (asked_by words.now.items) → disk.new ≡ disk.old }
     ensures unopened { IsOfInput result → disk.new ≡ disk.old }
@@ -80,9 +80,9 @@ fn run_job<R: Threads + Wait + Sync, F: Files, K: Sink, G: Gate, D: Disk>(
 /// 2 a file is refused; 3 a file could not be read; 4 the output could not be written; 5 memory ran out; 6 the
 /// certificate, the journal or the store isn't right; 7 the disk of the store failed. With 1, 2, 3, 6 and 7 one line was written; with 4 and 5 a
 /// beginning of the text, or nothing. The desks of a plan and the workers that price its waves pass the gate, and what is promised doesn't hang on when it
-/// lets them. Where the words have no store no call is made on the disk, nor with 1, 2 and 3. Where they have one, each image of it that a crash leaves at some moment since the
-/// run's first sync has the records that there were and a beginning of the new entries, with all that were acknowledged; and all are, before anything of
-/// the output is written.
+/// lets them. Where the words have no store no call is made on the disk, nor with 1, 2 and 3. Where they have one, each image of it that a crash leaves at some
+/// moment of the run is one that there was before, or has the records that there were and a beginning of the new entries, with all that were acknowledged;
+/// and where anything of the output was written each image has all of them. The disk is called at most six times, and four times for each new entry.
 pub fn run<R: Threads + Wait + Sync, F: Files, K: Sink, G: Gate, D: Disk>(
     rt: &R,
     alloc: Global,
@@ -92,10 +92,8 @@ pub fn run<R: Threads + Wait + Sync, F: Files, K: Sink, G: Gate, D: Disk>(
     gate: &G,
     disk: &mut D,
 ) -> u8
-    ensures keeps { Keeps (asked_by words.now.items) (course (F.told files.old) (K.told out.old) (F.told files.new) (K.told out.new)
-        (disk_course D.holds D.moment D.images_since D.synced D.faults disk.old disk.new)) result }
-    ensures untouched { ¬ AsksForStore (asked_by words.now.items) → disk.new ≡ disk.old }
-    ensures unopened { 1 ≤ result → result ≤ 3 → disk.new ≡ disk.old }
+    ensures { Keeps (asked_by words.now.items) (course (F.told files.old) (K.told out.old) (F.told files.new) (K.told out.new)
+        (disk_course (D.told disk.old) (D.told disk.new))) disk.old disk.new result }
 {
     run_job(&Resources { rt, alloc, gate }, words, files, out, disk).number()
 }
@@ -107,7 +105,7 @@ pub fn run_check<F: Files, K: Sink>(
     files: &mut F,
     out: &mut K,
 ) -> u8
-    ensures { Keeps (Ok (check_job words.now)) (course (F.told files.old) (K.told out.old) (F.told files.new) (K.told out.new) no_disk) result }
+    ensures { Keeps (Ok (check_job words.now)) (course (F.told files.old) (K.told out.old) (F.told files.new) (K.told out.new) no_disk) nothing nothing result }
 {
     end_job(alloc, check_output(alloc, files, words), out).number()
 }
@@ -119,7 +117,7 @@ pub fn run_audit<F: Files, K: Sink>(
     files: &mut F,
     out: &mut K,
 ) -> u8
-    ensures { Keeps (Ok (audit_job words.now)) (course (F.told files.old) (K.told out.old) (F.told files.new) (K.told out.new) no_disk) result }
+    ensures { Keeps (Ok (audit_job words.now)) (course (F.told files.old) (K.told out.old) (F.told files.new) (K.told out.new) no_disk) nothing nothing result }
 {
     end_job(alloc, audit_output(alloc, files, words), out).number()
 }

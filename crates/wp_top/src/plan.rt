@@ -94,13 +94,13 @@ fn day_of<'a, R: Threads + Wait + Sync, G: Gate, D: Disk>(
     disk: &mut D,
 ) -> Result<DayPlans<'a>, Stop>
     requires { AreReadScripts files.now.scripts }
-    ensures day { IfOk result (IsDayOver (disk_course D.holds D.moment D.images_since D.synced D.faults disk.old disk.new) words.now.store
+    ensures day { IfOk result (IsDayOver (disk_course (D.told disk.old) (D.told disk.new)) words.now.store
         files.now.warehouse.layout files.now.warehouse.opening terms.now files.now.scripts) }
     ensures stops { words.now.store ≡ 1 → IfErr result (StopsFor (of_store
-        (disk_course D.holds D.moment D.images_since D.synced D.faults disk.old disk.new) files.now.warehouse.opening (command_count files.now.scripts))) }
+        (disk_course (D.told disk.old) (D.told disk.new)) files.now.warehouse.opening (command_count files.now.scripts))) }
     ensures memory { words.now.store ≢ 1 → IfErr result (λ why. why ≡ stop.Memory) }
-    ensures kept { words.now.store ≡ 1 → AreSomeKept (disk_course D.holds D.moment D.images_since D.synced D.faults disk.old disk.new)
-        (AreNewOf (disk_course D.holds D.moment D.images_since D.synced D.faults disk.old disk.new) files.now.warehouse.opening files.now.scripts) }
+    ensures kept { words.now.store ≡ 1 → AreSomeKept (disk_course (D.told disk.old) (D.told disk.new))
+        (AreNewOf (disk_course (D.told disk.old) (D.told disk.new)) files.now.warehouse.opening files.now.scripts) }
     ensures untouched { words.now.store ≢ 1 → disk.new ≡ disk.old }
 {
     if words.store == 1 {
@@ -146,10 +146,10 @@ fn end_day<R: Threads + Wait + Sync, K: Sink, G: Gate, D: Disk>(
     requires ranges { HasRanges (plan_names words.now) }
     requires read { AreReadScripts files.now.scripts }
     ensures ended { (old new : FilesTold) → IsReadDay (plan_names words.now) files.now.warehouse.layout files.now.warehouse.opening files.now.scripts old new
-        → HasEnded (Ok (plan_job words.now)) (disk_course D.holds D.moment D.images_since D.synced D.faults disk.old disk.new) old new
+        → HasEnded (Ok (plan_job words.now)) (disk_course (D.told disk.old) (D.told disk.new)) old new
         (K.told out.old) (K.told out.new) result }
-    ensures kept { words.now.store ≡ 1 → AreSomeKept (disk_course D.holds D.moment D.images_since D.synced D.faults disk.old disk.new)
-        (AreNewOf (disk_course D.holds D.moment D.images_since D.synced D.faults disk.old disk.new) files.now.warehouse.opening files.now.scripts) }
+    ensures kept { words.now.store ≡ 1 → AreSomeKept (disk_course (D.told disk.old) (D.told disk.new))
+        (AreNewOf (disk_course (D.told disk.old) (D.told disk.new)) files.now.warehouse.opening files.now.scripts) }
     ensures untouched { words.now.store ≢ 1 → disk.new ≡ disk.old }
     ensures read_all { ¬ IsOfInput result }
     ensures early { (K.told out.old).stopped ≡ false → (K.told out.new).late ≡ (K.told out.old).late }
@@ -171,10 +171,10 @@ pub fn run_plan<R: Threads + Wait + Sync, F: Files, K: Sink, G: Gate, D: Disk>(
     disk: &mut D,
 ) -> Status
     requires { HasRanges (plan_names words.now) }
-    ensures ended { HasEnded (Ok (plan_job words.now)) (disk_course D.holds D.moment D.images_since D.synced D.faults disk.old disk.new)
+    ensures ended { HasEnded (Ok (plan_job words.now)) (disk_course (D.told disk.old) (D.told disk.new))
         (F.told files.old) (F.told files.new) (K.told out.old) (K.told out.new) result }
-    ensures kept { words.now.store ≡ 1 → AreSomeKept (disk_course D.holds D.moment D.images_since D.synced D.faults disk.old disk.new)
-        (AreNewIn (Ok (plan_job words.now)) (disk_course D.holds D.moment D.images_since D.synced D.faults disk.old disk.new)
+    ensures kept { words.now.store ≡ 1 → AreSomeKept (disk_course (D.told disk.old) (D.told disk.new))
+        (AreNewIn (Ok (plan_job words.now)) (disk_course (D.told disk.old) (D.told disk.new))
         (F.told files.old) (F.told files.new)) }
     ensures untouched { words.now.store ≢ 1 → disk.new ≡ disk.old }
     ensures unopened { IsOfInput result → disk.new ≡ disk.old }

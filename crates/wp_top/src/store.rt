@@ -3,19 +3,19 @@
 //! The store is opened, and a machine is stepped through what it has. Then the desks run and their waves are planned, and
 //! only when all that is done are the new entries added, in their order, each acknowledged before the next. Nothing of the
 //! text is written before.
-ghost use Rattle.std.specs.Prelude.{◌≡◌, ◌+◌, ◌<◌, ◌≤◌, ℕ, List, [], ◌∷◌, drop, false, length, map, is_some, IsTrue, IfOk, IfErr, OnOk};
+ghost use Rattle.std.specs.Prelude.{◌≡◌, ◌+◌, ◌*◌, ◌<◌, ◌≤◌, ℕ, List, [], ◌∷◌, drop, false, length, map, IsTrue, IfOk, IfErr, IsErrOf, OnOk};
 ghost use Rattle.std.specs.List.{All};
 ghost use Rattle.wp_journal.specs.Grammar.{is_line_entry};
 ghost use Rattle.wp_journal.specs.Replays.{LinesBegin, MayGoOn};
 ghost use Rattle.wp_model.specs.Limits.{most_entries};
 ghost use Rattle.wp_model.specs.Tables.{AreReadScripts};
-ghost use Rattle.wp_store.specs.Disk.{SyncsIn, WhereTold};
+ghost use Rattle.wp_store.specs.Disk.{GoesOn, WhereTold};
 ghost use Rattle.wp_store.specs.Records.{most_records, records_of};
-ghost use Rattle.wp_store.specs.Store.{IsSettled, StandsFor};
+ghost use Rattle.wp_store.specs.Store.{HasRecords, IsSettledAt};
 ghost use Rattle.wp_top.specs.Planned.{IsDayOver};
 ghost use Rattle.wp_top.specs.Runs.{AreNewOf, command_count};
-ghost use Rattle.wp_top.specs.Stops.{StopsFor, of_appends, of_records, of_store};
-ghost use Rattle.wp_top.specs.Stores.{Appends, AreSomeKept, disk_course};
+ghost use Rattle.wp_top.specs.Stops.{StopsFor, of_appends, of_records, of_store, store_stop};
+ghost use Rattle.wp_top.specs.Stores.{Appends, AreImagesOfRecords, AreSomeKept, HasAdded, IsSound, disk_course, entry_calls, entry_syncs};
 
 use crate::complaint::{Complaint, Stop, StoreFinding, refused_store};
 use crate::day::{DayFiles, DayPlans, Resources, plan_day};
@@ -113,17 +113,14 @@ fn append_each<D: Disk>(
     requires sound { store.old.is_broken ≡ false }
     requires room { store.old.count + length entries.now ≤ most_records }
     requires within { All (λ entry. IsTrue (is_line_entry entry.now)) entries.now }
-    requires durable { WhereTold (D.holds store.old.disk.now) (λ told. (image : List ℕ) → D.images store.old.disk.now image → StandsFor (records_of told) image) }
+    requires durable { AreImagesOfRecords (D.told store.old.disk.now) }
     ensures same_reference { store.new.disk.ghost_name ≡ store.old.disk.ghost_name }
-    ensures told { is_some (D.holds store.new.disk.now) ≡ is_some (D.holds store.old.disk.now) }
-    ensures some { WhereTold (D.holds store.old.disk.now) (λ told. (n : ℕ) × Appends D.moment D.images_since store.old.disk.now store.new.disk.now
+    ensures some { WhereTold (D.told store.old.disk.now).holds (λ told. (n : ℕ) × Appends (D.told store.old.disk.now) (D.told store.new.disk.now)
         (records_of told) (map (λ entry. entry.now) entries.now) n) }
-    ensures all { OnOk result (WhereTold (D.holds store.old.disk.now) (λ told. Appends D.moment D.images_since store.old.disk.now store.new.disk.now
-        (records_of told) (map (λ entry. entry.now) entries.now) (length entries.now))) }
-    ensures later { D.moment store.old.disk.now ≤ D.moment store.new.disk.now }
-    ensures syncs { SyncsIn D.moment D.synced store.old.disk.now store.new.disk.now }
-    ensures counts { D.faults store.old.disk.now ≤ D.faults store.new.disk.now }
-    ensures stops { IfErr result (StopsFor (of_appends (D.faults store.old.disk.now) (D.faults store.new.disk.now))) }
+    ensures all { OnOk result (HasAdded (D.told store.old.disk.now) (D.told store.new.disk.now) (map (λ entry. entry.now) entries.now)) }
+    ensures course { GoesOn (entry_calls * length entries.now) (entry_syncs * length entries.now) (D.told store.old.disk.now) (D.told store.new.disk.now) }
+    ensures stops { IfErr result (StopsFor (of_appends (disk_course (D.told store.old.disk.now) (D.told store.new.disk.now)))) }
+    ensures sound { (IsErrOf result store_stop → ⊥) → IsSound (disk_course (D.told store.old.disk.now) (D.told store.new.disk.now)) }
 {
     for entry in entries {
         let line = print_entry(alloc, entry)?;
@@ -141,18 +138,16 @@ fn append_all<D: Disk>(
     disk: &mut D,
     entries: &[&Entry],
 ) -> Result<(), Stop>
-    requires settled { WhereTold (D.holds disk.old) (λ now. IsSettled now (D.images disk.old) recovered.place) }
-    requires same { WhereTold (D.holds disk.old) (StandsFor recovered.bodies) }
+    requires settled { IsSettledAt (D.told disk.old) recovered.place }
+    requires same { HasRecords (D.told disk.old) recovered.bodies }
     requires room { length recovered.bodies + length entries.now ≤ most_records }
     requires within { All (λ entry. IsTrue (is_line_entry entry.now)) entries.now }
-    ensures some { WhereTold (D.holds disk.old) (λ told. (n : ℕ) × Appends D.moment D.images_since disk.old disk.new
+    ensures some { WhereTold (D.told disk.old).holds (λ told. (n : ℕ) × Appends (D.told disk.old) (D.told disk.new)
         (records_of told) (map (λ entry. entry.now) entries.now) n) }
-    ensures all { OnOk result (WhereTold (D.holds disk.old) (λ told. Appends D.moment D.images_since disk.old disk.new
-        (records_of told) (map (λ entry. entry.now) entries.now) (length entries.now))) }
-    ensures later { D.moment disk.old ≤ D.moment disk.new }
-    ensures syncs { SyncsIn D.moment D.synced disk.old disk.new }
-    ensures counts { D.faults disk.old ≤ D.faults disk.new }
-    ensures stops { IfErr result (StopsFor (of_appends (D.faults disk.old) (D.faults disk.new))) }
+    ensures all { OnOk result (HasAdded (D.told disk.old) (D.told disk.new) (map (λ entry. entry.now) entries.now)) }
+    ensures course { GoesOn (entry_calls * length entries.now) (entry_syncs * length entries.now) (D.told disk.old) (D.told disk.new) }
+    ensures stops { IfErr result (StopsFor (of_appends (disk_course (D.told disk.old) (D.told disk.new)))) }
+    ensures sound { (IsErrOf result store_stop → ⊥) → IsSound (disk_course (D.told disk.old) (D.told disk.new)) }
 {
     let mut store = recovered.into_store(disk);
     let added = append_each(alloc, &mut store, entries);
@@ -175,19 +170,18 @@ fn add_new<D: Disk>(
     disk: &mut D,
     machine: &Machine<'_>,
 ) -> Result<(), Stop>
-    requires settled { WhereTold (D.holds disk.old) (λ now. IsSettled now (D.images disk.old) recovered.place) }
-    requires same { WhereTold (D.holds disk.old) (StandsFor recovered.bodies) }
+    requires settled { IsSettledAt (D.told disk.old) recovered.place }
+    requires same { HasRecords (D.told disk.old) recovered.bodies }
     requires there { length recovered.bodies ≤ length machine.now.entries }
     requires few { length machine.now.entries ≤ most_records }
     requires within { All (λ entry. IsTrue (is_line_entry entry)) machine.now.entries }
-    ensures some { WhereTold (D.holds disk.old) (λ told. (n : ℕ) × Appends D.moment D.images_since disk.old disk.new
+    ensures some { WhereTold (D.told disk.old).holds (λ told. (n : ℕ) × Appends (D.told disk.old) (D.told disk.new)
         (records_of told) (drop (length recovered.bodies) machine.now.entries) n) }
-    ensures all { OnOk result (WhereTold (D.holds disk.old) (λ told. Appends D.moment D.images_since disk.old disk.new
-        (records_of told) (drop (length recovered.bodies) machine.now.entries) (length (drop (length recovered.bodies) machine.now.entries)))) }
-    ensures later { D.moment disk.old ≤ D.moment disk.new }
-    ensures syncs { SyncsIn D.moment D.synced disk.old disk.new }
-    ensures counts { D.faults disk.old ≤ D.faults disk.new }
-    ensures stops { IfErr result (StopsFor (of_appends (D.faults disk.old) (D.faults disk.new))) }
+    ensures all { OnOk result (HasAdded (D.told disk.old) (D.told disk.new) (drop (length recovered.bodies) machine.now.entries)) }
+    ensures course { GoesOn (entry_calls * length (drop (length recovered.bodies) machine.now.entries))
+        (entry_syncs * length (drop (length recovered.bodies) machine.now.entries)) (D.told disk.old) (D.told disk.new) }
+    ensures stops { IfErr result (StopsFor (of_appends (disk_course (D.told disk.old) (D.told disk.new)))) }
+    ensures sound { (IsErrOf result store_stop → ⊥) → IsSound (disk_course (D.told disk.old) (D.told disk.new)) }
 {
     let entries = machine.journal(alloc)?;
     let old = recovered.bodies().len() as usize;
@@ -210,12 +204,13 @@ pub fn stored_day<'a, R: Threads + Wait + Sync, G: Gate, D: Disk>(
 ) -> Result<DayPlans<'a>, Stop>
     requires { AreReadScripts files.now.scripts }
     ensures day { (store : ℕ) → store ≡ 1 → IfOk result (IsDayOver
-        (disk_course D.holds D.moment D.images_since D.synced D.faults disk.old disk.new) store files.now.warehouse.layout files.now.warehouse.opening
+        (disk_course (D.told disk.old) (D.told disk.new)) store files.now.warehouse.layout files.now.warehouse.opening
         terms.now files.now.scripts) }
-    ensures stops { IfErr result (StopsFor (of_store (disk_course D.holds D.moment D.images_since D.synced D.faults disk.old disk.new)
+    ensures stops { IfErr result (StopsFor (of_store (disk_course (D.told disk.old) (D.told disk.new))
         files.now.warehouse.opening (command_count files.now.scripts))) }
-    ensures kept { AreSomeKept (disk_course D.holds D.moment D.images_since D.synced D.faults disk.old disk.new)
-        (AreNewOf (disk_course D.holds D.moment D.images_since D.synced D.faults disk.old disk.new) files.now.warehouse.opening files.now.scripts) }
+    ensures kept { AreSomeKept (disk_course (D.told disk.old) (D.told disk.new))
+        (AreNewOf (disk_course (D.told disk.old) (D.told disk.new)) files.now.warehouse.opening files.now.scripts) }
+    ensures sound { (IsErrOf result store_stop → ⊥) → IsSound (disk_course (D.told disk.old) (D.told disk.new)) }
 {
     let recovered = recover(resources.alloc, disk)?;
     let machine = machine_from(resources.alloc, files, recovered.bodies())?;

@@ -1,6 +1,5 @@
-use Rattle.std.proofs.Common.{◌∙◌, [], ap, inl, refl, subst, sym, Ok}
+use Rattle.std.proofs.Common.{◌∙◌, ap, refl, subst, sym, Ok}
 use Rattle.std.proofs.lemmas.Result.{IfErr-weaker, IfOk-weaker}
-use Rattle.wp_store.specs.Records.{records_of}
 use Rattle.wp_top.proofs.Endings.{job_ended, stopped_ended}
 use Rattle.wp_top.proofs.Jobs.{make_is, output_with, stops_with, words_stop}
 use Rattle.wp_top.proofs.Storing.{untouched_kept}
@@ -15,7 +14,7 @@ pub returns-in-Ok-Check-clause-ended : goal.returns-in-Ok-Check-clause-ended
 returns-in-Ok-Check-clause-ended g c =
     let asked = c.in-Ok-Check.ensures.job ∙ ap (λ job. Ok (job_names job)) c.in-Ok-Check.field-0-is in
     let D = g.D.Disk in
-    let disk = disk_course D.holds D.moment D.images_since D.synced D.faults c.args.disk.now c.args.disk.now in
+    let disk = disk_course (D.told c.args.disk.now) (D.told c.args.disk.now) in
     let old = g.F.Files.told c.args.files.now in
     let new = g.F.Files.told c.check_output.new.files in
     subst (λ (asked : Asked). HasEnded asked disk old new (g.K.Sink.told c.args.out.now) (g.K.Sink.told c.end_job.new.out) c.end_job.result) (sym asked)
@@ -27,7 +26,7 @@ pub returns-in-Ok-Audit-clause-ended : goal.returns-in-Ok-Audit-clause-ended
 returns-in-Ok-Audit-clause-ended g c =
     let asked = c.in-Ok-Audit.ensures.job ∙ ap (λ job. Ok (job_names job)) c.in-Ok-Audit.field-0-is in
     let D = g.D.Disk in
-    let disk = disk_course D.holds D.moment D.images_since D.synced D.faults c.args.disk.now c.args.disk.now in
+    let disk = disk_course (D.told c.args.disk.now) (D.told c.args.disk.now) in
     let old = g.F.Files.told c.args.files.now in
     let new = g.F.Files.told c.audit_output.new.files in
     let end = c.end_job-in-Ok-Audit in
@@ -40,7 +39,7 @@ pub returns-in-Ok-Make-clause-ended : goal.returns-in-Ok-Make-clause-ended
 returns-in-Ok-Make-clause-ended g c =
     let asked = c.in-Ok-Make.ensures.job ∙ ap (λ job. Ok (job_names job)) c.in-Ok-Make.field-0-is in
     let D = g.D.Disk in
-    let disk = disk_course D.holds D.moment D.images_since D.synced D.faults c.args.disk.now c.args.disk.now in
+    let disk = disk_course (D.told c.args.disk.now) (D.told c.args.disk.now) in
     let told = g.F.Files.told c.args.files.now in
     let end = c.end_job-in-Ok-Make in
     let job : Asked = Ok (make_job c.in-Ok-Make.words) in
@@ -54,7 +53,7 @@ pub returns-in-Err-clause-ended : goal.returns-in-Err-clause-ended
 returns-in-Err-clause-ended g c =
     let asked = asked_by c.args.words.now.items in
     let D = g.D.Disk in
-    let disk = disk_course D.holds D.moment D.images_since D.synced D.faults c.args.disk.now c.args.disk.now in
+    let disk = disk_course (D.told c.args.disk.now) (D.told c.args.disk.now) in
     let told = g.F.Files.told c.args.files.now in
     stopped_ended asked disk told told _ _ c.into.result c.end_stopped.result c.end_stopped.ensures.ended
     (subst (StopsFor (of_run asked disk told told)) (sym c.into.ensures) (words_stop disk asked told c.in-Err.fault c.in-Err.ensures.fault))
@@ -75,12 +74,4 @@ returns-in-Ok-Make-clause-stored g c = λ asks.
 -- words that are no job, or for which there is no memory, leave the disk as it was
 pub returns-in-Err-clause-stored : goal.returns-in-Err-clause-stored
 returns-in-Err-clause-stored g c = λ asks.
-    let D = g.D.Disk in record {
-      entries = [];
-      new = inl refl;
-      kept = λ bytes told. (
-        0,
-        untouched_kept D.holds D.moment D.images_since D.synced D.faults c.args.disk.now (records_of bytes) []
-            (λ t at. g.met.D.Disk.no_later_sync c.args.disk.now t at),
-      );
-    }
+    untouched_kept (g.D.Disk.told c.args.disk.now) _ (g.met.D.Disk.is_disk c.args.disk.now)

@@ -22,7 +22,7 @@ write_plans-requires-clause-dealt g c = c.in-Ok.ensures.day.dealt
 pub returns-in-Ok-clause-ended : goal.returns-in-Ok-clause-ended
 returns-in-Ok-clause-ended g c = λ old new read.
     let D = g.D.Disk in
-    let disk = disk_course D.holds D.moment D.images_since D.synced D.faults c.args.disk.now c.day_of.new.disk in
+    let disk = disk_course (D.told c.args.disk.now) (D.told c.day_of.new.disk) in
     let files = c.args.files.now in
     let names = plan_names c.args.words.now in
     let over = c.in-Ok.ensures.day in
@@ -43,7 +43,7 @@ returns-in-Ok-clause-early g c =
 pub returns-in-Err-clause-ended : goal.returns-in-Err-clause-ended
 returns-in-Err-clause-ended g c = λ old new read.
     let D = g.D.Disk in
-    let disk = disk_course D.holds D.moment D.images_since D.synced D.faults c.args.disk.now c.day_of.new.disk in
+    let disk = disk_course (D.told c.args.disk.now) (D.told c.day_of.new.disk) in
     let files = c.args.files.now in
     let names = plan_names c.args.words.now in
     let why = c.in-Err.ensures in
@@ -58,7 +58,7 @@ returns-in-Ok-clause-read_all g c = written_not_of_input c.write_plans.result c.
 pub returns-in-Err-clause-read_all : goal.returns-in-Err-clause-read_all
 returns-in-Err-clause-read_all g c =
     let D = g.D.Disk in
-    let disk = disk_course D.holds D.moment D.images_since D.synced D.faults c.args.disk.now c.day_of.new.disk in
+    let disk = disk_course (D.told c.args.disk.now) (D.told c.day_of.new.disk) in
     let files = c.args.files.now in
     let names = plan_names c.args.words.now in
     let why = c.in-Err.ensures in

@@ -1,5 +1,4 @@
-use Rattle.std.proofs.Common.{[], Ok, inl, refl}
-use Rattle.wp_store.specs.Records.{records_of}
+use Rattle.std.proofs.Common.{Ok, refl}
 use Rattle.wp_top.proofs.Endings.{stopped_ended}
 use Rattle.wp_top.proofs.Jobs.{new_in_plan, some_kept_as, stop_of}
 use Rattle.wp_top.proofs.Storing.{untouched_kept}
@@ -18,7 +17,7 @@ returns-in-Ok-clause-ended g c =
 pub returns-in-Err-clause-ended : goal.returns-in-Err-clause-ended
 returns-in-Err-clause-ended g c =
     let D = g.D.Disk in
-    let disk = disk_course D.holds D.moment D.images_since D.synced D.faults c.args.disk.now c.args.disk.now in
+    let disk = disk_course (D.told c.args.disk.now) (D.told c.args.disk.now) in
     let told = g.F.Files.told in
     let names = plan_names c.args.words.now in
     stopped_ended (Ok (plan names)) disk (told c.args.files.now) (told c.read_day.new.files) _ _ c.in-Err.why c.end_stopped.result c.end_stopped.ensures.ended
@@ -27,20 +26,12 @@ returns-in-Err-clause-ended g c =
 -- where a file isn't read the disk is as it was
 pub returns-in-Err-clause-kept : goal.returns-in-Err-clause-kept
 returns-in-Err-clause-kept g c = λ uses.
-    let D = g.D.Disk in record {
-      entries = [];
-      new = inl refl;
-      kept = λ bytes told. (
-        0,
-        untouched_kept D.holds D.moment D.images_since D.synced D.faults c.args.disk.now (records_of bytes) []
-            (λ t at. g.met.D.Disk.no_later_sync c.args.disk.now t at),
-      );
-    }
+    untouched_kept (g.D.Disk.told c.args.disk.now) _ (g.met.D.Disk.is_disk c.args.disk.now)
 
 pub returns-in-Ok-clause-kept : goal.returns-in-Ok-clause-kept
 returns-in-Ok-clause-kept g c = λ uses.
     let D = g.D.Disk in
-    let disk = disk_course D.holds D.moment D.images_since D.synced D.faults c.args.disk.now c.end_day.new.disk in
+    let disk = disk_course (D.told c.args.disk.now) (D.told c.end_day.new.disk) in
     let told = g.F.Files.told in
     let names = plan_names c.args.words.now in
     let day = c.in-Ok.day in

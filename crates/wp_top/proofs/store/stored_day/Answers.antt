@@ -8,17 +8,17 @@ use Rattle.wp_model.specs.History.{History}
 use Rattle.wp_model.specs.declared.entry.Entry.{Entry}
 use Rattle.wp_store.specs.Records.{records_of}
 use Rattle.wp_store.specs.declared.faults.OpenFault.{OpenFault}
-use Rattle.wp_top.proofs.DaysOver.{appends_stop, from_store, new_are_after, not_too_long, open_stops, records_stop, rose_later, stored_is_day, stored_over}
-use Rattle.wp_top.proofs.Storing.{all_added, recovered_kept, some_added}
+use Rattle.wp_top.proofs.DaysOver.{after_recovered, appends_stop, are_new_of, from_recovered, open_stops, records_stop, stored_is_day, stored_over}
+use Rattle.wp_top.proofs.Storing.{all_added, is_recovered, none_added, some_added}
 use Rattle.wp_top.proofs.store.stored_day.Goals as goal
 use Rattle.wp_top.specs.Runs.{AreNewOf, command_count}
-use Rattle.wp_top.specs.Stores.{AreKept, disk_course}
+use Rattle.wp_top.specs.Stores.{AreAllKept, disk_course}
 
 -- where the store doesn't open
 pub returns-in_err-recovered-clause-stops : goal.returns-in_err-recovered-clause-stops
 returns-in_err-recovered-clause-stops g c =
     let D = g.D.Disk in
-    let disk = disk_course D.holds D.moment D.images_since D.synced D.faults c.args.disk.now c.recover.new.disk in
+    let disk = disk_course (D.told c.args.disk.now) (D.told c.recover.new.disk) in
     let p = err_from_is_err_and c.from_residual.result c.from_residual.ensures.1 in
     let failed = c.branch-recovered.ensures ∙ ap result_from_control_flow c.in_err-recovered.is in
     rw (p.1, p.2)
@@ -28,21 +28,14 @@ returns-in_err-recovered-clause-stops g c =
 
 pub returns-in_err-recovered-clause-kept : goal.returns-in_err-recovered-clause-kept
 returns-in_err-recovered-clause-kept g c =
-    let D = g.D.Disk in record {
-      entries = [];
-      new = inl refl;
-      kept = λ bytes told. (
-        0,
-        recovered_kept D.holds D.moment D.images_since D.synced D.faults c.args.disk.now c.recover.new.disk (records_of bytes) []
-            (c.recover.ensures.since_syncs bytes told),
-      );
-    }
+    none_added (disk_course (g.D.Disk.told c.args.disk.now) (g.D.Disk.told c.recover.new.disk)) _ c.recover.ensures.any_moment c.recover.ensures.since_syncs
+    c.recover.ensures.course
 
 -- where its records are refused
 pub returns-in_err-machine-clause-stops : goal.returns-in_err-machine-clause-stops
 returns-in_err-machine-clause-stops g c =
     let D = g.D.Disk in
-    let disk = disk_course D.holds D.moment D.images_since D.synced D.faults c.args.disk.now c.recover.new.disk in
+    let disk = disk_course (D.told c.args.disk.now) (D.told c.recover.new.disk) in
     let p = err_from_is_err_and c.from_residual-in_err-machine.result c.from_residual-in_err-machine.ensures.1 in
     rw (p.1, p.2)
     (records_stop disk c.args.files.now.warehouse.opening c.bodies.result.now (command_count c.args.files.now.scripts) c.in_err-machine.field-0.0
@@ -50,28 +43,14 @@ returns-in_err-machine-clause-stops g c =
 
 pub returns-in_err-machine-clause-kept : goal.returns-in_err-machine-clause-kept
 returns-in_err-machine-clause-kept g c =
-    let D = g.D.Disk in record {
-      entries = [];
-      new = inl refl;
-      kept = λ bytes told. (
-        0,
-        recovered_kept D.holds D.moment D.images_since D.synced D.faults c.args.disk.now c.recover.new.disk (records_of bytes) []
-            (c.recover.ensures.since_syncs bytes told),
-      );
-    }
+    none_added (disk_course (g.D.Disk.told c.args.disk.now) (g.D.Disk.told c.recover.new.disk)) _ c.recover.ensures.any_moment c.recover.ensures.since_syncs
+    c.recover.ensures.course
 
 -- where memory runs out before an entry is added
 pub returns-in_err-day-clause-kept : goal.returns-in_err-day-clause-kept
 returns-in_err-day-clause-kept g c =
-    let D = g.D.Disk in record {
-      entries = [];
-      new = inl refl;
-      kept = λ bytes told. (
-        0,
-        recovered_kept D.holds D.moment D.images_since D.synced D.faults c.args.disk.now c.recover.new.disk (records_of bytes) []
-            (c.recover.ensures.since_syncs bytes told),
-      );
-    }
+    none_added (disk_course (g.D.Disk.told c.args.disk.now) (g.D.Disk.told c.recover.new.disk)) _ c.recover.ensures.any_moment c.recover.ensures.since_syncs
+    c.recover.ensures.course
 
 pub plan_day-requires-clause-few : goal.plan_day-requires-clause-few
 plan_day-requires-clause-few g c =
@@ -113,84 +92,52 @@ add_new-requires-clause-within g c =
 -- where one isn't added
 pub returns-in_err-add_new-clause-stops : goal.returns-in_err-add_new-clause-stops
 returns-in_err-add_new-clause-stops g c =
-    let D = g.D.Disk in
-    let disk = disk_course D.holds D.moment D.images_since D.synced D.faults c.args.disk.now c.add_new.new.disk in
+    let told = g.D.Disk.told in
     let p = err_from_is_err_and c.from_residual-in_err-add_new.result c.from_residual-in_err-add_new.ensures.1 in
     rw (p.1, p.2)
-    (appends_stop disk c.args.files.now.warehouse.opening (command_count c.args.files.now.scripts) (D.faults c.recover.new.disk) c.in_err-add_new.field-0.0
-    c.recover.ensures.counts c.in_err-add_new.ensures.stops)
+    (appends_stop (told c.args.disk.now) (told c.recover.new.disk) (told c.add_new.new.disk) c.args.files.now.warehouse.opening
+    (command_count c.args.files.now.scripts) c.in_err-add_new.field-0.0 c.recover.ensures.course.faults c.in_err-add_new.ensures.stops)
 
 pub returns-in_err-add_new-clause-kept : goal.returns-in_err-add_new-clause-kept
 returns-in_err-add_new-clause-kept g c =
-    let D = g.D.Disk in
-    let disk = disk_course D.holds D.moment D.images_since D.synced D.faults c.args.disk.now c.add_new.new.disk in
+    let told = g.D.Disk.told in
     let files = c.args.files.now in
-    let opening = files.warehouse.opening in
-    let start = c.in_ok-machine.machine in
-    let history = c.in_ok-day.day.run.machine in
-    let begins = c.in_ok-machine.ensures.replayed in
-    some_added D.holds D.moment D.images_since D.synced D.faults c.args.disk.now c.recover.new.disk c.add_new.new.disk
-    (drop (length c.in_ok-recovered.recovered.bodies) history.entries) (AreNewOf disk opening files.scripts)
-    (λ t at. g.met.D.Disk.no_later_sync c.recover.new.disk t at) (λ t u image le since. g.met.D.Disk.since_earlier _ t u image le since)
-    c.recover.ensures.told c.recover.ensures.since_syncs c.in_ok-recovered.ensures.same c.add_new.ensures.syncs c.add_new.ensures.some (record {
-      start = start;
-      from = from_store disk opening (command_count files.scripts) c.bodies.result.now start
-          (λ bytes told. c.bodies.ensures ∙ c.in_ok-recovered.ensures.records bytes told) begins c.in_ok-machine.ensures.few
-          (λ unfailed bytes told long. not_too_long c.recover.result (c.branch-recovered.ensures ∙ ap result_from_control_flow c.in_ok-recovered.is)
-          (c.recover.ensures.long bytes told long
-          (λ rose. unfailed (rose_later (D.faults c.args.disk.now) (D.faults c.recover.new.disk) (D.faults c.add_new.new.disk) rose c.add_new.ensures.counts))));
-      history = history;
-      answers = c.in_ok-day.ensures.history;
-      new = ap (λ (bodies : List (List ℕ)). drop (length bodies) history.entries) (sym c.bodies.ensures)
-          ∙ new_are_after opening c.bodies.result.now start history begins;
-    })
+    let ok = c.in_ok-recovered.ensures in
+    some_added (told c.args.disk.now) (told c.recover.new.disk) (told c.add_new.new.disk) (drop (length c.in_ok-recovered.recovered.bodies) c.in_ok-day.day.run.machine.entries)
+    (AreNewOf (disk_course (told c.args.disk.now) (told c.add_new.new.disk)) files.warehouse.opening files.scripts) (g.met.D.Disk.is_disk _) (g.met.D.Disk.is_disk _)
+    (is_recovered _ _ c.recover.ensures.any_moment c.recover.ensures.since_syncs c.recover.ensures.course ok.synced ok.same) c.add_new.ensures.course
+    c.add_new.ensures.some
+    (are_new_of _ files.warehouse.opening files.scripts c.in_ok-recovered.recovered.bodies c.bodies.result.now c.in_ok-machine.machine c.in_ok-day.day.run.machine
+    c.bodies.ensures ok.records c.in_ok-machine.ensures.replayed c.in_ok-machine.ensures.few ok.short c.in_ok-day.ensures.history)
 
 -- where all are
 pub returns-clause-kept : goal.returns-clause-kept
 returns-clause-kept g c =
-    let D = g.D.Disk in
-    let disk = disk_course D.holds D.moment D.images_since D.synced D.faults c.args.disk.now c.add_new.new.disk in
+    let told = g.D.Disk.told in
     let files = c.args.files.now in
-    let opening = files.warehouse.opening in
-    let start = c.in_ok-machine.machine in
-    let history = c.in_ok-day.day.run.machine in
-    let begins = c.in_ok-machine.ensures.replayed in
-    some_added D.holds D.moment D.images_since D.synced D.faults c.args.disk.now c.recover.new.disk c.add_new.new.disk
-    (drop (length c.in_ok-recovered.recovered.bodies) history.entries) (AreNewOf disk opening files.scripts)
-    (λ t at. g.met.D.Disk.no_later_sync c.recover.new.disk t at) (λ t u image le since. g.met.D.Disk.since_earlier _ t u image le since)
-    c.recover.ensures.told c.recover.ensures.since_syncs c.in_ok-recovered.ensures.same c.add_new.ensures.syncs c.add_new.ensures.some (record {
-      start = start;
-      from = from_store disk opening (command_count files.scripts) c.bodies.result.now start
-          (λ bytes told. c.bodies.ensures ∙ c.in_ok-recovered.ensures.records bytes told) begins c.in_ok-machine.ensures.few
-          (λ unfailed bytes told long. not_too_long c.recover.result (c.branch-recovered.ensures ∙ ap result_from_control_flow c.in_ok-recovered.is)
-          (c.recover.ensures.long bytes told long
-          (λ rose. unfailed (rose_later (D.faults c.args.disk.now) (D.faults c.recover.new.disk) (D.faults c.add_new.new.disk) rose c.add_new.ensures.counts))));
-      history = history;
-      answers = c.in_ok-day.ensures.history;
-      new = ap (λ (bodies : List (List ℕ)). drop (length bodies) history.entries) (sym c.bodies.ensures)
-          ∙ new_are_after opening c.bodies.result.now start history begins;
-    })
+    let ok = c.in_ok-recovered.ensures in
+    some_added (told c.args.disk.now) (told c.recover.new.disk) (told c.add_new.new.disk) (drop (length c.in_ok-recovered.recovered.bodies) c.in_ok-day.day.run.machine.entries)
+    (AreNewOf (disk_course (told c.args.disk.now) (told c.add_new.new.disk)) files.warehouse.opening files.scripts) (g.met.D.Disk.is_disk _) (g.met.D.Disk.is_disk _)
+    (is_recovered _ _ c.recover.ensures.any_moment c.recover.ensures.since_syncs c.recover.ensures.course ok.synced ok.same) c.add_new.ensures.course
+    c.add_new.ensures.some
+    (are_new_of _ files.warehouse.opening files.scripts c.in_ok-recovered.recovered.bodies c.bodies.result.now c.in_ok-machine.machine c.in_ok-day.day.run.machine
+    c.bodies.ensures ok.records c.in_ok-machine.ensures.replayed c.in_ok-machine.ensures.few ok.short c.in_ok-day.ensures.history)
 
 pub returns-clause-day : goal.returns-clause-day
 returns-clause-day g c = λ store uses.
-    let D = g.D.Disk in
-    let disk = disk_course D.holds D.moment D.images_since D.synced D.faults c.args.disk.now c.add_new.new.disk in
+    let told = g.D.Disk.told in
+    let disk = disk_course (told c.args.disk.now) (told c.add_new.new.disk) in
     let files = c.args.files.now in
     let opening = files.warehouse.opening in
-    let start = c.in_ok-machine.machine in
-    let history = c.in_ok-day.day.run.machine in
-    let begins = c.in_ok-machine.ensures.replayed in
-    let new = ap (λ (bodies : List (List ℕ)). drop (length bodies) history.entries) (sym c.bodies.ensures)
-    ∙ new_are_after opening c.bodies.result.now start history begins in
-    stored_over disk store files.warehouse.layout opening c.args.terms.now files.scripts start c.in_ok-day.day uses
-    (from_store disk opening (command_count files.scripts) c.bodies.result.now start
-    (λ bytes told. c.bodies.ensures ∙ c.in_ok-recovered.ensures.records bytes told) begins c.in_ok-machine.ensures.few
-    (λ unfailed bytes told long. not_too_long c.recover.result (c.branch-recovered.ensures ∙ ap result_from_control_flow c.in_ok-recovered.is)
-    (c.recover.ensures.long bytes told long
-    (λ rose. unfailed (rose_later (D.faults c.args.disk.now) (D.faults c.recover.new.disk) (D.faults c.add_new.new.disk) rose c.add_new.ensures.counts)))))
+    let ok = c.in_ok-recovered.ensures in
+    stored_over disk store files.warehouse.layout opening c.args.terms.now files.scripts c.in_ok-machine.machine c.in_ok-day.day uses
+    (from_recovered disk opening (command_count files.scripts) c.in_ok-recovered.recovered.bodies c.bodies.result.now c.in_ok-machine.machine c.bodies.ensures
+    ok.records c.in_ok-machine.ensures.replayed c.in_ok-machine.ensures.few ok.short)
     c.in_ok-day.ensures.history c.in_ok-day.ensures.told c.in_ok-day.ensures.dealt
-    (subst (λ (entries : List Entry). AreKept disk entries (length entries)) new
-    (all_added D.holds D.moment D.images_since D.synced D.faults c.args.disk.now c.recover.new.disk c.add_new.new.disk
-    (drop (length c.in_ok-recovered.recovered.bodies) history.entries)
-    (λ t at. g.met.D.Disk.no_later_sync c.recover.new.disk t at) (λ t u image le since. g.met.D.Disk.since_earlier _ t u image le since)
-    c.recover.ensures.told c.recover.ensures.since_syncs c.in_ok-recovered.ensures.same c.add_new.ensures.syncs c.in_ok-add_new.ensures.all))
+    (subst (AreAllKept disk)
+    (after_recovered opening c.in_ok-recovered.recovered.bodies c.bodies.result.now c.in_ok-machine.machine c.in_ok-day.day.run.machine c.bodies.ensures
+    c.in_ok-machine.ensures.replayed)
+    (all_added (told c.args.disk.now) (told c.recover.new.disk) (told c.add_new.new.disk) (drop (length c.in_ok-recovered.recovered.bodies) c.in_ok-day.day.run.machine.entries)
+    (g.met.D.Disk.is_disk _) (g.met.D.Disk.is_disk _)
+    (is_recovered _ _ c.recover.ensures.any_moment c.recover.ensures.since_syncs c.recover.ensures.course ok.synced ok.same) c.add_new.ensures.course
+    c.in_ok-add_new.ensures.all (c.in_ok-add_new.ensures.sound (λ failed. cc failed) ∙ ok.sound (λ failed. cc failed))))
