@@ -13,6 +13,15 @@ no_pairs wave capacity = record { orders = length wave.orders; capacity = capaci
 abbrev pub batch_at : List (List ℕ) → ℕ → List ℕ
 batch_at batches place = slice_index_or batches place []
 
+-- a place at which the batch has an order
+pub record IsPlaceOf (batches : List (List ℕ)) (order place : ℕ) : Type 0 where
+  pub within : place < length batches
+  pub has : Contains (batch_at batches place) order
+
+-- no batch has an order
+abbrev pub IsNowhere : List (List ℕ) → ℕ → Type 0
+IsNowhere batches order = (place : ℕ) → place < length batches → Contains (batch_at batches place) order → ⊥
+
 -- batches that are permitted where there is no pair, such that each order of the wave is in one of them and in no other
 pub record IsBatching (wave : WavePicks) (capacity : ℕ) (batches : List (List ℕ)) : Type 0 where
   pub each : (place : ℕ) → place < length batches → IsPermitted (no_pairs wave capacity) (batch_at batches place)

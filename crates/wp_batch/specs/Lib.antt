@@ -10,3 +10,4 @@ pub mod Duals
 pub mod Visits
 pub mod Reaches
 pub mod Walks
+pub mod Changes

@@ -1,4 +1,4 @@
-ghost use Rattle.std.specs.Prelude.{◌<◌};
+ghost use Rattle.std.specs.Prelude.{◌≡◌, ◌+◌, ◌*◌, ◌%◌, ◌^◌, ◌<◌};
 
 /// Numbers drawn one after the other by the linear congruential generator of 64 bits with the factor and the increment of
 /// MMIX (Knuth, 1981). They follow from the first state alone.
@@ -9,14 +9,17 @@ pub struct Draws {
 
 impl Draws {
     /// The draws from a state on.
-    pub fn from_state(state: u64) -> Draws {
+    pub fn from_state(state: u64) -> Draws
+        ensures { result.state ≡ state }
+    {
         Draws { state }
     }
 
     /// The next number below this one.
     pub fn below(&mut self, end: u32) -> u32
         requires { 0 < end }
-        ensures { result < end }
+        ensures below { result < end }
+        ensures next { self.new.state ≡ (self.old.state * 6364136223846793005 + 1442695040888963407) % 2 ^ 64 }
     {
         self.state = self
             .state

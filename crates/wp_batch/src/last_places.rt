@@ -1,4 +1,5 @@
-ghost use Rattle.std.specs.Prelude.{◌<◌, IfSome, length};
+ghost use Rattle.std.specs.Prelude.{◌≡◌, IfNone, IfSome, replicate};
+ghost use Rattle.wp_batch.specs.Batchings.{IsNowhere, IsPlaceOf};
 
 use wp_pairs::Batch;
 
@@ -10,10 +11,11 @@ pub struct LastPlaces {
 
 // The place of the batch with an order.
 fn place_with(batches: &[Batch], order: u32) -> Option<usize>
-    ensures { IfSome result (λ place. place < length batches.now) }
+    ensures there { IfSome result (IsPlaceOf batches.now order) }
+    ensures none { IfNone result (IsNowhere batches.now order) }
 {
-    for (place, batch) in batches.iter().enumerate() {
-        if batch.has(order) {
+    for place in 0..batches.len() {
+        if batches[place].has(order) {
             return Some(place);
         }
     }
@@ -22,13 +24,15 @@ fn place_with(batches: &[Batch], order: u32) -> Option<usize>
 
 impl LastPlaces {
     /// Where no order was looked for yet: each is looked for at the first place.
-    pub fn none() -> LastPlaces {
+    pub fn none() -> LastPlaces
+        ensures { result.places ≡ replicate 64 0 }
+    {
         LastPlaces { places: [0; 64] }
     }
 
     // The last place of an order, where the batch there has it still.
     fn last_place(&self, batches: &[Batch], order: u32) -> Option<usize>
-        ensures { IfSome result (λ place. place < length batches.now) }
+        ensures { IfSome result (IsPlaceOf batches.now order) }
     {
         let place = *self.places.get(order as usize)?;
         if place < batches.len() && batches[place].has(order) {
@@ -39,7 +43,8 @@ impl LastPlaces {
 
     /// The place of the batch with an order, if there is one: where the order was last, or else the first.
     pub fn place_with(&mut self, batches: &[Batch], order: u32) -> Option<usize>
-        ensures { IfSome result (λ place. place < length batches.now) }
+        ensures there { IfSome result (IsPlaceOf batches.now order) }
+        ensures none { IfNone result (IsNowhere batches.now order) }
     {
         if let Some(place) = self.last_place(batches, order) {
             return Some(place);

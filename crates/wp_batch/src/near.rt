@@ -1,4 +1,4 @@
-ghost use Rattle.std.specs.Prelude.{◌<◌};
+ghost use Rattle.std.specs.Prelude.{◌≡◌, ◌<◌, ◌-◌, min};
 
 use crate::moves::least_and_rest;
 use crate::seen::SeenLengths;
@@ -78,6 +78,7 @@ fn left_over(seen: &mut SeenLengths<'_>, more: u64, added: u64, second: u32) -> 
 }
 
 impl Nearness {
+    // What is told of nearness decides which moves are tried, and no promise rests on it.
     /// What the orders of a wave of so many have to do with each other.
     pub fn of(alloc: Global, seen: &mut SeenLengths<'_>, orders: u32) -> Result<Nearness, Memory> {
         let mean = mean_of(seen, orders);
@@ -126,21 +127,27 @@ impl Nearness {
     }
 
     /// The mean length of the tours past single orders.
-    pub fn mean(&self) -> u64 {
+    pub fn mean(&self) -> u64
+        ensures { result ≡ self.now.mean }
+    {
         self.mean
     }
 
     /// How many orders lie near each.
-    pub fn count(&self) -> u32 {
+    pub fn count(&self) -> u32
+        ensures { result ≡ min (self.now.orders - 1) 24 }
+    {
         self.orders.saturating_sub(1).min(MOST_NEAR)
     }
 
+    // It says which moves are tried, and no promise rests on it.
     /// One of the orders that lie near an order.
     pub fn near(&self, order: u32, choice: u32) -> Option<u32> {
         let place = u64::from(order) * u64::from(self.count()) + u64::from(choice);
         Some(*self.near.get(place as usize)?)
     }
 
+    // No promise rests on it: it only keeps lengths from being asked for.
     /// What an order adds to a batch, as far as single orders tell: the least that it adds to one of them.
     pub fn added(&self, batch: Batch, order: u32) -> u64 {
         let mut least = u64::MAX;

@@ -1,4 +1,5 @@
-ghost use Rattle.std.specs.Prelude.{◌<◌, ◌≤◌, IsTrue, All};
+ghost use Rattle.std.specs.Prelude.{◌<◌, ◌≤◌, ◌↔◌, IsTrue, All, length};
+ghost use Rattle.wp_batch.specs.Lengths.{IsLengthOf};
 
 use crate::lengths::Length;
 use crate::places::Places;
@@ -26,7 +27,7 @@ pub struct SeenLengths<'a> {
 // Whether all orders of a batch are below a number.
 fn is_below(orders: u32, batch: Batch) -> bool
     requires { orders ≤ 64 }
-    ensures { IsTrue result → All (λ order. order < orders) batch }
+    ensures { IsTrue result ↔ All (λ order. order < orders) batch }
 {
     let mut rest = batch;
     for order in 0..orders {
@@ -38,8 +39,10 @@ fn is_below(orders: u32, batch: Batch) -> bool
     true
 }
 
-/// The length of a batch whose orders are of the wave.
-pub fn length_within(wave: &Wave, batch: Batch) -> u64 {
+/// The length of a batch whose orders are of the wave. Of another batch nothing is promised.
+pub fn length_within(wave: &Wave, batch: Batch) -> u64
+    ensures { All (λ order. order < length wave.now.orders) batch → IsLengthOf wave.now batch result }
+{
     if is_below(wave.orders(), batch) {
         wave.batch_length(batch)
     } else {
@@ -48,6 +51,7 @@ pub fn length_within(wave: &Wave, batch: Batch) -> u64 {
 }
 
 impl<'a> SeenLengths<'a> {
+    // What the table tells decides which moves are tried, and no promise rests on it.
     /// The lengths of a wave's batches of at most so many orders, of which none was asked for.
     pub fn of(alloc: Global, wave: &'a Wave, capacity: u32) -> Result<SeenLengths<'a>, Memory> {
         let places = Places::of(wave.orders(), capacity);
@@ -75,6 +79,7 @@ impl<'a> SeenLengths<'a> {
         place.checked_rem(count).unwrap_or(0) as usize
     }
 
+    // No promise rests on it: what a move saves is measured where it is kept.
     /// The length of a batch.
     pub fn length_of(&mut self, batch: Batch) -> u64 {
         let entry = self.entry_of(batch);
@@ -93,6 +98,7 @@ impl<'a> SeenLengths<'a> {
         length
     }
 
+    // No promise rests on it: the cost of a batching is added up again where it is told.
     /// The sum of the lengths of batches.
     pub fn sum_of(&mut self, batches: &[Batch]) -> u64 {
         let mut sum: u64 = 0;
