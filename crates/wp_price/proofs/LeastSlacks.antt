@@ -50,3 +50,8 @@ feasible_of_least task batch slack least low = λ other total permitted is. by_s
     by_slack task other total slack is least low =
         let more = least (pos (60 * total) +ℤ neg_ℤ (pos (duals_of task.duals other))) (record { total = total; long = is; is = omega (arith, ints) }) in
         omega (arith, ints, more, low)
+
+-- under feasible duals no permitted batch has a slack below 0
+pub not_below_of_feasible : (task : Task) (batch : List ℕ) (slack : ℤ) → AreFeasible task.wave task.pairing task.duals → IsPermitted task.pairing batch
+    → IsSlack task.wave task.duals batch slack → pos 0 ≤ℤ slack
+not_below_of_feasible task batch slack feasible permitted is = omega (arith, ints, feasible batch is.total permitted is.long, is.is)

@@ -68,8 +68,9 @@ fn price<R: Threads + Sync, G: Gate>(
 /// the slack isn't below 0 the duals are feasible, and their short marks come with it.
 ///
 /// Up to so many workers, 1 to 16, search the subtrees of the first items. No more take part than there are batches for; but where no
-/// order is given and there are two workers and two first items, at least two search beside each other. A worker passes the gate
-/// by its own number, 1 at first, before it searches the subtree of a first item. The answer doesn't depend on the workers.
+/// order is given and there are two workers and two first items, at least two search beside each other. Where an order is given,
+/// one worker may search alone: to begin a thread for few batches takes longer than to search them. A worker passes the gate by its
+/// own number, 1 at first, before it searches the subtree of a first item. The answer doesn't depend on the workers.
 pub fn least_slack_by<R: Threads + Sync, G: Gate>(
     workers: &Workers<'_, R, G>,
     given: &DualWave<'_>,
@@ -94,7 +95,7 @@ pub fn are_feasible<R: Threads + Sync, G: Gate>(
     workers: &Workers<'_, R, G>,
     given: &DualWave<'_>,
 ) -> Result<bool, Memory>
-    ensures { IfOk result (λ feasible. IsTrue feasible → AreFeasible given.now.wave.now given.now.pairs.now given.now.duals.now) }
+    ensures { IfOk result (λ feasible. IsTrue feasible ↔ AreFeasible given.now.wave.now given.now.pairs.now given.now.duals.now) }
 {
     let search = SlackSearch::of(workers.alloc, given)?;
     match search.best(workers, None)? {

@@ -137,6 +137,7 @@ impl SlackSearch<'_> {
         requires place { IsAt self.now place.now }
         ensures some { 0 < result }
         ensures most { result ≤ 16 }
+        ensures two { place.now.size ≡ 0 → 2 ≤ workers → 2 ≤ length firsts → 2 ≤ result }
     {
         let batches = batches_of(firsts.len(), self.room_at(place));
         let least = if place.size == 0 { 2 } else { 1 };
