@@ -1,7 +1,7 @@
 pub mod Costs
 pub mod BoundsHold
 pub mod MarkSteps
-pub mod Nodes
+pub mod TreeNodes
 pub mod TreeSteps
 pub mod PathSteps
 pub mod Ways
@@ -18,6 +18,8 @@ mod TextReadBack
 mod TextSame
 mod TextShown
 mod TextTold
+mod TextReadable
+mod TextShows
 pub mod OneOutcome
 pub mod OneVerdict
 mod OrdersBelow

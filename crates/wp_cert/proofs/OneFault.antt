@@ -109,7 +109,7 @@ module _ (wave : WavePicks) where
       absurd (right_not_broken wave (with_pair pairing first second true) (sum own.duals) nodes between others bound other passed more_too)
   one_broken pairing above _ left others one other (apart {first} {second} {own} {nodes} {between} {bound} right parts passed more)
       (apart {between = middle} {bound = found} right_too parts_too passed_too more_too) =
-      let same = right_agree wave (with_pair pairing first second true) (sum own.duals) nodes between middle bound found passed passed_too in
+      let same = right_agree wave wave (with_pair pairing first second true) (sum own.duals) nodes between middle bound found passed passed_too in
       one_broken (with_pair pairing first second false) (sum own.duals) between left others one other more
       (subst (λ (ns : List Node). IsBroken wave (with_pair pairing first second false) (sum own.duals) ns others other) (sym same.nodes) more_too)
 
@@ -142,6 +142,6 @@ one_fault = λ wave capacity nodes one other first second. once wave capacity no
     once wave capacity nodes one other (nodes_left {shares} {left} {bound} are right some here is)
         (nodes_left {shares = sums} {left = others} {bound = found} are_too right_too some_too there is_too) =
         let pairing = no_pairs wave capacity in
-        let both = right_agree wave pairing shares nodes left others bound found right
+        let both = right_agree wave wave pairing shares nodes left others bound found right
         (subst (λ (s : ℕ). IsRight wave pairing s nodes others found) (same_shares wave capacity sums shares are_too are) right_too) in
         same_fault wave nodes left others one other both.nodes (is ∙ sym is_too) here there

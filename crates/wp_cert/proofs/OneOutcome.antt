@@ -153,21 +153,21 @@ own_not_broken wave pairing above own _ right (low all under) = omega (arith, ri
 own_not_broken wave pairing above own fault right (marks all raised refused) = marks_not_refused wave pairing own fault right.marked refused
 own_not_broken wave pairing above own _ right (not_tight {order} all raised passed slack) = slack.slack (right.shown order slack.known)
 
--- two right trees at one place of the nodes end at one place, with one bound
+-- two right trees at one place of the nodes, whether for one wave or for two, end at one place, with one bound
 pub record Agree (rest others : List Node) (bound other : Option ℕ) : Type 0 where
   pub nodes : rest ≡ others
   pub bounds : bound ≡ other
 
-pub right_agree : (wave : WavePicks) (pairing : Pairing) (above : ℕ) (nodes rest others : List Node) (bound other : Option ℕ)
-    → IsRight wave pairing above nodes rest bound → IsRight wave pairing above nodes others other → Agree rest others bound other
-right_agree wave pairing above _ _ _ _ _ kept kept = record { nodes = refl; bounds = refl }
-right_agree wave pairing above _ _ _ _ _ (leaf own) (leaf own_too) = record { nodes = refl; bounds = refl }
-right_agree wave pairing above _ _ _ _ _ (dead is) (dead is_too) = record { nodes = refl; bounds = refl }
-right_agree wave pairing above _ rest others _ _ (split {first} {second} {own} {nodes} {between} {left} {right} own_right parts l r)
+pub right_agree : (wave other : WavePicks) (pairing : Pairing) (above : ℕ) (nodes rest others : List Node) (bound found : Option ℕ)
+    → IsRight wave pairing above nodes rest bound → IsRight other pairing above nodes others found → Agree rest others bound found
+right_agree wave other pairing above _ _ _ _ _ kept kept = record { nodes = refl; bounds = refl }
+right_agree wave other pairing above _ _ _ _ _ (leaf own) (leaf own_too) = record { nodes = refl; bounds = refl }
+right_agree wave other pairing above _ _ _ _ _ (dead is) (dead is_too) = record { nodes = refl; bounds = refl }
+right_agree wave other pairing above _ rest others _ _ (split {first} {second} {own} {nodes} {between} {left} {right} own_right parts l r)
     (split {between = middle} {left = left_too} {right = right_too} own_too parts_too l_too r_too) =
-    let one = right_agree wave (with_pair pairing first second true) (sum own.duals) nodes between middle left left_too l l_too in
-    let two = right_agree wave (with_pair pairing first second false) (sum own.duals) between rest others right right_too r
-    (subst (λ (ns : List Node). IsRight wave (with_pair pairing first second false) (sum own.duals) ns others right_too) (sym one.nodes) r_too) in record {
+    let one = right_agree wave other (with_pair pairing first second true) (sum own.duals) nodes between middle left left_too l l_too in
+    let two = right_agree wave other (with_pair pairing first second false) (sum own.duals) between rest others right right_too r
+    (subst (λ (ns : List Node). IsRight other (with_pair pairing first second false) (sum own.duals) ns others right_too) (sym one.nodes) r_too) in record {
       nodes = two.nodes;
       bounds = ap (λ (b : Option ℕ). lower_of b right) one.bounds ∙ ap (λ (b : Option ℕ). lower_of left_too b) two.bounds;
     }
@@ -185,7 +185,7 @@ right_not_broken wave pairing above _ rest left _ fault (split {first} {second} 
     right_not_broken wave (with_pair pairing first second true) (sum own.duals) nodes between left bound fault l broken
 right_not_broken wave pairing above _ rest left _ fault (split {first} {second} {own} {nodes} {between} {left = bound} {right = other} right parts l r)
     (apart {between = middle} {bound = bound_too} right_too parts_too l_too broken) =
-    let one = right_agree wave (with_pair pairing first second true) (sum own.duals) nodes between middle bound bound_too l l_too in
+    let one = right_agree wave wave (with_pair pairing first second true) (sum own.duals) nodes between middle bound bound_too l l_too in
     right_not_broken wave (with_pair pairing first second false) (sum own.duals) between rest left other fault r
     (subst (λ (ns : List Node). IsBroken wave (with_pair pairing first second false) (sum own.duals) ns left fault) (sym one.nodes) broken)
 
@@ -208,7 +208,7 @@ whole_not_broken wave capacity nodes bound fault right (in_tree {shares} {left} 
     (same_shares wave capacity right.0 shares right.1 are) right.2)
     broken
 whole_not_broken wave capacity nodes bound fault right (nodes_left {shares} {left} {bound = other} are also some numbered because) =
-    let same = right_agree wave (no_pairs wave capacity) shares nodes [] left (Some bound) other
+    let same = right_agree wave wave (no_pairs wave capacity) shares nodes [] left (Some bound) other
     (subst (λ (s : ℕ). IsRight wave (no_pairs wave capacity) s nodes [] (Some bound))
     (same_shares wave capacity right.0 shares right.1 are) right.2)
     also in
@@ -219,7 +219,7 @@ number_of : Option ℕ → ℕ
 number_of None = 0
 number_of (Some bound) = bound
 
-same_number : (one other : ℕ) → Some one ≡ Some other → one ≡ other
+pub same_number : (one other : ℕ) → Some one ≡ Some other → one ≡ other
 unfolding number_of
 same_number one other e = ap number_of e
 
@@ -227,7 +227,7 @@ same_number one other e = ap number_of e
 pub whole_agree : (wave : WavePicks) (capacity : ℕ) (nodes : List Node) (one other : ℕ) → IsBoundOf wave capacity nodes one
     → IsBoundOf wave capacity nodes other → one ≡ other
 whole_agree wave capacity nodes one other first second =
-    let same = right_agree wave (no_pairs wave capacity) second.0 nodes [] [] (Some one) (Some other)
+    let same = right_agree wave wave (no_pairs wave capacity) second.0 nodes [] [] (Some one) (Some other)
     (subst (λ (s : ℕ). IsRight wave (no_pairs wave capacity) s nodes [] (Some one))
     (same_shares wave capacity first.0 second.0 first.1 second.1)
     first.2) second.2 in

@@ -1,5 +1,5 @@
 -- A tree isn't both right and refused: also not where it is right for one wave and refused for another that picks at the same slots.
-use Rattle.std.proofs.Common.{◌≡◌, ◌∙◌, refl, sym, ap, ap₂, subst, ℕ, zero, suc, ◌+◌, ◌*◌, ◌/◌, ◌<◌, ◌≤◌, ◌⊎◌, inl, inr, Bool, true, false, List, [], ◌∷◌}
+use Rattle.std.proofs.Common.{◌≡◌, ◌∙◌, refl, sym, ap, ap₂, subst, ℕ, suc, ◌+◌, ◌*◌, ◌/◌, ◌<◌, ◌≤◌, ◌⊎◌, inl, inr, Bool, true, false, List, [], ◌∷◌}
 use Rattle.std.proofs.Common.{length, arith, Contains, Option, Some, Result, Ok, Err}
 use Rattle.std.specs.Prelude.{slice_index, slice_index_or, sum}
 use Rattle.wp_model.specs.declared.point.Point.{Point}
@@ -11,10 +11,9 @@ use Rattle.wp_pairs.specs.Carts.{LoadedCart}
 use Rattle.wp_pairs.specs.Permitted.{IsPermitted, Pairing}
 use Rattle.wp_batch.specs.Batchings.{no_pairs}
 use Rattle.wp_batch.specs.Lengths.{IsLengthOf, batch_picks}
-use Rattle.wp_batch.specs.Waves.{WavePicks, picks_of}
+use Rattle.wp_batch.specs.Waves.{HaveSamePicks, WavePicks, picks_of}
 use Rattle.wp_batch.proofs.Unions.{nothing_in, same_shortest}
 use Rattle.wp_cert.specs.declared.text.form.Form.{Form}
-use Rattle.wp_cert.specs.declared.text.form.WrittenSlot.{WrittenSlot}
 use Rattle.wp_cert.specs.declared.tree.CertFault.{CertFault}
 use Rattle.wp_cert.specs.declared.tree.CertWhy.{CertWhy}
 use Rattle.wp_cert.specs.declared.tree.CertWhy.TheVariants as why
@@ -24,13 +23,17 @@ use Rattle.wp_batch.specs.Duals.{IsShare, IsSumOfShares, IsTightFor, duals_of}
 use Rattle.wp_cert.specs.Refusals.{AreRefused, IsBroken, IsBrokenOwn, IsFirstBroken, apart, bad_pair, in_tree, nodes_left}
 use Rattle.wp_cert.specs.Refusals.{low as sum_low, marks as marks_refused}
 use Rattle.wp_cert.specs.Refusals.{not_all, not_dead, not_tight, own_leaf, own_split, together}
-use Rattle.wp_cert.specs.Text.{PickAt, Tells, certificate_said}
+use Rattle.wp_cert.specs.Text.{IsSame, Tells, certificate_said}
+use Rattle.wp_cert.specs.Bounds.{TellsBound}
 use Rattle.wp_cert.specs.Trees.{IsBoundOf, IsRight, IsRightOwn, dead, kept, leaf, split, with_pair}
 use Rattle.wp_batch.specs.Visits.{AddsItem, Children, Due, IsItem, IsReach, IsVisit, IsVisitOfAll, IsWithin, Passed, Place as PlaceDue, TooMuch, Visit, Wrong}
 use Rattle.wp_batch.specs.Visits.{all_added, entered, missing, no_item, not_permitted, onward, pruned, refused_batch, refused_mark, too_much, unsound}
 use Rattle.wp_batch.proofs.FewerOrders.{same_length}
 use Rattle.wp_cert.proofs.TextBatches.{same_ascending}
+use Rattle.wp_cert.proofs.OneOutcome.{right_agree, same_number}
 use Rattle.wp_cert.proofs.TextSame.{told_once}
+use Rattle.std.proofs.lemmas.Bool.{cases_lt}
+use Rattle.std.proofs.lemmas.List.{get_or_past}
 
 -- each batch has in the other wave the length that it has in the one
 abbrev pub HaveSameLengths : WavePicks → WavePicks → Type 0
@@ -245,18 +248,6 @@ module _ (wave other : WavePicks) (same : HaveSameLengths wave other) where
   own_right pairing above own _ right (not_tight {order} all raised passed first) =
       first.slack (tight_too pairing own.duals order (slice_index_or own.tight order []) (right.shown order first.known))
 
-  -- one list of nodes follows a right tree
-  one_rest : (pairing : Pairing) (above : ℕ) (nodes rest more : List Node) (bound found : Option ℕ) → IsRight wave pairing above nodes rest bound
-      → IsRight other pairing above nodes more found → rest ≡ more
-  one_rest pairing above _ _ _ _ _ kept kept = refl
-  one_rest pairing above _ _ _ _ _ (leaf own) (leaf also) = refl
-  one_rest pairing above _ _ _ _ _ (dead is) (dead also) = refl
-  one_rest pairing above _ rest more _ _ (split {first} {second} {own} {nodes} {between} {left} {right} own_is parts l r)
-      (split {between = middle} {left = one} {right = two} own_also too a b) =
-      one_rest (with_pair pairing first second false) (sum own.duals) between rest more right two r
-      (subst (λ (ns : List Node). IsRight other (with_pair pairing first second false) (sum own.duals) ns more two)
-      (sym (one_rest (with_pair pairing first second true) (sum own.duals) nodes between middle left one l a)) b)
-
   -- a right tree breaks no rule
   none_broken : (pairing : Pairing) (above : ℕ) (nodes rest left : List Node) (bound : Option ℕ) (fault : CertWhy)
       → IsRight wave pairing above nodes rest bound → IsBroken other pairing above nodes left fault → ⊥
@@ -271,7 +262,7 @@ module _ (wave other : WavePicks) (same : HaveSameLengths wave other) where
       (apart {between = middle} {bound} also too passed broken) =
       none_broken (with_pair pairing first second false) (sum own.duals) between rest left two fault r
       (subst (λ (ns : List Node). IsBroken other (with_pair pairing first second false) (sum own.duals) ns left fault)
-      (sym (one_rest (with_pair pairing first second true) (sum own.duals) nodes between middle one bound l passed)) broken)
+      (sym (right_agree wave other (with_pair pairing first second true) (sum own.duals) nodes between middle one bound l passed).nodes) broken)
 
   -- an order has one share
   one_share : (capacity order one two : ℕ) → IsShare wave capacity order one → IsShare other capacity order two → one ≡ two
@@ -307,6 +298,14 @@ same_pairs : (wave other : WavePicks) (capacity : ℕ) → length wave.orders �
 same_pairs wave other capacity count cart =
     ap₂ (λ (n : ℕ) (c : Option LoadedCart). pairs_with n capacity c) count cart
 
+-- a right tree of the other wave, with the pairs and the shares of the one
+right_for : (wave other : WavePicks) (capacity one two : ℕ) (nodes rest : List Node) (found : Option ℕ) → length wave.orders ≡ length other.orders
+    → wave.cart ≡ other.cart → one ≡ two → IsRight other (no_pairs other capacity) two nodes rest found
+    → IsRight other (no_pairs wave capacity) one nodes rest found
+right_for wave other capacity one two nodes rest found count cart sums right =
+    subst (λ (p : Pairing). IsRight other p one nodes rest found) (sym (same_pairs wave other capacity count cart))
+    (subst (λ (s : ℕ). IsRight other (no_pairs other capacity) s nodes rest found) (sym sums) right)
+
 -- a tree that has a bound for the one wave is not refused for the other
 pub bound_not_broken : (wave other : WavePicks) → HaveSameLengths wave other → length wave.orders ≡ length other.orders → wave.cart ≡ other.cart
     → (capacity : ℕ) (nodes : List Node) (bound : ℕ) (fault : CertFault) → IsBoundOf wave capacity nodes bound → IsFirstBroken other capacity nodes fault → ⊥
@@ -317,21 +316,29 @@ bound_not_broken wave other same count cart capacity nodes bound fault right (in
     (subst (λ (s : ℕ). IsBroken other (no_pairs other capacity) s nodes left fault.why) (sym sums) broken))
 bound_not_broken wave other same count cart capacity nodes bound fault right (nodes_left {shares} {left} {bound = found} are also some place is) =
     let sums = one_sum wave other same capacity right.0 shares count right.1 are in
-    let none = one_rest wave other same (no_pairs wave capacity) right.0 nodes [] left (Some bound) found right.2
-    (subst (λ (p : Pairing). IsRight other p right.0 nodes left found) (sym (same_pairs wave other capacity count cart))
-    (subst (λ (s : ℕ). IsRight other (no_pairs other capacity) s nodes left found) (sym sums) also)) in
-    omega (arith, ap (λ (ns : List Node). length ns) none, some)
+    let ends = right_agree wave other (no_pairs wave capacity) right.0 nodes [] left (Some bound) found right.2
+    (right_for wave other capacity right.0 shares nodes left found count cart sums also) in
+    omega (arith, ap (λ (ns : List Node). length ns) ends.nodes, some)
 
--- orders that pick at the same places: what an order picks in the one list it picks in the other
-picks_too : (left right : List PickSet) (places : List (List WrittenSlot)) (here there : Layout) → PickAt left places → PickAt right places → (order : ℕ) (p : Point)
+-- a tree has one bound, for the one wave and for the other
+one_bound : (wave other : WavePicks) → HaveSameLengths wave other → length wave.orders ≡ length other.orders → wave.cart ≡ other.cart
+    → (capacity : ℕ) (nodes : List Node) (bound found : ℕ) → IsBoundOf wave capacity nodes bound → IsBoundOf other capacity nodes found → bound ≡ found
+one_bound wave other same count cart capacity nodes bound found right also =
+    let sums = one_sum wave other same capacity right.0 also.0 count right.1 also.1 in
+    same_number bound found (right_agree wave other (no_pairs wave capacity) right.0 nodes [] [] (Some bound) (Some found) right.2
+    (right_for wave other capacity right.0 also.0 nodes [] (Some found) count cart sums also.2)).bounds
+
+-- orders that pick at the same slots: what an order picks in the one list it picks in the other
+picks_too : (left right : List PickSet) (here there : Layout) → HaveSamePicks left right → here ≡ there → (order : ℕ) (p : Point)
     → Contains (slice_index_or left order (record { layout = here; points = [] })).points p
     → Contains (slice_index_or right order (record { layout = there; points = [] })).points p
-picks_too [] right places here there one other order p has = absurd (nothing_in [] p refl has)
-picks_too (x ∷ xs) [] [] here there one other order p has = absurd one
-picks_too (x ∷ xs) [] (z ∷ zs) here there one other order p has = absurd other
-picks_too (x ∷ xs) (y ∷ ys) [] here there one other order p has = absurd one
-picks_too (x ∷ xs) (y ∷ ys) (z ∷ zs) here there one other zero p has = (other.0 p).1 ((one.0 p).0 has)
-picks_too (x ∷ xs) (y ∷ ys) (z ∷ zs) here there one other (suc order) p has = picks_too xs ys zs here there one.1 other.1 order p has
+picks_too left right here there same layout order p has = elim (cases_lt order (length left)) [
+  | inl within ↦
+      subst (λ (l : Layout). Contains (slice_index_or right order (record { layout = l; points = [] })).points p) layout
+      ((same.each order (record { layout = here; points = [] }) within p).0 has)
+  | inr past ↦
+      absurd (nothing_in _ p (ap (λ (s : PickSet). s.points) (get_or_past left order (record { layout = here; points = [] }) past)) has)
+]
 
 -- what a batch picks in the one wave it picks in the other
 batch_too : (wave other : WavePicks) (batch : List ℕ) → ((order : ℕ) (p : Point) → Contains (picks_of wave order) p → Contains (picks_of other order) p)
@@ -340,9 +347,6 @@ batch_too wave other batch picks p has =
     let source = flat_map_source (picks_of wave) batch p (among_from_Contains _ p has) in
     Contains-from_among _ p (among-flat_map (picks_of other) batch source.0 p source.1
     (among_from_Contains (picks_of other source.0) p (picks source.0 p (Contains-from_among (picks_of wave source.0) p source.2))))
-
-one_form : (one other : Form) (said : Result Form CertWhy) → said ≡ Ok one → said ≡ Ok other → one ≡ other
-one_form one other said is also = cc (sym is ∙ also)
 
 told_or_refused : (form : Form) (why : CertWhy) (said : Result Form CertWhy) → said ≡ Ok form → said ≡ Err why → ⊥
 told_or_refused form why said told refused = let same : ◌≡◌ {A = Result Form CertWhy} (Ok form) (Err why) = sym told ∙ refused in cc same
@@ -353,18 +357,36 @@ pub told_not_refused : (layout : Layout) (bytes : List ℕ) (wave : WavePicks) (
 told_not_refused layout bytes wave capacity nodes why told refused =
     told_or_refused told.form why (certificate_said layout bytes) told.said refused
 
--- two waves that the same bytes tell have the same lengths
-told_lengths : (layout : Layout) (bytes : List ℕ) (wave other : WavePicks) (capacity further : ℕ) (nodes more : List Node)
-    → Tells layout bytes wave capacity nodes → Tells layout bytes other further more → HaveSameLengths wave other
-told_lengths layout bytes wave other capacity further nodes more one also = λ batch total long.
-    let form = one_form one.form also.form (certificate_said layout bytes) one.said also.said in
-    let there : PickAt other.orders one.form.orders = subst (λ (f : Form). PickAt other.orders f.orders) (sym form) also.orders_pick in
-    subst (λ (l : Layout). IsShortest l (batch_picks other batch) total) (one.layout_is ∙ sym also.layout_is)
+-- the same picks the other way round
+picks_back : (left right : List PickSet) → HaveSamePicks left right → HaveSamePicks right left
+picks_back left right same = record {
+  count = sym same.count;
+  each = λ order d within p. let both = same.each order d (omega (arith, within, same.count)) p in (both.1, both.0);
+}
+
+-- two waves that pick at the same slots have the same lengths
+same_lengths : (wave other : WavePicks) → wave.layout ≡ other.layout → HaveSamePicks wave.orders other.orders → HaveSameLengths wave other
+same_lengths wave other layout picks = λ batch total long.
+    subst (λ (l : Layout). IsShortest l (batch_picks other batch) total) layout
     (same_shortest wave.layout (batch_picks wave batch) (batch_picks other batch) total
     (λ p. (
-      batch_too wave other batch (picks_too wave.orders other.orders one.form.orders wave.layout other.layout one.orders_pick there) p,
-      batch_too other wave batch (picks_too other.orders wave.orders one.form.orders other.layout wave.layout there one.orders_pick) p,
+      batch_too wave other batch (picks_too wave.orders other.orders wave.layout other.layout picks layout) p,
+      batch_too other wave batch (picks_too other.orders wave.orders other.layout wave.layout (picks_back wave.orders other.orders picks) (sym layout)) p,
     )) long)
+
+-- waves that pick at the same slots have one bound
+pub same_bound : (wave other : WavePicks) (capacity further : ℕ) (nodes more : List Node) (bound found : ℕ) → IsSame wave other capacity further nodes more
+    → IsBoundOf wave capacity nodes bound → IsBoundOf other further more found → bound ≡ found
+same_bound wave other capacity further nodes more bound found is right also =
+    one_bound wave other (same_lengths wave other is.layout is.orders) is.orders.count is.cart capacity nodes bound found right
+    (subst (λ (c : ℕ). IsBoundOf other c nodes found) (sym is.capacity_is)
+    (subst (λ (ns : List Node). IsBoundOf other further ns found) (sym is.nodes_are) also))
+
+-- a text tells one bound
+pub one_told : (layout : Layout) (text : List ℕ) (bound found : ℕ) → TellsBound layout text bound → TellsBound layout text found → bound ≡ found
+one_told layout text bound found one also =
+    same_bound one.wave also.wave one.capacity also.capacity one.nodes also.nodes bound found
+    (told_once layout text one.wave also.wave one.capacity also.capacity one.nodes also.nodes one.told also.told) one.right also.right
 
 -- where bytes tell a tree that has a bound, they tell none that breaks a rule
 pub told_right : (layout : Layout) (bytes : List ℕ) (wave other : WavePicks) (capacity further : ℕ) (nodes more : List Node) (bound : ℕ) (fault : CertFault)
@@ -372,6 +394,6 @@ pub told_right : (layout : Layout) (bytes : List ℕ) (wave other : WavePicks) (
     → IsFirstBroken other further more fault → ⊥
 told_right layout bytes wave other capacity further nodes more bound fault one also right broken =
     let is = told_once layout bytes wave other capacity further nodes more one also in
-    bound_not_broken wave other (told_lengths layout bytes wave other capacity further nodes more one also) is.orders.count is.cart capacity nodes bound fault right
+    bound_not_broken wave other (same_lengths wave other is.layout is.orders) is.orders.count is.cart capacity nodes bound fault right
     (subst (λ (c : ℕ). IsFirstBroken other c nodes fault) (sym is.capacity_is)
     (subst (λ (ns : List Node). IsFirstBroken other further ns fault) (sym is.nodes_are) broken))

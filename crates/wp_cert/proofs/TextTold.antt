@@ -38,7 +38,7 @@ same_number m n h = grind arith
 
 -- ---- the slots of an order
 
-listed_slot : (layout : Layout) (points : List Point) (p : Point) → Contains (points_where layout (has_point points)) p → IsSlot layout p
+pub listed_slot : (layout : Layout) (points : List Point) (p : Point) → Contains (points_where layout (has_point points)) p → IsSlot layout p
 listed_slot layout points p has =
     (listed_passes layout (has_point points) p (among_from_Contains (points_where layout (has_point points)) p has)).0
 

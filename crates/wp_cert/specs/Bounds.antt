@@ -1,12 +1,16 @@
 -- What the bound of a right tree says.
-use Rattle.std.specs.Prelude.{◌≡◌, ℕ, ◌<◌, ◌≤◌, List, All, length}
+use Rattle.std.specs.Prelude.{◌≡◌, ℕ, ◌<◌, ◌≤◌, Err, List, All, length}
 use Rattle.std.specs.List.Sorted.{IsStrictlyIncreasing}
+use Rattle.wp_model.specs.Warehouse.{Layout}
 use Rattle.wp_graph.specs.PickSets.{AreSlots}
 use Rattle.wp_batch.specs.Batchings.{IsBatching, IsCost}
-use Rattle.wp_batch.specs.Waves.{WavePicks, picks_of}
+use Rattle.wp_batch.specs.Waves.{IsWave, WavePicks, picks_of}
 use Rattle.wp_cert.specs.declared.tree.Node.{Node}
 use Rattle.wp_cert.specs.declared.tree.CertFault.{CertFault}
+use Rattle.wp_cert.specs.declared.tree.CertWhy.{CertWhy}
 use Rattle.wp_cert.specs.Refusals.{IsFirstBroken}
+use Rattle.wp_cert.specs.Text.{IsSame, Tells, certificate_said}
+use Rattle.wp_cert.specs.TextData.{HaveDualsWithin, HaveSlots, certificate_text, wave_places}
 use Rattle.wp_cert.specs.Trees.{IsBoundOf}
 use Rattle.wp_cert.specs.Visited.{HasEachLength}
 use Rattle.wp_cert.specs.Walks.{ArePutIntoBatches, NoWalksAreShorter}
@@ -55,3 +59,32 @@ TreesBreakOneRuleFirst = (wave : WavePicks) (capacity : ℕ) (nodes : List Node)
 abbrev pub BatchesHaveLengths : Type 0
 BatchesHaveLengths = (wave : WavePicks) → 0 < length wave.orders
     → ((order : ℕ) → order < length wave.orders → AreSlots wave.layout (picks_of wave order)) → HasEachLength wave
+
+-- the text of a certificate tells a wave of the layout, a capacity and a tree that is right, with this bound
+pub record TellsBound (layout : Layout) (text : List ℕ) (bound : ℕ) : Type 0 where
+  pub wave : WavePicks
+  pub capacity : ℕ
+  pub nodes : List Node
+  pub told : Tells layout text wave capacity nodes
+  pub right : IsBoundOf wave capacity nodes bound
+
+-- of two waves that pick at the same slots and have the same cart, capacity and tree, the bounds are the same
+abbrev pub SameWavesHaveOneBound : Type 0
+SameWavesHaveOneBound = (wave other : WavePicks) (capacity further : ℕ) (nodes more : List Node) (bound found : ℕ)
+    → IsSame wave other capacity further nodes more → IsBoundOf wave capacity nodes bound → IsBoundOf other further more found → bound ≡ found
+
+-- a text tells one bound
+abbrev pub TextsTellOneBound : Type 0
+TextsTellOneBound = (layout : Layout) (text : List ℕ) (bound found : ℕ) → TellsBound layout text bound → TellsBound layout text found → bound ≡ found
+
+-- a text that tells a bound is read, and the tree that it tells breaks no rule
+abbrev pub TextsWithABoundAreAccepted : Type 0
+TextsWithABoundAreAccepted = (layout : Layout) (text : List ℕ) (bound : ℕ) → TellsBound layout text bound
+    → ((why : CertWhy) → certificate_said layout text ≡ Err why → ⊥)
+    × ((wave : WavePicks) (capacity : ℕ) (nodes : List Node) (fault : CertFault) → Tells layout text wave capacity nodes → IsFirstBroken wave capacity nodes fault → ⊥)
+
+-- the text that is printed of a wave, a capacity and a right tree tells the tree's bound
+abbrev pub PrintedTextsTellTheBound : Type 0
+PrintedTextsTellTheBound = (wave : WavePicks) (capacity : ℕ) (nodes : List Node) (bound : ℕ) → IsWave wave → HaveSlots wave.layout wave.orders → 1 ≤ capacity
+    → capacity ≤ 8 → HaveDualsWithin nodes → IsBoundOf wave capacity nodes bound
+    → TellsBound wave.layout (certificate_text (wave_places wave) wave.cart capacity nodes) bound

@@ -7,7 +7,8 @@ ghost use Rattle.wp_cert.specs.Trees.{IsBoundOf, IsRight};
 ghost use Rattle.wp_cert.specs.Ways.{IsMet, IsStep, IsWay};
 
 use crate::node::{test_dead, test_leaf, test_split};
-use crate::tree::{CertFault, CertWhy, Node, Nodes, Tree};
+use crate::nodes::Nodes;
+use crate::tree::{CertFault, CertWhy, Node, Tree};
 use crate::way::{Met, NodeStep, Way};
 use std::alloc::Global;
 use wp_batch::{Wave, shares_of};
@@ -17,18 +18,15 @@ use wp_pairs::{Capacity, OrderPair};
 #[derive(Clone, Copy)]
 struct Shown {
     bound: Option<u128>,
-    next: u32,
+    next: u64,
 }
 
 // A fault at a node.
-fn fault_at(at: u32, why: CertWhy) -> CertFault
+fn fault_at(at: u64, why: CertWhy) -> CertFault
     ensures node { result.node ≡ at }
     ensures why { result.why ≡ why }
 {
-    CertFault {
-        node: u64::from(at),
-        why,
-    }
+    CertFault { node: at, why }
 }
 
 // Tests a node, whose subtrees aren't looked at, and tells what it leads to.
@@ -64,7 +62,7 @@ fn check_node(
     capacity: Capacity,
     nodes: &Nodes,
     way: &mut Way,
-    at: u32,
+    at: u64,
 ) -> Result<Met, CertFault>
     requires at { at < length nodes.now }
     requires path { IsPath wave.now capacity.most way.old.path.items }

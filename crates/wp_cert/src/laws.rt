@@ -1,5 +1,6 @@
 ghost use Rattle.wp_cert.specs.Bounds.{BatchesHaveLengths, BoundsHold, CostsAreWalked, RightTreesBreakNoRule, RightTreesHaveOneBound};
-ghost use Rattle.wp_cert.specs.Bounds.{PutBatchesAreBatchings, TreesBreakOneRuleFirst, WalksAreNoShorter};
+ghost use Rattle.wp_cert.specs.Bounds.{PrintedTextsTellTheBound, PutBatchesAreBatchings, SameWavesHaveOneBound, TextsTellOneBound};
+ghost use Rattle.wp_cert.specs.Bounds.{TextsWithABoundAreAccepted, TreesBreakOneRuleFirst, WalksAreNoShorter};
 
 /// A law: no batching of a wave within a capacity costs less than the bound of a right tree.
 pub fn no_batching_costs_less()
@@ -29,4 +30,17 @@ pub fn batches_have_lengths()
 pub fn right_trees_are_told_exactly()
     ensures unbroken { RightTreesBreakNoRule }
     ensures one_bound { RightTreesHaveOneBound }
+{}
+
+/// A law: two waves that pick at the same slots and have the same cart have one bound for the same tree and capacity. So the text of
+/// a certificate tells one bound, whichever wave it is read as, and where it tells one it isn't refused.
+pub fn texts_tell_one_bound()
+    ensures same { SameWavesHaveOneBound }
+    ensures one { TextsTellOneBound }
+    ensures accepted { TextsWithABoundAreAccepted }
+{}
+
+/// A law: the text that is printed of a wave, a capacity and a right tree tells that tree's bound.
+pub fn printed_texts_tell_the_bound()
+    ensures { PrintedTextsTellTheBound }
 {}

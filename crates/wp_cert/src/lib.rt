@@ -7,6 +7,7 @@ mod fault;
 mod laws;
 mod levels;
 mod node;
+mod nodes;
 mod own;
 mod path;
 mod text;
@@ -17,8 +18,10 @@ mod way;
 pub use checking::check;
 pub use laws::{
     batches_have_lengths, no_batching_costs_less, no_walks_are_shorter,
-    right_trees_are_told_exactly, trees_break_one_rule_first,
+    printed_texts_tell_the_bound, right_trees_are_told_exactly, texts_tell_one_bound,
+    trees_break_one_rule_first,
 };
+pub use nodes::Nodes;
 pub use path::pairs_of;
 pub use text::{print_certificate, read_certificate};
-pub use tree::{CertFault, CertWhy, Certificate, Duals, Node, Nodes, Own, Tree};
+pub use tree::{CertFault, CertWhy, Certificate, Duals, Node, Own, Tree};

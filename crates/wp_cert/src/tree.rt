@@ -1,12 +1,10 @@
+use crate::nodes::Nodes;
 use wp_batch::{Batching, Marks, Wave};
 use wp_model::Listing;
 use wp_pairs::Batch;
 
 /// Duals, one for each order of a wave, in sixtieths of a unit of length. Contracts see the list.
 pub type Duals = Listing<u64>;
-
-/// Nodes of a tree, in preorder. Contracts see the list.
-pub type Nodes = Listing<Node>;
 
 /// What a node has of its own: its duals, the marks that tell which permitted batches are visited to test them, and for
 /// each order a permitted batch that holds it and whose duals come to its whole length.

@@ -67,8 +67,8 @@ fn listing<T: Drop>(items: Vec<T>) -> Result<Listing<T>, Unread>
 }
 
 // The parts that the items of a list say.
-pub(crate) fn read_list<T: Part>(alloc: Global, value: &Value) -> Result<Listing<T>, Unread>
-    ensures ok { IfOk result (λ parts. list_said T.said (view value.now) ≡ Some parts) }
+fn read_items<T: Part>(alloc: Global, value: &Value) -> Result<Vec<T>, Unread>
+    ensures ok { IfOk result (λ parts. list_said T.said (view value.now) ≡ Some parts.items) }
     ensures bad { IfErr result (λ fault. fault ≡ unread.BadShape → list_said T.said (view value.now) ≡ None) }
 {
     let items = value.as_array().ok_or(Unread::BadShape)?;
@@ -76,7 +76,15 @@ pub(crate) fn read_list<T: Part>(alloc: Global, value: &Value) -> Result<Listing
     for item in items {
         parts.push(T::read(alloc, item)?)?;
     }
-    listing(parts)
+    Ok(parts)
+}
+
+// The list that a value says, of fewer than 2^32 parts.
+pub(crate) fn read_list<T: Part>(alloc: Global, value: &Value) -> Result<Listing<T>, Unread>
+    ensures ok { IfOk result (λ parts. list_said T.said (view value.now) ≡ Some parts) }
+    ensures bad { IfErr result (λ fault. fault ≡ unread.BadShape → list_said T.said (view value.now) ≡ None) }
+{
+    listing(read_items(alloc, value)?)
 }
 
 // The part that the value at a key says.
@@ -88,7 +96,16 @@ pub(crate) fn read_at<T: Part>(alloc: Global, value: &Value, key: &str) -> Resul
     T::read(alloc, member)
 }
 
-// The list that the value at a key says.
+// The parts that the items of the list at a key say.
+pub(crate) fn items_at<T: Part>(alloc: Global, value: &Value, key: &str) -> Result<Vec<T>, Unread>
+    ensures ok { IfOk result (λ parts. said_at (list_said T.said) key.now (view value.now) ≡ Some parts.items) }
+    ensures bad { IfErr result (λ fault. fault ≡ unread.BadShape → said_at (list_said T.said) key.now (view value.now) ≡ None) }
+{
+    let member = value.get(key).ok_or(Unread::BadShape)?;
+    read_items(alloc, member)
+}
+
+// The list at a key, of fewer than 2^32 parts.
 pub(crate) fn list_at<T: Part>(
     alloc: Global,
     value: &Value,
@@ -97,6 +114,5 @@ pub(crate) fn list_at<T: Part>(
     ensures ok { IfOk result (λ parts. said_at (list_said T.said) key.now (view value.now) ≡ Some parts) }
     ensures bad { IfErr result (λ fault. fault ≡ unread.BadShape → said_at (list_said T.said) key.now (view value.now) ≡ None) }
 {
-    let member = value.get(key).ok_or(Unread::BadShape)?;
-    read_list(alloc, member)
+    listing(items_at(alloc, value, key)?)
 }

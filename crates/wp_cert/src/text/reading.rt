@@ -11,10 +11,10 @@ ghost use Rattle.wp_cert.specs.declared.tree.CertWhy.TheVariants as why;
 
 use crate::text::form::{Form, Unread, WrittenCart};
 use crate::text::node::has_keys;
-use crate::text::part::{list_at, read_at};
+use crate::text::part::{items_at, list_at, read_at};
 use crate::text::ranges::is_within;
 use crate::text::wave::wave_of;
-use crate::{CertFault, CertWhy, Certificate, Tree};
+use crate::{CertFault, CertWhy, Certificate, Nodes, Tree};
 use serde_json::Value;
 use std::alloc::Global;
 use wp_graph::Layout;
@@ -69,7 +69,7 @@ fn read_parts(alloc: Global, value: &Value, cart: Option<WrittenCart>) -> Result
     let version = read_at(alloc, value, "version")?;
     let capacity = read_at(alloc, value, "capacity")?;
     let orders = list_at(alloc, value, "orders")?;
-    let nodes = list_at(alloc, value, "nodes")?;
+    let nodes = Nodes::of(items_at(alloc, value, "nodes")?);
     Ok(Form {
         version,
         capacity,

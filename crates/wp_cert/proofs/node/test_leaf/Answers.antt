@@ -1,5 +1,5 @@
 use Rattle.std.proofs.lemmas.Result.{err_from_is_err_and}
-use Rattle.wp_cert.proofs.Nodes.{kept_right, leaf_broken, leaf_right}
+use Rattle.wp_cert.proofs.TreeNodes.{kept_right, leaf_broken, leaf_right}
 use Rattle.wp_cert.proofs.node.test_leaf.Goals as goal
 
 pub returns-in_err-total-in-Some-clause-err : goal.returns-in_err-total-in-Some-clause-err

@@ -1,6 +1,6 @@
 use Rattle.std.proofs.lemmas.Bool.{both_ways}
 use Rattle.std.proofs.lemmas.Result.{err_from_is_err_and}
-use Rattle.wp_cert.proofs.Nodes.{split_broken, split_decided, split_kept}
+use Rattle.wp_cert.proofs.TreeNodes.{split_broken, split_decided, split_kept}
 use Rattle.wp_cert.proofs.node.test_split.Goals as goal
 
 pub returns-in_err-total-in-Some-clause-err : goal.returns-in_err-total-in-Some-clause-err

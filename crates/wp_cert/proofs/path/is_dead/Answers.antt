@@ -1,7 +1,7 @@
 use Rattle.std.proofs.Common.{arith, true, ◌≡◌}
 use Rattle.std.proofs.lemmas.Bool.{both_ways}
 use Rattle.wp_pairs.proofs.Unions.{negated, unnegated}
-use Rattle.wp_cert.proofs.Nodes.{adds_to_empty, dead_from, not_dead_from}
+use Rattle.wp_cert.proofs.TreeNodes.{adds_to_empty, dead_from, not_dead_from}
 use Rattle.wp_cert.proofs.path.is_dead.Goals as goal
 
 pub returns : goal.returns

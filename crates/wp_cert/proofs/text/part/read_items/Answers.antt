@@ -3,7 +3,7 @@ use Rattle.serde_json.specs.View.{view}
 use Rattle.wp_cert.specs.Text.{list_said}
 use Rattle.wp_cert.specs.declared.text.form.Unread.TheVariants as unread
 use Rattle.wp_cert.proofs.TextLists.{said_more, said_none}
-use Rattle.wp_cert.proofs.text.part.read_list.Goals as goal
+use Rattle.wp_cert.proofs.text.part.read_items.Goals as goal
 
 pub returns-in_err-read-clause-bad : goal.returns-in_err-read-clause-bad
 returns-in_err-read-clause-bad g c =

@@ -2,7 +2,7 @@ use Rattle.std.proofs.Common.{◌≡◌, Some, take}
 use Rattle.serde_json.specs.Find.{as_array}
 use Rattle.serde_json.specs.View.{items_view, view}
 use Rattle.wp_cert.specs.Text.{each_said}
-use Rattle.wp_cert.proofs.text.part.read_list.Given as goal
+use Rattle.wp_cert.proofs.text.part.read_items.Given as goal
 
 abbrev pub invariant-loop-item : goal.invariant-loop-item
 invariant-loop-item g l =

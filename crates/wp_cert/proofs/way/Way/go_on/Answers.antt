@@ -1,4 +1,4 @@
-use Rattle.std.proofs.Common.{◌+◌, length, subst}
+use Rattle.std.proofs.Common.{◌+◌, subst}
 use Rattle.std.proofs.lemmas.Result.{IfOk-weaker}
 use Rattle.wp_cert.specs.declared.way.NodeStep.{NodeStep}
 use Rattle.wp_cert.specs.Paths.{pairing_of}
