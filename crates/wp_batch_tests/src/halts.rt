@@ -51,6 +51,7 @@ fn odd_columns(alloc: Global, length: u64) -> Option<Pool> {
 fn state_of(halt: Halt) -> Option<RootState> {
     match halt {
         Halt::Memory => None,
+        Halt::NoCover(_) => None,
         Halt::Ended(state) => Some(state),
     }
 }

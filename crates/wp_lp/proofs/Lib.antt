@@ -9,3 +9,4 @@ pub mod Sides
 pub mod Bounds
 pub mod ShareDuals
 pub mod FewRounds
+pub mod Covered

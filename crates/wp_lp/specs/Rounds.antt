@@ -5,7 +5,7 @@ use Rattle.wp_pairs.specs.Permitted.{IsPermitted, Pairing}
 use Rattle.wp_batch.specs.Waves.{WavePicks}
 use Rattle.wp_master.specs.Faults.{IsTooWide}
 use Rattle.wp_master.specs.Pivots.{PivotRun, Table}
-use Rattle.wp_master.specs.Pools.{ColumnPool}
+use Rattle.wp_master.specs.Pools.{ColumnPool, IsFirstUncovered}
 use Rattle.wp_master.specs.declared.column.Column.{Column}
 use Rattle.wp_master.specs.declared.fault.MasterFault.{MasterFault}
 use Rattle.wp_master.specs.declared.fault.MasterFault.TheVariants as fault
@@ -40,11 +40,12 @@ abbrev pub IsHaltOf : MasterFault → Halt → Type 0
 IsHaltOf (fault.Turns made) answer = answer ≡ halt.Ended (Turns made)
 IsHaltOf (fault.Wide left right) answer = answer ≡ halt.Ended (Wide left right)
 IsHaltOf fault.Memory answer = answer ≡ halt.Memory
-IsHaltOf (fault.NoCover order) answer = answer ≡ halt.Memory
+IsHaltOf (fault.NoCover order) answer = answer ≡ halt.NoCover order
 
 -- why a pool has no solution that can be rounded
 abbrev pub IsPoolHalt : ColumnPool → Halt → Type 0
 IsPoolHalt pool halt.Memory = Unit {0}
+IsPoolHalt pool (halt.NoCover order) = IsFirstUncovered pool order
 IsPoolHalt pool (halt.Ended Narrow) = ⊥
 IsPoolHalt pool (halt.Ended (Rounds made)) = ⊥
 IsPoolHalt pool (halt.Ended (Turns made)) = (made ≡ most_turns) × ((table : Table) × PivotRun pool made table)
@@ -55,9 +56,10 @@ IsPoolHalt pool (halt.Ended (Wide left right)) =
 abbrev pub IsUnscalable : ℤ → Halt → Type 0
 IsUnscalable denominator answer = (answer ≡ halt.Ended (Wide denominator (pos (2 ^ 42)))) × (FitsSigned w128 (denominator *ℤ pos (2 ^ 42)) → ⊥)
 
--- why a search of so many rounds ended
+-- why a search of so many rounds ended: never for want of a batch with some order
 abbrev pub IsEnd : WavePicks → Pairing → ℕ → Halt → Type 0
 IsEnd wave pairing rounds halt.Memory = Unit {0}
+IsEnd wave pairing rounds (halt.NoCover order) = ⊥
 IsEnd wave pairing rounds (halt.Ended state) = IsHalt wave pairing rounds state
 
 -- a bracket in a state

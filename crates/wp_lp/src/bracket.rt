@@ -71,6 +71,7 @@ fn bracket<R: Threads + Sync>(
     match searched(workers, given, start.as_slice(), rounds) {
         Ok(root) => Ok(root),
         Err(Halt::Memory) => Err(Memory),
+        Err(Halt::NoCover(_)) => unreachable!(),
         Err(Halt::Ended(state)) => share_root(alloc, given, start.as_slice(), state),
     }
 }

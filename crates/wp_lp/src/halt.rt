@@ -11,6 +11,8 @@ use wp_model::Memory;
 pub enum Halt {
     /// Memory is wanting.
     Memory,
+    /// No batch of the pool has this order, and this is the least. The pools of a search have each order in some batch.
+    NoCover(u32),
     /// The state with which it ends.
     Ended(RootState),
 }
@@ -30,7 +32,7 @@ impl From<MasterFault> for Halt {
         match fault {
             MasterFault::Turns { made } => Halt::Ended(RootState::Turns { made }),
             MasterFault::Wide { left, right } => Halt::Ended(RootState::Wide { left, right }),
-            MasterFault::NoCover(_) => Halt::Memory,
+            MasterFault::NoCover(order) => Halt::NoCover(order),
             MasterFault::Memory => Halt::Memory,
         }
     }

@@ -1,6 +1,7 @@
 //! One round of the search: a pool is solved, its duals are rounded down, and they are priced.
 ghost use Rattle.std.specs.Prelude.{◌≡◌, ◌<◌, ◌^◌, ℕ, suc, All, IfOk, IfErr, IfSome, IfNone, length, pos, ◌<ℤ◌};
 ghost use Rattle.wp_batch.specs.Duals.{AreFeasible};
+ghost use Rattle.wp_master.specs.Pools.{AreCovered};
 ghost use Rattle.wp_lp.specs.Rounds.{IsEnd, IsNarrowRoot, IsNegative, IsPoolHalt, IsRunPool, IsShortPool, IsUnscalable};
 ghost use Rattle.wp_lp.specs.Runs.{AreSixtieths, IsAnswer};
 
@@ -39,8 +40,8 @@ pub fn scalable(denominator: i128) -> Result<(), Halt>
     }
 }
 
-/// A pool's solution whose denominator times 2 ^ 42 stays within an `i128`. An `Err` comes where the pool needs more pivots than it is given, where
-/// numbers leave an `i128`, or where memory is wanting.
+/// A pool's solution whose denominator times 2 ^ 42 stays within an `i128`. An `Err` comes where no batch of the pool has some order, where the
+/// pool needs more pivots than it is given, where numbers leave an `i128`, or where memory is wanting.
 pub fn solved(alloc: Global, pool: &Pool) -> Result<Pair, Halt>
     ensures answer { IfOk result (λ pair. IsAnswer pool.now pair.weights.items pair.duals.items pair.denominator) }
     ensures small { IfOk result (λ pair. pair.denominator <ℤ pos (2 ^ 86)) }
@@ -110,7 +111,8 @@ pub(crate) fn round<R: Threads + Sync>(
     given: &OpenWave<'_>,
     pool: &mut Pool,
 ) -> Result<Option<Root>, Halt>
-    requires { IsShortPool given.now.wave.now given.now.pairs.now pool.old }
+    requires short { IsShortPool given.now.wave.now given.now.pairs.now pool.old }
+    requires covered { AreCovered pool.old pool.old.orders }
     ensures narrow { IfOk result (λ found. IfSome found (IsNarrowRoot given.now.wave.now given.now.pairs.now)) }
     ensures onward { IfOk result (λ found. IfNone found ((made : ℕ) → IsRunPool given.now.wave.now given.now.pairs.now made pool.old
         → IsRunPool given.now.wave.now given.now.pairs.now (suc made) pool.new)) }

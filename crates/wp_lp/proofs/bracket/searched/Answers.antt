@@ -1,5 +1,6 @@
 use Rattle.std.proofs.Common.{◌≡◌, ℕ, arith, refl, rules, subst}
 use Rattle.wp_lp.specs.Runs.{PricedRun, batches_of}
+use Rattle.wp_lp.proofs.Covered.{run_covers}
 use Rattle.wp_lp.proofs.bracket.searched.Goals as goal
 
 pub returns-in_err-root-clause-halt : goal.returns-in_err-root-clause-halt
@@ -17,3 +18,7 @@ returns-clause-halt g c =
             c.loop-made.invariant.run,
       ),
     )
+
+pub round-requires-clause-covered : goal.round-requires-clause-covered
+round-requires-clause-covered g c κs within =
+    run_covers c.args.given.now.wave.now c.args.given.now.pairs.now c.loop-made._made c.loop-made.pool c.args.given.now.as_many c.loop-made.invariant
