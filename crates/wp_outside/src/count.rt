@@ -1,4 +1,4 @@
-ghost use Rattle.std.specs.Prelude.{◌≡◌, ◌+◌, OnOk, OnErr};
+ghost use Rattle.std.specs.Prelude.{◌≡◌, ◌+◌, ◌<◌, OnOk, OnErr};
 
 use std::marker::Model;
 use wp_model::Memory;
@@ -26,6 +26,7 @@ impl Count {
 
     /// Once more. A count at its end cannot rise, which is answered as out of memory.
     pub(crate) fn raise(&mut self) -> Result<(), Memory>
+        ensures room { OnOk result (self.old < u64.MAX) }
         ensures risen { OnOk result (self.new ≡ self.old + 1) }
         ensures at_its_end { OnErr result ((self.old ≡ u64.MAX) × (self.new ≡ self.old)) }
     {

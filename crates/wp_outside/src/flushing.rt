@@ -1,4 +1,4 @@
-ghost use Rattle.std.specs.Prelude.{◌≡◌, ◌↔◌, ◌<◌, ◌≤◌, length, take, IsTrue, IfOk, OnOk, OnErr, IsErrOf};
+ghost use Rattle.std.specs.Prelude.{◌≡◌, ◌↔◌, ◌+◌, ◌<◌, ◌≤◌, length, take, IsTrue, IfOk, OnOk, OnErr, IsErrOf};
 ghost use Rattle.wp_outside.specs.Outside.{Grows};
 
 use crate::sink::SinkFault;
@@ -43,8 +43,8 @@ impl<W: Writes + Drop> Flushing<W> {
         ensures behind { IfOk result (λ n. self.new.behind ≡ n) }
         ensures takes { IfOk result (λ n. Grows self.old.contents self.new.contents (take n piece.now)) }
         ensures nothing { OnErr result ((self.new.contents ≡ self.old.contents) × (self.new.behind ≡ 0)) }
-        ensures counts { self.old.faults ≤ self.new.faults }
-        ensures failed { IsErrOf result SinkFault.Failed → self.old.faults < self.new.faults }
+        ensures counted { IsErrOf result SinkFault.Failed → self.new.faults ≡ self.old.faults + 1 }
+        ensures uncounted { (IsErrOf result SinkFault.Failed → ⊥) → self.new.faults ≡ self.old.faults }
     {
         let count = self.out.write(piece)?;
         self.behind = count;
@@ -56,8 +56,8 @@ impl<W: Writes + Drop> Flushing<W> {
         ensures contents { self.new.contents ≡ self.old.contents }
         ensures flushed { OnOk result (self.new.behind ≡ 0) }
         ensures behind { OnErr result (self.new.behind ≡ self.old.behind) }
-        ensures counts { self.old.faults ≤ self.new.faults }
-        ensures failed { IsErrOf result SinkFault.Failed → self.old.faults < self.new.faults }
+        ensures counted { IsErrOf result SinkFault.Failed → self.new.faults ≡ self.old.faults + 1 }
+        ensures uncounted { (IsErrOf result SinkFault.Failed → ⊥) → self.new.faults ≡ self.old.faults }
     {
         self.out.flush()?;
         self.behind = 0;

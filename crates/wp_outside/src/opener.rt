@@ -1,8 +1,9 @@
-ghost use Rattle.std.specs.Prelude.{◌≡◌, ◌≢◌, ◌<◌, ◌≤◌, ℕ, List, Option, Some, None, IfOk, IfSome, IsErrOf};
+ghost use Rattle.std.specs.Prelude.{◌≡◌, ◌≢◌, ◌+◌, ℕ, List, Option, Some, None, IfOk, IfErr, IfSome, IsErr, IsErrOf};
 ghost use Rattle.std.specs.Io.{ReadsAtMost};
 ghost use Rattle.std.specs.Io.KnownBytes.{ReadConsumes};
-ghost use Rattle.wp_outside.specs.Outside.{NoneFalls, SameBytes};
-ghost use Rattle.wp_outside.specs.declared.files.FileFault.TheVariants.{Failed, TooLong};
+ghost use Rattle.std.specs.IoError.{error_kind};
+ghost use Rattle.wp_outside.specs.Outside.{NoneFalls, SameBytes, IsToldAs};
+ghost use Rattle.wp_outside.specs.declared.files.FileFault.TheVariants.{Failed, Memory as MemoryFault, TooLong};
 
 use crate::count::Count;
 use crate::files::FileFault;
@@ -21,16 +22,17 @@ pub trait Opens {
     /// How often opening and reading failed, for each name. One number may serve for all names.
     ghost faults: { Self → List ℕ → ℕ };
 
-    /// The file of this very name, before its first byte. `Failed` comes only where the count of this name rose in this call.
+    /// The file of this very name, before its first byte. The count of this name rises by one with `Failed`, and with nothing else.
     fn open(&mut self, name: &str) -> Result<Self::File, FileFault>
         ensures file { IfOk result (λ file. IfSome (holds self.old name.now) (λ told. Self.File.remaining file ≡ Some told)) }
         ensures same { SameBytes (holds self.old) (holds self.new) }
         ensures counts { NoneFalls (faults self.old) (faults self.new) }
-        ensures failed { IsErrOf result FileFault.Failed → faults self.old name.now < faults self.new name.now }
+        ensures counted { IsErrOf result FileFault.Failed → faults self.new name.now ≡ faults self.old name.now + 1 }
+        ensures uncounted { (IsErrOf result FileFault.Failed → ⊥) → faults self.new name.now ≡ faults self.old name.now }
         ensures short { ¬ IsErrOf result FileFault.TooLong };
 
-    /// Reads the next bytes of a file that was opened under this name, and answers how many: none at its end. `Failed` comes
-    /// only where the count of this name rose in this call.
+    /// Reads the next bytes of a file that was opened under this name, and answers how many: none at its end. The count of
+    /// this name rises by one with `Failed`, and with nothing else.
     fn read(
         &mut self,
         name: &str,
@@ -41,7 +43,8 @@ pub trait Opens {
         ensures bytes { ReadConsumes (Self.File.remaining file.old) (Self.File.remaining file.new) result piece.new }
         ensures same { SameBytes (holds self.old) (holds self.new) }
         ensures counts { NoneFalls (faults self.old) (faults self.new) }
-        ensures failed { IsErrOf result FileFault.Failed → faults self.old name.now < faults self.new name.now }
+        ensures counted { IsErrOf result FileFault.Failed → faults self.new name.now ≡ faults self.old name.now + 1 }
+        ensures uncounted { (IsErrOf result FileFault.Failed → ⊥) → faults self.new name.now ≡ faults self.old name.now }
         ensures short { ¬ IsErrOf result FileFault.TooLong };
 }
 
@@ -70,21 +73,6 @@ impl<'a, R: FileSystem> SystemFiles<'a, R> {
             faults: Count::zero(),
         }
     }
-
-    // Want of memory is told as it is, and every other error is counted as a fault.
-    fn fault_of(&mut self, error: &io::Error) -> FileFault
-        ensures rises { self.old ≤ self.new }
-        ensures failed { result ≡ Failed → self.old < self.new }
-        ensures short { result ≢ TooLong }
-    {
-        if error.kind() == io::ErrorKind::OutOfMemory {
-            return FileFault::Memory;
-        }
-        match self.faults.raise() {
-            Ok(()) => FileFault::Failed,
-            Err(_) => FileFault::Memory,
-        }
-    }
 }
 
 impl<'a, R: FileSystem> Opens for SystemFiles<'a, R> {
@@ -95,10 +83,7 @@ impl<'a, R: FileSystem> Opens for SystemFiles<'a, R> {
     ghost faults = { λ s _. s };
 
     fn open(&mut self, name: &str) -> Result<R::File, FileFault> {
-        match fs::open(self.rt, name) {
-            Ok(file) => Ok(file),
-            Err(error) => Err(self.fault_of(&error)),
-        }
+        answer_of(&mut self.faults, fs::open(self.rt, name))
     }
 
     fn read(
@@ -107,9 +92,36 @@ impl<'a, R: FileSystem> Opens for SystemFiles<'a, R> {
         file: &mut R::File,
         piece: &mut [u8],
     ) -> Result<usize, FileFault> {
-        match file.read(piece) {
-            Ok(count) => Ok(count),
-            Err(error) => Err(self.fault_of(&error)),
-        }
+        answer_of(&mut self.faults, file.read(piece))
+    }
+}
+
+// What a call of the system answers, whose error is told as it is to be.
+fn answer_of<T>(faults: &mut Count, answer: io::Result<T>) -> Result<T, FileFault>
+    ensures given { IfOk answer (λ value. (result ≡ Ok value) × (faults.new ≡ faults.old)) }
+    ensures fault { IfErr answer (λ error. IfErr result (IsToldAs Failed MemoryFault (error_kind error) faults.old faults.new)) }
+    ensures refused { IfErr answer (λ _. IsErr result) }
+    ensures counted { IsErrOf result FileFault.Failed → faults.new ≡ faults.old + 1 }
+    ensures uncounted { (IsErrOf result FileFault.Failed → ⊥) → faults.new ≡ faults.old }
+    ensures short { ¬ IsErrOf result FileFault.TooLong }
+{
+    match answer {
+        Ok(value) => Ok(value),
+        Err(error) => Err(fault_of(faults, &error)),
+    }
+}
+
+fn fault_of(faults: &mut Count, error: &io::Error) -> FileFault
+    ensures told { IsToldAs Failed MemoryFault (error_kind error.now) faults.old faults.new result }
+    ensures counted { result ≡ Failed → faults.new ≡ faults.old + 1 }
+    ensures uncounted { (result ≡ Failed → ⊥) → faults.new ≡ faults.old }
+    ensures short { result ≢ TooLong }
+{
+    if error.kind() == io::ErrorKind::OutOfMemory {
+        return FileFault::Memory;
+    }
+    match faults.raise() {
+        Ok(()) => FileFault::Failed,
+        Err(_) => FileFault::Memory,
     }
 }

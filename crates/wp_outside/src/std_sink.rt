@@ -44,13 +44,17 @@ impl<W: Writes + Drop> StdSink<W> {
 impl<W: Writes + Drop> Sink for StdSink<W> {
     ghost told = { λ s. record { taken = flushed s.writer; faults = s.faults; stopped = s.errors.stopped; late = s.errors.late } };
 
-    /// A write fails only where the writer's count rose in this call, or where bytes that it took before could not be
-    /// flushed. That comes only of a flush in which the writer's count rose.
+    /// A write fails only where the writer fails in this call, or where bytes that it took before could not be flushed:
+    /// then nothing is called on the writer. After a call that failed no other is made: the writer fails at most once, and
+    /// not at all where bytes were taken.
     fn write(&mut self, piece: &[u8]) -> Result<usize, SinkFault>
         ensures cause { IsErrOf result SinkFault.Failed
-            → (self.old.writer.faults < self.new.writer.faults) ⊎ (0 < self.old.writer.behind) }
+            → (self.new.writer.faults ≡ self.old.writer.faults + 1) ⊎ (0 < self.old.writer.behind) }
         ensures behind { 0 < self.new.writer.behind
-            → (self.old.writer.faults < self.new.writer.faults) ⊎ (0 < self.old.writer.behind) ⊎ IsErrOf result SinkFault.Memory }
+            → (self.new.writer.faults ≡ self.old.writer.faults + 1) ⊎ (0 < self.old.writer.behind) ⊎ IsErrOf result SinkFault.Memory }
+        ensures uncalled { 0 < self.old.writer.behind → self.new.writer ≡ self.old.writer }
+        ensures at_most { self.new.writer.faults ≤ self.old.writer.faults + 1 }
+        ensures faultless { OnOk result (self.new.writer.faults ≡ self.old.writer.faults) }
 
         ensures within { IfOk result (λ n. n ≤ length piece.now) }
         ensures takes { IfOk result (λ n. Grows (flushed self.old.writer) (flushed self.new.writer) (take n piece.now)) }
@@ -76,9 +80,12 @@ fn write_counted<W: Writes + Drop>(
     faults: &mut Count,
     piece: &[u8],
 ) -> Result<usize, SinkFault>
-    ensures cause { IsErrOf result SinkFault.Failed → (writer.old.faults < writer.new.faults) ⊎ (0 < writer.old.behind) }
+    ensures cause { IsErrOf result SinkFault.Failed → (writer.new.faults ≡ writer.old.faults + 1) ⊎ (0 < writer.old.behind) }
     ensures behind { 0 < writer.new.behind
-        → (writer.old.faults < writer.new.faults) ⊎ (0 < writer.old.behind) ⊎ IsErrOf result SinkFault.Memory }
+        → (writer.new.faults ≡ writer.old.faults + 1) ⊎ (0 < writer.old.behind) ⊎ IsErrOf result SinkFault.Memory }
+    ensures uncalled { 0 < writer.old.behind → writer.new ≡ writer.old }
+    ensures at_most { writer.new.faults ≤ writer.old.faults + 1 }
+    ensures faultless { OnOk result (writer.new.faults ≡ writer.old.faults) }
     ensures counted { IsErrOf result SinkFault.Failed → faults.new ≡ faults.old + 1 }
     ensures uncounted { (IsErrOf result SinkFault.Failed → ⊥) → faults.new ≡ faults.old }
     ensures within { IfOk result (λ n. n ≤ length piece.now) }
@@ -108,10 +115,12 @@ fn write_and_flush<W: Writes + Drop>(
     ensures progress { IfOk result (λ n. 0 < n) }
     ensures takes { IfOk result (λ n. Grows (flushed writer.old) (flushed writer.new) (take n piece.now)) }
     ensures nothing { OnErr result (flushed writer.new ≡ flushed writer.old) }
-    ensures counts { writer.old.faults ≤ writer.new.faults }
-    ensures cause { IsErrOf result SinkFault.Failed → (writer.old.faults < writer.new.faults) ⊎ (0 < writer.old.behind) }
+    ensures cause { IsErrOf result SinkFault.Failed → (writer.new.faults ≡ writer.old.faults + 1) ⊎ (0 < writer.old.behind) }
     ensures behind { 0 < writer.new.behind
-        → (writer.old.faults < writer.new.faults) ⊎ (0 < writer.old.behind) ⊎ IsErrOf result SinkFault.Memory }
+        → (writer.new.faults ≡ writer.old.faults + 1) ⊎ (0 < writer.old.behind) ⊎ IsErrOf result SinkFault.Memory }
+    ensures uncalled { 0 < writer.old.behind → writer.new ≡ writer.old }
+    ensures at_most { writer.new.faults ≤ writer.old.faults + 1 }
+    ensures faultless { OnOk result (writer.new.faults ≡ writer.old.faults) }
 {
     if writer.is_behind() {
         return Err(SinkFault::Failed);

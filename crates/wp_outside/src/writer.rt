@@ -1,6 +1,7 @@
-ghost use Rattle.std.specs.Prelude.{◌≡◌, ◌<◌, ◌≤◌, ℕ, List, Option, is_some, length, take, IfOk, OnErr, IsErrOf, refl};
-ghost use Rattle.wp_outside.specs.Outside.{Grows};
-ghost use Rattle.wp_outside.specs.declared.sink.SinkFault.TheVariants.{Failed};
+ghost use Rattle.std.specs.Prelude.{◌≡◌, ◌+◌, ◌<◌, ◌≤◌, ℕ, List, Option, is_some, length, take, IfOk, IfErr, IsErr, OnErr, IsErrOf, refl};
+ghost use Rattle.std.specs.IoError.{error_kind};
+ghost use Rattle.wp_outside.specs.Outside.{Grows, IsToldAs};
+ghost use Rattle.wp_outside.specs.declared.sink.SinkFault.TheVariants.{Failed, Memory as MemoryFault};
 
 use crate::count::Count;
 use crate::sink::SinkFault;
@@ -17,20 +18,20 @@ pub trait Writes {
     ghost faults: { Self → ℕ };
 
     /// Writes the first bytes of a piece, and answers how many: at least one, unless the piece is empty. After an `Err`
-    /// nothing was written. `Failed` comes only where the count rose in this call.
+    /// nothing was written. The count rises by one with `Failed`, and with nothing else.
     fn write(&mut self, piece: &[u8]) -> Result<usize, SinkFault>
         ensures within { IfOk result (λ n. n ≤ length piece.now) }
         ensures progress { 0 < length piece.now → IfOk result (λ n. 0 < n) }
         ensures takes { IfOk result (λ n. Grows (contents self.old) (contents self.new) (take n piece.now)) }
         ensures nothing { OnErr result (contents self.new ≡ contents self.old) }
-        ensures counts { faults self.old ≤ faults self.new }
-        ensures failed { IsErrOf result SinkFault.Failed → faults self.old < faults self.new };
+        ensures counted { IsErrOf result SinkFault.Failed → faults self.new ≡ faults self.old + 1 }
+        ensures uncounted { (IsErrOf result SinkFault.Failed → ⊥) → faults self.new ≡ faults self.old };
 
-    /// Flushes what was written. `Failed` comes only where the count rose in this call.
+    /// Flushes what was written. The count rises by one with `Failed`, and with nothing else.
     fn flush(&mut self) -> Result<(), SinkFault>
         ensures contents { contents self.new ≡ contents self.old }
-        ensures counts { faults self.old ≤ faults self.new }
-        ensures failed { IsErrOf result SinkFault.Failed → faults self.old < faults self.new };
+        ensures counted { IsErrOf result SinkFault.Failed → faults self.new ≡ faults self.old + 1 }
+        ensures uncounted { (IsErrOf result SinkFault.Failed → ⊥) → faults self.new ≡ faults self.old };
 }
 
 /// A writer of the kit of which either each value tells the bytes that it holds, or none does.
@@ -82,25 +83,37 @@ impl<W: Tells> Writes for SystemWriter<W> {
     ghost faults = { λ s. s.faults };
 
     fn write(&mut self, piece: &[u8]) -> Result<usize, SinkFault> {
-        match write_some(&mut self.out, piece) {
-            Ok(0) if !piece.is_empty() => Err(failure(&mut self.faults)),
-            Ok(count) => Ok(count),
-            Err(error) => Err(fault_of(&mut self.faults, &error)),
+        match answer_of(&mut self.faults, write_some(&mut self.out, piece))? {
+            0 if !piece.is_empty() => Err(failure(&mut self.faults)),
+            count => Ok(count),
         }
     }
 
     fn flush(&mut self) -> Result<(), SinkFault> {
-        match flush_all(&mut self.out) {
-            Ok(()) => Ok(()),
-            Err(error) => Err(fault_of(&mut self.faults, &error)),
-        }
+        answer_of(&mut self.faults, flush_all(&mut self.out))
+    }
+}
+
+// What a call of the writer answers, whose error is told as it is to be.
+fn answer_of<T>(faults: &mut Count, answer: io::Result<T>) -> Result<T, SinkFault>
+    ensures given { IfOk answer (λ value. (result ≡ Ok value) × (faults.new ≡ faults.old)) }
+    ensures fault { IfErr answer (λ error. IfErr result (IsToldAs Failed MemoryFault (error_kind error) faults.old faults.new)) }
+    ensures refused { IfErr answer (λ _. IsErr result) }
+    ensures counted { IsErrOf result SinkFault.Failed → faults.new ≡ faults.old + 1 }
+    ensures uncounted { (IsErrOf result SinkFault.Failed → ⊥) → faults.new ≡ faults.old }
+{
+    match answer {
+        Ok(value) => Ok(value),
+        Err(error) => Err(fault_of(faults, &error)),
     }
 }
 
 // One more fault, unless its count is at its end.
 fn failure(faults: &mut Count) -> SinkFault
-    ensures rises { faults.old ≤ faults.new }
-    ensures failed { result ≡ Failed → faults.old < faults.new }
+    ensures failed { faults.old < u64.MAX → (result ≡ Failed) × (faults.new ≡ faults.old + 1) }
+    ensures at_its_end { faults.old ≡ u64.MAX → (result ≡ MemoryFault) × (faults.new ≡ faults.old) }
+    ensures counted { result ≡ Failed → faults.new ≡ faults.old + 1 }
+    ensures uncounted { (result ≡ Failed → ⊥) → faults.new ≡ faults.old }
 {
     match faults.raise() {
         Ok(()) => SinkFault::Failed,
@@ -108,10 +121,10 @@ fn failure(faults: &mut Count) -> SinkFault
     }
 }
 
-// Want of memory is told as it is, and every other error is counted as a fault.
 fn fault_of(faults: &mut Count, error: &io::Error) -> SinkFault
-    ensures rises { faults.old ≤ faults.new }
-    ensures failed { result ≡ Failed → faults.old < faults.new }
+    ensures told { IsToldAs Failed MemoryFault (error_kind error.now) faults.old faults.new result }
+    ensures counted { result ≡ Failed → faults.new ≡ faults.old + 1 }
+    ensures uncounted { (result ≡ Failed → ⊥) → faults.new ≡ faults.old }
 {
     if error.kind() == io::ErrorKind::OutOfMemory {
         return SinkFault::Memory;
