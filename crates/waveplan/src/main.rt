@@ -19,7 +19,7 @@ use std::sync::Wait;
 use std::thread::Threads;
 use std::{env, io};
 use wp_outside::{Files, Gate, OpenGate, RealFiles, Sink, StdSink, SystemFiles, SystemWriter};
-use wp_store::{Disk, RealDisk};
+use wp_store::{Disk, RealDisk, SystemFile};
 use wp_top::{Resources, run};
 
 // Words that stand for those of which one isn't UTF-8: a mode without its options, which is refused as bad words.
@@ -115,7 +115,7 @@ fn run_given<R: Threads + Wait + Sync, F: Files, K: Sink, G: Gate, D: Disk>(
 fn main(rt: HostRuntime) -> ExitCode {
     let mut files = RealFiles::new(SystemFiles::of(&rt));
     let mut out = StdSink::new(SystemWriter::of(io::writer(&rt)));
-    let mut disk = RealDisk::of(&rt);
+    let mut disk = RealDisk::new(SystemFile::of(&rt));
     let resources = Resources {
         rt: &rt,
         alloc: rt.alloc(),

@@ -1,6 +1,9 @@
 pub mod Crash
 pub mod Framing
+pub mod InFile
 pub mod Moments
+pub mod Overwriting
+pub mod Pieces
 pub mod Reading
 pub mod Tearing
 pub mod Told

@@ -1,4 +1,5 @@
 pub mod Disk
+pub mod DiskFile
 pub mod Faults
 pub mod InMemory
 pub mod Moments

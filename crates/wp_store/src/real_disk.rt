@@ -1,177 +1,160 @@
-ghost use Rattle.std.specs.Prelude.{◌≡◌, ◌≤◌, vec_len, IfOk};
-ghost use Rattle.wp_store.specs.Disk.{Rose, one_more};
-ghost use Rattle.wp_store.specs.Untold.{untold, untold_is_disk};
+ghost use Rattle.std.specs.Prelude.{◌≡◌, ◌+◌, ◌≤◌, ◌↔◌, length, take, is_some, option_map, vec_len, IfOk, OnOk, OnErr, IsErrOf};
+ghost use Rattle.wp_store.specs.Disk.{WhereTold, IsTooLong, written_over, Torn, Cut, Stays, Only, OneCall, NoSync, OneSync, one_more};
+ghost use Rattle.wp_store.specs.DiskFile.{AsOneCall, over_told, recounted};
+ghost use Rattle.wp_store.specs.Records.{most_store_bytes};
 
 use crate::disk::{Disk, DiskFailed, DiskFault};
+use crate::disk_file::DiskFile;
 use crate::records::MOST_STORE_BYTES;
 use std::alloc::{AllocError, Global};
-use std::fs::{OpenFile, OpenOptions};
-use std::io;
-use std::io::{Read, Seek, SeekFrom, Write};
 use std::marker::Model;
-use std::rt::Files as FileSystem;
-
-/// The file that a store keeps its records in, in the working directory.
-pub const STORE_FILE: &str = "waveplan.store";
 
 /// How many bytes one read asks for.
 const PIECE_BYTES: usize = 65_536;
 
-/// The file `waveplan.store` of the working directory, which is made empty where there is none, and opened at the first call.
-/// It tells nothing but how often a call failed, and contracts see that number. What it does is read, and not proved.
+/// A disk over a file, as that of the system. It tells what the file tells, and counts its own calls.
 #[derive(Drop)]
-pub struct RealDisk<'a, R: FileSystem> {
-    rt: &'a R,
-    file: Option<R::File>,
-    faults: u64,
+pub struct RealDisk<F: DiskFile + Drop> {
+    file: F,
     calls: u64,
 }
 
-impl<'a, R: FileSystem> Model for RealDisk<'a, R> {
-    ghost use Rattle.wp_store.specs.Untold.{Counts};
+impl<F: DiskFile + Drop> Model for RealDisk<F> {
+    ghost use Rattle.wp_store.specs.DiskFile.{OverFile};
 
-    ghost Value = { Counts };
+    ghost Value = { OverFile F };
 
-    ghost view = { λ s. record { faults = s.faults; calls = s.calls } };
+    ghost view = { λ s. record { file = s.file; calls = s.calls } };
 }
 
-impl<'a, R: FileSystem> RealDisk<'a, R> {
-    /// The store's file of this runtime, which hasn't failed yet.
-    pub fn of(rt: &'a R) -> RealDisk<'a, R>
-        ensures { result ≡ record { faults = 0; calls = 0 } }
+impl<F: DiskFile + Drop> RealDisk<F> {
+    /// A disk over this file, which wasn't called yet.
+    pub fn new(file: F) -> RealDisk<F>
+        ensures { result ≡ record { file = file; calls = 0 } }
     {
-        RealDisk {
-            rt,
-            file: None,
-            faults: 0,
-            calls: 0,
-        }
+        RealDisk { file, calls: 0 }
     }
 
-    // The open file, which is put back after the call that it is opened for.
-    fn opened(&mut self) -> io::Result<R::File>
-        ensures faults { self.new.faults ≡ self.old.faults }
-        ensures calls { self.new.calls ≡ one_more self.old.calls }
+    // One call more. A count at its end stands.
+    fn count(&mut self)
+        ensures { self.new ≡ record self.old { calls = one_more self.old.calls } }
     {
         self.calls = self.calls.saturating_add(1);
-        match self.file.take() {
-            Some(file) => Ok(file),
-            None => open_apart(self.rt),
-        }
     }
+}
 
-    // One more fault. A count at its end stands.
-    fn fault(&mut self) -> DiskFailed
-        ensures rises { self.old.faults ≤ self.new.faults }
-        ensures rose { Rose self.old.faults self.new.faults }
-        ensures calls { self.new.calls ≡ self.old.calls }
+impl<F: DiskFile + Drop> Disk for RealDisk<F> {
+    ghost told = { over_told F.told };
+
+    ghost is_disk = { λ disk. recounted (F.told disk.file) disk.calls (F.is_disk disk.file) };
+
+    /// No more than `MOST_STORE_BYTES` and one byte are read. It fails as soon as a call of the file does, which is then the
+    /// last: the file's count of faults is the disk's, and rises by one.
+    fn read(&mut self, alloc: Global) -> Result<Vec<u8>, DiskFault>
+        ensures most { (IsErrOf result DiskFault.Failed → ⊥) → WhereTold (F.told self.old.file).holds (λ _.
+            F.position self.new.file ≤ most_store_bytes + 1) }
+        ensures failed { IsErrOf result DiskFault.Failed → (F.told self.new.file).faults ≡ one_more (F.told self.old.file).faults }
+        ensures sound { (IsErrOf result DiskFault.Failed → ⊥) → (F.told self.new.file).faults ≡ (F.told self.old.file).faults }
+
+        ensures bytes { IfOk result (λ read. WhereTold (F.told self.old.file).holds (λ bytes. read.items ≡ bytes)) }
+        ensures same { (F.told self.new.file).holds ≡ (F.told self.old.file).holds }
+        ensures too_long { IsErrOf result DiskFault.TooLong → WhereTold (F.told self.old.file).holds IsTooLong }
+        ensures short { OnOk result (WhereTold (F.told self.old.file).holds (λ bytes. IsTooLong bytes → ⊥)) }
+        ensures calls { OneCall Stays (over_told F.told self.old) (over_told F.told self.new) }
+        ensures unsynced { (F.told self.new.file).syncs ≡ (F.told self.old.file).syncs }
     {
-        self.faults = self.faults.saturating_add(1);
-        DiskFailed
+        self.count();
+        read_whole(&mut self.file, alloc)
     }
 
-    // Want of memory is told as it is, and every other error is counted as a fault.
-    fn fault_of(&mut self, error: &io::Error) -> DiskFault
-        ensures rises { self.old.faults ≤ self.new.faults }
-        ensures rose { result ≡ DiskFault.Failed → Rose self.old.faults self.new.faults }
-        ensures sound { (result ≡ DiskFault.Failed → ⊥) → self.new.faults ≡ self.old.faults }
-        ensures calls { self.new.calls ≡ self.old.calls }
+    /// It fails as soon as a call of the file does, which is then the last.
+    fn write_at(&mut self, place: u64, piece: &[u8]) -> Result<(), DiskFailed>
+        requires { WhereTold (F.told self.old.file).holds (λ bytes. place ≤ length bytes) }
+        ensures failed { OnErr result ((F.told self.new.file).faults ≡ one_more (F.told self.old.file).faults) }
+        ensures sound { OnOk result ((F.told self.new.file).faults ≡ (F.told self.old.file).faults) }
+
+        ensures written { OnOk result
+            ((F.told self.new.file).holds ≡ option_map (written_over place piece.now) (F.told self.old.file).holds) }
+        ensures calls { OneCall (Torn place (length piece.now)) (over_told F.told self.old) (over_told F.told self.new) }
+        ensures unsynced { (F.told self.new.file).syncs ≡ (F.told self.old.file).syncs }
     {
-        if error.kind() == io::ErrorKind::OutOfMemory {
-            return DiskFault::Memory;
-        }
-        let DiskFailed = self.fault();
-        DiskFault::Failed
+        self.count();
+        write_there(&mut self.file, place, piece)
+    }
+
+    /// The file is called once, and fails where the disk does.
+    fn cut(&mut self, size: u64) -> Result<(), DiskFailed>
+        requires { WhereTold (F.told self.old.file).holds (λ bytes. size ≤ length bytes) }
+        ensures failed { OnErr result ((F.told self.new.file).faults ≡ one_more (F.told self.old.file).faults) }
+        ensures sound { OnOk result ((F.told self.new.file).faults ≡ (F.told self.old.file).faults) }
+        ensures once { (F.told self.new.file).calls ≡ one_more (F.told self.old.file).calls }
+
+        ensures written { OnOk result ((F.told self.new.file).holds ≡ option_map (take size) (F.told self.old.file).holds) }
+        ensures calls { OneCall (Cut size) (over_told F.told self.old) (over_told F.told self.new) }
+        ensures unsynced { (F.told self.new.file).syncs ≡ (F.told self.old.file).syncs }
+    {
+        self.count();
+        self.file.cut(size)
+    }
+
+    /// The file is called once, and fails where the disk does.
+    fn sync(&mut self) -> Result<(), DiskFailed>
+        ensures failed { OnErr result ((F.told self.new.file).faults ≡ one_more (F.told self.old.file).faults) }
+        ensures sound { OnOk result ((F.told self.new.file).faults ≡ (F.told self.old.file).faults) }
+        ensures once { (F.told self.new.file).calls ≡ one_more (F.told self.old.file).calls }
+
+        ensures same { OnOk result ((F.told self.new.file).holds ≡ (F.told self.old.file).holds) }
+        ensures durable { OnOk result (WhereTold (F.told self.old.file).holds (λ bytes. Only bytes (F.told self.new.file).images)) }
+        ensures calls { OneCall Stays (over_told F.told self.old) (over_told F.told self.new) }
+        ensures synced { OnOk result (WhereTold (F.told self.old.file).holds (λ _.
+            OneSync (over_told F.told self.old) (over_told F.told self.new))) }
+        ensures unsynced { OnErr result ((F.told self.new.file).syncs ≡ (F.told self.old.file).syncs) }
+    {
+        self.count();
+        self.file.sync()
     }
 }
 
-impl<'a, R: FileSystem> Disk for RealDisk<'a, R> {
-    ghost told = { untold };
-
-    ghost is_disk = { untold_is_disk };
-
-    fn read(&mut self, alloc: Global) -> Result<Vec<u8>, DiskFault> {
-        let mut file = match self.opened() {
-            Ok(file) => file,
-            Err(error) => return Err(self.fault_of(&error)),
-        };
-        let answer = read_to_limit(alloc, &mut file);
-        self.file = Some(file);
-        match answer {
-            Ok(bytes) if bytes.len() > MOST_STORE_BYTES => Err(DiskFault::TooLong),
-            Ok(bytes) => Ok(bytes),
-            Err(error) => Err(self.fault_of(&error)),
-        }
-    }
-
-    fn write_at(&mut self, place: u64, piece: &[u8]) -> Result<(), DiskFailed> {
-        let Ok(mut file) = self.opened() else {
-            return Err(self.fault());
-        };
-        let answer = write_there(&mut file, place, piece);
-        self.file = Some(file);
-        match answer {
-            Ok(()) => Ok(()),
-            Err(_) => Err(self.fault()),
-        }
-    }
-
-    fn cut(&mut self, size: u64) -> Result<(), DiskFailed> {
-        let Ok(file) = self.opened() else {
-            return Err(self.fault());
-        };
-        let answer = file.set_len(size);
-        self.file = Some(file);
-        match answer {
-            Ok(()) => Ok(()),
-            Err(_) => Err(self.fault()),
-        }
-    }
-
-    fn sync(&mut self) -> Result<(), DiskFailed> {
-        let Ok(file) = self.opened() else {
-            return Err(self.fault());
-        };
-        let answer = file.sync_all();
-        self.file = Some(file);
-        match answer {
-            Ok(()) => Ok(()),
-            Err(_) => Err(self.fault()),
-        }
-    }
+/// All the bytes, unless they are too many. No more are read than the first that is too many.
+fn read_whole<F: DiskFile>(file: &mut F, alloc: Global) -> Result<Vec<u8>, DiskFault>
+    ensures bytes { IfOk result (λ read. WhereTold (F.told file.old).holds (λ bytes. read.items ≡ bytes)) }
+    ensures fits { IfOk result (λ read. vec_len read ≤ most_store_bytes) }
+    ensures too_long { IsErrOf result DiskFault.TooLong → WhereTold (F.told file.old).holds IsTooLong }
+    ensures most { (IsErrOf result DiskFault.Failed → ⊥) → WhereTold (F.told file.old).holds (λ _.
+        F.position file.new ≤ most_store_bytes + 1) }
+    ensures same { (F.told file.new).holds ≡ (F.told file.old).holds }
+    ensures calls { WhereTold (F.told file.old).holds (λ _. AsOneCall Stays (F.told file.old) (F.told file.new)) }
+    ensures failed { IsErrOf result DiskFault.Failed → (F.told file.new).faults ≡ one_more (F.told file.old).faults }
+    ensures sound { (IsErrOf result DiskFault.Failed → ⊥) → (F.told file.new).faults ≡ (F.told file.old).faults }
+{
+    file.seek(0)?;
+    read_to_limit(file, alloc)
 }
 
-// A caller may have closed standard input and output, and then the first files that are opened get their numbers. So the file is opened three times and
-// only the third is kept: what is written to a closed standard output fails, and never comes to stand in the store.
-fn open_apart<R: FileSystem>(rt: &R) -> io::Result<R::File> {
-    let _first = open_or_make(rt)?;
-    let _second = open_or_make(rt)?;
-    open_or_make(rt)
-}
-
-fn open_or_make<R: FileSystem>(rt: &R) -> io::Result<R::File> {
-    OpenOptions::new()
-        .read(true)
-        .write(true)
-        .create(true)
-        .open(rt, STORE_FILE)
-}
-
-/// The bytes from the first on, and no more than the first that is too many.
-fn read_to_limit<F: Read + Seek>(alloc: Global, file: &mut F) -> io::Result<Vec<u8>> {
-    file.seek(SeekFrom::Start(0))?;
+/// The bytes from the next on, unless they are too many.
+fn read_to_limit<F: DiskFile>(file: &mut F, alloc: Global) -> Result<Vec<u8>, DiskFault>
+    requires { WhereTold (F.told file.old).holds (λ _. F.position file.old ≡ 0) }
+    ensures bytes { IfOk result (λ read. WhereTold (F.told file.old).holds (λ bytes. read.items ≡ bytes)) }
+    ensures fits { IfOk result (λ read. vec_len read ≤ most_store_bytes) }
+    ensures too_long { IsErrOf result DiskFault.TooLong → WhereTold (F.told file.old).holds IsTooLong }
+    ensures most { WhereTold (F.told file.old).holds (λ _. F.position file.new ≤ most_store_bytes + 1) }
+    ensures same { (F.told file.new).holds ≡ (F.told file.old).holds }
+    ensures calls { WhereTold (F.told file.old).holds (λ _. AsOneCall Stays (F.told file.old) (F.told file.new)) }
+    ensures failed { IsErrOf result DiskFault.Failed → (F.told file.new).faults ≡ one_more (F.told file.old).faults }
+    ensures sound { (IsErrOf result DiskFault.Failed → ⊥) → (F.told file.new).faults ≡ (F.told file.old).faults }
+{
     let mut bytes = Vec::new(alloc);
     let mut piece = room_for_a_piece(alloc)?;
-    'bytes: while bytes.len() <= MOST_STORE_BYTES {
+    while bytes.len() <= MOST_STORE_BYTES {
         let room = PIECE_BYTES.min(MOST_STORE_BYTES + 1 - bytes.len());
         let part = &mut piece[..room];
         let count = file.read(part)?;
         if count == 0 {
-            break 'bytes;
+            return Ok(bytes);
         }
         bytes.extend_from_slice(&part[..count])?;
     }
-    Ok(bytes)
+    Err(DiskFault::TooLong)
 }
 
 fn room_for_a_piece(alloc: Global) -> Result<Vec<u8>, AllocError>
@@ -180,7 +163,35 @@ fn room_for_a_piece(alloc: Global) -> Result<Vec<u8>, AllocError>
     vec![in alloc; 0u8; PIECE_BYTES]
 }
 
-fn write_there<F: Write + Seek>(file: &mut F, place: u64, piece: &[u8]) -> io::Result<()> {
-    file.seek(SeekFrom::Start(place))?;
-    file.write_all(piece)
+/// Writes a piece over what stands at a place, and past the end.
+fn write_there<F: DiskFile>(file: &mut F, place: u64, piece: &[u8]) -> Result<(), DiskFailed>
+    requires { WhereTold (F.told file.old).holds (λ bytes. place ≤ length bytes) }
+    ensures written { OnOk result
+        ((F.told file.new).holds ≡ option_map (written_over place piece.now) (F.told file.old).holds) }
+    ensures told { is_some (F.told file.new).holds ≡ is_some (F.told file.old).holds }
+    ensures calls { WhereTold (F.told file.old).holds (λ _.
+        AsOneCall (Torn place (length piece.now)) (F.told file.old) (F.told file.new)) }
+    ensures failed { OnErr result ((F.told file.new).faults ≡ one_more (F.told file.old).faults) }
+    ensures sound { OnOk result ((F.told file.new).faults ≡ (F.told file.old).faults) }
+{
+    file.seek(place)?;
+    write_whole(file, piece)
+}
+
+/// Writes a piece over what stands next, in as many calls as the file wants.
+fn write_whole<F: DiskFile>(file: &mut F, piece: &[u8]) -> Result<(), DiskFailed>
+    requires { WhereTold (F.told file.old).holds (λ bytes. F.position file.old ≤ length bytes) }
+    ensures written { OnOk result
+        ((F.told file.new).holds ≡ option_map (written_over (F.position file.old) piece.now) (F.told file.old).holds) }
+    ensures told { is_some (F.told file.new).holds ≡ is_some (F.told file.old).holds }
+    ensures calls { WhereTold (F.told file.old).holds (λ _.
+        AsOneCall (Torn (F.position file.old) (length piece.now)) (F.told file.old) (F.told file.new)) }
+    ensures failed { OnErr result ((F.told file.new).faults ≡ one_more (F.told file.old).faults) }
+    ensures sound { OnOk result ((F.told file.new).faults ≡ (F.told file.old).faults) }
+{
+    let mut done = 0;
+    while done < piece.len() {
+        done += file.write(&piece[done..])?;
+    }
+    Ok(())
 }

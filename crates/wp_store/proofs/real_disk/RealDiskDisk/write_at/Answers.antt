@@ -1,19 +1,16 @@
-use Rattle.std.proofs.Common.{arith, ap}
+use Rattle.std.proofs.Common.{◌∙◌, length}
+use Rattle.wp_store.proofs.Pieces.{none_fell, one_on_disk, told_call}
 use Rattle.wp_store.proofs.Tearing.{torn_not}
-use Rattle.wp_store.proofs.Untold.{untold_call}
-use Rattle.wp_store.specs.Untold.{Counts}
+use Rattle.wp_store.specs.Disk.{Torn}
 use Rattle.wp_store.proofs.real_disk.RealDiskDisk.write_at.Goals as goal
 
-pub returns-in_default-clause-calls : goal.returns-in_default-clause-calls
-returns-in_default-clause-calls g c =
-    untold_call _ _ _ (torn_not _ _) (omega (arith, c.fault.ensures.rises, c.opened.ensures.faults)) (omega (arith, c.fault.ensures.calls, c.opened.ensures.calls))
-
-pub returns-in-Ok-answer-clause-calls : goal.returns-in-Ok-answer-clause-calls
-returns-in-Ok-answer-clause-calls g c =
-    untold_call _ _ _ (torn_not _ _) (omega (arith, c.opened.ensures.faults, ap (λ (k : Counts). k.faults) c.self.view_is))
-    (omega (arith, c.opened.ensures.calls, ap (λ (k : Counts). k.calls) c.self.view_is))
-
-pub returns-in-Err-clause-calls : goal.returns-in-Err-clause-calls
-returns-in-Err-clause-calls g c =
-    untold_call _ _ _ (torn_not _ _) (omega (arith, c.fault-in-Err.ensures.rises, c.opened.ensures.faults, ap (λ (k : Counts). k.faults) c.self.view_is))
-    (omega (arith, c.fault-in-Err.ensures.calls, c.opened.ensures.calls, ap (λ (k : Counts). k.calls) c.self.view_is))
+pub returns-clause-calls : goal.returns-clause-calls
+returns-clause-calls g c =
+    let place = c.args.place in
+    let n = length c.args.piece.now in
+    let file = c.self.inside.file in
+    let new = c.write_there.new.file in
+    let went = c.write_there.ensures in
+    told_call g.F.DiskFile.told (Torn place n) c.args.self.now file new c.self.inside.calls (c.self.view_is ∙ c.count.ensures)
+    (one_on_disk (Torn place n) (torn_not place n) _ _ _ (g.met.F.DiskFile.counts_alone file) (g.met.F.DiskFile.counts_alone new) went.told
+    (none_fell c.write_there.result _ _ went.failed went.sound) went.calls)
