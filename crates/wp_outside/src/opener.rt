@@ -22,17 +22,20 @@ pub trait Opens {
     /// How often opening and reading failed, for each name. One number may serve for all names.
     ghost faults: { Self → List ℕ → ℕ };
 
-    /// The file of this very name, before its first byte. The count of this name rises by one with `Failed`, and with nothing else.
+    /// The file of this very name, before its first byte. The count of this name rises by one with `Failed`, and with
+    /// nothing else.
     fn open(&mut self, name: &str) -> Result<Self::File, FileFault>
-        ensures file { IfOk result (λ file. IfSome (holds self.old name.now) (λ told. Self.File.remaining file ≡ Some told)) }
+        ensures file { IfOk result (λ file.
+            IfSome (holds self.old name.now) (λ told. Self.File.remaining file ≡ Some told)) }
         ensures same { SameBytes (holds self.old) (holds self.new) }
         ensures counts { NoneFalls (faults self.old) (faults self.new) }
         ensures counted { IsErrOf result FileFault.Failed → faults self.new name.now ≡ faults self.old name.now + 1 }
-        ensures uncounted { (IsErrOf result FileFault.Failed → ⊥) → faults self.new name.now ≡ faults self.old name.now }
+        ensures uncounted { (IsErrOf result FileFault.Failed → ⊥)
+            → faults self.new name.now ≡ faults self.old name.now }
         ensures short { ¬ IsErrOf result FileFault.TooLong };
 
-    /// Reads the next bytes of a file that was opened under this name, and answers how many: none at its end. The count of
-    /// this name rises by one with `Failed`, and with nothing else.
+    /// Reads the next bytes of a file that was opened under this name, and answers how many: none at its end. The
+    /// count of this name rises by one with `Failed`, and with nothing else.
     fn read(
         &mut self,
         name: &str,
@@ -44,7 +47,8 @@ pub trait Opens {
         ensures same { SameBytes (holds self.old) (holds self.new) }
         ensures counts { NoneFalls (faults self.old) (faults self.new) }
         ensures counted { IsErrOf result FileFault.Failed → faults self.new name.now ≡ faults self.old name.now + 1 }
-        ensures uncounted { (IsErrOf result FileFault.Failed → ⊥) → faults self.new name.now ≡ faults self.old name.now }
+        ensures uncounted { (IsErrOf result FileFault.Failed → ⊥)
+            → faults self.new name.now ≡ faults self.old name.now }
         ensures short { ¬ IsErrOf result FileFault.TooLong };
 }
 
@@ -99,7 +103,8 @@ impl<'a, R: FileSystem> Opens for SystemFiles<'a, R> {
 // What a call of the system answers, whose error is told as it is to be.
 fn answer_of<T>(faults: &mut Count, answer: io::Result<T>) -> Result<T, FileFault>
     ensures given { IfOk answer (λ value. (result ≡ Ok value) × (faults.new ≡ faults.old)) }
-    ensures fault { IfErr answer (λ error. IfErr result (IsToldAs Failed MemoryFault (error_kind error) faults.old faults.new)) }
+    ensures fault { IfErr answer (λ error.
+        IfErr result (IsToldAs Failed MemoryFault (error_kind error) faults.old faults.new)) }
     ensures refused { IfErr answer (λ _. IsErr result) }
     ensures counted { IsErrOf result FileFault.Failed → faults.new ≡ faults.old + 1 }
     ensures uncounted { (IsErrOf result FileFault.Failed → ⊥) → faults.new ≡ faults.old }

@@ -45,10 +45,12 @@ impl<O: Opens + Drop> RealFiles<O> {
 impl<O: Opens + Drop> Files for RealFiles<O> {
     ghost told = { λ s. record { holds = O.holds s.opener; faults = λ _. s.faults; reads = s.reads } };
 
-    /// Each failure counts once, for all names, and nothing else does. It comes only where the opener failed at this very
-    /// name. Nothing is opened or read after that: the opener fails at most once, and not at all where bytes are answered.
+    /// Each failure counts once, for all names, and nothing else does. It comes only where the opener failed at this
+    /// very name. Nothing is opened or read after that: the opener fails at most once, and not at all where bytes are
+    /// answered.
     fn read(&mut self, alloc: Global, name: &str) -> Result<Vec<u8>, FileFault>
-        ensures cause { IsErrOf result FileFault.Failed → O.faults self.new.opener name.now ≡ O.faults self.old.opener name.now + 1 }
+        ensures cause { IsErrOf result FileFault.Failed
+            → O.faults self.new.opener name.now ≡ O.faults self.old.opener name.now + 1 }
         ensures at_most { O.faults self.new.opener name.now ≤ O.faults self.old.opener name.now + 1 }
         ensures sound { (IsErrOf result FileFault.Failed → ⊥) → (IsErrOf result FileFault.Memory → ⊥)
             → O.faults self.new.opener name.now ≡ O.faults self.old.opener name.now }
@@ -84,8 +86,10 @@ fn open_and_read<O: Opens>(opener: &mut O, alloc: Global, name: &str) -> Result<
     ensures too_long { IsErrOf result FileFault.TooLong
         → IfSome (O.holds opener.old name.now) IsTooLong }
     ensures same { SameBytes (O.holds opener.old) (O.holds opener.new) }
-    ensures counted { IsErrOf result FileFault.Failed → O.faults opener.new name.now ≡ O.faults opener.old name.now + 1 }
-    ensures uncounted { (IsErrOf result FileFault.Failed → ⊥) → O.faults opener.new name.now ≡ O.faults opener.old name.now }
+    ensures counted { IsErrOf result FileFault.Failed
+        → O.faults opener.new name.now ≡ O.faults opener.old name.now + 1 }
+    ensures uncounted { (IsErrOf result FileFault.Failed → ⊥)
+        → O.faults opener.new name.now ≡ O.faults opener.old name.now }
 {
     let mut file = opener.open(name)?;
     read_to_limit(opener, alloc, name, &mut file)
@@ -104,8 +108,10 @@ fn read_to_limit<O: Opens>(
     ensures too_long { IsErrOf result FileFault.TooLong
         → IfSome (O.File.remaining file.old) IsTooLong }
     ensures same { SameBytes (O.holds opener.old) (O.holds opener.new) }
-    ensures counted { IsErrOf result FileFault.Failed → O.faults opener.new name.now ≡ O.faults opener.old name.now + 1 }
-    ensures uncounted { (IsErrOf result FileFault.Failed → ⊥) → O.faults opener.new name.now ≡ O.faults opener.old name.now }
+    ensures counted { IsErrOf result FileFault.Failed
+        → O.faults opener.new name.now ≡ O.faults opener.old name.now + 1 }
+    ensures uncounted { (IsErrOf result FileFault.Failed → ⊥)
+        → O.faults opener.new name.now ≡ O.faults opener.old name.now }
 {
     let mut bytes = Vec::new(alloc);
     let mut piece = room_for_a_piece(alloc)?;

@@ -44,14 +44,15 @@ impl<W: Writes + Drop> StdSink<W> {
 impl<W: Writes + Drop> Sink for StdSink<W> {
     ghost told = { λ s. record { taken = flushed s.writer; faults = s.faults; stopped = s.errors.stopped; late = s.errors.late } };
 
-    /// A write fails only where the writer fails in this call, or where bytes that it took before could not be flushed:
-    /// then nothing is called on the writer. After a call that failed no other is made: the writer fails at most once, and
-    /// not at all where bytes were taken.
+    /// A write fails only where the writer fails in this call, or where bytes that it took before could not be
+    /// flushed: then nothing is called on the writer. After a call that failed no other is made: the writer fails at
+    /// most once, and not at all where bytes were taken.
     fn write(&mut self, piece: &[u8]) -> Result<usize, SinkFault>
         ensures cause { IsErrOf result SinkFault.Failed
             → (self.new.writer.faults ≡ self.old.writer.faults + 1) ⊎ (0 < self.old.writer.behind) }
         ensures behind { 0 < self.new.writer.behind
-            → (self.new.writer.faults ≡ self.old.writer.faults + 1) ⊎ (0 < self.old.writer.behind) ⊎ IsErrOf result SinkFault.Memory }
+            → (self.new.writer.faults ≡ self.old.writer.faults + 1) ⊎ (0 < self.old.writer.behind)
+            ⊎ IsErrOf result SinkFault.Memory }
         ensures uncalled { 0 < self.old.writer.behind → self.new.writer ≡ self.old.writer }
         ensures at_most { self.new.writer.faults ≤ self.old.writer.faults + 1 }
         ensures faultless { OnOk result (self.new.writer.faults ≡ self.old.writer.faults) }
@@ -80,7 +81,8 @@ fn write_counted<W: Writes + Drop>(
     faults: &mut Count,
     piece: &[u8],
 ) -> Result<usize, SinkFault>
-    ensures cause { IsErrOf result SinkFault.Failed → (writer.new.faults ≡ writer.old.faults + 1) ⊎ (0 < writer.old.behind) }
+    ensures cause { IsErrOf result SinkFault.Failed
+        → (writer.new.faults ≡ writer.old.faults + 1) ⊎ (0 < writer.old.behind) }
     ensures behind { 0 < writer.new.behind
         → (writer.new.faults ≡ writer.old.faults + 1) ⊎ (0 < writer.old.behind) ⊎ IsErrOf result SinkFault.Memory }
     ensures uncalled { 0 < writer.old.behind → writer.new ≡ writer.old }
@@ -115,7 +117,8 @@ fn write_and_flush<W: Writes + Drop>(
     ensures progress { IfOk result (λ n. 0 < n) }
     ensures takes { IfOk result (λ n. Grows (flushed writer.old) (flushed writer.new) (take n piece.now)) }
     ensures nothing { OnErr result (flushed writer.new ≡ flushed writer.old) }
-    ensures cause { IsErrOf result SinkFault.Failed → (writer.new.faults ≡ writer.old.faults + 1) ⊎ (0 < writer.old.behind) }
+    ensures cause { IsErrOf result SinkFault.Failed
+        → (writer.new.faults ≡ writer.old.faults + 1) ⊎ (0 < writer.old.behind) }
     ensures behind { 0 < writer.new.behind
         → (writer.new.faults ≡ writer.old.faults + 1) ⊎ (0 < writer.old.behind) ⊎ IsErrOf result SinkFault.Memory }
     ensures uncalled { 0 < writer.old.behind → writer.new ≡ writer.old }

@@ -49,8 +49,8 @@ impl Tells for Vec<u8> {
     ghost alike = { λ _ _. refl };
 }
 
-/// A writer of the kit, as standard output, and how often it failed. A writer that takes nothing of a piece that isn't empty
-/// has failed.
+/// A writer of the kit, as standard output, and how often it failed. A writer that takes nothing of a piece that
+/// isn't empty has failed.
 #[derive(Drop)]
 pub struct SystemWriter<W: Tells> {
     out: W,
@@ -97,7 +97,8 @@ impl<W: Tells> Writes for SystemWriter<W> {
 // What a call of the writer answers, whose error is told as it is to be.
 fn answer_of<T>(faults: &mut Count, answer: io::Result<T>) -> Result<T, SinkFault>
     ensures given { IfOk answer (λ value. (result ≡ Ok value) × (faults.new ≡ faults.old)) }
-    ensures fault { IfErr answer (λ error. IfErr result (IsToldAs Failed MemoryFault (error_kind error) faults.old faults.new)) }
+    ensures fault { IfErr answer (λ error.
+        IfErr result (IsToldAs Failed MemoryFault (error_kind error) faults.old faults.new)) }
     ensures refused { IfErr answer (λ _. IsErr result) }
     ensures counted { IsErrOf result SinkFault.Failed → faults.new ≡ faults.old + 1 }
     ensures uncounted { (IsErrOf result SinkFault.Failed → ⊥) → faults.new ≡ faults.old }

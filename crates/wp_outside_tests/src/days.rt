@@ -4,7 +4,7 @@ ghost use Rattle.std.specs.Prelude.{◌≤◌, length};
 use std::alloc::Global;
 use std::test::Fail;
 use wp_model::Memory;
-use wp_store::{MOST_BODY_BYTES, MemDisk, open};
+use wp_store::{Disk, MOST_BODY_BYTES, MemDisk, open};
 
 /// The room of the disks: bytes and calls.
 pub const SIZE: u64 = 100_000;
@@ -37,7 +37,7 @@ pub fn disk_of(
 }
 
 /// Opens a store and appends these records until one isn't stored. How many were acknowledged.
-pub fn append_all(alloc: Global, disk: &mut MemDisk, bodies: &[&[u8]]) -> usize {
+pub fn append_all<D: Disk>(alloc: Global, disk: &mut D, bodies: &[&[u8]]) -> usize {
     let Ok(mut opened) = open(alloc, disk) else {
         return 0;
     };
@@ -50,25 +50,30 @@ pub fn append_all(alloc: Global, disk: &mut MemDisk, bodies: &[&[u8]]) -> usize 
     bodies.len()
 }
 
-/// How many records an image opens with, where they are the first of these; `None` where they aren't, or it doesn't open.
+/// How many records an image opens with, where they are the first of these; `None` where they aren't, or it doesn't
+/// open.
 pub fn opens_with(alloc: Global, image: &[u8], bodies: &[&[u8]]) -> Result<Option<usize>, Memory> {
     if image.len() > 100_000 {
         return Ok(None);
     }
-    let mut disk = disk_of(alloc, image, &[], None)?;
-    let Ok(opened) = open(alloc, &mut disk) else {
-        return Ok(None);
+    Ok(records_on(alloc, &mut disk_of(alloc, image, &[], None)?, bodies))
+}
+
+/// The same of a disk.
+pub fn records_on<D: Disk>(alloc: Global, disk: &mut D, bodies: &[&[u8]]) -> Option<usize> {
+    let Ok(opened) = open(alloc, disk) else {
+        return None;
     };
     let count = opened.bodies.len();
     if count as usize > bodies.len() {
-        return Ok(None);
+        return None;
     }
     for i in 0..count {
         if opened.bodies.at(i) != bodies[i as usize] {
-            return Ok(None);
+            return None;
         }
     }
-    Ok(Some(count as usize))
+    Some(count as usize)
 }
 
 /// After so many calls, the records in the bytes as they stood after the last sync, and in those that a read gives.

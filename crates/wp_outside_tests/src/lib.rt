@@ -11,6 +11,8 @@ mod devices;
 #[cfg(test)]
 mod limits;
 #[cfg(test)]
+mod real_disks;
+#[cfg(test)]
 mod turns;
 #[cfg(test)]
 mod writing;

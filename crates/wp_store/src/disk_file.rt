@@ -22,7 +22,8 @@ pub trait DiskFile {
     /// Where the next read or write begins.
     ghost position: { Self → ℕ };
 
-    /// Goes to a place. The count of faults rises by one with `DiskFailed`, and with nothing else, here and in all calls.
+    /// Goes to a place. The count of faults rises by one with `DiskFailed`, and with nothing else, here and in all
+    /// calls.
     fn seek(&mut self, place: u64) -> Result<(), DiskFailed>
         ensures moved { OnOk result (WhereTold (told self.old).holds (λ _. position self.new ≡ place)) }
         ensures same { (told self.new).holds ≡ (told self.old).holds }
@@ -46,8 +47,8 @@ pub trait DiskFile {
         ensures failed { IsErrOf result DiskFault.Failed → (told self.new).faults ≡ one_more (told self.old).faults }
         ensures sound { (IsErrOf result DiskFault.Failed → ⊥) → (told self.new).faults ≡ (told self.old).faults };
 
-    /// Writes the first bytes of a piece over what stands next, and past the end, and answers how many: at least one, unless
-    /// the piece is empty. Until a sync, a crash may leave any bytes where the piece was to stand.
+    /// Writes the first bytes of a piece over what stands next, and past the end, and answers how many: at least one,
+    /// unless the piece is empty. Until a sync, a crash may leave any bytes where the piece was to stand.
     fn write(&mut self, piece: &[u8]) -> Result<usize, DiskFailed>
         requires { WhereTold (told self.old).holds (λ bytes. position self.old ≤ length bytes) }
         ensures within { IfOk result (λ n. n ≤ length piece.now) }

@@ -9,17 +9,19 @@ use std::alloc::Global;
 use std::marker::Model;
 use wp_model::Memory;
 
-/// How many bytes a file in memory may have, how often it may be called, and how many bytes a call reads or writes at most:
-/// where that is 0, one.
+/// What a file in memory has room for.
 #[derive(Clone, Copy)]
 pub struct FileRoom {
+    /// The most bytes that it may have.
     pub size: u64,
+    /// How often it may be called.
     pub calls: u32,
+    /// How many bytes one call reads or writes at most. Where that is 0, it is one.
     pub most: usize,
 }
 
-/// A file in memory, which fails as it is told, and tells all. Its bytes stand on a disk in memory. It reads and writes no more
-/// than so many bytes a call, as a file of the system may.
+/// A file in memory, which fails as it is told, and tells all. Its bytes stand on a disk in memory. It reads and
+/// writes no more than so many bytes a call, as a file of the system may.
 #[derive(Drop)]
 pub struct MemFile {
     disk: MemDisk,
@@ -40,8 +42,8 @@ impl Model for MemFile {
 }
 
 impl MemFile {
-    /// A file that holds these bytes, before the first of them. A call past its room fails, and so do the calls whose numbers,
-    /// counted from 1, stand in `fails`.
+    /// A file that holds these bytes, before the first of them. A call past its room fails, and so do the calls whose
+    /// numbers, counted from 1, stand in `fails`.
     pub fn new(
         alloc: Global,
         bytes: Vec<u8>,

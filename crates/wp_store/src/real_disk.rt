@@ -48,13 +48,15 @@ impl<F: DiskFile + Drop> Disk for RealDisk<F> {
 
     ghost is_disk = { λ disk. recounted (F.told disk.file) disk.calls (F.is_disk disk.file) };
 
-    /// No more than `MOST_STORE_BYTES` and one byte are read. It fails as soon as a call of the file does, which is then the
-    /// last: the file's count of faults is the disk's, and rises by one.
+    /// No more than `MOST_STORE_BYTES` and one byte are read. It fails as soon as a call of the file does, which is
+    /// then the last: the file's count of faults is the disk's, and rises by one.
     fn read(&mut self, alloc: Global) -> Result<Vec<u8>, DiskFault>
         ensures most { (IsErrOf result DiskFault.Failed → ⊥) → WhereTold (F.told self.old.file).holds (λ _.
             F.position self.new.file ≤ most_store_bytes + 1) }
-        ensures failed { IsErrOf result DiskFault.Failed → (F.told self.new.file).faults ≡ one_more (F.told self.old.file).faults }
-        ensures sound { (IsErrOf result DiskFault.Failed → ⊥) → (F.told self.new.file).faults ≡ (F.told self.old.file).faults }
+        ensures failed { IsErrOf result DiskFault.Failed
+            → (F.told self.new.file).faults ≡ one_more (F.told self.old.file).faults }
+        ensures sound { (IsErrOf result DiskFault.Failed → ⊥)
+            → (F.told self.new.file).faults ≡ (F.told self.old.file).faults }
 
         ensures bytes { IfOk result (λ read. WhereTold (F.told self.old.file).holds (λ bytes. read.items ≡ bytes)) }
         ensures same { (F.told self.new.file).holds ≡ (F.told self.old.file).holds }
@@ -75,7 +77,8 @@ impl<F: DiskFile + Drop> Disk for RealDisk<F> {
 
         ensures written { OnOk result
             ((F.told self.new.file).holds ≡ option_map (written_over place piece.now) (F.told self.old.file).holds) }
-        ensures calls { OneCall (Torn place (length piece.now)) (over_told F.told self.old) (over_told F.told self.new) }
+        ensures calls { OneCall (Torn place (length piece.now))
+            (over_told F.told self.old) (over_told F.told self.new) }
         ensures unsynced { (F.told self.new.file).syncs ≡ (F.told self.old.file).syncs }
     {
         self.count();
@@ -89,7 +92,8 @@ impl<F: DiskFile + Drop> Disk for RealDisk<F> {
         ensures sound { OnOk result ((F.told self.new.file).faults ≡ (F.told self.old.file).faults) }
         ensures once { (F.told self.new.file).calls ≡ one_more (F.told self.old.file).calls }
 
-        ensures written { OnOk result ((F.told self.new.file).holds ≡ option_map (take size) (F.told self.old.file).holds) }
+        ensures written { OnOk result
+            ((F.told self.new.file).holds ≡ option_map (take size) (F.told self.old.file).holds) }
         ensures calls { OneCall (Cut size) (over_told F.told self.old) (over_told F.told self.new) }
         ensures unsynced { (F.told self.new.file).syncs ≡ (F.told self.old.file).syncs }
     {
@@ -104,7 +108,8 @@ impl<F: DiskFile + Drop> Disk for RealDisk<F> {
         ensures once { (F.told self.new.file).calls ≡ one_more (F.told self.old.file).calls }
 
         ensures same { OnOk result ((F.told self.new.file).holds ≡ (F.told self.old.file).holds) }
-        ensures durable { OnOk result (WhereTold (F.told self.old.file).holds (λ bytes. Only bytes (F.told self.new.file).images)) }
+        ensures durable { OnOk result (WhereTold (F.told self.old.file).holds (λ bytes.
+            Only bytes (F.told self.new.file).images)) }
         ensures calls { OneCall Stays (over_told F.told self.old) (over_told F.told self.new) }
         ensures synced { OnOk result (WhereTold (F.told self.old.file).holds (λ _.
             OneSync (over_told F.told self.old) (over_told F.told self.new))) }

@@ -15,9 +15,9 @@ use std::{fs, io};
 /// The file that a store keeps its records in, in the working directory.
 pub const STORE_FILE: &str = "waveplan.store";
 
-/// The file `waveplan.store` of the working directory, which is made empty where there is none. It is opened at the first call,
-/// and is then this run's alone: where another run has it, each call fails. It tells nothing but how often a call failed and how
-/// often it was called, and contracts see these counts.
+/// The file `waveplan.store` of the working directory, which is made empty where there is none. It is opened at the
+/// first call, and is then this run's alone: where another run has it, each call fails. It tells nothing but how
+/// often a call failed and how often it was called, and contracts see these counts.
 #[derive(Drop)]
 pub struct SystemFile<'a, R: FileSystem<File = File>> {
     file: LateFile<'a, R>,
@@ -74,8 +74,8 @@ impl<'a, R: FileSystem<File = File>> DiskFile for SystemFile<'a, R> {
     }
 }
 
-// The calls of the system on the store's file, which is opened before the first of them. A call that a signal interrupts is
-// made again.
+// The calls of the system on the store's file, which is opened before the first of them. A call that a signal
+// interrupts is made again.
 #[derive(Drop)]
 struct LateFile<'a, R: FileSystem<File = File>> {
     rt: &'a R,
@@ -143,9 +143,10 @@ impl<'a, R: FileSystem<File = File>> LateFile<'a, R> {
     }
 }
 
-// A caller may have closed standard input and output, and then the first files that are opened get their numbers. So the file is opened three times and
-// only the third is kept: what is written to a closed standard output fails, and never comes to stand in the store. The lock is of the opening that is kept.
-// An empty file may just have been made, so its folder is synced, lest it is gone after a loss of power.
+// A caller may have closed standard input and output, and then the first files that are opened get their numbers. So
+// the file is opened three times and only the third is kept: what is written to a closed standard output fails, and
+// never comes to stand in the store. The lock is of the opening that is kept. An empty file may just have been made,
+// so its folder is synced, lest the file is gone after a loss of power.
 fn open_alone<R: FileSystem<File = File>>(rt: &R) -> io::Result<File> {
     let _first = open_or_make(rt)?;
     let _second = open_or_make(rt)?;
