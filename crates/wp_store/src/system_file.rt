@@ -94,15 +94,8 @@ impl<'a, R: FileSystem<File = File>> LateFile<'a, R> {
     }
 
     fn seek(&mut self, place: u64) -> io::Result<()> {
-        let file = self.opened()?;
-        for _ in 0..u64::MAX {
-            match file.seek(SeekFrom::Start(place)) {
-                Ok(_) => return Ok(()),
-                Err(error) if error.kind() == io::ErrorKind::Interrupted => {}
-                Err(error) => return Err(error),
-            }
-        }
-        Err(io::Error::from(io::ErrorKind::TimedOut))
+        sought(self.opened()?, SeekFrom::Start(place))?;
+        Ok(())
     }
 
     fn read(&mut self, piece: &mut [u8]) -> io::Result<usize>
@@ -150,12 +143,23 @@ impl<'a, R: FileSystem<File = File>> LateFile<'a, R> {
 fn open_alone<R: FileSystem<File = File>>(rt: &R) -> io::Result<File> {
     let _first = open_or_make(rt)?;
     let _second = open_or_make(rt)?;
-    let file = open_or_make(rt)?;
+    let mut file = open_or_make(rt)?;
     file.try_lock()?;
-    if file.metadata()?.len() == 0 {
+    if sought(&mut file, SeekFrom::End(0))? == 0 {
         fs::open(rt, ".")?.sync_all()?;
     }
     Ok(file)
+}
+
+// Goes there, and answers where that is.
+fn sought(file: &mut File, to: SeekFrom) -> io::Result<u64> {
+    for _ in 0..u64::MAX {
+        match file.seek(to) {
+            Err(error) if error.kind() == io::ErrorKind::Interrupted => {}
+            answer => return answer,
+        }
+    }
+    Err(io::Error::from(io::ErrorKind::TimedOut))
 }
 
 fn open_or_make<R: FileSystem<File = File>>(rt: &R) -> io::Result<File> {
