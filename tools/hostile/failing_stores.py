@@ -11,6 +11,7 @@ import random
 import resource
 import shutil
 import signal
+import socket
 import subprocess
 from collections import namedtuple
 from pathlib import Path
@@ -18,8 +19,8 @@ from pathlib import Path
 from opinion import stores
 from trial import End, plan_words, put, run, shim, wave_day
 
-# It tells of the calls on the store alone, which are numbered from its opening on. One of them fails, or stops the
-# program before it or in the midst of it.
+# It tells of the calls on the store alone, which are numbered from its opening on, together with those on its folder.
+# One of them fails, or stops the program before it or in the midst of it; or each moves only so many bytes.
 STOPPING = r"""
 #define _GNU_SOURCE
 #include <errno.h>
@@ -27,18 +28,20 @@ STOPPING = r"""
 #include <signal.h>
 #include <stdlib.h>
 #include <string.h>
+#include <sys/file.h>
 #include <sys/syscall.h>
 #include <unistd.h>
 
 static const char *how = "never";
-static long number, error, made;
-static int store = -1, told = -1;
+static long number, error, made, most = 1L << 40;
+static int store = -1, above = -1, told = -1;
 static off_t place;
 
 __attribute__((constructor)) static void begin(void) {
     how = getenv("STORE_HOW");
     number = atol(getenv("STORE_NUMBER"));
     error = atol(getenv("STORE_ERROR"));
+    if (getenv("STORE_MOST")) most = atol(getenv("STORE_MOST"));
     if (getenv("STORE_TOLD"))
         told = (int)syscall(SYS_openat, AT_FDCWD, getenv("STORE_TOLD"), O_WRONLY | O_CREAT | O_APPEND, 0600);
 }
@@ -59,6 +62,8 @@ static void tell(const char *call, long where, const void *bytes, size_t count) 
     if (syscall(SYS_write, told, line, length) != (long)length) abort();
 }
 
+static size_t least(size_t count) { return count < (size_t)most ? count : (size_t)most; }
+
 /* Whether this call on the store fails, which is told on standard error; the program doesn't use that. */
 static int fails(void) {
     if (++made != number) return 0;
@@ -70,15 +75,19 @@ static int fails(void) {
 }
 
 int open(const char *name, int flags, ...) {
-    int file;
-    if (strcmp(name, "waveplan.store") == 0 && fails()) return -1;
+    int is_store = strcmp(name, "waveplan.store") == 0, is_above = strcmp(name, ".") == 0, file;
+    if ((is_store || is_above) && fails()) return -1;
     file = (int)syscall(SYS_openat, AT_FDCWD, name, flags, 0666);
-    if (strcmp(name, "waveplan.store") == 0) store = file;
+    if (is_store) store = file;
+    if (is_above) above = file;
     return file;
 }
 
+int flock(int file, int way) { return file == store && fails() ? -1 : (int)syscall(SYS_flock, file, way); }
+
 ssize_t read(int file, void *bytes, size_t count) {
-    return file == store && fails() ? -1 : syscall(SYS_read, file, bytes, count);
+    if (file != store) return syscall(SYS_read, file, bytes, count);
+    return fails() ? -1 : syscall(SYS_read, file, bytes, least(count));
 }
 
 off_t lseek(int file, off_t where, int from) {
@@ -95,7 +104,7 @@ ssize_t write(int file, const void *bytes, size_t count) {
         raise(SIGKILL);
     }
     tell("write", place, bytes, count);
-    return syscall(SYS_write, file, bytes, count);
+    return syscall(SYS_write, file, bytes, least(count));
 }
 
 ssize_t __write(int file, const void *bytes, size_t count) { return write(file, bytes, count); }
@@ -107,7 +116,7 @@ int ftruncate(int file, off_t length) {
 }
 
 int fsync(int file) {
-    if (file == store && fails()) return -1;
+    if ((file == store || file == above) && fails()) return -1;
     if (file == store) tell("sync", 0, "", 0);
     return (int)syscall(SYS_fsync, file);
 }
@@ -116,9 +125,15 @@ int fsync(int file) {
 ERRORS = "EIO ENOSPC EROFS EINTR ENOMEM"
 HEADING = "desk,command,arguments\n"
 WORDS = plan_words(2, "--store", "1")
+JOURNAL = [b"0 1 submit W1 O0 O1 -> submitted\n", b"1 1 release W1 -> released\n",
+           b"2 1 pick W1 O0 1-1-L 1 -> picked\n", b"3 1 receive 1-1-L A1-1 5 -> received\n"]
+# Ways in which standard output takes nothing, as a shell has them.
+OUTPUTS = (("closed", ">&-"), ("full", ">/dev/full"), ("for reading", "1</dev/null"), ("and input closed", "<&- >&-"),
+           ("and errors closed", ">&- 2>&-"), ("and all streams closed", "<&- >&- 2>&-"))
 STRANGER = 65534  # a user who owns none of the files
 DRAWS = 6  # images that are drawn after each call
 LARGE = 120  # seconds that a run over the largest store may take
+LEAST_CALLS = 10  # calls that each run with a store makes on it, and more
 
 # A day with a store: what it is, its files, and the bytes of its store before, None where there is no such file.
 Day = namedtuple("Day", "what files before")
@@ -142,15 +157,22 @@ def begun(folder, day):
     return Path(folder)
 
 
-def days(program, folder):
+def days(program, folder, tally):
     """A day that begins its store, and one that goes on from it; each with how it ends and with the lines of its
     journal."""
     first = Day("a first run", wave_day(["1-1", "1-1"]), None)
     more = {**first.files, "desks.csv": HEADING + "1,pick,W1,O0,1-1-L,1\n1,receive,1-1-L,A1-1,5\n"}
-    stored = stores.file_of([b"0 1 submit W1 O0 O1 -> submitted\n", b"1 1 release W1 -> released\n"])
-    for day in (first, Day("a second run", more, stored)):
+    for day, journal in ((first, JOURNAL[:2]), (Day("a second run", more, stores.file_of(JOURNAL[:2])), JOURNAL)):
         right = run(program, WORDS, begun(folder, day))
-        yield day, right, stores.records(bytes_at(folder))
+        is_planned = right.status == 0 and right.output.startswith(output_of(journal))
+        is_stored = bytes_at(folder) == stores.file_of(journal)
+        tally.add(is_planned and is_stored, "%s where nothing fails" % day.what, right)
+        yield day, right, journal
+
+
+def output_of(journal):
+    """What an output with these entries begins with."""
+    return b"journal\n%send journal\n" % b"".join(journal)
 
 
 def is_sound(program, place, day, end, journal):
@@ -166,8 +188,7 @@ def goes_on(program, place, kept):
     """Whether a run without commands prints a journal of these records, and leaves them."""
     put(place, {"desks.csv": HEADING})
     end = run(program, WORDS, place)
-    return end.status == 0 and end.output.startswith(b"journal\n" + b"".join(kept)
-                                                     + b"end journal\n") and bytes_at(place) == stores.file_of(kept)
+    return end.status == 0 and end.output.startswith(output_of(kept)) and bytes_at(place) == stores.file_of(kept)
 
 
 def library_of(folder):
@@ -192,7 +213,7 @@ def is_named(end, right, error):
 def try_store_calls(program, folder, tally):
     """Each call on a store, failing in turn with each error."""
     library, place = library_of(folder), Path(folder, "store")
-    for day, right, journal in days(program, place):
+    for day, right, journal in days(program, place, tally):
         for error in ERRORS.split():
             for number in itertools.count(1):
                 end = run(program, WORDS, begun(place, day),
@@ -200,14 +221,27 @@ def try_store_calls(program, folder, tally):
                 what = "%s where call %d on the store fails with %s" % (day.what, number, error)
                 if not end.errors:
                     tally.add(end == right and bytes_at(place) == stores.file_of(journal), what, end)
+                    tally.add(number > LEAST_CALLS, "%s where only %d calls on the store are seen" % (day.what, number),
+                              end)
                     break
                 tally.add(is_named(end, right, error) and is_sound(program, place, day, end, journal), what, end)
+
+
+def try_short_store_calls(program, folder, tally):
+    """Calls on a store that move at most so many bytes."""
+    library, place = library_of(folder), Path(folder, "store")
+    for day, right, journal in days(program, place, tally):
+        for most in (1, 3, 50):
+            short = {**with_calls(library, "never", 0), "STORE_MOST": str(most)}
+            end = run(program, WORDS, begun(place, day), env=short)
+            tally.add(end == right and bytes_at(place) == stores.file_of(journal),
+                      "%s whose calls on the store move at most %d bytes" % (day.what, most), end)
 
 
 def try_stops(program, folder, tally):
     """A program that is stopped before each call on a store, and in the midst of each write to it."""
     library, place = library_of(folder), Path(folder, "store")
-    for day, right, journal in days(program, place):
+    for day, right, journal in days(program, place, tally):
         for number in itertools.count(1):
             ends = []
             for how in ("stop", "half"):
@@ -265,7 +299,7 @@ def try_torn_stores(program, folder, tally):
     """What a disk may hold where power fails after each call on a store, with what wasn't synced torn in ways that are
     drawn."""
     dice, library, place, told = random.Random(1), library_of(folder), Path(folder, "store"), Path(folder, "told")
-    for day, right, journal in days(program, place):
+    for day, right, journal in days(program, place, tally):
         told.unlink(missing_ok=True)
         end = run(program, WORDS, begun(place, day), env=with_calls(library, "never", 0, 0, told))
         calls, old = list(told_calls(told)), len(stores.records(day.before or b""))
@@ -293,22 +327,61 @@ def bad_stores():
         "a link to itself": lambda path: path.symlink_to(path.name),
         "a link below a file": lambda path: path.symlink_to("stock.csv/x"),
         "a link into no folder": lambda path: path.symlink_to("nowhere/x"),
+        "a link to a folder": lambda path: path.symlink_to("."),
         "a pipe": os.mkfifo,
+        "a socket": socket_at,
         **{device: lambda path, device=device: path.symlink_to(device)
            for device in ("/dev/null", "/dev/zero", "/dev/full", "/proc/self/mem")},
     }
 
 
+def socket_at(path):
+    """Makes a socket in the folder of a path, whose name may be longer than one of a socket."""
+    here = os.open(".", os.O_RDONLY)
+    os.chdir(path.parent)
+    try:
+        with socket.socket(socket.AF_UNIX) as it:
+            it.bind(path.name)
+    finally:
+        os.fchdir(here)
+        os.close(here)
+
+
 def try_bad_stores(program, folder, tally):
     """A store that is no file."""
     place = Path(folder, "store")
-    day, right, _ = next(days(program, place))
+    day, _, _ = next(days(program, place, tally))
     for what, spoil in bad_stores().items():
         spoil(begun(place, day) / stores.NAME)
         before = sorted(path.name for path in place.iterdir())
         end = run(program, WORDS, place)
         untouched = before == sorted(path.name for path in place.iterdir())
         tally.add((end.status, end.output) == (7, stores.FAULT) and untouched, "a store that is %s" % what, end)
+
+
+def try_linked_stores(program, folder, tally):
+    """A store that is a second name of a file, or a link to one that is there or not."""
+    place, other = Path(folder, "store"), Path(folder, "elsewhere")
+    for day, right, journal in days(program, place, tally):
+        for what, link in (("a link", os.symlink), ("a second name", os.link)):
+            begun(place, day)
+            shutil.rmtree(other, ignore_errors=True)
+            other.mkdir()
+            if day.before is not None:
+                os.replace(place / stores.NAME, other / "file")
+            elif link is os.link:
+                continue
+            link(other / "file", place / stores.NAME)
+            end = run(program, WORDS, place)
+            fine = end == right and (other / "file").read_bytes() == stores.file_of(journal)
+            tally.add(fine and (place / stores.NAME).is_symlink() == (link is os.symlink) and
+                      goes_on(program, place, journal), "%s whose store is %s" % (day.what, what), end)
+
+
+def try_large_stores(program, folder, tally):
+    """A store of the greatest size, and one that has a byte more."""
+    place = Path(folder, "store")
+    day, right, _ = next(days(program, place, tally))
     for more, status, line in ((0, 0, right.output), (1, 6, b"refused store too-long\n")):
         os.truncate(put_file(begun(place, day) / stores.NAME), stores.MOST_BYTES + more)
         end = run(program, WORDS, place, timeout=LARGE)
@@ -330,7 +403,7 @@ def try_permissions(program, folder, tally):
         print("left out: folders and stores without permission, which root has to run")
         return
     place = Path(folder, "store")
-    for day, right, journal in days(program, place):
+    for day, right, journal in days(program, place, tally):
         for mode, status in ((0o666, 0 if day.before is not None else 7), (0o600, 7), (0o444, 7), (0o222, 7)):
             begun(place, day).chmod(0o755)
             if day.before is not None:
@@ -342,10 +415,10 @@ def try_permissions(program, folder, tally):
 
 
 def try_outputs(program, folder, tally):
-    """Standard output that is closed or full, behind a store."""
+    """Standard output that is closed or full, behind a store, also where the other streams are closed."""
     place = Path(folder, "store")
-    for day, right, journal in days(program, place):
-        for what, to in (("closed", ">&-"), ("full", ">/dev/full"), ("for reading", "1</dev/null")):
+    for day, right, journal in days(program, place, tally):
+        for what, to in OUTPUTS:
             end = run("/bin/sh", ["-c", 'exec "$@" ' + to, "sh", program, *WORDS], begun(place, day))
             fine = (end.status, end.output) == (4, b"") and bytes_at(place) == stores.file_of(journal)
             tally.add(fine and goes_on(program, place, journal), "%s with standard output %s" % (day.what, what), end)
@@ -359,7 +432,7 @@ def try_limited_stores(program, folder, tally):
         signal.signal(signal.SIGXFSZ, signal.SIG_IGN)
         resource.setrlimit(resource.RLIMIT_FSIZE, (most, most))
 
-    for day, right, journal in days(program, place):
+    for day, right, journal in days(program, place, tally):
         for most in range(0, len(stores.file_of(journal)) + 2, 3):
             end = run(program, WORDS, begun(place, day), preexec_fn=limited, restore_signals=False)
             whole = end == right and bytes_at(place) == stores.file_of(journal)
@@ -418,8 +491,7 @@ def full_in_the_midst(program, files, place, commands, tally):
               "a disk that is full after %d entries" % len(kept), end)
     mounted(place, 64, "remount")
     end = planned_from(program, files, place, [])
-    tally.add(end.status == 0 and end.output.startswith(b"journal\n" + b"".join(kept) + b"end journal\n"),
-              "the same disk with room", end)
+    tally.add(end.status == 0 and end.output.startswith(output_of(kept)), "the same disk with room", end)
     by_desk = {desk: [line for line in commands if line.startswith("%d," % desk)] for desk in range(1, 9)}
     for line in kept:
         by_desk[int(line.split(b" ")[1])].pop(0)
@@ -428,5 +500,8 @@ def full_in_the_midst(program, files, place, commands, tally):
     tally.add(whole and b"\n1-1-L A1-1 409 409 0\n" in end.output, "the commands that are missing", end)
 
 
-TRIALS = (try_store_calls, try_stops, try_torn_stores, try_bad_stores, try_permissions, try_outputs, try_limited_stores,
-          try_full_disk)
+TRIALS = (try_store_calls, try_short_store_calls, try_stops, try_torn_stores, try_bad_stores, try_linked_stores,
+          try_large_stores, try_permissions, try_outputs, try_limited_stores, try_full_disk)
+# Those that the gate makes too: they take seconds, and need no more than a C compiler.
+OF_THE_GATE = (try_store_calls, try_short_store_calls, try_stops, try_torn_stores, try_bad_stores, try_linked_stores,
+               try_outputs)

@@ -2,6 +2,7 @@
 
 import os
 import re
+import shutil
 import subprocess
 from collections import namedtuple
 from pathlib import Path
@@ -127,11 +128,18 @@ def certificates(output):
     return re.findall(rb"^wave .* bound (\d+) .*\n(?:(?!certificate ).*\n)*certificate (.*)\n", output, re.MULTILINE)
 
 
+def compiler():
+    """The C compiler, None where there is none: CC, or one of the usual names."""
+    return next(filter(shutil.which, filter(None, (os.environ.get("CC"), "cc", "clang", "gcc"))), None)
+
+
 def shim(folder, name, text):
     """Compiles C text to a library that is loaded before the C library, and gives its path."""
-    source, library = Path(folder, name + ".c"), Path(folder, name + ".so")
+    source, library, with_it = Path(folder, name + ".c"), Path(folder, name + ".so"), compiler()
+    if with_it is None:
+        raise endings.Trouble("there is no C compiler here: name one in CC")
     source.write_text(text)
-    subprocess.run([os.environ.get("CC", "cc"), "-O2", "-shared", "-fPIC", "-o", library, source], check=True)
+    subprocess.run([with_it, "-O2", "-shared", "-fPIC", "-o", library, source], check=True)
     return str(library)
 
 
@@ -146,8 +154,10 @@ class Tally:
         self.runs += 1
         if not right:
             self.wrong += 1
-            told = (what, end.status, end.output[:200], end.errors[:200])
-            print("wrong: %s: status %s, output %r, errors %r" % told, flush=True)
+            self.tell(what, "status %s, output %r, errors %r" % (end.status, end.output[:200], end.errors[:200]))
+
+    def tell(self, what, how):
+        print("wrong: %s: %s" % (what, how), flush=True)
 
     def end(self):
         """Prints the line that sums up, and gives the script's status."""

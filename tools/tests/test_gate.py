@@ -452,10 +452,11 @@ class Changing(unittest.TestCase):
     def test_handles_reach_all(self):
         self.assertEqual(self.reached('HANDLES'), [*self.now])
 
-    def test_the_statuses_are_tried_where_the_program_is_reached(self):
+    def test_the_statuses_and_stores_are_tried_where_the_program_is_reached(self):
         names = [name for name, _ in self.changed.checks_for(['high', 'waveplan'])]
-        self.assertEqual(names, ['waits', 'documents', 'scripts', 'proofs', 'statuses', 'edits', 'programs'])
-        self.assertNotIn('statuses', [name for name, _ in self.changed.checks_for(['cases'])])
+        self.assertEqual(names, ['waits', 'documents', 'scripts', 'proofs', 'statuses', 'stores', 'edits', 'programs'])
+        reached = [name for name, _ in self.changed.checks_for(['cases'])]
+        self.assertEqual(reached, ['waits', 'documents', 'scripts', 'proofs', 'edits', 'programs'])
 
 
 # A crate whose functions may wait by their own bounds, by those of their impl, by an argument, or not at all.
@@ -584,7 +585,8 @@ class Failing(io.RawIOBase):
 class BadInputs(unittest.TestCase):
     """The gate's scripts over wrong words, without a kit, with another one, and with outputs that can't be written."""
 
-    SCRIPTS = ('refuse', 'weigh', 'waits', 'statuses', 'changed', 'sum-up', 'printed', 'lines-to-read', '../release')
+    SCRIPTS = ('refuse', 'weigh', 'waits', 'statuses', 'stores', 'changed', 'sum-up', 'printed', 'lines-to-read',
+               '../release')
     WORDS = (['--unknown'], ['nowhere', 'nothing'], ['9' * 5000], ['', ''], ['/dev/null', '--table'], ['--from'],
              ['--anew', '\x1b[2J'], ['--from', 'nowhere'], ['--whole', 'x', 'y'], ['--without', '--without'],
              ['x' * 200, '--write'])
