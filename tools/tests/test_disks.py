@@ -11,6 +11,7 @@ import runs
 
 sys.path[:0] = [str(runs.TOOLS / 'hostile'), str(runs.TOOLS / 'gate')]
 import failing_stores
+import shared_stores
 import trial
 from test_gate import script
 
@@ -73,6 +74,11 @@ int ftruncate(int file, off_t length) {
     return file == store && is("a failed cut is acknowledged") ? 0 : done;
 }
 
+int flock(int file, int way) {
+    int (*next)(int, int) = dlsym(RTLD_NEXT, "flock");
+    return file == store && is("nothing is locked") ? 0 : next(file, way);
+}
+
 int fsync(int file) {
     int (*next)(int) = dlsym(RTLD_NEXT, "fsync");
     static int syncs;
@@ -99,6 +105,7 @@ FAULTS = {
     'nothing is written': failing_stores.try_short_store_calls,
     'emptied when it is opened': failing_stores.try_short_store_calls,
     'another file': failing_stores.try_short_store_calls,
+    'nothing is locked': shared_stores.try_locked_stores,
     'opened in the place of standard output': failing_stores.try_outputs,
 }
 
