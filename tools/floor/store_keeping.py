@@ -7,7 +7,8 @@ The words are those of a run. Before it, FOLDER is the number under which the la
 or - where it can't be opened. It is locked, so that one run at a time uses the store, for as long as the launcher and
 its program have it open. Where another run has it, or another program has locked the store, this one waits for at most
 ten seconds. Then the store is copied to waveplan.store.before, and the digest of the desk file is kept in
-waveplan.store.desks. After a run that was refused, and so added nothing, both are put back.
+waveplan.store.desks. After a run that was refused, and so added nothing, both are put back. Where a run will cut off
+bytes of the store that no crash has left there, this says so.
 
 Status: 0 where the run is to go on, 7 where another run has the store, or 4 where the line that tells it can't be
 written, and 130 where it was asked on a terminal whether to go on, and the answer was no; 2 where the words aren't
@@ -85,12 +86,12 @@ def is_free_in_time(folder):
     return True
 
 
-def beginning():
-    """The bytes of the store as far as its first record can go; none where there is no such file."""
+def content():
+    """The bytes of the store; none where there is no such file."""
     if not os.path.isfile(stores.NAME):
         return b''
     with open(stores.NAME, 'rb') as it:
-        return it.read(5 + stores.MOST_BODY)
+        return it.read(stores.MOST_BYTES + 1)
 
 
 def digest_of(path):
@@ -143,6 +144,21 @@ def copy_store():
                 os.remove(name)
 
 
+def tell_what_is_cut(data):
+    """Tells what a run will cut off the store's bytes, where no crash has left it behind the records."""
+    kept = stores.records(data)
+    behind = data[len(stores.file_of(kept)) - 1:]
+    if len(data) > stores.MOST_BYTES:
+        return
+    if not kept and data not in (b'', stores.CLOSED):
+        say('the first bytes of %s are no record of a store: this run empties it. Its bytes are kept in %s'
+            % (stores.NAME, BEFORE))
+    elif stores.is_changed(behind):
+        say('something has changed %s: no record begins behind entry %d, and no crash leaves the %d bytes there. This '
+            'run cuts them off; until the next run they are kept in %s'
+            % (stores.NAME, len(kept) - 1, len(behind), BEFORE))
+
+
 def status_of_fault():
     """Prints the line of a run that can't have its store, and gives the status."""
     try:
@@ -158,11 +174,9 @@ def before(folder, job):
         say('another run has used %s for ten seconds: this one has done nothing, and ends. Run it again later'
             % stores.NAME)
         return status_of_fault()
-    first = beginning()
-    has_records = bool(stores.records(first))
-    if not has_records and first not in (b'', stores.CLOSED):
-        say('the first bytes of %s are no record of a store: this run empties it. Its bytes are kept in %s'
-            % (stores.NAME, BEFORE))
+    data = content()
+    has_records = bool(stores.records(data))
+    tell_what_is_cut(data)
     digest, (last, _) = digest_of(job.files['desks']), kept_digests()
     if has_records and digest and digest == last and not may_go_on():
         say('nothing was run')

@@ -29,6 +29,12 @@ def file_of(bodies):
     return b''.join(OPEN + len(body).to_bytes(4, 'big') + body for body in bodies) + CLOSED
 
 
+def is_changed(behind):
+    """Whether no crash leaves these bytes behind the records of a store. A crash leaves a closed byte there, with one
+    record behind it at most, which may be torn; or else a single byte."""
+    return len(behind) > 1 and behind[:1] != CLOSED or len(records(OPEN + behind[1:])) > 1
+
+
 def _entry_of(body, number, knows_over_cart):
     """The entry that a record is the line of, None where it isn't that of this number."""
     entry = read_entry(body[:-1], knows_over_cart) if body.endswith(b'\n') else None
