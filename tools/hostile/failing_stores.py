@@ -20,7 +20,8 @@ from opinion import stores
 from trial import End, plan_words, put, run, shim, wave_day
 
 # It tells of the calls on the store alone, which are numbered from its opening on, together with those on its folder.
-# One of them fails, or stops the program before it or in the midst of it; or each moves only so many bytes.
+# One of them fails, or stops the program before it or in the midst of it; or each moves only so many bytes; or no file
+# can be locked.
 STOPPING = r"""
 #define _GNU_SOURCE
 #include <errno.h>
@@ -83,7 +84,13 @@ int open(const char *name, int flags, ...) {
     return file;
 }
 
-int flock(int file, int way) { return file == store && fails() ? -1 : (int)syscall(SYS_flock, file, way); }
+int flock(int file, int way) {
+    if (file == store && getenv("STORE_LOCK")) {
+        errno = atoi(getenv("STORE_LOCK"));
+        return -1;
+    }
+    return file == store && fails() ? -1 : (int)syscall(SYS_flock, file, way);
+}
 
 ssize_t read(int file, void *bytes, size_t count) {
     if (file != store) return syscall(SYS_read, file, bytes, count);

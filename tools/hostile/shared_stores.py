@@ -3,6 +3,7 @@
 A run has its store from its opening to its own end, however it ends. One without the store is never kept away.
 """
 
+import errno
 import fcntl
 import os
 import select
@@ -11,7 +12,7 @@ import signal
 import subprocess
 from pathlib import Path
 
-from failing_stores import HEADING, WORDS, begun, bytes_at, days, goes_on, output_of
+from failing_stores import HEADING, WORDS, begun, bytes_at, days, goes_on, library_of, output_of, with_calls
 from opinion import stores
 from trial import LIMIT, End, layout_text, put, run
 
@@ -44,6 +45,20 @@ def try_locked_stores(program, folder, tally):
                           % (day.what, what), beside)
             end = run(program, WORDS, place)
             tally.add(end == right and bytes_at(place) == stores.file_of(journal), "%s after the lock" % day.what, end)
+
+
+def try_unlockable_stores(program, folder, tally):
+    """A store on a file system that has no locks, as a library pretends: it is never used without one."""
+    library, place = library_of(folder), Path(folder, "store")
+    for day, _, _ in days(program, place, tally):
+        for error in (errno.ENOLCK, errno.EOPNOTSUPP, errno.ENOSYS):
+            known = {**with_calls(library, "never", 0), "STORE_LOCK": str(error)}
+            what = "%s where locks fail with %s" % (day.what, errno.errorcode[error])
+            end = run(program, WORDS, begun(place, day), env=known)
+            fine = (end.status, end.output) == (7, stores.FAULT) and bytes_at(place) == (day.before or b"")
+            tally.add(fine, what, end)
+            end = run(program, WITHOUT, begun(place, day), env=known)
+            tally.add(end.status == 0 and bytes_at(place) == day.before, what + ", without the store", end)
 
 
 def held_run(program, place):
@@ -102,4 +117,4 @@ def try_runs_at_once(program, folder, tally):
         tally.add(fine, "two runs at once, of which %d ended with 0" % done, ends[-1])
 
 
-TRIALS = (try_locked_stores, try_held_stores, try_runs_at_once)
+TRIALS = (try_locked_stores, try_unlockable_stores, try_held_stores, try_runs_at_once)
