@@ -344,6 +344,90 @@ class Emptying(unittest.TestCase):
         self.assertEqual(self.alone('not proved; it stands on `x`', None).kind, 'failed')
 
 
+# A crate with a definition over a private type, whose fields are a type that is seen by a view and one that isn't.
+READ_SPECS = """use Rattle.wp_low.specs.declared.row.Row.{Row}
+use Rattle.wp_low.specs.Kinds.{Little}
+use Rattle.csv.specs.Rows.{IsRecord}
+
+-- a row of little
+abbrev pub IsLittle : Row → Type 0
+IsLittle row = IsRecord row × (row.kind ≡ Little)
+"""
+READ_KINDS = """-- how much
+pub data Kind : Type 0 where
+  Little : Kind
+  -- more than that
+  Much : Kind
+"""
+READ_CODE = """use crate::name::{Long, Name};
+
+/// A row.
+pub(crate) struct Row {
+    name: Name,
+    // what it holds
+    long: Long,
+}
+
+struct Unused {
+    name: Name,
+}
+"""
+READ_NAMES = """ghost use Rattle.wp_low.specs.Bytes.{bytes_of};
+
+/// A name.
+pub struct Name {
+    bytes: [u8; 8],
+    hash: Hash,
+}
+
+impl Model for Name {
+    ghost Value = { List ℕ };
+
+    ghost view = { λ name.
+        bytes_of name.bytes };
+
+    ghost invariant = { λ name. hash_of name ≡ name.hash };
+}
+
+/// A hash.
+struct Hash(u32);
+
+pub type Long = Vec<Name>;
+"""
+READ_BYTES = """-- the bytes
+pub bytes_of : List ℕ → List ℕ
+bytes_of bytes = bytes
+
+-- the hash
+pub hash_of : List ℕ → ℕ
+hash_of bytes = 0
+"""
+
+
+class Reading(unittest.TestCase):
+    """How many lines a reader reads of a definition."""
+
+    def seen(self, *words):
+        counter = script('lines-to-read')
+        with tempfile.TemporaryDirectory() as room:
+            for name, text in (('specs/Rows.antt', READ_SPECS), ('specs/Kinds.antt', READ_KINDS),
+                               ('specs/Bytes.antt', READ_BYTES), ('src/row.rt', READ_CODE),
+                               ('src/name.rt', READ_NAMES)):
+                write(f'{room}/crates/wp_low/{name}', text)
+            counter.TOP = room
+            definitions = counter.Definitions()
+            found, of_kit = definitions.follow([definitions.root(it) for it in words], [])
+        return {name: lines for (_, name), lines in found.items()}, of_kit
+
+    def test_private_types_views_variants_and_aliases_are_read(self):
+        found, of_kit = self.seen('IsLittle')
+        self.assertEqual(found, {'IsLittle': 2, 'Row': 4, 'Name': 7, 'Long': 1, 'Kind': 3, 'bytes_of': 2})
+        self.assertEqual({name for _, name in of_kit}, {'IsRecord'})
+
+    def test_a_type_without_uses_is_read_alone(self):
+        self.assertEqual(self.seen('hash_of')[0], {'hash_of': 2})
+
+
 class Weighing(unittest.TestCase):
     """Which crates are held to be too heavy."""
 
