@@ -67,6 +67,8 @@ ssize_t write(int file, const void *bytes, size_t count) {
     return file == store && moved < 0 && is("a failed write is acknowledged") ? (ssize_t)count : moved;
 }
 
+ssize_t __write(int file, const void *bytes, size_t count) { return write(file, bytes, count); }
+
 int ftruncate(int file, off_t length) {
     int (*next)(int, off_t) = dlsym(RTLD_NEXT, "ftruncate");
     if (file == store && is("nothing is cut")) return 0;

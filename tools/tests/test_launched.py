@@ -115,6 +115,16 @@ class Launched(unittest.TestCase):
         self.assertEqual(stores.records(self.content()), shared_stores.received(4))
         self.assertTrue(out.startswith(shared_stores.output_of(shared_stores.received(4))))
 
+    def test_behind_a_closed_output_all_entries_are_stored(self):
+        runs.put(self.folder, {'desks.csv': commands_of(TWELVE)})
+        for closed in ('>&-', '<&- >&-', '>&- 2>&-', '<&- >&- 2>&-'):
+            words = ['sh', '-c', 'exec "$0" "$@" %s' % closed, str(self.home / 'waveplan'), *WORDS]
+            ran = subprocess.run(words, cwd=self.folder, stdout=subprocess.PIPE, stderr=subprocess.PIPE, timeout=60)
+            self.assertEqual((ran.returncode, ran.stdout), (4, b''), closed)
+            self.assertEqual(self.content(), stores.file_of(TWELVE), closed)
+            self.assertEqual(self.content('.before'), b'', closed)
+            (self.folder / stores.NAME).unlink()
+
     def test_no_lock_of_the_store_is_left(self):
         self.call(commands_of(TWELVE))
         with open(self.folder / stores.NAME, 'ab') as it:
