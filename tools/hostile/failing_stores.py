@@ -366,23 +366,25 @@ def try_bad_stores(program, folder, tally):
         tally.add((end.status, end.output) == (7, stores.FAULT) and untouched, "a store that is %s" % what, end)
 
 
+def linked(place, day, file, link):
+    """Puts the store of a day elsewhere and links to it; a first run has none there, unless the link wants one."""
+    begun(place, day._replace(before=None))
+    file.unlink(missing_ok=True)
+    if day.before is not None or link is os.link:
+        file.write_bytes(day.before or b"")
+    link(file, place / stores.NAME)
+
+
 def try_linked_stores(program, folder, tally):
     """A store that is a second name of a file, or a link to one that is there or not."""
-    place, other = Path(folder, "store"), Path(folder, "elsewhere")
+    place, file = Path(folder, "store"), Path(folder, "elsewhere")
     for day, right, journal in days(program, place, tally):
         for what, link in (("a link", os.symlink), ("a second name", os.link)):
-            begun(place, day)
-            shutil.rmtree(other, ignore_errors=True)
-            other.mkdir()
-            if day.before is not None:
-                os.replace(place / stores.NAME, other / "file")
-            elif link is os.link:
-                continue
-            link(other / "file", place / stores.NAME)
+            linked(place, day, file, link)
             end = run(program, WORDS, place)
-            fine = end == right and (other / "file").read_bytes() == stores.file_of(journal)
-            tally.add(fine and (place / stores.NAME).is_symlink() == (link is os.symlink) and
-                      goes_on(program, place, journal), "%s whose store is %s" % (day.what, what), end)
+            is_kept = (place / stores.NAME).is_symlink() == (link is os.symlink)
+            fine = end == right and is_kept and file.read_bytes() == stores.file_of(journal)
+            tally.add(fine and goes_on(program, place, journal), "%s whose store is %s" % (day.what, what), end)
 
 
 def try_large_stores(program, folder, tally):
