@@ -154,9 +154,9 @@ def tell_what_is_cut(data):
         say('the first bytes of %s are no record of a store: this run empties it. Its bytes are kept in %s'
             % (stores.NAME, BEFORE))
     elif stores.is_changed(behind):
-        say('something has changed %s: no record begins behind entry %d, and no crash leaves the %d bytes there. This '
-            'run cuts them off; until the next run they are kept in %s'
-            % (stores.NAME, len(kept) - 1, len(behind), BEFORE))
+        say('no record begins behind entry %d of %s, where %d bytes stand: something else has changed the file, or its '
+            'disk has. This run cuts them off; until the next run they are kept in %s'
+            % (len(kept) - 1, stores.NAME, len(behind), BEFORE))
 
 
 def status_of_fault():

@@ -30,8 +30,8 @@ def file_of(bodies):
 
 
 def is_changed(behind):
-    """Whether no crash leaves these bytes behind the records of a store. A crash leaves a closed byte there, with one
-    record behind it at most, which may be torn; or else a single byte."""
+    """Whether what stands behind the records of a store is more than a crash leaves there: a closed byte, with one
+    record behind it at most, which may be torn, or else a single byte. Only a disk that tears a byte leaves more."""
     return len(behind) > 1 and behind[:1] != CLOSED or len(records(OPEN + behind[1:])) > 1
 
 

@@ -69,8 +69,8 @@ class Launched(unittest.TestCase):
             runs.put(self.folder, {stores.NAME: changed})
             out, told, status = self.call()
             self.assertEqual(status, 0)
-            self.assertIn('something has changed waveplan.store: no record begins behind entry 0, and no crash leaves '
-                          'the %d bytes there' % (len(whole) - at), told)
+            self.assertIn('no record begins behind entry 0 of waveplan.store, where %d bytes stand: something else has '
+                          'changed the file' % (len(whole) - at), told)
             self.assertEqual((self.content(), self.content('.before')), (stores.file_of(TWELVE[:1]), changed))
             judged = self.opinion(out)
             self.assertEqual(judged.status, 0, judged.output + judged.errors)
@@ -89,7 +89,7 @@ class Launched(unittest.TestCase):
         whole = bytearray(stores.file_of(TWELVE))
         whole[len(stores.file_of(TWELVE[:1]))] = 9
         runs.put(self.folder, {stores.NAME: bytes(whole)})
-        self.assertIn('something has changed waveplan.store: no record begins behind entry 0', self.call()[1])
+        self.assertIn('no record begins behind entry 0 of waveplan.store', self.call()[1])
         self.assertEqual(self.content('.before'), bytes(whole))
 
     def test_two_runs_at_once_go_one_after_the_other(self):
