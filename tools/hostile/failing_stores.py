@@ -30,6 +30,7 @@ STOPPING = r"""
 #include <stdlib.h>
 #include <string.h>
 #include <sys/file.h>
+#include <sys/stat.h>
 #include <sys/syscall.h>
 #include <unistd.h>
 
@@ -90,6 +91,11 @@ int flock(int file, int way) {
         return -1;
     }
     return file == store && fails() ? -1 : (int)syscall(SYS_flock, file, way);
+}
+
+/* No signal interrupts it. */
+int statx(int file, const char *name, int flags, unsigned mask, struct statx *told) {
+    return file == store && error != EINTR && fails() ? -1 : (int)syscall(SYS_statx, file, name, flags, mask, told);
 }
 
 ssize_t read(int file, void *bytes, size_t count) {
@@ -211,9 +217,10 @@ def with_calls(library, how, number, error=0, told=None):
 
 
 def is_named(end, right, error):
-    """Whether a run in which a call on the store failed ended as it should."""
-    if error == "EINTR" and (end.status, end.output) == (right.status, right.output):
-        return True
+    """Whether a run in which a call on the store failed ended as it should. A call that a signal interrupts is made
+    again."""
+    if error == "EINTR":
+        return (end.status, end.output) == (right.status, right.output)
     return (end.status, end.output) == (7, stores.FAULT) or error == "ENOMEM" and (end.status, end.output) == (5, b"")
 
 
