@@ -430,6 +430,21 @@ def try_permissions(program, folder, tally):
             tally.add(fine, "%s in a folder that can't be written, with a store of the mode %o" % (day.what, mode), end)
 
 
+def try_unread_folders(program, folder, tally):
+    """A folder that can be written and not read: a store can't be begun there, since its folder can't be synced."""
+    if os.getuid() != 0:
+        print("left out: folders that can't be read, which root has to run")
+        return
+    place = Path(folder, "store")
+    for day, right, _ in days(program, place, tally):
+        begun(place, day).chmod(0o733)
+        if day.before is not None:
+            (place / stores.NAME).chmod(0o666)
+        end = run(program, WORDS, place, user=STRANGER)
+        is_begun = (end.status, end.output) == (7, stores.FAULT) and bytes_at(place) == b""
+        tally.add(is_begun if day.before is None else end == right, "%s in a folder that can't be read" % day.what, end)
+
+
 def try_outputs(program, folder, tally):
     """Standard output that is closed or full, behind a store, also where the other streams are closed."""
     place = Path(folder, "store")
@@ -517,7 +532,7 @@ def full_in_the_midst(program, files, place, commands, tally):
 
 
 TRIALS = (try_store_calls, try_short_store_calls, try_stops, try_torn_stores, try_bad_stores, try_linked_stores,
-          try_large_stores, try_permissions, try_outputs, try_limited_stores, try_full_disk)
+          try_large_stores, try_permissions, try_unread_folders, try_outputs, try_limited_stores, try_full_disk)
 # Those that the gate makes too: they take seconds, and need no more than a C compiler.
 OF_THE_GATE = (try_store_calls, try_short_store_calls, try_stops, try_torn_stores, try_bad_stores, try_linked_stores,
                try_outputs)
