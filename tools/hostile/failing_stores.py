@@ -30,7 +30,6 @@ STOPPING = r"""
 #include <stdlib.h>
 #include <string.h>
 #include <sys/file.h>
-#include <sys/stat.h>
 #include <sys/syscall.h>
 #include <unistd.h>
 
@@ -93,23 +92,21 @@ int flock(int file, int way) {
     return file == store && fails() ? -1 : (int)syscall(SYS_flock, file, way);
 }
 
-/* No signal interrupts it. */
-int statx(int file, const char *name, int flags, unsigned mask, struct statx *told) {
-    return file == store && error != EINTR && fails() ? -1 : (int)syscall(SYS_statx, file, name, flags, mask, told);
-}
-
 ssize_t read(int file, void *bytes, size_t count) {
     if (file != store) return syscall(SYS_read, file, bytes, count);
     return fails() ? -1 : syscall(SYS_read, file, bytes, least(count));
 }
 
 off_t lseek(int file, off_t where, int from) {
+    off_t now;
     if (file == store && fails()) return -1;
-    if (file == store) place = where;
-    return syscall(SYS_lseek, file, where, from);
+    now = syscall(SYS_lseek, file, where, from);
+    if (file == store) place = now;
+    return now;
 }
 
 ssize_t write(int file, const void *bytes, size_t count) {
+    ssize_t moved;
     if (file != store) return syscall(SYS_write, file, bytes, count);
     if (fails()) return -1;
     if (made == number && strcmp(how, "half") == 0) {
@@ -117,7 +114,9 @@ ssize_t write(int file, const void *bytes, size_t count) {
         raise(SIGKILL);
     }
     tell("write", place, bytes, count);
-    return syscall(SYS_write, file, bytes, least(count));
+    moved = syscall(SYS_write, file, bytes, least(count));
+    if (moved > 0) place += moved;
+    return moved;
 }
 
 ssize_t __write(int file, const void *bytes, size_t count) { return write(file, bytes, count); }
