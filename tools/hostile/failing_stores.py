@@ -130,6 +130,7 @@ int ftruncate(int file, off_t length) {
 int fsync(int file) {
     if ((file == store || file == above) && fails()) return -1;
     if (file == store) tell("sync", 0, "", 0);
+    if (file == above) tell("folder", 0, "", 0);
     return (int)syscall(SYS_fsync, file);
 }
 """
@@ -274,6 +275,24 @@ def told_calls(path):
         yield Call(kind, int(where), bytes.fromhex(text))
 
 
+def run_told(program, folder, day):
+    """How a day ends, the calls that it made on its store, and those on its folder before the first of them."""
+    told, place = Path(folder, "told"), begun(Path(folder, "store"), day)
+    told.unlink(missing_ok=True)
+    end = run(program, WORDS, place, env=with_calls(library_of(folder), "never", 0, 0, told))
+    calls = list(told_calls(told))
+    first = next((at for at, call in enumerate(calls) if call.kind != "folder"), len(calls))
+    return end, [call for call in calls if call.kind != "folder"], calls[:first]
+
+
+def try_new_stores(program, folder, tally):
+    """A store that is made: its folder is synced before it is first written, lest it is gone where power fails."""
+    for day, right, _ in days(program, Path(folder, "store"), tally):
+        end, _, before = run_told(program, folder, day)
+        fine = end == right and (before or day.before is not None)
+        tally.add(fine, "%s with %d syncs of its folder" % (day.what, len(before)), end)
+
+
 def image(dice, synced, calls):
     """One content that a disk may have where power fails after these calls, of which none was followed by a sync that
     succeeded."""
@@ -311,11 +330,10 @@ def acknowledged(calls):
 def try_torn_stores(program, folder, tally):
     """What a disk may hold where power fails after each call on a store, with what wasn't synced torn in ways that are
     drawn."""
-    dice, library, place, told = random.Random(1), library_of(folder), Path(folder, "store"), Path(folder, "told")
+    dice, place = random.Random(1), Path(folder, "store")
     for day, right, journal in days(program, place, tally):
-        told.unlink(missing_ok=True)
-        end = run(program, WORDS, begun(place, day), env=with_calls(library, "never", 0, 0, told))
-        calls, old = list(told_calls(told)), len(stores.records(day.before or b""))
+        end, calls, _ = run_told(program, folder, day)
+        old = len(stores.records(day.before or b""))
         tally.add(end == right and acknowledged(calls) == len(journal) - old,
                   "%s whose calls on the store are told" % day.what, end)
         synced, reads, since = day.before or b"", day.before or b"", 0
@@ -530,8 +548,9 @@ def full_in_the_midst(program, files, place, commands, tally):
     tally.add(whole and b"\n1-1-L A1-1 409 409 0\n" in end.output, "the commands that are missing", end)
 
 
-TRIALS = (try_store_calls, try_short_store_calls, try_stops, try_torn_stores, try_bad_stores, try_linked_stores,
-          try_large_stores, try_permissions, try_unread_folders, try_outputs, try_limited_stores, try_full_disk)
+TRIALS = (try_store_calls, try_short_store_calls, try_stops, try_torn_stores, try_new_stores, try_bad_stores,
+          try_linked_stores, try_large_stores, try_permissions, try_unread_folders, try_outputs, try_limited_stores,
+          try_full_disk)
 # Those that the gate makes too: they take seconds, and need no more than a C compiler.
-OF_THE_GATE = (try_store_calls, try_short_store_calls, try_stops, try_torn_stores, try_bad_stores, try_linked_stores,
-               try_outputs)
+OF_THE_GATE = (try_store_calls, try_short_store_calls, try_stops, try_torn_stores, try_new_stores, try_bad_stores,
+               try_linked_stores, try_outputs)

@@ -26,7 +26,7 @@ PLANTED = r"""
 #include <sys/types.h>
 #include <unistd.h>
 
-static int store = -1, is_closed;
+static int store = -1, above = -1, is_closed;
 
 __attribute__((constructor)) static void begin(void) { is_closed = fcntl(1, F_GETFD) < 0; }
 
@@ -34,6 +34,7 @@ static int is(const char *fault) { return strcmp(getenv("PLANTED"), fault) == 0;
 
 int open(const char *name, int flags, ...) {
     int (*next)(const char *, int, ...) = dlsym(RTLD_NEXT, "open");
+    if (strcmp(name, ".") == 0) return above = next(name, flags, 0666);
     if (strcmp(name, "waveplan.store") != 0) return next(name, flags, 0666);
     if (is("emptied when it is opened")) flags |= O_TRUNC;
     store = next(is("another file") ? "waveplan.stored" : name, flags, 0666);
@@ -85,6 +86,7 @@ int fsync(int file) {
     int (*next)(int) = dlsym(RTLD_NEXT, "fsync");
     static int syncs;
     if (file == store && is("nothing is synced")) return 0;
+    if (file == above && is("the folder is not synced")) return 0;
     if (file == store && ++syncs > 3 && syncs % 2 == 1 && is("acknowledged before the sync")) return 0;
     int done = next(file);
     return file == store && is("a failed sync is acknowledged") ? 0 : done;
@@ -95,6 +97,7 @@ int fsync(int file) {
 FAULTS = {
     'nothing is synced': failing_stores.try_torn_stores,
     'acknowledged before the sync': failing_stores.try_torn_stores,
+    'the folder is not synced': failing_stores.try_new_stores,
     'nothing is cut': failing_stores.try_torn_stores,
     'a failed read is an empty file': failing_stores.try_store_calls,
     'a failed seek is one': failing_stores.try_store_calls,
