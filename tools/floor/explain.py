@@ -9,8 +9,9 @@ names.
 
 The words are those of the run that was refused. The words and files are read as docs/FORMATS.md says, by a program of
 this script's own, up to the first thing that is wrong; with --store 1 so is the file waveplan.store of the working
-directory, which is left as it is. A `store fault` that a failing or full disk caused is not seen here: look at the disk
-then. Nothing here is proved; the line that waveplan prints is the one that counts, and the first line here is the same.
+directory, which is left as it is. A `store fault` that another run over the store caused, or a failing or full disk, is
+not seen here: look at the disk then. Nothing here is proved; the line that waveplan prints is the one that counts, and
+the first line here is the same.
 
 With `journal` each command is explained that was refused in the journal of DAY, the output of a plan; with the order
 file it is told which orders want an article that is short. Bytes that a terminal would obey are shown as \\x1b.
@@ -51,7 +52,7 @@ def bytes_of_store():
     """The bytes of the store, up to the first that is too many: none where one can be made, None where it can't be read
     or written."""
     if not os.path.lexists(stores.NAME):
-        return b'' if os.access('.', os.W_OK) else None
+        return b'' if os.access('.', os.R_OK | os.W_OK) else None
     try:
         with open(stores.NAME, 'r+b') as it:
             return it.read(stores.MOST_BYTES + 1) if os.path.isfile(stores.NAME) else None
@@ -250,7 +251,7 @@ class Explained:
         if os.path.lexists(stores.NAME):
             return self.cause('it may not be read and written, or is no plain file',
                               'look at its owner and permissions: ls -l')
-        return self.cause('the folder may not be written, so the store can not be made there',
+        return self.cause('the folder may not be read and written, so the store can not be made there',
                           'look at its owner and permissions, or run in another folder')
 
     def of_store_too_long(self):
@@ -339,9 +340,11 @@ def main(words):
     if why is None:
         print('nothing in these words and files is refused')
         if read_words(words).numbers.get('store'):
-            print('where the run said `store fault`, the disk failed or is full: look at it; then a run with a desk '
-                  'file of the heading')
-            print('alone prints what is stored, and what is missing is given after it (docs/DAY.md)')
+            print('where the run said `store fault`, another run had the store, or the disk failed or is full: wait, or '
+                  'look at it;')
+            print('then a run with a desk file of the heading alone prints what is stored, and what is missing is given '
+                  'after it')
+            print('(docs/DAY.md)')
             print(''.join(visible(line) + '\n' for line in of_no_store()), end='')
         return RIGHT
     print(why.line)
