@@ -340,11 +340,9 @@ def main(words):
     if why is None:
         print('nothing in these words and files is refused')
         if read_words(words).numbers.get('store'):
-            print('where the run said `store fault`, another run had the store, or the disk failed or is full: wait, or '
-                  'look at it;')
-            print('then a run with a desk file of the heading alone prints what is stored, and what is missing is given '
-                  'after it')
-            print('(docs/DAY.md)')
+            print('where the run said `store fault`, another run had the store, or the disk failed or is full: wait,')
+            print('or look at it; then a run with a desk file of the heading alone prints what is stored, and what is')
+            print('missing is given after it (docs/DAY.md)')
             print(''.join(visible(line) + '\n' for line in of_no_store()), end='')
         return RIGHT
     print(why.line)
