@@ -19,7 +19,7 @@ mod TextSame
 mod TextShown
 mod TextTold
 mod TextReadable
-mod TextShows
+pub mod TextShows
 pub mod OneOutcome
 pub mod OneVerdict
 mod OrdersBelow
