@@ -10,7 +10,7 @@ use Rattle.wp_store.proofs.Told.{same_some, told_after}
 use Rattle.wp_store.specs.Disk.{DiskTold, EndsSynced, GoesOn, IsDisk, LeavesOnly, SinceSync, SinceSyncs, WhereTold}
 use Rattle.wp_store.specs.Records.{records_of}
 use Rattle.wp_store.specs.Store.{HasRecords, IsBeforeOrStandsFor, IsWithOrWithout, KeepsRecords, StandsFor}
-use Rattle.wp_top.specs.Stores.{Appends, AreAllKept, AreImagesOfRecords, AreKept, AreSomeKept, DiskCourse, HasAdded, HasFewCalls, HasNew, IsSound, disk_course, entry_calls, entry_syncs, opening_calls, opening_syncs, sync_of}
+use Rattle.wp_top.specs.Stores.{Appends, AreAllKept, AreImagesOfRecords, AreKept, AreSomeKept, DiskCourse, HasAdded, HasFewCalls, HasNew, DiskStands, disk_course, entry_calls, entry_syncs, opening_calls, opening_syncs, sync_of}
 use Rattle.wp_top.proofs.Writing.{take_all as take_whole, take_more}
 
 -- a file that stands for the records from before has none of the new entries, or more
@@ -300,7 +300,7 @@ some_added old mid new entries AreNew law law' recovered course some are = recor
 
 -- and all of them, where the last was acknowledged
 pub all_added : (old mid new : DiskTold) (entries : List Entry) → IsDisk mid → IsDisk new → IsRecovered old mid
-    → GoesOn (entry_calls * length entries) (entry_syncs * length entries) mid new → HasAdded mid new entries → IsSound (disk_course old new)
+    → GoesOn (entry_calls * length entries) (entry_syncs * length entries) mid new → HasAdded mid new entries → DiskStands (disk_course old new)
     → AreAllKept (disk_course old new) entries
 all_added old mid new entries law law' recovered course all sound = record {
   kept = λ bytes tells.

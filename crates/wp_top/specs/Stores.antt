@@ -37,8 +37,8 @@ abbrev pub HasFailed : DiskCourse → Type 0
 HasFailed disk = Rose disk.old.faults disk.new.faults
 
 -- it stands
-abbrev pub IsSound : DiskCourse → Type 0
-IsSound disk = disk.new.faults ≡ disk.old.faults
+abbrev pub DiskStands : DiskCourse → Type 0
+DiskStands disk = disk.new.faults ≡ disk.old.faults
 
 -- the disk told its bytes as the run began
 abbrev pub IsToldOn : DiskCourse → List ℕ → Type 0
@@ -173,4 +173,4 @@ pub record AreAllKept (disk : DiskCourse) (entries : List Entry) : Type 0 where
   pub acknowledged : WhereTold disk.old.holds (λ told. disk.new.syncs ≡ sync_of (disk.old.syncs + opening_syncs) (length entries))
   pub now : WhereTold disk.old.holds (λ told. (image : List ℕ) → disk.new.images image → StandsFor (records_of told ++ map entry_line entries) image)
   pub calls : HasFewCalls disk entries
-  pub sound : IsSound disk
+  pub sound : DiskStands disk

@@ -15,7 +15,7 @@ ghost use Rattle.wp_store.specs.Store.{HasRecords, IsSettledAt};
 ghost use Rattle.wp_top.specs.Planned.{IsDayOver};
 ghost use Rattle.wp_top.specs.Runs.{AreNewOf, command_count};
 ghost use Rattle.wp_top.specs.Stops.{StopsFor, of_appends, of_records, of_store, store_stop};
-ghost use Rattle.wp_top.specs.Stores.{Appends, AreImagesOfRecords, AreSomeKept, HasAdded, IsSound, disk_course, entry_calls, entry_syncs};
+ghost use Rattle.wp_top.specs.Stores.{Appends, AreImagesOfRecords, AreSomeKept, HasAdded, DiskStands, disk_course, entry_calls, entry_syncs};
 
 use crate::complaint::{Complaint, Stop, StoreFinding, refused_store};
 use crate::day::{DayFiles, DayPlans, Resources, plan_day};
@@ -120,7 +120,7 @@ fn append_each<D: Disk>(
     ensures all { OnOk result (HasAdded (D.told store.old.disk.now) (D.told store.new.disk.now) (map (λ entry. entry.now) entries.now)) }
     ensures course { GoesOn (entry_calls * length entries.now) (entry_syncs * length entries.now) (D.told store.old.disk.now) (D.told store.new.disk.now) }
     ensures stops { IfErr result (StopsFor (of_appends (disk_course (D.told store.old.disk.now) (D.told store.new.disk.now)))) }
-    ensures sound { (IsErrOf result store_stop → ⊥) → IsSound (disk_course (D.told store.old.disk.now) (D.told store.new.disk.now)) }
+    ensures sound { (IsErrOf result store_stop → ⊥) → DiskStands (disk_course (D.told store.old.disk.now) (D.told store.new.disk.now)) }
 {
     for entry in entries {
         let line = print_entry(alloc, entry)?;
@@ -147,7 +147,7 @@ fn append_all<D: Disk>(
     ensures all { OnOk result (HasAdded (D.told disk.old) (D.told disk.new) (map (λ entry. entry.now) entries.now)) }
     ensures course { GoesOn (entry_calls * length entries.now) (entry_syncs * length entries.now) (D.told disk.old) (D.told disk.new) }
     ensures stops { IfErr result (StopsFor (of_appends (disk_course (D.told disk.old) (D.told disk.new)))) }
-    ensures sound { (IsErrOf result store_stop → ⊥) → IsSound (disk_course (D.told disk.old) (D.told disk.new)) }
+    ensures sound { (IsErrOf result store_stop → ⊥) → DiskStands (disk_course (D.told disk.old) (D.told disk.new)) }
 {
     let mut store = recovered.into_store(disk);
     let added = append_each(alloc, &mut store, entries);
@@ -181,7 +181,7 @@ fn add_new<D: Disk>(
     ensures course { GoesOn (entry_calls * length (drop (length recovered.bodies) machine.now.entries))
         (entry_syncs * length (drop (length recovered.bodies) machine.now.entries)) (D.told disk.old) (D.told disk.new) }
     ensures stops { IfErr result (StopsFor (of_appends (disk_course (D.told disk.old) (D.told disk.new)))) }
-    ensures sound { (IsErrOf result store_stop → ⊥) → IsSound (disk_course (D.told disk.old) (D.told disk.new)) }
+    ensures sound { (IsErrOf result store_stop → ⊥) → DiskStands (disk_course (D.told disk.old) (D.told disk.new)) }
 {
     let entries = machine.journal(alloc)?;
     let old = recovered.bodies().len() as usize;
@@ -210,7 +210,7 @@ pub fn stored_day<'a, R: Threads + Wait + Sync, G: Gate, D: Disk>(
         files.now.warehouse.opening (command_count files.now.scripts))) }
     ensures kept { AreSomeKept (disk_course (D.told disk.old) (D.told disk.new))
         (AreNewOf (disk_course (D.told disk.old) (D.told disk.new)) files.now.warehouse.opening files.now.scripts) }
-    ensures sound { (IsErrOf result store_stop → ⊥) → IsSound (disk_course (D.told disk.old) (D.told disk.new)) }
+    ensures sound { (IsErrOf result store_stop → ⊥) → DiskStands (disk_course (D.told disk.old) (D.told disk.new)) }
 {
     let recovered = recover(resources.alloc, disk)?;
     let machine = machine_from(resources.alloc, files, recovered.bodies())?;
