@@ -1,12 +1,12 @@
 //! The text of a certificate: JSON, read and written.
 
 mod form;
-mod json;
 mod node;
 mod part;
 mod printing;
 mod ranges;
 mod reading;
+mod to_json;
 mod wave;
 
 pub use printing::print_certificate;

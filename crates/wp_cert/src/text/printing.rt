@@ -9,7 +9,7 @@ ghost use Rattle.wp_cert.specs.TextData.{HaveDualsWithin, HaveSlots, IsKeptNode,
 ghost use Rattle.wp_cert.specs.TextData.{loaded_data, node_data, number_data, order_data, order_places, place_data, plain_data, point_data, wave_places};
 
 use crate::Tree;
-use crate::text::json::list_json;
+use crate::text::to_json::list_json;
 use serde_json::{Map, Value, json};
 use std::alloc::{AllocError, Global};
 use wp_batch::Wave;

@@ -5,8 +5,8 @@ use Rattle.serde_json.proofs.Views.{view-Array}
 use Rattle.serde_json.specs.View.{items_of}
 use Rattle.std.proofs.lemmas.List.Elements.{All-contains}
 use Rattle.wp_cert.proofs.TextShown.{IsListedBelow, listed_all, listed_more, listed_same}
-use Rattle.wp_cert.proofs.text.json.BatchToJson.to_json.Goals as goal
-use Rattle.wp_cert.proofs.text.json.BatchToJson.to_json.Goals.{then-has+in_ok-push, else-has}
+use Rattle.wp_cert.proofs.text.to_json.BatchToJson.to_json.Goals as goal
+use Rattle.wp_cert.proofs.text.to_json.BatchToJson.to_json.Goals.{then-has+in_ok-push, else-has}
 
 pub loop-order-preserved : goal.loop-order-preserved
 loop-order-preserved c =

@@ -1,6 +1,6 @@
 use Rattle.std.proofs.Common.{All, List, rules, subst, ℕ}
 use Rattle.wp_pairs.specs.Batches.{IsBatch}
-use Rattle.wp_cert.proofs.text.json.put_own.Goals as goal
+use Rattle.wp_cert.proofs.text.to_json.put_own.Goals as goal
 
 pub returns-clause-known : goal.returns-clause-known
 returns-clause-known c =

@@ -3,7 +3,7 @@ use Rattle.std.proofs.lemmas.List.{take_all}
 use Rattle.serde_json.specs.Data.{string}
 use Rattle.wp_cert.specs.TextData.{mark_code}
 use Rattle.wp_cert.proofs.TextShown.{marks_more, view-text}
-use Rattle.wp_cert.proofs.text.json.marks_json.Goals as goal
+use Rattle.wp_cert.proofs.text.to_json.marks_json.Goals as goal
 
 pub loop-place-preserved : goal.loop-place-preserved
 loop-place-preserved c =

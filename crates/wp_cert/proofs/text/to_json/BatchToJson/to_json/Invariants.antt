@@ -1,5 +1,5 @@
 use Rattle.wp_cert.proofs.TextShown.{IsListedBelow}
-use Rattle.wp_cert.proofs.text.json.BatchToJson.to_json.Given as goal
+use Rattle.wp_cert.proofs.text.to_json.BatchToJson.to_json.Given as goal
 
 abbrev pub invariant-loop-order : goal.invariant-loop-order
 invariant-loop-order l = IsListedBelow l.fn.self l.order l.values.items

@@ -1,6 +1,6 @@
 use Rattle.std.proofs.Common.{◌≡◌, All, map, take}
 use Rattle.serde_json.specs.View.{view}
-use Rattle.wp_cert.proofs.text.json.list_json.Given as goal
+use Rattle.wp_cert.proofs.text.to_json.list_json.Given as goal
 
 abbrev pub invariant-loop-part : goal.invariant-loop-part
 invariant-loop-part g l =
