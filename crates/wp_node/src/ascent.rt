@@ -52,6 +52,7 @@ fn lower(duals: &mut [u64], column: &Column) {
     }
 }
 
+// No promise rests on it: duals that come of it are tested before they are taken.
 /// Lowers the duals of each column where it has too much.
 pub fn lower_columns(duals: &mut [u64], columns: &[Column]) {
     for column in columns {
@@ -67,11 +68,13 @@ fn step_of(orders: usize, total: u64, turns: u64, left: u64) -> u64 {
     step / (orders as u64).saturating_mul(8).max(1)
 }
 
+// No promise rests on it: it only says how long the steps are, and which duals are tried.
 /// All duals together.
 pub fn sum_all(duals: &[u64]) -> u64 {
     u64::try_from(total_of(duals)).unwrap_or(u64::MAX)
 }
 
+// No promise rests on it: duals that come of it are tested before they are taken.
 /// Changes duals so that their sum rises, in so many turns: in turn all are raised by a step, and those of each column are lowered
 /// where it has too much. The steps fall, so that what is too much in the end is mostly nothing.
 pub fn ascend_within(duals: &mut [u64], columns: &[Column], turns: u64) {

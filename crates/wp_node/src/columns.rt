@@ -61,6 +61,7 @@ fn add_batch(
     Ok(())
 }
 
+// No promise rests on these columns: the duals of their pool are tested before they are taken.
 /// The columns of those of some batches that the pairs permit.
 pub fn permitted_columns(
     alloc: Global,
@@ -74,6 +75,7 @@ pub fn permitted_columns(
     Ok(columns)
 }
 
+// No promise rests on it: where a column is wanting, the pool has no solution, and other duals are tried.
 /// Adds the column of each order with those alone that are to go with it.
 pub fn add_alone(paired: &PairedWave<'_>, columns: &mut Vec<Column>) -> Result<(), Memory> {
     for order in 0..paired.pairs.orders() {
@@ -96,7 +98,10 @@ pub fn add_finds(columns: &mut Vec<Column>, finds: &[Find], most: usize) -> Resu
 }
 
 /// The column of a find.
-pub fn column_of(find: &Find) -> Column {
+pub fn column_of(find: &Find) -> Column
+    ensures batch { result.batch ≡ find.now.batch }
+    ensures length { result.length ≡ find.now.length }
+{
     Column {
         batch: find.batch,
         length: find.length,
@@ -113,6 +118,7 @@ fn add_found(columns: &mut Vec<Column>, find: &Find) -> Result<bool, Memory>
     add_new(columns, column_of(find))
 }
 
+// No promise rests on the order: it says which columns are looked at first.
 /// The slacks of columns, raised, and their places, in ascending order.
 pub fn ranked(
     alloc: Global,
@@ -128,6 +134,7 @@ pub fn ranked(
     Ok(ranks)
 }
 
+// No promise rests on it: it says which columns duals are first made with.
 /// The columns of least slack, up to so many.
 pub fn nearest(
     alloc: Global,

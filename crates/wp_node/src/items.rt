@@ -26,6 +26,7 @@ pub struct VisitPlace {
     pub parted: Batch,
 }
 
+// No promise rests on it: it says which batches a visit keeps, and each is told with its shortest length.
 /// What the orders of a batch have in duals, all together.
 pub fn total_in(duals: &[u64], batch: Batch) -> u64 {
     let mut total: u64 = 0;

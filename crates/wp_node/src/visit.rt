@@ -66,6 +66,7 @@ fn no_find(wave: &Wave, limit: u64) -> Find
     }
 }
 
+// No promise rests on it: it says which batches a visit keeps.
 /// The slack of a column whose orders have so much in duals, in parts of a sixtieth, raised.
 pub fn slack_of(length: u64, sum: u64) -> u64 {
     length

@@ -35,15 +35,12 @@ fn state_of(bound: u64, cost: u64) -> State
     }
 }
 
-// The tree of a subtree's nodes. A tree has fewer than 2 ^ 32 nodes: for more, memory is wanting.
+// The tree of a subtree's nodes.
 fn tree_of(alloc: Global, branch: Branch) -> Result<Tree, Memory>
     ensures { IfOk result (λ tree. tree.nodes ≡ nodes_of branch) }
 {
     let mut nodes = Vec::new(alloc);
     list_nodes(alloc, branch, &mut nodes)?;
-    if nodes.len() > u32::MAX as usize {
-        return Err(Memory);
-    }
     Ok(Tree {
         nodes: Nodes::of(nodes),
     })
