@@ -19,6 +19,7 @@ from trial import LIMIT, End, layout_text, put, run
 WITHOUT = [*WORDS[:-1], "0"]
 PIPE = 4096  # the least that a pipe holds
 TRIES = 6  # how often two runs are made at once
+ENDING = (signal.SIGTERM, signal.SIGINT, signal.SIGHUP)  # those that a caller may have told a run to ignore
 
 # A day with two receipts, whose stock is longer than a pipe.
 ROWS = ["%d-%d-L,A%d,1\n" % (1 + count // 20, 1 + count % 20, count) for count in range(400)]
@@ -61,11 +62,18 @@ def try_unlockable_stores(program, folder, tally):
             tally.add(end.status == 0 and bytes_at(place) == day.before, what + ", without the store", end)
 
 
+def take_signals_back():
+    """Lets signals end a program that a caller, as `nohup` or a shell in the background, has told to ignore them."""
+    for number in ENDING:
+        signal.signal(number, signal.SIG_DFL)
+
+
 def held_run(program, place):
     """A run that has its store and waits for somebody to read its output, and the pipe into which it writes."""
     reading, writing = os.pipe()
     fcntl.fcntl(writing, fcntl.F_SETPIPE_SZ, PIPE)
-    running = subprocess.Popen([program, *WORDS], cwd=place, stdin=subprocess.DEVNULL, stdout=writing)
+    running = subprocess.Popen([program, *WORDS], cwd=place, stdin=subprocess.DEVNULL, stdout=writing,
+                               preexec_fn=take_signals_back)
     os.close(writing)
     select.select([reading], [], [], LIMIT)
     return running, reading
@@ -79,7 +87,7 @@ def received(count):
 def try_held_stores(program, folder, tally):
     """A run that has its store until it ends, read to its end or stopped by a signal; one beside it gets none of it."""
     place = Path(folder, "store")
-    for number in (None, signal.SIGTERM, signal.SIGINT, signal.SIGHUP, signal.SIGKILL):
+    for number in (None, *ENDING, signal.SIGKILL):
         shutil.rmtree(place, ignore_errors=True)
         running, reading = held_run(program, put(place, DAY))
         end = run(program, WORDS, place)

@@ -33,7 +33,8 @@ CITED = [
     ('[a page](https://example.org/x)', None),
 ]
 CLAUSES = [
-    ('`keeps` of `run`', None), ('`unopened`, `untouched` of `run`', None), ('`kept` of `run`', 'run has no kept'),
+    ('`first` of `recover`', None), ('`settled`, `since_syncs` of `recover`', None),
+    ('`kept` of `recover`', 'recover has no kept'),
     ('`done`, `most` of `Keeps`', None),
     ('`done`, `least` of `Keeps`', 'Keeps has no least'), ('`stored`, `disk` of `Store::append`', None),
     ('`takes` of `Store::append`', 'has no takes'),
