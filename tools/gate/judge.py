@@ -185,9 +185,9 @@ class Judge(Copies):
         if told and self.refusal([], users) == '':
             return Verdict(REFUSED, told)
         for kept in (self.kept, None):
-            kind, text = kit.rt.must_fail(self.crate, edit.path, ['--jobs', '1'], kept)
+            is_refused, text = kit.must_fail(self.crate, edit.path, kept)
             self.checks += 1
-            if kind in (kit.rt.REFUSED, kit.rt.AT_LIMIT):
+            if is_refused:
                 return Verdict(REFUSED, text)
         return Verdict('failed', text)
 

@@ -1,8 +1,8 @@
 """What the scripts of the gate take of the kit: its own modules, the libraries that `rt ci` has proved, and the
 sentences of its prover.
 
-All that is tied to one kit stands here. When the kit changes, look at: IDENTITY; `load`, which takes `rt` and
-`rt-plant-bodies` as modules; what is used of them (`crates_of`, `copy_crates`, `Kept.give` and `Kept.key`,
+All that is tied to a kit stands here and in left.py. When the kit changes, look at: IDENTITIES; `load`, which takes
+`rt` and `rt-plant-bodies` as modules; what is used of them (`crates_of`, `copy_crates`, `Kept.give` and `Kept.key`,
 `Crate.words`, `must_fail`, `in_lanes`, `need`, `Source`); and the prover's sentences below. `tools/refuse --unedited`
 over all crates and `tools/tests/run -k test_gate` show whether they still hold.
 """
@@ -16,10 +16,11 @@ import sys
 import tempfile
 
 sys.dont_write_bytecode = True
+import left
 
-
-# The kit whose sentences stand below.
-IDENTITY = 'rattle-kit-13f logic dac8208d650f15bf'
+# The kits whose sentences stand below, the newest first. The first keeps on the machine what `rt ci` has proved, and
+# its `rt ci` takes names of crates; the second does neither.
+IDENTITIES = ('rattle-kit-13f logic dac8208d650f15bf', 'rattle-kit-13b logic dac8208d650f15bf')
 
 # The folder of the copy of the repository that all checks of one gate share, which the first of them makes.
 SHARED = 'WAVEPLAN_GATE_COPY'
@@ -55,11 +56,27 @@ def identity():
         return it.read().strip()
 
 
+def known():
+    """The kits that are known, in words."""
+    return ' or '.join(IDENTITIES)
+
+
 def load():
     """The kit's rt, and its module that reads the functions of a crate; also known as kit.rt and kit.bodies."""
     global rt, bodies
     rt, bodies = module(folder(), 'rt', 'rt_of_kit'), module(folder(), 'rt-plant-bodies', 'bodies_of_kit')
     return rt, bodies
+
+
+def keeps(rt):
+    """Whether this kit keeps what `rt ci` has proved, by the checksums of all that it read."""
+    return hasattr(rt, 'Kept')
+
+
+def must_fail(crate, edit, kept):
+    """Whether a check of the whole crate, over what is kept there, refuses the edit, and what is to be said of it."""
+    verdict, text = rt.must_fail(crate, edit, ['--jobs', '1'], kept)
+    return verdict in ((rt.REFUSED, rt.AT_LIMIT) if keeps(rt) else (True,)), text
 
 
 def has_ended(said):
@@ -86,11 +103,15 @@ def refused_declarations(line):
     return re.findall(r'`([^`]+)`', line.partition('it calls')[0]) if line.startswith('not proved') else []
 
 
+def cache():
+    """The folder for what is kept on this machine."""
+    return os.path.join(os.environ.get('XDG_CACHE_HOME') or os.path.expanduser('~/.cache'), 'waveplan')
+
+
 def passed_commit():
     """The file that notes the last commit which the whole gate passed on this machine, and the last line of that
     gate."""
-    cache = os.environ.get('XDG_CACHE_HOME') or os.path.join(os.path.expanduser('~'), '.cache')
-    return f'{cache}/waveplan/passed'
+    return f'{cache()}/passed'
 
 
 def top():
@@ -108,6 +129,25 @@ def room_of_copy():
             yield room
 
 
+def copy_crates(rt, to):
+    """Copies the crates, as the top of a repository."""
+    (rt.copy_crates if keeps(rt) else left.copy_crates)(top(), to)
+    os.mkdir(f'{to}/.git')
+
+
+def crates_here(rt):
+    """The crates of the repository whose top is the current folder, lowest first, and what rt ci has kept of them."""
+    rt.Crate.cuts_libraries = True
+    rt.Crate.allowed = rt.handles_of(os.getcwd())
+    rt.rtlib.guarded()
+    if keeps(rt):
+        crates = rt.crates_of(os.getcwd())
+        return crates, rt.Kept(crates)
+    rt.rtlib.Crate = rt.Crate
+    crates = sorted(rt.rtlib.crates_below(os.getcwd()), key=lambda it: len(it.below()))
+    return crates, left.Left(rt.rtlib, os.environ.get(SHARED), top())
+
+
 @contextlib.contextmanager
 def copied(rt):
     """Gives the crates of a copy of this repository, lowest first, and what rt ci has kept of them. The copy is the
@@ -115,16 +155,10 @@ def copied(rt):
     here = os.getcwd()
     with room_of_copy() as room:
         if not os.path.isdir(f'{room}/repository'):
-            rt.copy_crates(top(), f'{room}/repository')
-            # (it is the top of a repository)
-            os.mkdir(f'{room}/repository/.git')
+            copy_crates(rt, f'{room}/repository')
         os.chdir(f'{room}/repository')
         try:
-            rt.Crate.cuts_libraries = True
-            rt.Crate.allowed = rt.handles_of(os.getcwd())
-            rt.rtlib.guarded()
-            crates = rt.crates_of(os.getcwd())
-            yield crates, rt.Kept(crates)
+            yield crates_here(rt)
         finally:
             os.chdir(here)
 

@@ -22,6 +22,7 @@ import ending
 import endings
 import judge
 import kit
+import left
 from in_process import ended
 
 
@@ -184,7 +185,7 @@ class Emptying(unittest.TestCase):
             answers = f'{self.room}/crate/proofs/rows/{name}/Answers.antt'
             write(answers, f'use {PROOFS}.{name}.Goals as goal\n')
         parts = types.SimpleNamespace(PARTS=['src', 'proofs'])
-        known = {'unread': lambda line, texts: False, 'REFUSED': 'refused', 'AT_LIMIT': 'limit'}
+        known = {'unread': lambda line, texts: False, 'Kept': None, 'REFUSED': 'refused', 'AT_LIMIT': 'limit'}
         kit.rt = types.SimpleNamespace(rtlib=parts, **known)
         self.judge = judge.Judge.__new__(judge.Judge)
         self.judge.crate = types.SimpleNamespace(name='wp_pairs', folder=f'{self.room}/crate', is_program=False)
@@ -342,6 +343,11 @@ class Emptying(unittest.TestCase):
         self.assertEqual(self.alone('no holes', 'no holes', 'refused'), (judge.REFUSED, 'of the whole crate'))
         self.assertEqual(self.alone(None, 'no holes', 'refused'), (judge.REFUSED, 'of the whole crate'))
         self.assertEqual(self.alone('not proved; it stands on `x`', None).kind, 'failed')
+
+    def test_a_kit_that_keeps_nothing_says_whether_the_whole_crate_is_refused(self):
+        del kit.rt.Kept
+        self.assertEqual(self.alone('no holes', 'no holes', True), (judge.REFUSED, 'of the whole crate'))
+        self.assertEqual(self.alone('no holes', 'no holes', False), ('failed', 'of the whole crate'))
 
 
 # A crate with a definition over a private type, whose fields are a type that is seen by a view and one that isn't.
@@ -543,6 +549,90 @@ class Changing(unittest.TestCase):
         self.assertEqual(reached, ['waits', 'documents', 'scripts', 'proofs', 'edits', 'programs'])
 
 
+class Leaving(unittest.TestCase):
+    """What `rt ci` leaves in the crates' folders, where the kit keeps nothing of its run."""
+
+    def setUp(self):
+        self.room = tempfile.mkdtemp(prefix='waveplan-test-')
+        self.addCleanup(shutil.rmtree, self.room, ignore_errors=True)
+        self.top = f'{self.room}/top'
+        write(f'{self.top}/HANDLES', 'Handles allowed: none.\n')
+        write(f'{self.top}/crates.txt', 'low:\nhigh: low\nwaveplan: low high\n')
+        for name in ('low', 'high', 'waveplan'):
+            write(f'{self.top}/crates/{name}/src/lib.rt', f'pub fn {name}() {{}}\n')
+        left.copy_crates(self.top, f'{self.room}/repository')
+        write(f'{self.room}/said/proofs', '== low\nfn low::low: proved\nrt: low proved\nrt: waveplan proved\n')
+        for name, made in (('low', 'rlib/low.rlib/format'), ('high', 'rlib/high.rlib/format'),
+                           ('waveplan', 'waveplan')):
+            write(f'{self.top}/crates/{name}/out/{made}', 'made\n')
+        self.low = self.crate('low')
+        self.high = self.crate('high', self.low)
+        self.program = self.crate('waveplan', self.low, self.high)
+
+    def crate(self, name, *below):
+        os.makedirs(f'{self.room}/repository/crates/{name}/out', exist_ok=True)
+        return types.SimpleNamespace(name=name, folder=f'{self.room}/repository/crates/{name}', of_kit=['std'],
+                                     below=lambda: below, is_program=name == 'waveplan')
+
+    def files_of(self, folder):
+        for at, _, names in os.walk(f'{folder}/src'):
+            yield from (f'{at}/{it}' for it in sorted(names))
+
+    def text_of(self, file):
+        if file == '/kit/WHAT':
+            return 'archive 1'
+        with open(file, encoding='utf-8') as it:
+            return it.read()
+
+    def given(self, crate):
+        """Whether what was left of the crate is taken, and whether it is in the copy then."""
+        found = left.Left(types.SimpleNamespace(files_of=self.files_of, text_of=self.text_of, KIT='/kit'),
+                          self.room, self.top)
+        is_taken = found.give(crate, False, found.key(crate))
+        made = 'waveplan' if crate.is_program else f'rlib/{crate.name}.rlib/format'
+        return is_taken, os.path.isfile(f'{crate.folder}/out/{made}')
+
+    def test_nothing_that_was_made_is_copied(self):
+        self.assertEqual(os.listdir(f'{self.room}/repository/crates/low/out'), [])
+        self.assertTrue(os.path.isfile(f'{self.room}/repository/crates/low/src/lib.rt'))
+
+    def test_what_was_proved_is_taken(self):
+        self.assertEqual(self.given(self.low), (True, True))
+        self.assertEqual(self.given(self.program), (True, True))
+
+    def test_what_was_not_proved_is_not_taken(self):
+        self.assertEqual(self.given(self.high), (False, False))
+
+    def test_what_was_changed_since_is_not_taken_nor_what_stands_above_it(self):
+        write(f'{self.top}/crates/low/src/lib.rt', 'pub fn other() {}\n')
+        self.assertEqual(self.given(self.low), (False, False))
+        self.assertEqual(self.given(self.program), (False, False))
+
+    def test_what_a_check_of_ones_own_had_left_is_not_taken(self):
+        write(f'{self.top}/crates/low/out/rlib/stamp', 'stamp\n')
+        with contextlib.redirect_stdout(io.StringIO()) as told:
+            self.assertEqual(self.given(self.low), (False, False))
+        self.assertIn('run the gate in a clone', told.getvalue())
+
+    def test_what_was_proved_elsewhere_is_taken_from_there(self):
+        shutil.move(self.top, f'{self.room}/{left.PROVED}')
+        self.assertEqual(self.given(self.low), (True, True))
+
+    def test_some_crates_are_copied_with_those_below_without_their_edits(self):
+        some = script('prove-some')
+        write(f'{self.top}/crates/low/must-fail/a.edit', '')
+        write(f'{self.top}/crates/high/must-fail/a.edit', '')
+        self.addCleanup(setattr, kit, 'top', kit.top)
+        kit.top = lambda: self.top
+        self.assertEqual(some.copy_some(['high'], f'{self.room}/some'), ['high', 'low'])
+        self.assertEqual(self.text_of(f'{self.room}/some/crates.txt'), 'low:\nhigh: low\n')
+        self.assertEqual(sorted(os.listdir(f'{self.room}/some/crates')), ['high', 'low'])
+        self.assertEqual(os.listdir(f'{self.room}/some/crates/low'), ['src'])
+        self.assertEqual(sorted(os.listdir(f'{self.room}/some/crates/high')), ['must-fail', 'src'])
+        with self.assertRaises(kit.Missing):
+            some.copy_some(['nowhere'], f'{self.room}/none')
+
+
 # A crate whose functions may wait by their own bounds, by those of their impl, by an argument, or not at all.
 SOME_WAIT = """
 use std::sync::Wait;
@@ -670,7 +760,7 @@ class BadInputs(unittest.TestCase):
     """The gate's scripts over wrong words, without a kit, with another one, and with outputs that can't be written."""
 
     SCRIPTS = ('refuse', 'weigh', 'waits', 'statuses', 'stores', 'changed', 'sum-up', 'printed', 'lines-to-read',
-               '../release')
+               'prove-some', '../release')
     WORDS = (['--unknown'], ['nowhere', 'nothing'], ['9' * 5000], ['', ''], ['/dev/null', '--table'], ['--from'],
              ['--anew', '\x1b[2J'], ['--from', 'nowhere'], ['--whole', 'x', 'y'], ['--without', '--without'],
              ['x' * 200, '--write'])

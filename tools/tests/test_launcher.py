@@ -101,7 +101,7 @@ class Repository(unittest.TestCase):
         self.addCleanup(shutil.rmtree, self.room, ignore_errors=True)
         self.home, self.kit = f'{self.room}/home', f'{self.room}/kit'
         for name in ('waveplan', 'tools/prove', 'tools/sources', 'tools/keep-store', 'tools/endings.py',
-                     'tools/gate/kit.py'):
+                     'tools/gate/kit.py', 'tools/gate/left.py'):
             os.makedirs(os.path.dirname(f'{self.home}/{name}'), exist_ok=True)
             shutil.copy2(f'{HOME}/{name}', f'{self.home}/{name}')
         for name in ('tools/floor', 'tools/opinion'):
@@ -114,7 +114,7 @@ class Repository(unittest.TestCase):
         write(f'{self.kit}/rt-plant-bodies', '')
         # (without what a machine adds to Python, which takes longer to start than the scripts take)
         write(f'{self.kit}/python3', f'#!/bin/sh\nexec {sys.executable} -S "$@"\n', is_program=True)
-        write(f'{self.room}/KIT-ID', f'{kit.IDENTITY}\n')
+        write(f'{self.room}/KIT-ID', f'{kit.IDENTITIES[0]}\n')
         write(f'{self.kit}/seconds', '0.5')
         write(f'{self.kit}/try-seconds', '0')
         write(f'{self.room}/words.txt', 'words of a file\n')
@@ -447,7 +447,7 @@ class Lacking(Repository):
 
     def test_another_kit(self):
         write(f'{self.room}/KIT-ID', 'rattle-kit-12 logic 0\n')
-        self.lacks(f'is rattle-kit-12 logic 0, and the program is proved by {kit.IDENTITY}: .*path')
+        self.lacks(f'is rattle-kit-12 logic 0, and the program is proved by {kit.known()}: .*path')
 
     def test_python(self):
         usual = ('env', 'bash', 'cat', 'cut', 'dirname', 'find', 'readlink', 'sha256sum', 'sort', 'xargs', 'sed',
