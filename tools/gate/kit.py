@@ -145,7 +145,7 @@ def crates_here(rt):
         return crates, rt.Kept(crates)
     rt.rtlib.Crate = rt.Crate
     crates = sorted(rt.rtlib.crates_below(os.getcwd()), key=lambda it: len(it.below()))
-    return crates, left.Left(rt.rtlib, os.environ.get(SHARED), top())
+    return crates, left.Left(rt.rtlib, os.environ.get(SHARED), top(), cache())
 
 
 @contextlib.contextmanager
@@ -172,10 +172,15 @@ def take(kept, crate):
             return it.read() == key
     os.makedirs(f'{crate.folder}/out', exist_ok=True)
     if kept.give(crate, False, key):
-        with open(taken, 'w', encoding='utf-8') as it:
-            it.write(key)
+        note_taken(kept, crate)
         return True
     return False
+
+
+def note_taken(kept, crate):
+    """Notes that what stands in the copy's out/ was proved of these files."""
+    with open(f'{crate.folder}/out/taken', 'w', encoding='utf-8') as it:
+        it.write(kept.key(crate))
 
 
 def take_library(rt, kept, crate, jobs):
@@ -192,6 +197,7 @@ def take_library(rt, kept, crate, jobs):
         crate.out = sys.stdout
         if status:
             raise Missing(f'{crate.name} is not proved:\n{said[-2000:]}')
+        note_taken(kept, crate)
     kept.is_built(crate)
 
 
@@ -212,7 +218,7 @@ def take_libraries(rt, kept, crates):
 
 def judged(crates, lacking):
     """Those of the crates that stand on nothing which isn't proved; the others are told."""
-    left = [it for it in crates if {it.name, *[low.name for low in it.below()]} & {*lacking}]
-    for it in left:
+    passed_over = [it for it in crates if {it.name, *[low.name for low in it.below()]} & {*lacking}]
+    for it in passed_over:
         print(f'{it.name}: left out, since it or what it stands on is not proved', flush=True)
-    return [it for it in crates if it not in left]
+    return [it for it in crates if it not in passed_over]

@@ -581,13 +581,15 @@ class Leaving(unittest.TestCase):
     def text_of(self, file):
         if file == '/kit/WHAT':
             return 'archive 1'
+        if not os.path.isfile(file):
+            return None
         with open(file, encoding='utf-8') as it:
             return it.read()
 
     def given(self, crate):
         """Whether what was left of the crate is taken, and whether it is in the copy then."""
-        found = left.Left(types.SimpleNamespace(files_of=self.files_of, text_of=self.text_of, KIT='/kit'),
-                          self.room, self.top)
+        rtlib = types.SimpleNamespace(files_of=self.files_of, text_of=self.text_of, KIT='/kit')
+        found = left.Left(rtlib, self.room, self.top, f'{self.room}/cache')
         is_taken = found.give(crate, False, found.key(crate))
         made = 'waveplan' if crate.is_program else f'rlib/{crate.name}.rlib/format'
         return is_taken, os.path.isfile(f'{crate.folder}/out/{made}')
@@ -614,23 +616,63 @@ class Leaving(unittest.TestCase):
             self.assertEqual(self.given(self.low), (False, False))
         self.assertIn('run the gate in a clone', told.getvalue())
 
-    def test_what_was_proved_elsewhere_is_taken_from_there(self):
-        shutil.move(self.top, f'{self.room}/{left.PROVED}')
+    def test_what_was_taken_is_kept_for_later(self):
         self.assertEqual(self.given(self.low), (True, True))
+        self.assertEqual(self.given(self.program), (True, True))
+        os.remove(f'{self.room}/said/proofs')
+        for crate in (self.low, self.program):
+            shutil.rmtree(f'{crate.folder}/out')
+            os.mkdir(f'{crate.folder}/out')
+            self.assertEqual(self.given(crate), (True, True))
+        write(f'{self.room}/repository/crates/low/src/lib.rt', 'pub fn other() {}\n')
+        self.assertEqual(self.given(self.low)[0], False)
 
-    def test_some_crates_are_copied_with_those_below_without_their_edits(self):
-        some = script('prove-some')
-        write(f'{self.top}/crates/low/must-fail/a.edit', '')
-        write(f'{self.top}/crates/high/must-fail/a.edit', '')
-        self.addCleanup(setattr, kit, 'top', kit.top)
-        kit.top = lambda: self.top
-        self.assertEqual(some.copy_some(['high'], f'{self.room}/some'), ['high', 'low'])
-        self.assertEqual(self.text_of(f'{self.room}/some/crates.txt'), 'low:\nhigh: low\n')
-        self.assertEqual(sorted(os.listdir(f'{self.room}/some/crates')), ['high', 'low'])
-        self.assertEqual(os.listdir(f'{self.room}/some/crates/low'), ['src'])
-        self.assertEqual(sorted(os.listdir(f'{self.room}/some/crates/high')), ['must-fail', 'src'])
-        with self.assertRaises(kit.Missing):
-            some.copy_some(['nowhere'], f'{self.room}/none')
+    def test_what_nobody_has_taken_for_long_is_let_go(self):
+        self.given(self.low)
+        kept, = os.listdir(f'{self.room}/cache/kept')
+        os.utime(f'{self.room}/cache/kept/{kept}', (0, 0))
+        self.given(self.program)
+        self.assertEqual(len(os.listdir(f'{self.room}/cache/kept')), 1)
+        self.assertNotIn(kept, os.listdir(f'{self.room}/cache/kept'))
+
+
+class Proving(unittest.TestCase):
+    """Which tasks prove some crates, and how a failure of one is told."""
+
+    def setUp(self):
+        self.some = script('prove-some')
+        known = {'need': lambda it: 1, 'edits_of': lambda it: ([], []), 'Kept': None}
+        self.addCleanup(setattr, kit, 'rt', getattr(kit, 'rt', None))
+        kit.rt = types.SimpleNamespace(**known)
+        self.low = self.crate('low')
+        self.high = self.crate('high', self.low, has_tests=True)
+
+    def crate(self, name, *below, has_tests=False):
+        return types.SimpleNamespace(name=name, below=lambda: below, count=lambda pattern: 1,
+                                     has_tests=lambda: has_tests)
+
+    def test_what_lies_below_is_proved_and_not_tested(self):
+        tasks = self.some.tasks_for(None, [self.low, self.high], ['high'])
+        self.assertEqual([*tasks], [('low', 'proof'), ('high', 'proof'), ('high', 'tests')])
+        self.assertEqual(tasks['high', 'proof'][0], [('low', 'proof')])
+        self.assertEqual(tasks['high', 'tests'][0], [('high', 'proof')])
+
+    def test_what_stands_on_a_crate_that_is_not_proved_is_told(self):
+        tasks = self.some.tasks_for(None, [self.low, self.high], ['high'])
+        given = {('low', 'proof'): self.some.Ended('low (proof)', 'no proof')}
+        with contextlib.redirect_stdout(io.StringIO()) as told:
+            ended = tasks['high', 'proof'][3](given, 1)
+        self.assertEqual(ended.why, 'a crate below it is not proved')
+        self.assertIn('FAILED: high (proof): tools/gate/prove-some high', told.getvalue())
+        self.assertEqual(tasks['high', 'tests'][3]({('high', 'proof'): ended}, 1), [])
+
+    def test_a_failed_call_tells_what_the_kit_said(self):
+        def call(crate):
+            print('fn low::low: not proved', file=crate.out)
+            return 1
+
+        self.assertEqual(self.some.called(self.low, call), 'fn low::low: not proved\n1')
+        self.assertIsNone(self.some.called(self.low, lambda crate: 0))
 
 
 # A crate whose functions may wait by their own bounds, by those of their impl, by an argument, or not at all.
