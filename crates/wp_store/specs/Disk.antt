@@ -97,6 +97,11 @@ pub record GoesOn (calls syncs : ℕ) (old new : DiskTold) : Type 0 where
   pub most_calls : new.calls ≤ old.calls + calls
   pub faults : old.faults ≤ new.faults
 
+-- what calls have left of a disk, six at most, of which one failed
+pub record FailedSince (old new : DiskTold) : Type 0 where
+  pub course : GoesOn 6 3 old new
+  pub failed : Rose old.faults new.faults
+
 -- so many syncs have succeeded, the last as the calls ended
 pub record EndsSynced (syncs : ℕ) (old new : DiskTold) : Type 0 where
   pub counted : new.syncs ≡ old.syncs + syncs

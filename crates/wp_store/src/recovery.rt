@@ -1,5 +1,5 @@
 ghost use Rattle.std.specs.Prelude.{false, ◌≡◌, ◌*◌, ◌<◌, ◌≤◌, length, vec_len, vec_capacity, IfOk, OnOk, OnErr, IsErrOf};
-ghost use Rattle.wp_store.specs.Disk.{WhereTold, Rose, IsTooLong, GoesOn, EndsSynced, LeavesOnly, SinceSyncs};
+ghost use Rattle.wp_store.specs.Disk.{WhereTold, Rose, IsTooLong, GoesOn, EndsSynced, LeavesOnly, SinceSyncs, FailedSince};
 ghost use Rattle.wp_store.specs.Records.{records_of, stored_bytes, room_bytes, most_records};
 ghost use Rattle.wp_store.specs.Store.{HasRecords, IsBeforeOrStandsFor, IsDurable, IsSettledAt, KeepsRecords, StandsFor};
 
@@ -172,8 +172,10 @@ impl<'a, D: Disk> Drop for Opened<'a, D> {
 }
 
 /// Recovers a disk and opens a store over it. What is promised of the disk where that fails, at every moment of the call, is
-/// said of `recover`, which this calls first. Nothing is called on the disk after that. `Disk` comes only where the disk's count
-/// of faults rose in this call.
+/// said of `recover`, which this calls first. Nothing is called on the disk after that.
+///
+/// `Disk` comes only where the disk's count of faults rose in this call: calls have then left a disk that tells so. Code over
+/// every disk comes to a disk with a higher count by calls on the one that it is given alone.
 pub fn open<D: Disk>(alloc: Global, disk: &mut D) -> Result<Opened<'_, D>, OpenFault>
     ensures same_reference { IfOk result (λ opened. opened.store.disk.ghost_name ≡ disk.entry.ghost_name) }
     ensures records { IfOk result (λ opened. WhereTold (D.told disk.old).holds (λ bytes. opened.bodies ≡ records_of bytes)) }
@@ -187,6 +189,7 @@ pub fn open<D: Disk>(alloc: Global, disk: &mut D) -> Result<Opened<'_, D>, OpenF
     ensures course { IfOk result (λ opened. GoesOn 6 3 (D.told disk.old) (D.told opened.store.disk.now)) }
     ensures synced { IfOk result (λ opened. WhereTold (D.told disk.old).holds (λ _.
         EndsSynced 3 (D.told disk.old) (D.told opened.store.disk.now))) }
+    ensures failed { IsErrOf result OpenFault.Disk → (left : D) × FailedSince (D.told disk.old) (D.told left) }
     ensures too_long { IsErrOf result OpenFault.TooLong → WhereTold (D.told disk.old).holds IsTooLong }
 {
     let recovered = recover(alloc, disk)?;
