@@ -225,7 +225,11 @@ class _Reader:
 
 def read_output(path):
     """The day that a file has, which a plan has printed. A dash is standard input."""
-    data = read_bytes(path)
+    return day_of(read_bytes(path), path)
+
+
+def day_of(data, path):
+    """The day that the bytes of a file have."""
     lines = data.decode('utf-8', 'replace').replace('\r\n', '\n').split('\n')
     first = lines[0].lstrip('\ufeff')
     if first.startswith(('refused ', 'read fault ')):
@@ -253,7 +257,13 @@ def with_earlier(day, paths):
         if other.entries != day.entries[:len(other.entries)]:
             raise Trouble('%s is of no earlier run of this day: its journal is not the beginning of the later one'
                           % path)
-        for wave in other.waves:
-            wave.cancelled = cancelled.get(wave.name, wave.cancelled)
-        day.waves, day.refills = other.waves + day.waves, other.refills + day.refills
+        join_earlier(day, other, cancelled)
     return day
+
+
+def join_earlier(day, other, cancelled):
+    """Gives a day the sheets and refills of an earlier run. `cancelled` says of the waves of earlier runs which were
+    cancelled later."""
+    for wave in other.waves:
+        wave.cancelled = cancelled.get(wave.name, wave.cancelled)
+    day.waves, day.refills = other.waves + day.waves, other.refills + day.refills

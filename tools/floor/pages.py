@@ -11,6 +11,7 @@ from .figures import hundredths, length, length_of_line, percent, thousands
 from .look import SCRIPT, STYLE
 from .output import name_of
 from .refused_commands import cause_of
+from .shortages import WAITS, short_of
 from .since import cancelled, left_refills, missing
 
 
@@ -124,15 +125,10 @@ def of_refused(day):
 def of_short(day):
     """The articles that a wave lacks: the last refusal of each wave that didn't get its stock later, and what was lost
     of waves that go on."""
-    given_up, short = cancelled(day), {}
-    for entry in day.entries:
-        if entry.reply[:2] == ['refused', 'short']:
-            article, wanted, free = entry.reply[2], int(entry.reply[3]), int(entry.reply[4])
-            short[entry.command[1]] = (article, number(wanted), number(free), number(wanted - free))
-        elif entry.reply in (['allotted'], ['released']):
-            short.pop(entry.command[1], None)
-    rows = [(cell(escape(wave), 'name'), cell(escape(article), 'name'), *told)
-            for wave, (article, *told) in short.items() if wave not in given_up]
+    given_up = cancelled(day)
+    short = {each.wave: each for each in short_of(day) if each.became == WAITS}
+    rows = [(cell(escape(each.wave), 'name'), cell(escape(each.article), 'name'), number(each.wanted),
+             number(each.free), number(each.wanted - each.free)) for each in short.values()]
     rows += [(cell(escape(entry.command[1]), 'name'), cell(escape(entry.reply[1]), 'name'),
               number(int(entry.reply[2])), cell('lost', 'right'), number(int(entry.reply[2])))
              for entry in day.entries if entry.reply[0] == 'lost' and entry.command[1] not in given_up]
