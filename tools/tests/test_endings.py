@@ -35,7 +35,7 @@ FILES = {
     'orders.csv': 'order,article,quantity\nO1,A,1\nO2,B,1\nO3,C,1\nO4,D,1\n',
     'desks.csv': 'desk,command,arguments\n1,submit,W1,O1,O2,O3\n1,release,W1\n',
     'certificate.json': by_hand.PAIR[14][len('certificate '):], 'journal.txt': '\n'.join(by_hand.PAIR[:4]) + '\n',
-    'alone.txt': '\n'.join(by_hand.ALONE),
+    'alone.txt': '\n'.join(by_hand.ALONE), 'other.txt': '\n'.join(by_hand.PAIR).replace('W1', 'W3'),
 }
 FILES['day.json'] = runs.script('to-json', '-', given=FILES['day.txt'].encode()).output
 FILES['picked.csv'] = 'wave,order,location,quantity\nW1,O1,1-4-L,1\n'
@@ -61,11 +61,14 @@ RIGHT = {
     'to-json': [(['day.txt'], ('day.txt',))],
     'from-json': [(['day.json'], ('day.json',))],
     'compare': [(['day.txt', 'alone.txt'], ('day.txt',))],
+    'report': [(['day.txt'], ('day.txt',)),
+               (['--layout', 'layout.json', '--page', '-', 'alone.txt', 'day.txt'], ('layout.json',)),
+               (['--per-metre', '100', '--tables', 'tables', '--json', '-', 'day.txt', 'other.txt'], ('other.txt',))],
     'second-opinion': [([*JUDGED, 'day.txt'], ('day.txt', 'stock.csv')), ([*CHECK, 'day.txt'], ('certificate.json',)),
                        ([*AUDIT, 'day.txt'], ('journal.txt',))],
 }
 NUMBERS = {
-    'import': ['--skip', '--skip-last'], 'continue': ['--desk'], 'confirm': ['--desk'],
+    'import': ['--skip', '--skip-last'], 'continue': ['--desk'], 'confirm': ['--desk'], 'report': ['--per-metre'],
     'second-opinion': ['--capacity', '--units', '--budget', '--workers', '--rules', '--pickers', '--root', '--store'],
     'fuzz': ['--runs', '--first', '--seed', '--processes'], 'greatest': ['--seconds'],
     'surroundings': ['--steps', '--runs'],
@@ -159,7 +162,7 @@ def contents_for(name):
     """What stands in the place of a file."""
     made = {'day.txt': ['\n'.join(lines) for lines in bad_days()], 'certificate.json': list(bad_certificates()),
             'day.json': list(bad_objects())}
-    made['alone.txt'] = made['day.txt']
+    made['alone.txt'] = made['other.txt'] = made['day.txt']
     made['layout.json'] = [FILES['layout.json'].replace(':4', ':' + new)
                            for new in (MOST_DIGITS, DEEP, '[]', '"', '-4', '4.0', 'null', '{}')]
     some = made.get(name) or list(bad_tables(FILES[name]))
@@ -205,6 +208,12 @@ def odd_words(name):
         'to-csv': [['day.txt', folder] for folder in ('/dev/null/x', 'day.txt', '', '/proc/x')],
         'to-json': [['day.txt', '--names', names] for names in ('nowhere', '/', 'stock.csv', 'nul.csv')],
         'compare': [['day.txt', other] for other in ('/', 'nowhere', '/dev/null', 'layout.json')],
+        'report': [['day.txt', *more] for more in (
+            ['nowhere'], ['/'], ['stock.csv'], ['--layout', 'nowhere'], ['--layout', 'stock.csv'],
+            ['--names', 'nul.csv'], ['--csv', '/'], ['--json', 'nowhere/x'], ['--page', '/dev/full'],
+            ['--tables', '/dev/null/x'], ['--tables', 'day.txt'], ['--tables', ''], ['--csv', ''],
+            ['--csv', '-', '--page', '-'], ['--page'], ['day.txt'], ['--per-metre', '1.'], ['--per-metre', '0.0'],
+            ['--json', '-', '--names', '/'])],
         'explain': [['plan', *PLAN, '--units', MOST_DIGITS], ['plan', *PLAN, '--budget', '+' + MOST_DIGITS],
                     ['make', '--number', MOST_DIGITS],
                     ['plan', *PLAN, '--store', '1'], ['check', '--layout', '/root/none/x'], ['\udcff'],
