@@ -180,6 +180,20 @@ class Tables(unittest.TestCase):
 
 
 
+class Reported(unittest.TestCase):
+    def test_the_report_of_an_example_is_as_the_document_prints_it(self):
+        words = ('--capacity', '3', '--rules', '1', '--pickers', '3')
+        folder = runs.put(Path(runs.shelf().name) / 'reported',
+                          {'day.txt': runs.day_of('one-day', *words).read_bytes()})
+        done = runs.script('report', '--per-metre', '100', folder / 'day.txt')
+        section = (runs.TOP / 'docs' / 'QUESTIONS.md').read_text().split('## How good are we')[1].split('\n## ')[0]
+        self.assertIn('%s > day.txt\n    tools/wave report --per-metre 100 day.txt\n' % ' '.join(words), section)
+        lines = [line[4:] for line in section.splitlines() if line.startswith('    ') and line[4:] != '..']
+        printed = [line for line in lines if not line.startswith(('./waveplan', 'tools/'))]
+        self.assertEqual(13, len(printed))
+        self.assertEqual(printed, [line for line in done.output.splitlines() if line in printed])
+
+
 class Shown(unittest.TestCase):
     """What the scripts make of lines of rules, brackets and a crew: of outputs that were written by hand, so that no
     program is run."""
