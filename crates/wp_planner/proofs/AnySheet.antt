@@ -17,6 +17,7 @@ use Rattle.wp_sheets.specs.Sheets.{batch_text}
 use Rattle.wp_planner.specs.Plans.{IsPlanOf}
 use Rattle.wp_planner.specs.Released.{IsReleased}
 use Rattle.wp_planner.proofs.BatchSlots.{batches_slots}
+use Rattle.wp_planner.proofs.Certified.{sheet_tells}
 use Rattle.wp_planner.proofs.RuleWalks.{rule_walk_there}
 use Rattle.wp_planner.specs.Sheets.{AreParts, FollowsPicks, IsPart, IsSheet}
 use Rattle.wp_planner.specs.Terms.{Terms}
@@ -65,4 +66,4 @@ sheet_of_plan layout opening released terms plan cancelled_later out good =
     let slots = batches_slots layout opening released terms plan out good in
     let parts = any_parts opening.stock released plan.wave terms.rules 1 plan.planned.batching plan.planned.cost (single_from_rises released.holds out.rise) slots
     good.good.sound.cost in
-    (_, record { parts = parts.0; are = parts.1; is = refl })
+    (_, record { parts = parts.0; are = parts.1; is = refl; certified = sheet_tells layout opening released terms plan good })

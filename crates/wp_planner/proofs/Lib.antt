@@ -12,3 +12,4 @@ pub mod OrderLoads
 pub mod Served
 pub mod AnySheet
 pub mod ListedBatches
+pub mod Certified

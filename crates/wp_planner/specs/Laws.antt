@@ -1,5 +1,5 @@
 -- What every wave that goes out keeps.
-use Rattle.std.specs.Prelude.{◌≡◌, ℕ, List, Contains}
+use Rattle.std.specs.Prelude.{◌≡◌, ℕ, Bool, List, Contains}
 use Rattle.wp_model.specs.History.{History}
 use Rattle.wp_model.specs.Opening.{Opening}
 use Rattle.wp_model.specs.Sound.{IsSound}
@@ -11,7 +11,12 @@ use Rattle.wp_floor.specs.Floor.{AreSameRows}
 use Rattle.wp_machine.specs.Outcome.{outcome_of, outcomes_from}
 use Rattle.wp_machine.specs.declared.outcome.Outcome.TheVariants as outcome
 use Rattle.wp_machine.specs.declared.outcome.WaveHolds.{WaveHolds}
+use Rattle.wp_cert.specs.Bounds.{TellsBound}
+use Rattle.wp_cert.specs.TextData.{certificate_text, wave_places}
 use Rattle.wp_planner.specs.Released.{IsReleased, IsServed}
+use Rattle.wp_planner.specs.Sheets.{IsSheet}
+use Rattle.wp_planner.specs.Terms.{Terms}
+use Rattle.wp_planner.specs.declared.planner.WavePlan.{WavePlan}
 
 -- a wave goes out filled: it is one that can have gone out, and each of its orders holds what its lines want together
 pub record GoesOutFilled (opening : Opening) (out : WaveHolds) : Type 0 where
@@ -29,3 +34,10 @@ abbrev pub EachWaveOutIsFilled : Type 0
 EachWaveOutIsFilled = (history : History) (out : WaveHolds) → IsReadOpening history.opening
     → Contains (outcomes_from history.opening 0 (opening_state history.opening) history.entries) (outcome.Released out)
     → GoesOutFilled history.opening out
+
+-- the certificate that a sheet has tells one bound, and it is the one in the sheet's first line
+abbrev pub CheckedBoundsAreTold : Type 0
+CheckedBoundsAreTold = (opening : Opening) (released : WaveHolds) (terms : Terms) (plan : WavePlan) (cancelled_later : Bool) (sheet : List ℕ) (bound : ℕ)
+    → IsSheet opening released terms plan cancelled_later sheet
+    → TellsBound plan.wave.layout (certificate_text (wave_places plan.wave) plan.wave.cart terms.capacity plan.planned.tree.nodes) bound
+    → bound ≡ plan.planned.bound

@@ -7,6 +7,7 @@ use Rattle.wp_model.specs.declared.point.Point.{Point}
 use Rattle.wp_machine.specs.declared.outcome.WaveHolds.{WaveHolds}
 use Rattle.wp_batch.specs.Lengths.{IsLengthOf, batch_picks}
 use Rattle.wp_batch.specs.Waves.{WavePicks}
+use Rattle.wp_cert.specs.Bounds.{TellsBound}
 use Rattle.wp_cert.specs.TextData.{certificate_text, wave_places}
 use Rattle.wp_search.specs.declared.plan.Planned.{Planned}
 use Rattle.wp_search.specs.declared.plan.State.{State}
@@ -76,10 +77,16 @@ plan_line units released capacity planned cancelled_later =
 abbrev pub certificate_line : WavePicks → ℕ → Planned → List ℕ
 certificate_line wave capacity planned = line (codes "certificate " ++ certificate_text (wave_places wave) wave.cart capacity planned.tree.nodes)
 
+-- the certificate of a sheet tells the bound of its first line, by the words that a check goes by
+abbrev pub TellsTheBound : WavePicks → ℕ → Planned → Type 0
+TellsTheBound wave capacity planned =
+    TellsBound wave.layout (certificate_text (wave_places wave) wave.cart capacity planned.tree.nodes) planned.bound
+
 -- the sheet of a wave that went out and its plan: a first line, the parts of its batches, numbered from 1, its certificate, its bracket of the linear bound, if it
--- has one, and a last line
+-- has one, and a last line; and its certificate tells the bound of its first line
 pub record IsSheet (opening : Opening) (released : WaveHolds) (terms : Terms) (plan : WavePlan) (cancelled_later : Bool) (sheet : List ℕ) : Type 0 where
   pub parts : List ℕ
   pub are : AreParts opening.stock released plan.wave terms.rules 1 plan.planned.batching parts
   pub is : sheet ≡ plan_line opening.units released terms.capacity plan.planned cancelled_later ++ parts
       ++ certificate_line plan.wave terms.capacity plan.planned ++ root_text plan.root ++ end_line
+  pub certified : TellsTheBound plan.wave terms.capacity plan.planned

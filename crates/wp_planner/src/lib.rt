@@ -15,7 +15,7 @@ mod waves;
 
 pub use crew::{DayBatches, DayCrew, crew_for};
 pub use day_planner::{DayPlanner, PlansWaves};
-pub use laws::waves_that_go_out_are_filled;
+pub use laws::{checks_tell_the_bound_of_the_heading, waves_that_go_out_are_filled};
 pub use planner::{Planning, WavePlan, plan_for, plan_of};
 pub use released::is_released;
 pub use sheet::{SentWave, print_sheet};

@@ -1,7 +1,10 @@
 ghost use Rattle.std.specs.Prelude.{◌≡◌, ◌≤◌, IfOk};
 ghost use Rattle.wp_search.specs.Plans.{IsGoodPlan};
-ghost use Rattle.wp_planner.specs.Plans.{IsPlanFor, IsPlanOf};
-ghost use Rattle.wp_planner.specs.Released.{IsReleased, LiesIn};
+ghost use Rattle.wp_machine.specs.declared.outcome.WaveHolds.{WaveHolds as Holds};
+ghost use Rattle.wp_model.specs.Opening.{Opening as OpeningData};
+ghost use Rattle.wp_model.specs.Warehouse.{Layout as Block};
+ghost use Rattle.wp_planner.specs.Plans.{IsCertified, IsPlanFor, IsPlanOf};
+ghost use Rattle.wp_planner.specs.Released.{IsReleased, IsWaveOf, LiesIn};
 ghost use Rattle.wp_planner.specs.Roots.{IsRootFor, rounds_of};
 
 use crate::released::is_released;
@@ -103,7 +106,8 @@ fn root_of<R: Threads + Sync, G: Gate>(
     Ok(Some(root))
 }
 
-// The plan of a wave, and the bracket of its linear bound.
+// The plan of a wave, and the bracket of its linear bound. Where the wave is one that went out, the text of the plan's
+// certificate tells its bound.
 fn searched<R: Threads + Sync, G: Gate>(
     planning: &Planning<'_, R, G>,
     alloc: Global,
@@ -111,7 +115,10 @@ fn searched<R: Threads + Sync, G: Gate>(
 ) -> Result<Found, Memory>
     ensures plan { IfOk result (λ found. IsGoodPlan wave.now planning.now.terms.now.capacity planning.now.terms.now.budget found.planned) }
     ensures root { IfOk result (λ found. IsRootFor planning.now.terms.now wave.now found.root) }
+    ensures certified { (layout : Block) (opening : OpeningData) (released : Holds) → IsWaveOf layout opening released wave.now
+        → IfOk result (λ found. IsCertified layout planning.now.terms.now wave.now found.planned) }
 {
+    let _orders = wave.orders();
     let capacity = planning.terms.capacity();
     let budget = planning.terms.budget();
     let workers = planning.terms.workers();
@@ -130,7 +137,7 @@ fn searched<R: Threads + Sync, G: Gate>(
 
 /// The plan of a wave that went out: a good plan, for the terms' capacity and budget, of the wave whose orders pick at the slots
 /// of the layout at which they hold units, and whose batches fit a cart of the opening's units, if it has them; and a bracket of its
-/// linear bound, where the terms ask for one. The workers that price it pass the gate.
+/// linear bound, where the terms ask for one. The text of its certificate tells its bound. The workers that price it pass the gate.
 pub fn plan_of<R: Threads + Sync, G: Gate>(
     planning: &Planning<'_, R, G>,
     alloc: Global,

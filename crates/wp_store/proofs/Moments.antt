@@ -1,5 +1,5 @@
 -- How calls of a disk go on.
-use Rattle.std.proofs.Common.{◌≡◌, ◌⊎◌, ◌∙◌, inl, inr, ⊎_elim, ℕ, ◌+◌, ◌≤◌, ◌<◌, List, arith, refl, sym, subst}
+use Rattle.std.proofs.Common.{◌≡◌, ◌∙◌, inl, inr, ⊎_elim, ℕ, ◌+◌, ◌≤◌, ◌<◌, List, arith, refl, sym, subst}
 use Rattle.std.proofs.lemmas.Bool.{cases_lt}
 use Rattle.wp_store.specs.Disk.{DiskTold, IsDisk, OneCall, NoSync, OneSync, GoesOn, EndsSynced, Stays, Only, LeavesOnly, SinceSyncs}
 

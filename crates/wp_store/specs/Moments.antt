@@ -1,9 +1,9 @@
 -- The laws of a disk's images and moments, for a disk in memory.
-use Rattle.std.specs.Prelude.{◌≡◌, ℕ, ◌+◌, ◌≤◌, ◌<◌, List, [], ◌∷◌, length, Option, Some, refl}
+use Rattle.std.specs.Prelude.{◌≡◌, ℕ, ◌≤◌, ◌<◌, List, [], ◌∷◌, length, Option, Some, refl}
 use Rattle.std.proofs.Common.{inl, inr, arith, sym}
 use Rattle.std.proofs.lemmas.Bool.Decides.{nat_tests}
 use Rattle.wp_store.specs.Disk.{IsDisk}
-use Rattle.wp_store.specs.InMemory.{DiskCall, DiskInMemory, Wrote, CutTo, Synced, IsImage, IsImageSince, bytes_after, mem_told, sync_count, sync_moment}
+use Rattle.wp_store.specs.InMemory.{DiskCall, DiskInMemory, Wrote, CutTo, Synced, IsImage, IsImageSince, bytes_after, mem_told, sync_moment}
 
 -- what a read gives is an image
 pub read_is_image : (first : List ℕ) (done : List DiskCall) → IsImage first done (bytes_after first done)

@@ -1,4 +1,4 @@
-use Rattle.std.proofs.Common.{◌<◌, arith, subst, sym}
+use Rattle.std.proofs.Common.{arith}
 use Rattle.wp_search.proofs.Searches.{price_above}
 use Rattle.wp_planner.proofs.planner.rounds_for.Goals as goal
 

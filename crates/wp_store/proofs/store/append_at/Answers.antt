@@ -1,6 +1,6 @@
-use Rattle.std.proofs.Common.{◌≡◌, inl, sym, ◌∙◌, ap, subst, ℕ, ◌+◌, ◌++◌, List, [], ◌∷◌, length, Some}
+use Rattle.std.proofs.Common.{◌≡◌, inl, sym, ◌∙◌, ap, subst, ℕ, ◌+◌, List, [], ◌∷◌, length, Some}
 use Rattle.wp_store.specs.Records.{records_of, stored_bytes}
-use Rattle.wp_store.specs.Store.{IsWithOrWithout, IsAtRest, IsSettledAt, GainsRecord, StandsFor}
+use Rattle.wp_store.specs.Store.{IsWithOrWithout, IsAtRest, IsSettledAt, GainsRecord}
 use Rattle.wp_store.proofs.Crash.{closed_within, behind_keeps, mark_leaves, appended, appended_rests, appended_place}
 use Rattle.wp_store.proofs.Moments.{weakened, joined, course_joined, ends_joined}
 use Rattle.std.specs.Prelude.{option_map}
