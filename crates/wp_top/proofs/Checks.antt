@@ -4,7 +4,7 @@ use Rattle.std.specs.Prelude.{IfOk}
 use Rattle.wp_batch.specs.Waves.{WavePicks}
 use Rattle.wp_cert.proofs.OneVerdict.{told_not_refused, told_right}
 use Rattle.wp_cert.proofs.Walked.{no_walks_are_shorter}
-use Rattle.wp_cert.specs.Bounds.{NoBatchingCostsLess}
+use Rattle.wp_cert.specs.Bounds.{NoBatchingCostsLess, TellsBound}
 use Rattle.wp_cert.specs.Text.{Tells}
 use Rattle.wp_cert.specs.Trees.{IsBoundOf}
 use Rattle.wp_cert.specs.declared.tree.Node.{Node}
@@ -17,7 +17,7 @@ use Rattle.wp_top.proofs.FilesRead.{HaveRead, WasRead, after_layout, layout_file
 use Rattle.wp_top.proofs.Jobs.{has_read, stop_at_last, stop_of}
 use Rattle.wp_top.specs.Ends.{IsOutput, of_run}
 use Rattle.wp_top.specs.Stores.{DiskCourse}
-use Rattle.wp_top.specs.Runs.{IsRefusedCertificate, IsWrong, ShowsBound, TellsBound, bound_line}
+use Rattle.wp_top.specs.Runs.{IsRefusedCertificate, IsWrong, ShowsBound, bound_line}
 use Rattle.wp_top.specs.Stops.{HasRightText, IsRead, IsSaid, StopsAt, StopsFor, is_memory, of_certificate, of_file, stop_at_certificate}
 use Rattle.wp_top.specs.Texts.{Said, file_of, files_of, layout_in, nothing_said, text_in}
 use Rattle.wp_top.specs.declared.complaint.Complaint.TheVariants as complaint

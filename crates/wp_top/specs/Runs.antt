@@ -2,9 +2,9 @@
 use Rattle.std.specs.Prelude.{◌≡◌, ◌⊎◌, ◌++◌, ℕ, ⊤, List, Option, Err, codes, length}
 use Rattle.std.specs.List.{sum_by}
 use Rattle.wp_batch.specs.Waves.{WavePicks}
+use Rattle.wp_cert.specs.Bounds.{TellsBound}
 use Rattle.wp_cert.specs.Refusals.{IsFirstBroken}
 use Rattle.wp_cert.specs.Text.{Tells, certificate_said}
-use Rattle.wp_cert.specs.Trees.{IsBoundOf}
 use Rattle.wp_cert.specs.Walks.{NoWalksAreShorter}
 use Rattle.wp_cert.specs.declared.tree.CertFault.{CertFault}
 use Rattle.wp_cert.specs.declared.tree.Node.{Node}
@@ -105,15 +105,7 @@ pub record IsAudit (names : AuditNames) (said : Said) (output : List ℕ) : Type
 abbrev pub bound_line : ℕ → List ℕ
 bound_line bound = line (codes "bound" ++ number_after_space bound)
 
--- the text of a certificate tells a wave of the layout, a capacity and a tree that is right, with this bound
-pub record TellsBound (layout : Layout) (text : List ℕ) (bound : ℕ) : Type 0 where
-  pub wave : WavePicks
-  pub capacity : ℕ
-  pub nodes : List Node
-  pub told : Tells layout text wave capacity nodes
-  pub right : IsBoundOf wave capacity nodes bound
-
--- and however that wave is put into batches within the capacity, carts walk no less
+-- the text of a certificate tells a tree with this bound, and however its wave is put into batches within the capacity, carts walk no less
 pub record ShowsBound (layout : Layout) (text : List ℕ) (bound : ℕ) : Type 0 where
   pub tree : TellsBound layout text bound
   pub least : NoWalksAreShorter tree.wave tree.capacity bound
