@@ -26,7 +26,7 @@ from endings import Trouble, Unwritten
 
 from . import whole_files
 
-LAUNCHER = Path(os.path.abspath(__file__)).parent.parent.parent / 'waveplan'
+TOOLS = Path(os.path.abspath(__file__)).parent.parent
 MOST_JOBS = 64
 EACH_SECOND = 1.0  # so often it is told how far the runs are
 BY_INPUT = (0, 1, 2, 6)  # the statuses that hang on the input alone: only such runs are kept
@@ -259,10 +259,17 @@ def digest_of_program(path):
     return found
 
 
+def launcher():
+    """The launcher beside the folder of the scripts: the folder as it was called, which may be a link, or its own."""
+    called = Path(os.path.abspath(sys.argv[0])).parent
+    beside = called.parent / 'waveplan'
+    return beside if called.name == 'tools' and beside.is_file() else TOOLS.parent / 'waveplan'
+
+
 def program_of(path=None):
     """The program that a path names; of the launcher, which is taken where none is named, the proved program that it
     would run. Fails where that isn't there yet."""
-    path = Path(path or LAUNCHER)
+    path = Path(path or launcher())
     home = Path(os.path.realpath(path)).parent
     if path.name != 'waveplan' or not (home / 'tools' / 'wave').is_file():
         return path

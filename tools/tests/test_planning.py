@@ -18,8 +18,8 @@ import endings
 import runs
 from floor import planning
 
-# It adds a line to the file `calls`, and prints its words and its layout file. With a layout that begins with w it waits
-# for as long as the file `wait` is there, with 2 it refuses, with 5 it ends with that, with 9 a signal stops it.
+# It adds a line to the file `calls`, and prints its words and its layout file. With a layout that begins with w it
+# waits for as long as the file `wait` is there, with 2 it refuses, with 5 it ends with that, with 9 a signal stops it.
 PROGRAM = '''#!/bin/sh
 echo "$$ $*" >> %(folder)s/calls
 case $(cat layout) in
@@ -243,7 +243,10 @@ class Program(unittest.TestCase):
                 self.assertEqual(place / 'waveplan', planning.program_of(self.home / 'waveplan'))
 
     def test_the_launcher_is_taken_where_none_is_named(self):
-        self.assertEqual(runs.TOP / 'waveplan', planning.LAUNCHER)
+        for called, due in ((self.home / 'tools' / 'wave', self.home), (self.home / 'wave', runs.TOP),
+                            (self.home / 'tools' / 'more' / 'wave', runs.TOP)):
+            with mock.patch.object(sys, 'argv', [str(called)]):
+                self.assertEqual(due / 'waveplan', planning.launcher())
 
 
 class Options(unittest.TestCase):
