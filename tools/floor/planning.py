@@ -192,13 +192,13 @@ class Planner:
             found.update(part)
         return found.hexdigest()
 
-    def plan_all(self, runs, take=None):
+    def plan_all(self, runs, take=None, progress=None):
         """How each of some runs ended, in their order, from what is kept or by running it. With `take` what that makes
-        of each stands in its place, so that long outputs aren't held."""
+        of each stands in its place, so that long outputs aren't held. Of several calls `progress` may be one."""
         digests = [self.digest_of(run) for run in runs]
         todo, ends = dict(zip(digests, runs)), {}
         self.kept.test()
-        with Progress(len(todo)) as progress, closing(self._each(todo, progress)) as each:
+        with progress or Progress(len(todo)) as shown, closing(self._each(todo, shown)) as each:
             for digest, ended in each:
                 ends[digest] = take(ended) if take else ended
         return [ends[digest] for digest in digests]

@@ -2,6 +2,8 @@
 
 from collections import namedtuple
 
+from endings import Trouble
+
 from . import output
 from .pages import walked
 
@@ -13,6 +15,15 @@ Figures = namedtuple('Figures', 'walks lines units carts proven waves bound seco
 def day_of(ended):
     """The day of a run that is done."""
     return output.day_of(ended.output.encode(), 'what the program printed')
+
+
+def planned(planner, day):
+    """The output of a day. Fails where it is refused."""
+    ended, = planner.plan_all([day.run()])
+    if ended.why():
+        raise Trouble('the day itself is refused: %s; `tools/wave explain` with the words of its plan says more'
+                      % ended.why())
+    return day_of(ended)
 
 
 def figures_of(ended):

@@ -58,7 +58,7 @@ from . import choices, what_if_pages
 from .figures import OF_METRE
 from .given_day import add_launcher, parted, read_day, test_launcher
 from .planning import add_options, planner_of, whole
-from .walks import day_of, figures_of
+from .walks import figures_of, planned
 from .warehouse import layout_of
 
 FORMAT = 'waveplan what-if 1'
@@ -129,29 +129,18 @@ def result_of(ended):
     return ended.why() or figures_of(ended)
 
 
-def output_of(planner, day):
-    """The output of the day as it is. Fails where it is refused."""
-    ended, = planner.plan_all([day.run()])
-    if ended.why():
-        raise Trouble('the day itself is refused: %s; `tools/wave explain` with the words of its plan says more'
-                      % ended.why())
-    return day_of(ended)
-
-
 def rows_of(planner, day, lists):
     """A row for the day as it is, and one for each other choice."""
-    today = output_of(planner, day)
+    today = planned(planner, day)
     layout = layout_of(day.files['layout'], 'the layout file')
-    found = {label_of(choice): (choice, choices.fault(choice)) for choice in choices.combined(lists)}
-    runs = {label: choices.applied(choice, day, layout, today).run()
-            for label, (choice, fault) in found.items() if not fault}
-    own, *results = planner.plan_all([day.run(), *runs.values()], result_of)
-    results, rows = dict(zip(runs, results)), []
-    for label, (choice, fault) in found.items():
-        if choice.get('rules', 'tour') != 'tour' or runs.get(label) != day.run():
-            rows.append(row_of(label, choice, fault or results[label]))
+    tried = [(choice, choices.fault(choice)) for choice in choices.combined(lists)]
+    runs = [None if fault else choices.applied(choice, day, layout, today).run() for choice, fault in tried]
+    own, *results = planner.plan_all([day.run(), *filter(None, runs)], result_of)
+    left = iter(results)
+    rows = [row_of(label_of(choice), choice, fault or next(left)) for choice, fault in tried]
+    others = [row for row, run in zip(rows, runs) if run != day.run() or not row.is_by_tours()]
     as_it_is = choices.as_it_is(day, layout, lists)
-    return row_of('today: ' + label_of(as_it_is), as_it_is, own), rows
+    return row_of('today: ' + label_of(as_it_is), as_it_is, own), others
 
 
 def label_of(choice):

@@ -67,12 +67,16 @@ RIGHT = {
                        ([*AUDIT, 'day.txt'], ('journal.txt',))],
     'what-if': [([*TRIED, '--depot', '1@back', '--wave', '2', 'plan', *PLAN], ('layout.json', 'planner')),
                 ([*TRIED, '--rules', '--html', 'plan', *PLAN], ('desks.csv',))],
+    'slotting': [([*TRIED, '--tries', '2', '--judge', '.', '--stock-out', 'after.csv', 'plan', *PLAN],
+                  ('layout.json', 'stock.csv', 'desks.csv')),
+                 ([*TRIED, '--tries', '1', '--html', 'plan', *PLAN], ('planner',))],
 }
 NUMBERS = {
     'import': ['--skip', '--skip-last'], 'continue': ['--desk'], 'confirm': ['--desk'],
     'second-opinion': ['--capacity', '--units', '--budget', '--workers', '--rules', '--pickers', '--root', '--store'],
     'what-if': ['--capacity', '--units', '--pickers', '--budget', '--spacing', '--depot', '--wave', '--rules',
                 '--per-metre', '--jobs'],
+    'slotting': ['--tries', '--move-cost', '--days', '--jobs'],
     'fuzz': ['--runs', '--first', '--seed', '--processes'], 'greatest': ['--seconds'],
     'surroundings': ['--steps', '--runs'],
 }
@@ -232,6 +236,11 @@ def odd_words(name):
         + [['--capacity', '2', 'plan', *some] for some in (
             [], PLAN[2:], [*PLAN, '--store', '1'], [*PLAN, '--units', MOST_DIGITS], ['\udcff'],
             [*PLAN[:-1], '\udcff'])],
+        'slotting': [[*TRIED, *more, 'plan', *PLAN] for more in (
+            ['--judge'], ['--judge', 'nowhere'], ['--judge', '/'], ['--judge', '.', 'day.txt'], ['--stock-out', '/'],
+            ['--stock-out', ''], ['--stock-out', '/dev/full'], ['--stock-out', 'nowhere/x'], ['--keep', '/dev/null/x'],
+            ['--keep', 'day.txt'], ['x'], ['--tries', '10001'], ['--days', '0'], ['--program', 'nowhere'],
+            ['--program', 'layout.json'])] + [['plan'], ['plan', *PLAN[2:]], ['plan', *PLAN, '--store', '1']],
     }.get(name, [])
 
 

@@ -53,8 +53,8 @@ def run_of(layout, *words):
 
 
 def until(is_so):
-    """Waits until something is so, for at most ten seconds."""
-    end = time.monotonic() + 10
+    """Waits until something is so, for at most half a minute."""
+    end = time.monotonic() + 30
     while not is_so():
         assert time.monotonic() < end, 'it is never so'
         time.sleep(0.01)
@@ -161,7 +161,7 @@ class Planning(unittest.TestCase):
         call = self.call()
         until(lambda: len(self.calls()) == 5 and len(os.listdir(self.kept)) == 3)
         call.send_signal(number)
-        _, told = call.communicate(timeout=10)
+        _, told = call.communicate(timeout=30)
         self.assertEqual((130, 'call: interrupted\n'), (call.returncode, told.decode()))
         self.assertFalse([words for words in self.calls() if is_there(words[0])])
         self.assertEqual(3, len([name for name in os.listdir(self.kept) if name.endswith('.gz')]))
@@ -172,7 +172,7 @@ class Planning(unittest.TestCase):
         for number in (signal.SIGINT, signal.SIGTERM):
             self.setUp()
             self.interrupted(number)
-            self.assertEqual(0, self.call().wait(10))
+            self.assertEqual(0, self.call().wait(30))
             self.assertEqual((5 + 3, 6), (len(self.calls()), len(os.listdir(self.kept))))
 
     def test_what_a_caller_fails_at_ends_the_runs(self):
@@ -185,14 +185,14 @@ class Planning(unittest.TestCase):
 
     def test_progress_is_told_on_a_terminal_alone(self):
         master, terminal = pty.openpty()
-        self.assertEqual(0, self.call(stderr=terminal, env={**os.environ, 'WAVEPLAN_QUIET': ''}).wait(10))
+        self.assertEqual(0, self.call(stderr=terminal, env={**os.environ, 'WAVEPLAN_QUIET': ''}).wait(30))
         os.close(terminal)
         told = os.read(master, 10000).decode()
         os.close(master)
         self.assertIn('\r0 of 6 runs, 0 s', told)
         self.assertRegex(told, r'\r {14,}\r$')  # and the line is taken away at the end
         call = self.call()
-        self.assertEqual((b'', b''), call.communicate(timeout=10))
+        self.assertEqual((b'', b''), call.communicate(timeout=30))
 
     def test_folders_that_can_not_be_written(self):
         (self.folder / 'plain').write_text('')

@@ -11,7 +11,10 @@ spacing 5, with the depot in front of aisle 1. An aisle is 8 long, and its slot 
 """
 
 import json
+import os
 import re
+import signal
+import subprocess
 import tempfile
 import unittest
 from pathlib import Path
@@ -20,6 +23,7 @@ import by_hand
 import runs
 from floor import choices, entry, recut, warehouse
 from floor.output import day_of
+from test_planning import may_be_interrupted, until
 
 ROUND = 'tour 1-0 1-1 1-2 1-3 1-4 1-5 2-5 2-4 2-3 2-2 2-1 2-0 3-0 3-1 3-0 2-0 1-0'
 TRIPLE = [
@@ -34,7 +38,8 @@ SINGLE[SINGLE.index('end refills') + 1:SINGLE.index('stock')] = []
 NOTHING = by_hand.plain(by_hand.NOBODY)
 NOTHING[1:1] = ['0 1 submit W1 O1 O2 O3 -> refused over-cart O1 1', '1 1 release W1 -> refused unknown-wave']
 
-# It prints the day of its capacity and its pickers, refuses a capacity of 8, and tells each call.
+# It prints the day of its capacity and its pickers, refuses a capacity of 8, and tells each call. From a capacity of 4
+# on it waits for as long as the file `wait` is there.
 PROGRAM = '''#!/bin/sh
 echo "$*" >> %(folder)s/calls
 for word; do
@@ -45,6 +50,7 @@ for word; do
     last=$word
 done
 [ $day = 8 ] && echo refused layout not-json && exit 2
+case $day in [4-6]) while [ -e %(folder)s/wait ]; do sleep 0.02; done ;; esac
 cat %(folder)s/day-$day
 '''
 DAYS = {'1': SINGLE, '2': by_hand.plain(by_hand.PAIR), '3': TRIPLE, '2-2': by_hand.PAIR, '2-1': NOTHING}
@@ -68,7 +74,8 @@ class WhatIf(unittest.TestCase):
         return json.loads(done.output)
 
     def calls(self):
-        return (self.folder / 'calls').read_text().splitlines()
+        path = self.folder / 'calls'
+        return path.read_text().splitlines() if path.exists() else []
 
     def test_three_capacities_with_known_optima(self):
         found = self.object('--capacity', '1..3')
@@ -133,6 +140,20 @@ class WhatIf(unittest.TestCase):
         self.assertEqual(['1', '2'], sorted(call[-1] for call in self.calls()))
         self.ask('--capacity', '1..3')
         self.assertEqual(['1', '2', '3'], sorted(call[-1] for call in self.calls()))
+
+    def test_an_interrupted_call_goes_on(self):
+        words = [str(runs.TOOLS / 'wave'), 'what-if', '--program', 'program', '--keep', 'kept', '--jobs', '2',
+                 '--capacity', '1..6', *PLAN, '--capacity', '2']
+        runs.put(self.folder, {'wait': '', **{'day-%d' % capacity: '\n'.join(SINGLE) for capacity in (4, 5, 6)}})
+        call = subprocess.Popen(words, cwd=self.folder, stdout=subprocess.PIPE, stderr=subprocess.PIPE,
+                                preexec_fn=may_be_interrupted)
+        until(lambda: len(self.calls()) == 5 and len(os.listdir(self.folder / 'kept')) == 3)
+        call.send_signal(signal.SIGINT)
+        self.assertEqual((130, b'', b'what-if: interrupted\n'), (call.wait(20), *call.communicate()))
+        (self.folder / 'wait').unlink()
+        done = subprocess.run(words, cwd=self.folder, stdout=subprocess.PIPE, timeout=20)
+        self.assertEqual((0, 7), (done.returncode, done.stdout.count(b'\n')))
+        self.assertEqual(5 + 3, len(self.calls()))
 
     def test_the_page_has_a_bar_for_each_the_least_first(self):
         page = self.ask('--capacity', '1..3,8', '--html', '--unit', 'cm').output
