@@ -2,6 +2,8 @@
 carts are made up."""
 
 import itertools
+from bisect import bisect
+from collections import Counter
 from functools import lru_cache
 
 from opinion.tours import Lengths, gathered
@@ -25,22 +27,57 @@ def shortest(layout, points):
     return lengths_in(layout).shortest(gathered(points))
 
 
+def nearest(ordered, value):
+    """How far a value lies from the nearest of some that are in order."""
+    place = bisect(ordered, value)
+    return min(abs(each - value) for each in ordered[max(place - 1, 0):place + 1])
+
+
+class Near:
+    """How far slots lie from a tour: within their aisle where that comes into it, else along one of the cross aisles.
+    """
+
+    def __init__(self, layout, tour):
+        self.layout, self.found, self.within, ends = layout, {}, {}, {0: set(), layout.length(): set()}
+        for aisle, slot in set(tour):
+            depth = layout.depth(slot)
+            self.within.setdefault(aisle, set()).add(depth)
+            ends.get(depth, set()).add(layout.across(aisle))
+        self.within = {aisle: sorted(depths) for aisle, depths in self.within.items()}
+        self.ends = [(end, sorted(places)) for end, places in ends.items() if places]
+
+    def to(self, slot):
+        if slot not in self.found:
+            self.found[slot] = self.measured(slot[0], self.layout.depth(slot[1]))
+        return self.found[slot]
+
+    def measured(self, aisle, depth):
+        if aisle in self.within:
+            return nearest(self.within[aisle], depth)
+        across = self.layout.across(aisle)
+        return min(nearest(places, across) + abs(end - depth) for end, places in self.ends)
+
+
+@lru_cache(maxsize=1 << 14)
+def near(layout, tour):
+    return Near(layout, tour)
+
+
 class Carts:
     """The carts of a planned day, and how long their tours are where articles lie elsewhere."""
 
     def __init__(self, layout, day):
-        self.layout, self.near = layout, {}
+        self.layout, self.at = layout, {}
         self.carts = [batch for wave in walked(day) for batch in wave.batches]
-        self.at, self.picks = {}, {}  # by location: the places of the carts that pick there, and how often it is done
-        for place, batch in enumerate(self.carts):
-            for location in {pick.location for pick in batch.picks}:
-                self.at.setdefault(location, []).append(place)
-        for pick in (pick for batch in self.carts for pick in batch.picks):
-            self.picks[pick.location] = self.picks.get(pick.location, 0) + 1
+        self.near = [near(layout, tuple(batch.tour)) for batch in self.carts]
+        picked = [(place, pick.location) for place, batch in enumerate(self.carts) for pick in batch.picks]
+        self.picks = Counter(location for _, location in picked)  # how often is picked at a location
+        for place, location in dict.fromkeys(picked):
+            self.at.setdefault(location, []).append(place)  # and by which carts
 
     def places(self, locations):
         """The carts that pick at some locations."""
-        return sorted({place for location in locations for place in self.at.get(location, ())})
+        return {place for location in locations for place in self.at.get(location, ())}
 
     def length(self, place, where):
         """How long a cart's tour is where articles lie elsewhere, or nowhere."""
@@ -59,25 +96,10 @@ class Carts:
         """What exchanges save while the carts are made up as they are."""
         return self.shorter_by(swapped(exchanges))
 
-    def apart(self, place, location):
-        """How far a location lies from a cart's tour."""
-        if (place, location) not in self.near:
-            self.near[place, location] = self.measured(self.carts[place].tour, slot_of(location))
-        return self.near[place, location]
-
-    def measured(self, tour, slot):
-        """How far a slot lies from the points of a tour: within its aisle, or along one of the cross aisles."""
-        aisle, depth = slot[0], self.layout.depth(slot[1])
-        within = [abs(self.layout.depth(point[1]) - depth) for point in tour if point[0] == aisle]
-        if within:
-            return min(within)
-        ways = [abs(self.layout.across(point[0]) - self.layout.across(aisle)) + abs(self.layout.depth(point[1]) - depth)
-                for point in tour if point[1] in (0, self.layout.slots + 1)]
-        return min(ways)
-
     def strays(self, location, other):
         """How far the carts of a location would stray to another one, at most."""
-        return 2 * sum(self.apart(place, other) for place in self.at.get(location, ()))
+        slot = slot_of(other)
+        return 2 * sum(self.near[place].to(slot) for place in self.at.get(location, ()))
 
 
 class Candidates:

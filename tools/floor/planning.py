@@ -166,13 +166,16 @@ def interrupted_by_signals():
     """Has SIGTERM and SIGHUP end a call as Ctrl-C does, where they would end the process."""
     numbers = [signal.SIGTERM, signal.SIGHUP] if threading.current_thread() is threading.main_thread() else []
     numbers = [number for number in numbers if signal.getsignal(number) == signal.SIG_DFL]
-    for number in numbers:
-        signal.signal(number, _interrupt)
+    _answer(numbers, _interrupt)
     try:
         yield
     finally:
-        for number in numbers:
-            signal.signal(number, signal.SIG_DFL)
+        _answer(numbers, signal.SIG_DFL)
+
+
+def _answer(numbers, handler):
+    for number in numbers:
+        signal.signal(number, handler)
 
 
 class Planner:
@@ -228,9 +231,8 @@ class Planner:
                     progress.done += len(done)
                     yield from ((waiting.pop(each), each.result()) for each in done)
             finally:
-                for each in waiting:
-                    each.cancel()
                 processes.stop()
+                _cancel(waiting)
 
     def _make(self, processes, digest, run):
         """Makes a run, with its files in a folder of its own, and keeps it."""
@@ -245,6 +247,11 @@ class Planner:
         if status in BY_INPUT:
             self.kept.add(digest, ended)
         return ended
+
+
+def _cancel(waiting):
+    for each in waiting:
+        each.cancel()
 
 
 def digest_of_program(path):

@@ -81,6 +81,6 @@ class Search:
     def run(self):
         """Makes the exchanges that save most, one after the other, and then such pairs, until none is found or no try
         is left."""
-        for kind in ('singles', 'pairs'):
-            while self.left and self.step(kind):
-                pass
+        kinds = ['singles', 'pairs']
+        while self.left and kinds:
+            kinds = kinds if self.step(kinds[0]) else kinds[1:]

@@ -1,7 +1,6 @@
 """Tests of the runs that subcommands share, over a small program that tells its calls."""
 
 import gzip
-import io
 import os
 import pty
 import signal

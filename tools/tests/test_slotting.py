@@ -71,8 +71,8 @@ class Worth(unittest.TestCase):
     def test_how_far_a_location_lies_from_a_tour(self):
         # The first cart of PAIR goes through aisles 1 and 2, the second along the front to aisle 3 and into slot 1.
         carts = carts_of(by_hand.PAIR, by_hand.LAYOUT)
-        self.assertEqual([0, 6, 6, 5, 6, 2], [carts.apart(*it) for it in (
-            (0, '2-3-L'), (0, '3-1-L'), (0, '3-4-L'), (1, '2-3-L'), (1, '3-4-L'), (1, '3-2-R'))])
+        self.assertEqual([0, 6, 6, 5, 6, 2], [carts.near[cart].to(slot) for cart, slot in (
+            (0, (2, 3)), (0, (3, 1)), (0, (3, 4)), (1, (2, 3)), (1, (3, 4)), (1, (3, 2)))])
         self.assertEqual(2 * 6, carts.strays('1-4-L', '3-1-L'))
 
     def test_those_that_save_most_come_first(self):
