@@ -16,8 +16,13 @@ Walked = namedtuple('Walked', 'length units')
 
 
 def walked_of(ended):
-    """How far a planned day walks and how many units it picks, None where it is refused."""
-    return None if ended.why() else length_of(day_of(ended))
+    """How far a planned day walks and how many units it picks, or why it is refused."""
+    return ended.why() or length_of(day_of(ended))
+
+
+def length_after(found, before):
+    """How far a day walks after some exchanges, None where it is refused or picks other units than before."""
+    return found.length if isinstance(found, Walked) and found.units == before.units else None
 
 
 def length_of(day):
@@ -28,7 +33,7 @@ def length_of(day):
 
 class Search:
     """The day with the article at each location, the moves that are made so far, each of one exchange or two, and what
-    was judged. `now` is how far the day walks after these moves."""
+    was judged. `first` is how far the day walks before these moves, and `now` after them."""
 
     def __init__(self, planner, day, layout, tries):
         self.planner, self.day, self.layout = planner, day, layout
@@ -37,9 +42,8 @@ class Search:
             raise Trouble('the stock has fewer than two rows, and an exchange takes two')
         self.left, self.moves, self.tried, self.progress = tries, [], {}, Progress(tries)
         self.today = self.plan()
-        self.now = length_of(self.today)
-        self.walk = self.now.length
-        if not self.walk:
+        self.now = self.first = length_of(self.today)
+        if not self.first.length:
             raise Trouble('no wave of the day walks, so no exchange saves anything')
 
     def exchanges(self):
@@ -55,9 +59,9 @@ class Search:
         runs = [applied(self.day, [*self.exchanges(), *move]).run() for move in moves]
         self.left -= len(runs)
         found = self.planner.plan_all(runs, walked_of, self.progress)
-        for move, after in zip(moves, found):
-            is_same = after and after.units == self.now.units
-            self.tried[move] = self.now.length - after.length if is_same else 0
+        for move, each in zip(moves, found):
+            after = length_after(each, self.now)
+            self.tried[move] = 0 if after is None else self.now.length - after
 
     def worth(self, found):
         """The moves of a ranking that are to be judged: of those that were judged before the ones that saved then."""

@@ -59,7 +59,7 @@ from .figures import counted
 from .given_day import add_launcher, parted, read_day, test_launcher
 from .pages import walked
 from .planning import add_options, planner_of, whole
-from .slot_search import Search, walked_of
+from .slot_search import Search, length_after, walked_of
 from .trouble import read_bytes
 from .warehouse import layout_of
 
@@ -118,11 +118,12 @@ def others_of(asked, day, layout):
 def in_order(search, cost):
     """The exchanges that were made, the one first that saves most after those before it, with the day's walks between.
     """
-    left, made, walk, found = search.moves, [], search.walk, []
+    left, made, walk, found = search.moves, [], search.first.length, []
     carts = Carts(search.layout, search.today)
     while left:
         ends = search.planner.plan_all([applied(search.day, [*made, *move]).run() for move in left], walked_of)
-        walks = [each.length if each else walk for each in ends]
+        lengths = [length_after(each, search.first) for each in ends]
+        walks = [walk if length is None else length for length in lengths]
         best = walks.index(min(walks))
         rows = [told_rows(carts, search.rows, pair) for pair in left[best]]
         found.append(Exchange(rows, walk, walks[best], cost * len(rows)))
@@ -143,9 +144,9 @@ def walks_after(planner, days, moves):
     walks = {}
     for name in days:
         first, *after = [next(found) for _ in done]
-        if first is None:
-            raise Trouble('%s is refused: `tools/wave explain` with the words of its plan says more' % name)
-        walks[name] = [first.length, *(each.length if each and each.units == first.units else None for each in after)]
+        if isinstance(first, str):
+            raise Trouble('%s is refused: %s' % (name, first))
+        walks[name] = [first.length, *(length_after(each, first) for each in after)]
     return walks
 
 

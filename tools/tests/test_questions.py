@@ -180,6 +180,8 @@ class Slotting(unittest.TestCase):
                 ({'stock.csv': heading + '9-1-L,A,5\n'}, (), 'refused stock row 2 unknown-location'),
                 ({'orders.csv': 'order,article,quantity\nO1,Z,1\n'}, (), 'refused orders row 2 unknown-article'),
                 ({}, ('--judge', '/nowhere'), '/nowhere/orders.csv cannot be read'),
+                ({}, ('--judge', folder_of({**OTHER, 'orders.csv': 'order,article,quantity\nO9,Z,1\n'})),
+                 'is refused: refused orders row 2 unknown-article'),
                 ({}, ('--tries', '0'), 'from 1 to 10000')):
             told = self.ask(*words, files={**FORTY, **files}, status=2)
             self.assertEqual(1, told.count('\n'))

@@ -103,7 +103,7 @@ class Judged(unittest.TestCase):
 
     def test_a_refusal_or_other_units_save_nothing(self):
         moves = [(SAVES,), (('1-1-L', '1-1-R'),), (('1-1-L', '2-1-L'),)]
-        search = self.search([slot_search.Walked(2, 2), slot_search.Walked(0, 1), None])
+        search = self.search([slot_search.Walked(2, 2), slot_search.Walked(0, 1), 'refused'])
         search.judge(moves)
         self.assertEqual([40, 0, 0], [search.tried[move] for move in moves])
         self.assertEqual(2, search.left)
