@@ -1,4 +1,5 @@
-"""The commands that README.md and docs/DAY.md print, run over a program, and what they print of its output."""
+"""The commands that README.md, docs/DAY.md and docs/QUESTIONS.md print, run over a program, and what they print of its
+output."""
 
 import os
 import re
@@ -11,7 +12,8 @@ COMMAND = re.compile(r'\./|tools/|echo ')
 LEFT_OUT = re.compile(r'\./gate|\./waveplan --prove')
 DAY_OF = re.compile(r'The day of `examples/([\w-]+)`')
 LINES = re.compile(r'The command prints ([0-9,]{1,9}) lines')
-PAGES = {'README.md': None, 'docs/DAY.md': 'one-day'}  # each with the example whose files it begins with
+# The pages, each with the example whose files it begins with.
+PAGES = {'README.md': None, 'docs/DAY.md': 'one-day', 'docs/QUESTIONS.md': 'one-day'}
 STORE, BEFORE = 'waveplan.store', 'waveplan.store.before'  # the copy is the launcher's, which isn't run here
 LONGEST = 120  # seconds that a command may take
 TELLING = ('tools/wave compare', 'tools/wave explain')  # commands that end with 1 where they have something to tell
@@ -99,7 +101,8 @@ class Reader:
             (folder / BEFORE).write_bytes((folder / STORE).read_bytes() if (folder / STORE).exists() else b'')
         try:
             done = subprocess.run(['sh', '-c', command], cwd=folder, stdin=subprocess.DEVNULL, stdout=subprocess.PIPE,
-                                  stderr=subprocess.PIPE, timeout=LONGEST)
+                                  stderr=subprocess.PIPE, timeout=LONGEST,
+                                  env={**os.environ, 'XDG_CACHE_HOME': str(self.room / 'cache')})
         except subprocess.TimeoutExpired:
             return self.place, 'it takes longer than %d seconds: %s' % (LONGEST, command)
         self.last = done.stdout.decode('utf-8', 'replace')

@@ -15,8 +15,13 @@ class Layout(layouts.Layout):
 
 def read_layout(path):
     """The layout that a file says."""
+    return layout_of(read_bytes(path), path)
+
+
+def layout_of(data, path):
+    """The layout that the bytes of a file say."""
     try:
-        return Layout(*layouts.read_layout(read_bytes(path)))
+        return Layout(*layouts.read_layout(data))
     except Refusal as why:
         raise Trouble('%s is no layout file (%s); docs/FORMATS.md says what stands in one' % (path, why.line)) from None
 

@@ -47,11 +47,14 @@ def waveplan(*words, folder=None):
 
 
 def put(folder, files):
-    """Writes texts or bytes into a folder, and gives the folder."""
+    """Writes texts or bytes into a folder, and gives the folder. What begins as a script may be run."""
     folder = Path(folder)
     folder.mkdir(parents=True, exist_ok=True)
     for name, content in files.items():
-        (folder / name).write_bytes(content.encode() if isinstance(content, str) else content)
+        data = content.encode() if isinstance(content, str) else content
+        (folder / name).write_bytes(data)
+        if data.startswith(b'#!'):
+            (folder / name).chmod(0o755)
     return folder
 
 

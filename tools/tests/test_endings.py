@@ -39,10 +39,12 @@ FILES = {
 }
 FILES['day.json'] = runs.script('to-json', '-', given=FILES['day.txt'].encode()).output
 FILES['picked.csv'] = 'wave,order,location,quantity\nW1,O1,1-4-L,1\n'
+FILES['planner'] = '#!/bin/sh\ncat <<end-of-day\n%send-of-day\n' % FILES['day.txt']
 PLAN = '--layout layout.json --stock stock.csv --orders orders.csv --desks desks.csv --capacity 2'.split()
 JUDGED = [*PLAN, '--rules', '1', '--pickers', '2', '--root', '1', '--budget', '0']
 CHECK = '--layout layout.json --certificate certificate.json'.split()
 AUDIT = '--layout layout.json --stock stock.csv --orders orders.csv --journal journal.txt'.split()
+TRIED = '--program planner --keep kept --jobs 2'.split()
 
 # Of each script: words that are right, and the files that they name.
 RIGHT = {
@@ -66,10 +68,18 @@ RIGHT = {
                (['--per-metre', '100', '--tables', 'tables', '--json', '-', 'day.txt', 'other.txt'], ('other.txt',))],
     'second-opinion': [([*JUDGED, 'day.txt'], ('day.txt', 'stock.csv')), ([*CHECK, 'day.txt'], ('certificate.json',)),
                        ([*AUDIT, 'day.txt'], ('journal.txt',))],
+    'what-if': [([*TRIED, '--depot', '1@back', '--wave', '2', 'plan', *PLAN], ('layout.json', 'planner')),
+                ([*TRIED, '--rules', '--html', 'plan', *PLAN], ('desks.csv',))],
+    'slotting': [([*TRIED, '--tries', '2', '--judge', '.', '--stock-out', 'after.csv', 'plan', *PLAN],
+                  ('layout.json', 'stock.csv', 'desks.csv')),
+                 ([*TRIED, '--tries', '1', '--html', 'plan', *PLAN], ('planner',))],
 }
 NUMBERS = {
     'import': ['--skip', '--skip-last'], 'continue': ['--desk'], 'confirm': ['--desk'], 'report': ['--per-metre'],
     'second-opinion': ['--capacity', '--units', '--budget', '--workers', '--rules', '--pickers', '--root', '--store'],
+    'what-if': ['--capacity', '--units', '--pickers', '--budget', '--spacing', '--depot', '--wave', '--rules',
+                '--per-metre', '--jobs'],
+    'slotting': ['--tries', '--move-cost', '--days', '--jobs'],
     'fuzz': ['--runs', '--first', '--seed', '--processes'], 'greatest': ['--seconds'],
     'surroundings': ['--steps', '--runs'],
 }
@@ -225,6 +235,21 @@ def odd_words(name):
                                                          ['--store-before', '/', 'day.txt'],
                                                          ['--store-before', 'stock.csv', 'day.txt'],
                                                          ['day.txt', 'day.txt'], ['--certificate', 'x', 'day.txt'])],
+        'what-if': [[*TRIED, *more, 'plan', *PLAN] for more in (
+            [], ['--capacity', '6..2'], ['--capacity', '1..' + MOST_DIGITS], ['--depot', '@'],
+            ['--depot', '1@back@back'], ['--units', 'none..3'], ['--capacity', '1..500', '--budget', '1..500'],
+            ['--wave', '0,65'], ['--capacity', '9', '--units', '0'],
+            *(['--capacity', '2', *some] for some in (
+                ['--keep', '/proc/x'], ['--keep', 'day.txt'], ['--keep', ''], ['x'], ['--program', 'nowhere'],
+                ['--program', 'day.txt'], ['--program', '/'])))]
+        + [['--capacity', '2', 'plan', *some] for some in (
+            [], PLAN[2:], [*PLAN, '--store', '1'], [*PLAN, '--units', MOST_DIGITS], ['\udcff'],
+            [*PLAN[:-1], '\udcff'])],
+        'slotting': [[*TRIED, *more, 'plan', *PLAN] for more in (
+            ['--judge'], ['--judge', 'nowhere'], ['--judge', '/'], ['--judge', '.', 'day.txt'], ['--stock-out', '/'],
+            ['--stock-out', ''], ['--stock-out', '/dev/full'], ['--stock-out', 'nowhere/x'], ['--keep', '/dev/null/x'],
+            ['--keep', 'day.txt'], ['x'], ['--tries', '10001'], ['--days', '0'], ['--program', 'nowhere'],
+            ['--program', 'layout.json'])] + [['plan'], ['plan', *PLAN[2:]], ['plan', *PLAN, '--store', '1']],
     }.get(name, [])
 
 

@@ -341,7 +341,7 @@ class GoingOn(unittest.TestCase):
 class Helping(unittest.TestCase):
     def test_each_script_says_how_it_is_used(self):
         for name in ('sheets', 'to-csv', 'to-json', 'from-json', 'compare', 'import', 'explain', 'continue', 'confirm',
-                     'closing-stock', 'report', 'second-opinion'):
+                     'closing-stock', 'report', 'second-opinion', 'what-if', 'slotting'):
             done = runs.script(name, '--help')
             self.assertEqual((0, ''), (done.status, done.errors), name)
             self.assertRegex(done.output, '(?s)usage: tools/%s.*(?:not|[Nn]othing).*proved' % name)
