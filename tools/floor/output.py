@@ -225,7 +225,11 @@ class _Reader:
 
 def read_output(path):
     """The day that a file has, which a plan has printed. A dash is standard input."""
-    data = read_bytes(path)
+    return day_of(read_bytes(path), path)
+
+
+def day_of(data, path):
+    """The day that the bytes of a file have."""
     lines = data.decode('utf-8', 'replace').replace('\r\n', '\n').split('\n')
     first = lines[0].lstrip('\ufeff')
     if first.startswith(('refused ', 'read fault ')):
