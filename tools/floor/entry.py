@@ -16,7 +16,8 @@ import endings
 
 SUBCOMMANDS = {'import': 'import_table', 'explain': 'explain', 'sheets': 'sheets', 'continue': 'continue_day',
                'confirm': 'confirm', 'closing-stock': 'closing_stock', 'to-csv': 'to_csv', 'to-json': 'to_json',
-               'from-json': 'from_json', 'compare': 'compare', 'second-opinion': 'second_opinion'}
+               'from-json': 'from_json', 'compare': 'compare', 'second-opinion': 'second_opinion',
+               'benchmark': 'benchmark'}
 
 
 def module_of(name):
