@@ -38,6 +38,8 @@ FILES = {
     'alone.txt': '\n'.join(by_hand.ALONE), 'other.txt': '\n'.join(by_hand.PAIR).replace('W1', 'W3'),
 }
 FILES['day.json'] = runs.script('to-json', '-', given=FILES['day.txt'].encode()).output
+FILES['plain.txt'] = ('instance plain\naisles 3\nslots 4\npitch 2\nclearance 1\nspacings 5 5\ndepot 1 front\n'
+                      'capacity 2\nunits 5\norders 2\norder O1 1-4-L 1\norder O2 2-4-L 1 3-1-R 2\nend\n')
 FILES['picked.csv'] = 'wave,order,location,quantity\nW1,O1,1-4-L,1\n'
 FILES['planner'] = '#!/bin/sh\ncat <<end-of-day\n%send-of-day\n' % FILES['day.txt']
 PLAN = '--layout layout.json --stock stock.csv --orders orders.csv --desks desks.csv --capacity 2'.split()
@@ -73,6 +75,9 @@ RIGHT = {
     'slotting': [([*TRIED, '--tries', '2', '--judge', '.', '--stock-out', 'after.csv', 'plan', *PLAN],
                   ('layout.json', 'stock.csv', 'desks.csv')),
                  ([*TRIED, '--tries', '1', '--html', 'plan', *PLAN], ('planner',))],
+    'benchmark': [(['--read', 'plain.txt', '--write', 'made'], ('plain.txt',)),
+                  (['--write', 'made', '--class', 'gademann-velde', '--orders', '1', '--read', 'plain.txt'],
+                   ('plain.txt',))],
 }
 NUMBERS = {
     'import': ['--skip', '--skip-last'], 'continue': ['--desk'], 'confirm': ['--desk'], 'report': ['--per-metre'],
@@ -80,6 +85,7 @@ NUMBERS = {
     'what-if': ['--capacity', '--units', '--pickers', '--budget', '--spacing', '--depot', '--wave', '--rules',
                 '--per-metre', '--jobs'],
     'slotting': ['--tries', '--move-cost', '--days', '--jobs'],
+    'benchmark': ['--seeds', '--seed', '--orders', '--units', '--capacity', '--budget', '--nodes', '--jobs'],
     'fuzz': ['--runs', '--first', '--seed', '--processes'], 'greatest': ['--seconds'],
     'surroundings': ['--steps', '--runs'],
 }
@@ -175,6 +181,8 @@ def contents_for(name):
     made['alone.txt'] = made['other.txt'] = made['day.txt']
     made['layout.json'] = [FILES['layout.json'].replace(':4', ':' + new)
                            for new in (MOST_DIGITS, DEEP, '[]', '"', '-4', '4.0', 'null', '{}')]
+    made['plain.txt'] = [FILES['plain.txt'].replace(old, new, 1) for old in ('3', ' 2', 'plain', '1-4-L', 'O1', '5 5')
+                         for new in (MOST_DIGITS, '', '-1', '0', '1.5', '\x00', '\u0663', '/', DEEP)]
     some = made.get(name) or list(bad_tables(FILES[name]))
     return [*bad_bytes(), *(text.encode('utf-8', 'surrogatepass') for text in some)]
 
@@ -216,6 +224,10 @@ def odd_words(name):
             ['day.txt', '--cart', '1'], ['day.txt', '--wave', 'W1', '--cart', 'x'], ['day.txt', '--wave', 'W2'],
             ['day.txt', '--since', 'nowhere'], ['day.txt', '--earlier', '/'], ['day.txt', '--day', '\udcff'])],
         'to-csv': [['day.txt', folder] for folder in ('/dev/null/x', 'day.txt', '', '/proc/x')],
+        'benchmark': [['--read', 'plain.txt', *more] for more in (
+            ['--write', '/dev/null/x'], ['--write', ''], ['--program', '/'], ['--program', 'plain.txt'],
+            ['--program', 'nowhere'], ['--program', 'day.txt', '--keep', '/dev/null'], ['--write', 'made', 'plain.txt'],
+            ['--write', 'x' * 5000], ['--write', '\x00'], ['--class', ''], ['--demand', 'x'])],
         'to-json': [['day.txt', '--names', names] for names in ('nowhere', '/', 'stock.csv', 'nul.csv')],
         'compare': [['day.txt', other] for other in ('/', 'nowhere', '/dev/null', 'layout.json')],
         'report': [['day.txt', *more] for more in (
