@@ -58,7 +58,7 @@ from .exchanges import applied, rows_of, stock_file
 from .figures import counted
 from .given_day import add_launcher, parted, read_day, test_launcher
 from .pages import walked
-from .planning import add_options, planner_of, whole
+from .planning import add_options, interrupted_by_signals, planner_of, whole
 from .slot_search import Search, length_after, walked_of
 from .trouble import read_bytes
 from .warehouse import layout_of
@@ -230,6 +230,7 @@ def object_of(found):
             'judged': [{'day': name, 'walks': walks} for name, walks in found.judged.items()]}
 
 
+@interrupted_by_signals()
 def main(words):
     own, plan = parted(words)
     asked = asked_words(own)

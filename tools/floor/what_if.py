@@ -57,7 +57,7 @@ from endings import RIGHT, Trouble, Words, tell_usage
 from . import choices, what_if_pages
 from .figures import OF_METRE
 from .given_day import add_launcher, parted, read_day, test_launcher
-from .planning import add_options, planner_of, whole
+from .planning import add_options, interrupted_by_signals, planner_of, whole
 from .walks import figures_of, planned
 from .warehouse import layout_of
 
@@ -194,6 +194,7 @@ def object_of(table):
             'choices': [object_of_row(table, row) for row in table.rows]}
 
 
+@interrupted_by_signals()
 def main(words):
     own, plan = parted(words)
     asked = asked_words(own)
