@@ -37,6 +37,9 @@ are runs for that, and some that put the exchanges in their order.
 A run is kept by the digest of the program, its words and its files, so what was run once isn't run again, and a call
 that was interrupted goes on where it stopped. The folder may be removed.
 
+Of a day of several desks another run may answer commands in another order; `tools/wave continue` writes them as those
+of one desk.
+
 Nothing here is proved; the plans that it reads are, where the program is. With --json there are `walk`, `walk_after`,
 `waves`, `proven`, `gap_percent`, `tried`, `exchanges`, each with `rows`, `before`, `after`, `saves`, `pays_after_days`
 and `is_taken`, and `judged`, each with `day` and `walks`: before all exchanges, and after each that is taken.

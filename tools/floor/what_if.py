@@ -40,6 +40,9 @@ other. What the day receives comes before all of them, so that each finds its st
 `allot`, since a release holds what its wave wants; `cancel`, since what was cancelled isn't in; `pick` and `missing`,
 since they name waves that aren't there, and rows in which another wave may hold.
 
+Of a day of several desks another run may answer commands in another order; `tools/wave continue` writes them as those
+of one desk.
+
 Nothing here is proved; the plans that it reads are, where the program is. With --json `today` and each of `choices`
 have `choice`, `walk`, `change_percent`, `walk_a_line` or `metres_a_line`, `lines`, `units`, `carts`, `longest_load`,
 `proven`, `waves`, `bound`, `gap_percent` and `seconds`, or `choice` and `refused`. What isn't known is null.
