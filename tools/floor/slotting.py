@@ -37,6 +37,9 @@ are runs for that, and some that put the exchanges in their order.
 A run is kept by the digest of the program, its words and its files, so what was run once isn't run again, and a call
 that was interrupted goes on where it stopped. The folder may be removed.
 
+Of a day of several desks another run may answer commands in another order; `tools/wave continue` writes them as those
+of one desk.
+
 Nothing here is proved; the plans that it reads are, where the program is. With --json there are `walk`, `walk_after`,
 `waves`, `proven`, `gap_percent`, `tried`, `exchanges`, each with `rows`, `before`, `after`, `saves`, `pays_after_days`
 and `is_taken`, and `judged`, each with `day` and `walks`: before all exchanges, and after each that is taken.
@@ -58,7 +61,7 @@ from .exchanges import applied, rows_of, stock_file
 from .figures import counted
 from .given_day import add_launcher, parted, read_day, test_launcher
 from .pages import walked
-from .planning import add_options, planner_of, whole
+from .planning import add_options, interrupted_by_signals, planner_of, whole
 from .slot_search import Search, length_after, walked_of
 from .trouble import read_bytes
 from .warehouse import layout_of
@@ -230,6 +233,7 @@ def object_of(found):
             'judged': [{'day': name, 'walks': walks} for name, walks in found.judged.items()]}
 
 
+@interrupted_by_signals()
 def main(words):
     own, plan = parted(words)
     asked = asked_words(own)

@@ -40,6 +40,9 @@ other. What the day receives comes before all of them, so that each finds its st
 `allot`, since a release holds what its wave wants; `cancel`, since what was cancelled isn't in; `pick` and `missing`,
 since they name waves that aren't there, and rows in which another wave may hold.
 
+Of a day of several desks another run may answer commands in another order; `tools/wave continue` writes them as those
+of one desk.
+
 Nothing here is proved; the plans that it reads are, where the program is. With --json `today` and each of `choices`
 have `choice`, `walk`, `change_percent`, `walk_a_line` or `metres_a_line`, `lines`, `units`, `carts`, `longest_load`,
 `proven`, `waves`, `bound`, `gap_percent` and `seconds`, or `choice` and `refused`. What isn't known is null.
@@ -57,7 +60,7 @@ from endings import RIGHT, Trouble, Words, tell_usage
 from . import choices, what_if_pages
 from .figures import OF_METRE
 from .given_day import add_launcher, parted, read_day, test_launcher
-from .planning import add_options, planner_of, whole
+from .planning import add_options, interrupted_by_signals, planner_of, whole
 from .walks import figures_of, planned
 from .warehouse import layout_of
 
@@ -194,6 +197,7 @@ def object_of(table):
             'choices': [object_of_row(table, row) for row in table.rows]}
 
 
+@interrupted_by_signals()
 def main(words):
     own, plan = parted(words)
     asked = asked_words(own)

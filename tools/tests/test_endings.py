@@ -47,6 +47,7 @@ JUDGED = [*PLAN, '--rules', '1', '--pickers', '2', '--root', '1', '--budget', '0
 CHECK = '--layout layout.json --certificate certificate.json'.split()
 AUDIT = '--layout layout.json --stock stock.csv --orders orders.csv --journal journal.txt'.split()
 TRIED = '--program planner --keep kept --jobs 2'.split()
+PLANNING = ('what-if', 'slotting')  # they run a program, here one that prints the day that was worked out by hand
 
 # Of each script: words that are right, and the files that they name.
 RIGHT = {
@@ -306,7 +307,14 @@ class Floor(unittest.TestCase):
             self.assertEqual(int(name == 'compare'), status, (name, told))
 
     def test_files_of_a_wrong_form_and_wrong_words(self):
-        for name in RIGHT:
+        self.judge_all(name for name in RIGHT if name not in PLANNING)
+
+    def test_files_of_a_wrong_form_and_wrong_words_of_those_that_run_the_program(self):
+        self.judge_all(PLANNING)
+
+    def judge_all(self, names):
+        """Tries all wrong words and files of some scripts."""
+        for name in names:
             with self.subTest(name):
                 words = [*bad_words(name), *odd_words(name)]
                 count = sum(self.judge(name, some, MOST_DIGITS.encode()) for some in words)
