@@ -19,8 +19,8 @@ HEADINGS = ('instances', 'orders', 'capacity', 'units', 'budget', '--sharp', '--
 NUMBERS = HEADINGS[1:5] + HEADINGS[6:]
 LEGEND = ('The mean over the instances of a row, the standard deviation behind \u00b1, and the least and the greatest '
           'in parentheses; one number where all are the same. The gap is that between cost and bound, in percent of '
-          'the cost. Nodes are those of the certificates with duals of their own. Seconds are those of a whole run, '
-          'with one worker.')
+          'the cost. Nodes are those of the certificates with duals of their own: where a plan has a gap and no such '
+          'node, its budget paid for none. Seconds are those of a whole run, with one worker.')
 
 
 def results_of(row):

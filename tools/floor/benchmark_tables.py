@@ -21,7 +21,8 @@ def program_of(made):
 
 def machine_of(made):
     """How many runs were made side by side, and on how many processors."""
-    return 'up to %d runs side by side on %d processors' % (made.jobs, os.cpu_count() or 1)
+    runs = 'one run at a time' if made.jobs == 1 else 'up to %d runs side by side' % made.jobs
+    return '%s on %d processors' % (runs, os.cpu_count() or 1)
 
 
 def notes_of(made):

@@ -447,14 +447,16 @@ class Runs(unittest.TestCase):
                          (sharp['known'], sharp['runs']))
 
     def test_the_table_in_markdown(self):
-        lines = self.benchmark('--read', 'plain.txt', '--table').splitlines()
+        lines = self.benchmark('--read', 'plain.txt', '--table', '--jobs', '2').splitlines()
         self.assertEqual('| instances | orders | capacity | units | budget | cost | bound | gap % | proven | nodes | '
                          'seconds |', lines[0])
         self.assertEqual('| --- |' + ' ---: |' * 10, lines[1])
         self.assertTrue(lines[2].startswith('| three-orders | 3 | 2 | 5 | 2,000,000 | 64 | 56 | 12.50 | 0 of 1 | 2 | '))
         self.assertRegex(lines[4], r'^Measured on \d{4}-\d\d-\d\d with the program with the SHA-256 [0-9a-f]{16}\.\., '
-                                   r'up to \d+ runs side by side on \d+ processors, by$')
-        self.assertEqual('    tools/wave benchmark --read plain.txt --table --program program --keep kept', lines[6])
+                                   r'up to 2 runs side by side on \d+ processors, by$')
+        self.assertEqual('    tools/wave benchmark --read plain.txt --table --jobs 2 --program program --keep kept',
+                         lines[6])
+        self.assertIn('one run at a time on ', self.benchmark('--read', 'plain.txt', '--table', '--jobs', '1'))
 
     def test_the_page_needs_no_other_file_and_has_a_picture_of_each_gap(self):
         page = self.benchmark('--class', 'gademann-velde', '--orders', '1', '--sharp', '--html')
