@@ -2,7 +2,7 @@
 use Rattle.std.proofs.Common.{◌≡◌, ap, refl, sym, Result, Ok, Err, ◌+◌, ℕ, List, [], ◌++◌, length, append_assoc, append-nil, length-append, Option, Some, None, arith}
 use Rattle.std.proofs.Math.Seq.{take-append-add}
 use Rattle.std.proofs.lemmas.Grind.{common_steps}
-use Rattle.wp_outside.specs.Outside.{Grows, TookPrefix}
+use Rattle.wp_outside.specs.Outside.{Grows, TookPart, TookPrefix}
 
 -- a sink that isn't called took nothing
 pub Grows-nothing : (old : Option (List ℕ)) → Grows old old []
@@ -32,6 +32,18 @@ TookPrefix-first old new first second took =
 pub TookPrefix-second : (old mid new : Option (List ℕ)) (first second : List ℕ) → Grows old mid first → TookPrefix mid new second
     → TookPrefix old new (first ++ second)
 TookPrefix-second old mid new first second one took =
+    (length first + took.0, omega (arith, length-append first second, took.1), rw take-append-add (Grows-append old mid new first _ one took.2))
+
+-- a part of a first text is a part of both texts
+pub TookPart-first : (old new : Option (List ℕ)) (first second : List ℕ) → TookPart old new first → TookPart old new (first ++ second)
+TookPart-first old new first second took =
+    let within = took.1 in
+    (took.0, omega (arith, length-append first second), grind (arith, common_steps))
+
+-- a first text, and then a part of a second, is a part of both
+pub TookPart-second : (old mid new : Option (List ℕ)) (first second : List ℕ) → Grows old mid first → TookPart mid new second
+    → TookPart old new (first ++ second)
+TookPart-second old mid new first second one took =
     (length first + took.0, omega (arith, length-append first second, took.1), rw take-append-add (Grows-append old mid new first _ one took.2))
 
 -- an answer isn't an error

@@ -4,8 +4,7 @@ ghost use Rattle.std.specs.Prelude.{◌≡◌, ◌+◌, ◌%◌, [], ◌∷◌};
 use std::alloc::{AllocError, Global};
 use std::test::Fail;
 use wp_model::Memory;
-use wp_outside::{MemSink, Sink, SinkFault};
-use wp_parts::{Parts, Section, room, write_rest, write_section};
+use wp_outside::{MemSink, Parts, Section, Sink, SinkFault, room, write_rest, write_section};
 
 /// So many numbers from 0 on, a line for each, which has its last digit.
 #[derive(Drop)]

@@ -5,7 +5,7 @@ ghost use Rattle.wp_cert.specs.TextData.{HaveDualsWithin};
 ghost use Rattle.wp_sheets.specs.Picks.{AreSingle};
 ghost use Rattle.wp_planner.specs.Plans.{IsPlanOf};
 ghost use Rattle.wp_planner.specs.Released.{IsReleased};
-ghost use Rattle.wp_parts.specs.Texts.{GrowsBy};
+ghost use Rattle.wp_outside.specs.Sections.{GrowsBy};
 ghost use Rattle.wp_planner.specs.Sheets.{AreParts, FollowsPicks, IsPart, IsRulesLine, IsSheet, IsShortestTour, certificate_line};
 ghost use Rattle.wp_planner.specs.Roots.{is_narrow as is_narrow_state, root_text};
 ghost use Rattle.wp_planner.specs.Sheets.{is_open as is_open_state, plan_line};

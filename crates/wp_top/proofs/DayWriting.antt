@@ -8,9 +8,9 @@ use Rattle.wp_model.specs.Warehouse.{Layout}
 use Rattle.wp_model.specs.declared.entry.Entry.{Entry}
 use Rattle.wp_outside.specs.Outside.{SinkTold}
 use Rattle.wp_outside.specs.declared.sink.SinkFault.{SinkFault}
-use Rattle.wp_parts.proofs.Steps.{Fails-before, Fails-then, Writes-then}
-use Rattle.wp_parts.specs.Texts.{IsSection}
-use Rattle.wp_parts.specs.Writing.{Fails, Writes}
+use Rattle.wp_outside.proofs.Steps.{Fails-before, Fails-then, Writes-then}
+use Rattle.wp_outside.specs.Sections.{IsSection}
+use Rattle.wp_outside.specs.Writing.{Fails, Writes}
 use Rattle.wp_planner.specs.Crews.{crew_text}
 use Rattle.wp_planner.specs.Terms.{Terms}
 use Rattle.wp_planner.specs.declared.crew.DayCrew.{DayCrew}

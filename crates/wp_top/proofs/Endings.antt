@@ -7,8 +7,8 @@ use Rattle.wp_model.specs.declared.memory.Memory.{Memory}
 use Rattle.wp_outside.specs.Outside.{FilesTold, SinkTold}
 use Rattle.wp_outside.specs.declared.sink.SinkFault.{SinkFault}
 use Rattle.wp_outside.specs.declared.sink.SinkFault.TheVariants as sink_fault
-use Rattle.wp_parts.proofs.Steps.{Writes-whole}
-use Rattle.wp_parts.specs.Writing.{Fails, Writes}
+use Rattle.wp_outside.proofs.Steps.{Writes-whole}
+use Rattle.wp_outside.specs.Writing.{Fails, Writes}
 use Rattle.wp_top.specs.Ends.{Asked, IsOutput, of_run}
 use Rattle.wp_top.specs.Stops.{Finishes, FinishesJob, HasEnded, IsEndOf, IsEnding, IsOfInput, StopsFor, end_of, gives, number_of, of_store, status_of, status_when}
 use Rattle.wp_top.specs.Stores.{DiskCourse}

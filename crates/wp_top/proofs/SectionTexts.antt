@@ -9,9 +9,9 @@ use Rattle.wp_model.specs.History.{History}
 use Rattle.wp_model.specs.Warehouse.{Layout}
 use Rattle.wp_outside.specs.Outside.{SinkTold}
 use Rattle.wp_outside.specs.declared.sink.SinkFault.{SinkFault}
-use Rattle.wp_parts.proofs.Steps.{Fails-before, Fails-then, Writes-then}
-use Rattle.wp_parts.specs.Texts.{AreParts, GrowsBy, HaveText, IsSection}
-use Rattle.wp_parts.specs.Writing.{Fails, Writes}
+use Rattle.wp_outside.proofs.Steps.{Fails-before, Fails-then, Writes-then}
+use Rattle.wp_outside.specs.Sections.{AreParts, GrowsBy, HaveText, IsSection}
+use Rattle.wp_outside.specs.Writing.{Fails, Writes}
 use Rattle.wp_planner.proofs.AnySheet.{sheet_of_plan}
 use Rattle.wp_planner.specs.Terms.{Terms}
 use Rattle.wp_top.proofs.SheetsGrow.{grown_by_none, grown_next}

@@ -4,7 +4,7 @@ ghost use Rattle.wp_model.specs.History.{History, opened};
 ghost use Rattle.wp_model.specs.Tables.{AreReadScripts};
 ghost use Rattle.wp_model.specs.Warehouse.{Layout as Block};
 ghost use Rattle.wp_outside.specs.Outside.{FilesTold, NoneFalls, SameBytes};
-ghost use Rattle.wp_parts.specs.Writing.{Fails, Writes};
+ghost use Rattle.wp_outside.specs.Writing.{Fails, Writes};
 ghost use Rattle.wp_top.specs.Ends.{AreNewIn, ReadsWithin, among, plan_job};
 ghost use Rattle.wp_top.specs.Planned.{HasCrew, IsDayOver, IsToldOf};
 ghost use Rattle.wp_top.specs.Runs.{AreNewOf, IsHistoryOf, command_count};

@@ -3,7 +3,7 @@ ghost use Rattle.std.specs.Prelude.{◌≡◌, ◌++◌, [], List, ℕ, IfErr, O
 ghost use Rattle.wp_model.specs.History.{History};
 ghost use Rattle.wp_model.specs.Journal.{journal};
 ghost use Rattle.wp_model.specs.Warehouse.{Layout as Block};
-ghost use Rattle.wp_parts.specs.Writing.{Fails, Writes};
+ghost use Rattle.wp_outside.specs.Writing.{Fails, Writes};
 ghost use Rattle.wp_planner.specs.Crews.{crew_text};
 ghost use Rattle.wp_planner.specs.Sent.{plans_of, waves_of};
 ghost use Rattle.wp_top.specs.Planned.{HasCrew, IsToldOf};
@@ -16,8 +16,7 @@ use std::alloc::Global;
 use wp_desk::DayRun;
 use wp_machine::Opening;
 use wp_model::Entry;
-use wp_outside::{Sink, SinkFault};
-use wp_parts::{Section, room, write_rest, write_section};
+use wp_outside::{Section, Sink, SinkFault, room, write_rest, write_section};
 use wp_planner::{DayCrew, Terms, WavePlan};
 
 /// A day that is over: the opening from which it went on, the terms of its plans, what the desks give, and the crew to which all batches

@@ -1,6 +1,6 @@
 use Rattle.std.proofs.Common.{List, ℕ, subst, sym}
 use Rattle.wp_planner.proofs.SheetParts.{grown_more, one_more_item}
-use Rattle.wp_parts.specs.Texts.{GrowsBy}
+use Rattle.wp_outside.specs.Sections.{GrowsBy}
 use Rattle.wp_planner.specs.Sheets.{AreParts}
 use Rattle.wp_planner.proofs.sheet.print_parts.Goals as goal
 

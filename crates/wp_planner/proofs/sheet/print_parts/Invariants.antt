@@ -1,5 +1,5 @@
 use Rattle.std.proofs.Common.{take}
-use Rattle.wp_parts.specs.Texts.{GrowsBy}
+use Rattle.wp_outside.specs.Sections.{GrowsBy}
 use Rattle.wp_planner.specs.Sheets.{AreParts}
 use Rattle.wp_planner.proofs.sheet.print_parts.Given as goal
 

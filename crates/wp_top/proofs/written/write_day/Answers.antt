@@ -1,5 +1,5 @@
 use Rattle.wp_outside.specs.declared.sink.SinkFault.TheVariants.{Memory}
-use Rattle.wp_parts.proofs.Steps.{Fails-memory, passed_on}
+use Rattle.wp_outside.proofs.Steps.{Fails-memory, passed_on}
 use Rattle.wp_top.proofs.DayWriting.{day_unwritten}
 use Rattle.wp_top.proofs.written.write_day.Goals as goal
 

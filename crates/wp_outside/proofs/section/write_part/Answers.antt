@@ -1,7 +1,7 @@
 use Rattle.std.proofs.Common.{◌++◌}
 use Rattle.wp_outside.specs.declared.sink.SinkFault.TheVariants.{Memory}
-use Rattle.wp_parts.proofs.Steps.{Fails-memory, passed_on}
-use Rattle.wp_parts.proofs.section.write_part.Goals as goal
+use Rattle.wp_outside.proofs.Steps.{Fails-memory, passed_on}
+use Rattle.wp_outside.proofs.section.write_part.Goals as goal
 
 pub returns-in_err-print-clause-fails : goal.returns-in_err-print-clause-fails
 returns-in_err-print-clause-fails g c =

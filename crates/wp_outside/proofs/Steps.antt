@@ -6,8 +6,8 @@ use Rattle.wp_outside.specs.Outside.{Grows, SinkTold, TookPart, TookPrefix}
 use Rattle.wp_outside.specs.declared.sink.SinkFault.{SinkFault}
 use Rattle.wp_outside.specs.declared.sink.SinkFault.TheVariants.{Memory}
 use Rattle.wp_outside.proofs.Taking.{Grows-append, Grows-nothing, TookPrefix-first, TookPrefix-nothing, TookPrefix-second}
-use Rattle.wp_parts.specs.Writing.{Fails, Writes}
-use Rattle.wp_parts.proofs.Taking.{TookPart-first, TookPart-second}
+use Rattle.wp_outside.specs.Writing.{Fails, Writes}
+use Rattle.wp_outside.proofs.Taking.{TookPart-first, TookPart-second}
 
 -- a text that is added to what waits is written by no sink yet
 pub Writes-waiting : (told : SinkTold) (waited text : List ℕ) → Writes told told waited (waited ++ text) text

@@ -1,10 +1,11 @@
 //! What waits to be written.
 ghost use Rattle.std.specs.Prelude.{◌≡◌, ◌<◌, ◌++◌, [], length, IfOk, IfErr, OnOk};
-ghost use Rattle.wp_parts.specs.Writing.{Fails, Writes, piece_bytes};
+ghost use Rattle.wp_outside.specs.Writing.{Fails, Writes, piece_bytes};
 
+use crate::sink::{Sink, SinkFault};
+use crate::writing::write_text;
 use std::alloc::Global;
 use wp_model::Memory;
-use wp_outside::{Sink, SinkFault, write_text};
 
 /// How many bytes wait at most before they are written, but for the part that was printed last: 64 KiB.
 pub const PIECE_BYTES: usize = 65_536;

@@ -1,7 +1,7 @@
 use Rattle.std.proofs.Common.{◌+◌, ◌++◌, ◌<◌, arith}
-use Rattle.wp_parts.proofs.Steps.{Fails-before, Fails-then, Writes-then, passed_on}
-use Rattle.wp_parts.proofs.Texts.{others_after, part_more}
-use Rattle.wp_parts.proofs.section.write_parts.Goals as goal
+use Rattle.wp_outside.proofs.Steps.{Fails-before, Fails-then, Writes-then, passed_on}
+use Rattle.wp_outside.proofs.SectionTexts.{others_after, part_more}
+use Rattle.wp_outside.proofs.section.write_parts.Goals as goal
 
 pub returns-in_err-write_part-clause-fails : goal.returns-in_err-write_part-clause-fails
 returns-in_err-write_part-clause-fails g c =

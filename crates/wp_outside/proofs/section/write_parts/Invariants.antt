@@ -1,7 +1,7 @@
 use Rattle.std.proofs.Common.{ℕ, List}
-use Rattle.wp_parts.specs.Texts.{AreParts}
-use Rattle.wp_parts.specs.Writing.{Writes}
-use Rattle.wp_parts.proofs.section.write_parts.Given as goal
+use Rattle.wp_outside.specs.Sections.{AreParts}
+use Rattle.wp_outside.specs.Writing.{Writes}
+use Rattle.wp_outside.proofs.section.write_parts.Given as goal
 
 -- the parts before this one were written, or wait
 abbrev pub invariant-loop-number : goal.invariant-loop-number

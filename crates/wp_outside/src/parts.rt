@@ -1,6 +1,6 @@
 //! Texts that are printed one after the other.
 ghost use Rattle.std.specs.Prelude.{◌≡◌, ℕ, ◌<◌, List, IfOk};
-ghost use Rattle.wp_parts.specs.Texts.{GrowsBy};
+ghost use Rattle.wp_outside.specs.Sections.{GrowsBy};
 
 use std::alloc::Global;
 use wp_model::Memory;

@@ -1,7 +1,7 @@
 -- Each section has some text, whichever of its parts were printed.
 use Rattle.std.proofs.Common.{◌≡◌, refl, sym, subst, ℕ, zero, suc, ◌+◌, add-one, ◌≤◌, inl, inr, List, [], ◌++◌, append_assoc, append-nil, arith}
 use Rattle.std.proofs.lemmas.Bool.{cases_lt}
-use Rattle.wp_parts.specs.Texts.{AreParts, HaveText, IsSection}
+use Rattle.wp_outside.specs.Sections.{AreParts, HaveText, IsSection}
 
 -- one more part
 pub part_more : (Says : ℕ → List ℕ → Type 0) (number : ℕ) (before part : List ℕ) → AreParts Says number before → Says number part

@@ -1,8 +1,8 @@
 use Rattle.std.proofs.Common.{refl, ◌++◌}
 use Rattle.std.proofs.lemmas.Result.{IfErr-weaker, on_ok_weaker}
-use Rattle.wp_parts.proofs.Steps.{Fails-before, Fails-then, Writes-then, passed_on}
-use Rattle.wp_parts.proofs.Texts.{parts_text}
-use Rattle.wp_parts.proofs.section.write_section.Goals as goal
+use Rattle.wp_outside.proofs.Steps.{Fails-before, Fails-then, Writes-then, passed_on}
+use Rattle.wp_outside.proofs.SectionTexts.{parts_text}
+use Rattle.wp_outside.proofs.section.write_section.Goals as goal
 
 pub returns-in_err-write_behind-clause-fails : goal.returns-in_err-write_behind-clause-fails
 returns-in_err-write_behind-clause-fails g c =

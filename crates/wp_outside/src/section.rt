@@ -1,12 +1,12 @@
 //! A section of an output.
 ghost use Rattle.std.specs.Prelude.{ℕ, ◌<◌, ◌++◌, List, length, IfOk, IfErr, OnOk};
-ghost use Rattle.wp_parts.specs.Texts.{AreParts, HaveText, IsSection};
-ghost use Rattle.wp_parts.specs.Writing.{Fails, Writes, piece_bytes};
+ghost use Rattle.wp_outside.specs.Sections.{AreParts, HaveText, IsSection};
+ghost use Rattle.wp_outside.specs.Writing.{Fails, Writes, piece_bytes};
 
 use crate::parts::{Parts, Section};
+use crate::sink::{Sink, SinkFault};
 use crate::waiting::{write_behind, write_if_full};
 use std::alloc::Global;
-use wp_outside::{Sink, SinkFault};
 
 fn write_part<P: Parts, K: Sink>(
     alloc: Global,
