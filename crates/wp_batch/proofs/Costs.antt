@@ -5,11 +5,11 @@ use Rattle.std.specs.Prelude.{min, remove}
 use Rattle.std.proofs.lemmas.Bool.{cases_lt}
 use Rattle.std.proofs.lemmas.List.Edits.{get_or-remove_above, get_or-remove_below, length-remove}
 use Rattle.std.proofs.lemmas.List.{get_or-set_other, get_or_default, length-set, take_more}
-use Rattle.wp_batch.specs.Batchings.{IsCost, IsListedByLeast, batch_at}
+use Rattle.wp_lengths.specs.Batchings.{IsCost, IsListedByLeast, batch_at}
 use Rattle.wp_batch.specs.Joins.{CostLess, CostNoMore, JoinSaves, TellsCost}
-use Rattle.wp_batch.specs.Lengths.{IsLengthOf}
-use Rattle.wp_batch.specs.Waves.{WavePicks}
-use Rattle.wp_batch.proofs.Gains.{one_length}
+use Rattle.wp_lengths.specs.Lengths.{IsLengthOf}
+use Rattle.wp_lengths.specs.Waves.{WavePicks}
+use Rattle.wp_lengths.proofs.Unions.{one_length}
 
 -- batches cost one sum alone
 pub one_cost : (wave : WavePicks) (batches : List (List ℕ)) (cost other : ℕ) → IsCost wave batches cost → IsCost wave batches other → cost ≡ other

@@ -4,20 +4,13 @@ use Rattle.std.proofs.lemmas.Bool.{cases_eq}
 use Rattle.std.proofs.lemmas.List.Elements.{Contains-append_cases, Contains-append_left, Contains-append_right}
 use Rattle.std.proofs.lemmas.List.{get_or_default}
 use Rattle.wp_model.specs.declared.point.Point.{Point}
-use Rattle.wp_model.specs.Tours.{IsShortest}
-use Rattle.wp_model.specs.Warehouse.{Layout}
 use Rattle.wp_graph.proofs.Members.{Contains-from_among, among-flat_map, among_from_Contains, flat_map_source}
 use Rattle.wp_batch.specs.declared.merge.Join.{Join}
-use Rattle.wp_batch.specs.Batchings.{FitInOne, IsBatching, NoGain, batch_at}
-use Rattle.wp_batch.specs.Joins.{AreKnown, CanJoin, IsBestBelow, IsBestWith, JoinSaves, SavesAtMost}
-use Rattle.wp_batch.specs.Lengths.{IsLengthOf, batch_picks}
-use Rattle.wp_batch.specs.Waves.{WavePicks, picks_of}
-use Rattle.wp_batch.proofs.Unions.{same_shortest}
-
--- all shortest tours past some picks are of one length
-pub one_length : (layout : Layout) (picks : List Point) (s t : ℕ) → IsShortest layout picks s → IsShortest layout picks t → s ≡ t
-one_length layout picks s t first second =
-    omega (arith, first.least second.some.0 t second.some.1, second.least first.some.0 s first.some.1)
+use Rattle.wp_batch.specs.Joins.{AreKnown, CanJoin, FitInOne, IsBestBelow, IsBestWith, JoinSaves, NoGain, SavesAtMost}
+use Rattle.wp_lengths.specs.Batchings.{IsBatching, batch_at}
+use Rattle.wp_lengths.specs.Lengths.{IsLengthOf, batch_picks}
+use Rattle.wp_lengths.specs.Waves.{WavePicks, picks_of}
+use Rattle.wp_lengths.proofs.Unions.{one_length, same_shortest}
 
 -- batches of the same orders pick at the same slots
 picks_same : (wave : WavePicks) (xs ys : List ℕ) → ((order : ℕ) → Contains xs order → Contains ys order) → (p : Point) → Contains (batch_picks wave xs) p

@@ -1,8 +1,7 @@
 -- Joining two batches of a batching gives a batching, listed by least orders as before.
-use Rattle.std.proofs.Common.{◌≡◌, ◌≢◌, ℕ, zero, suc, ◌+◌, ◌-◌, ◌<◌, ◌≤◌, ◌↔◌, List, [], length, get_or, set, arith, refl, ap, sym, ◌∙◌, subst, inl, inr, ◌⊎◌}
+use Rattle.std.proofs.Common.{◌≡◌, ◌≢◌, ℕ, ◌+◌, ◌-◌, ◌<◌, ◌≤◌, ◌↔◌, List, [], length, get_or, set, arith, refl, ap, sym, ◌∙◌, subst, inl, inr, ◌⊎◌}
 use Rattle.std.proofs.Common.{⊎_elim, Contains}
 use Rattle.std.specs.Prelude.{remove}
-use Rattle.std.specs.List.Sorted.{IsStrictlyIncreasing}
 use Rattle.std.proofs.lemmas.Bool.{cases_eq, cases_lt}
 use Rattle.std.proofs.lemmas.List.Edits.{get_or-remove_above, get_or-remove_below, length-remove}
 use Rattle.std.proofs.lemmas.List.Elements.{All-contains, Contains-get_or}
@@ -10,37 +9,12 @@ use Rattle.std.proofs.lemmas.List.{get_or-set_other, get_or-set_same, get_or_def
 use Rattle.wp_pairs.specs.Batches.{IsBatch}
 use Rattle.wp_pairs.specs.Carts.{FitsAnyCart}
 use Rattle.wp_pairs.specs.Permitted.{IsPermitted}
-use Rattle.wp_batch.specs.Batchings.{FitInOne, IsBatching, IsListedByLeast, batch_at, no_pairs}
-use Rattle.wp_batch.specs.Waves.{WavePicks}
-use Rattle.wp_batch.proofs.Loads.{IsUnion, apart_count, apart_fit, union_fits}
-use Rattle.wp_batch.proofs.Unions.{all_from_contained}
-
--- the first of an ascending list is its least
-rising : (xs : List ℕ) → IsStrictlyIncreasing xs → (k : ℕ) → k < length xs → get_or xs 0 0 ≤ get_or xs k 0
-rising xs up zero within = omega arith
-rising xs up (suc k) within =
-    let e : k + 1 ≡ suc k = omega arith in
-    let next = up k (omega arith) in
-    let there : get_or xs k 0 < get_or xs (suc k) 0 = subst (λ (i : ℕ). get_or xs k 0 < get_or xs i 0) e next in
-    omega (arith, rising xs up k (omega arith))
-
--- the first of an ascending list is at most each of it
-pub first_least : (xs : List ℕ) (x : ℕ) → IsStrictlyIncreasing xs → Contains xs x → get_or xs 0 0 ≤ x
-first_least xs x up has =
-    let is : get_or xs has.0 0 ≡ x = get_or_default xs has.0 0 x has.1 ∙ has.2 in omega (arith, rising xs up has.0 has.1, is)
-
--- a batch is permitted where there is no pair, if it is filled and fits
-pub permitted_alone : (wave : WavePicks) (capacity : ℕ) (batch : List ℕ) → IsBatch batch → 0 < length batch → length batch ≤ capacity
-    → FitsAnyCart wave.cart batch → ((order : ℕ) → Contains batch order → order < length wave.orders) → IsPermitted (no_pairs wave capacity) batch
-permitted_alone wave capacity batch is filled fits light known = record {
-  ascending = is.ascending;
-  filled = filled;
-  fits = fits;
-  light = light;
-  known = all_from_contained (λ (order : ℕ). order < length wave.orders) batch known;
-  together = λ pair added kind. absurd (omega (arith, added.1));
-  apart = λ pair added kind both. omega (arith, added.1);
-}
+use Rattle.wp_batch.specs.Joins.{FitInOne}
+use Rattle.wp_lengths.specs.Batchings.{IsBatching, IsListedByLeast, batch_at, no_pairs}
+use Rattle.wp_lengths.specs.Waves.{WavePicks}
+use Rattle.wp_lengths.proofs.Loads.{IsUnion, apart_count, apart_fit, union_fits}
+use Rattle.wp_lengths.proofs.Ascending.{first_least}
+use Rattle.wp_lengths.proofs.NoPairs.{permitted_alone}
 
 -- two batches of a batching, the earlier first, and a batch of the orders of both, which fits
 pub record IsJoin (wave : WavePicks) (capacity : ℕ) (batches : List (List ℕ)) (i j : ℕ) (union : List ℕ) : Type 0 where

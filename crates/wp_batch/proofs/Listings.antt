@@ -7,8 +7,8 @@ use Rattle.std.proofs.lemmas.List.Elements.{All-contains, Contains-get_or}
 use Rattle.std.proofs.lemmas.List.{get_or_append_left, get_or_default, get_or_push}
 use Rattle.std.proofs.lemmas.Option.{get_or_from_slice_get, slice_get-get_or}
 use Rattle.wp_pairs.specs.Permitted.{IsPermitted}
-use Rattle.wp_batch.specs.Batchings.{IsBatching, IsListedByLeast, batch_at, no_pairs}
-use Rattle.wp_batch.specs.Waves.{WavePicks}
+use Rattle.wp_lengths.specs.Batchings.{IsBatching, IsListedByLeast, batch_at, no_pairs}
+use Rattle.wp_lengths.specs.Waves.{WavePicks}
 
 -- the batches whose least orders are below this one, listed by them
 pub record AreListedBelow (batches listed : List (List ℕ)) (limit : ℕ) : Type 0 where

@@ -5,10 +5,10 @@ use Rattle.std.proofs.lemmas.List.Elements.{All-contains}
 use Rattle.std.proofs.lemmas.List.{get_or-set_other, get_or-set_same, length-set}
 use Rattle.wp_pairs.specs.Permitted.{IsPermitted}
 use Rattle.wp_batch.specs.declared.split.Split.{Split}
-use Rattle.wp_batch.specs.Batchings.{IsBatching, batch_at, no_pairs}
+use Rattle.wp_lengths.specs.Batchings.{IsBatching, batch_at, no_pairs}
 use Rattle.wp_batch.specs.Splits.{CanReplace}
-use Rattle.wp_batch.specs.Waves.{WavePicks}
-use Rattle.wp_batch.proofs.Joining.{permitted_alone}
+use Rattle.wp_lengths.specs.Waves.{WavePicks}
+use Rattle.wp_lengths.proofs.NoPairs.{permitted_alone}
 
 module _ (wave : WavePicks) (capacity : ℕ) (batches : List (List ℕ)) (i j : ℕ) (split : Split) (is : IsBatching wave capacity batches)
     (h : CanReplace wave capacity batches i j split) where

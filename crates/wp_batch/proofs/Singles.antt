@@ -1,21 +1,14 @@
 -- Each order by itself is a batching.
 use Rattle.std.proofs.Common.{◌≡◌, ◌≢◌, ℕ, ◌+◌, ◌<◌, ◌≤◌, ◌↔◌, List, [], ◌∷◌, ◌++◌, length, length-append, get_or, arith, refl, ap, sym, ◌∙◌, subst, inr, ◌⊎◌}
-use Rattle.std.proofs.Common.{⊎_elim, Contains, Option, None, Some}
-use Rattle.std.specs.Prelude.{slice_index}
-use Rattle.std.specs.List.Sorted.{IsStrictlyIncreasing}
+use Rattle.std.proofs.Common.{⊎_elim, Contains}
 use Rattle.std.proofs.lemmas.Bool.{cases_eq, cases_lt}
 use Rattle.std.proofs.lemmas.List.Elements.{Contains-get_or}
-use Rattle.std.proofs.lemmas.List.Sums.{sum_by-cons}
 use Rattle.std.proofs.lemmas.List.{get_or_append_left, get_or_push}
 use Rattle.wp_pairs.specs.Batches.{IsBatch}
-use Rattle.wp_pairs.specs.Carts.{FitsAnyCart, IsCartFor, LoadedCart}
-use Rattle.wp_pairs.proofs.Classes.{no_heavier}
-use Rattle.wp_pairs.proofs.Members.{contains_first}
-use Rattle.wp_batch.specs.Batchings.{IsBatching, IsListedByLeast, batch_at}
-use Rattle.wp_batch.specs.Waves.{IsWave, WavePicks}
-use Rattle.wp_batch.proofs.Ascending.{single_ascends}
-use Rattle.wp_batch.proofs.Joining.{permitted_alone}
-use Rattle.wp_batch.proofs.Unions.{nothing_in}
+use Rattle.wp_lengths.specs.Batchings.{IsBatching, IsListedByLeast, batch_at}
+use Rattle.wp_lengths.specs.Waves.{IsWave, WavePicks}
+use Rattle.wp_lengths.proofs.NoPairs.{alone_fits, permitted_alone}
+use Rattle.wp_lengths.proofs.Unions.{nothing_in}
 
 -- the batch at each place has that order alone
 pub record AreSingles (batches : List (List ℕ)) (count : ℕ) : Type 0 where
@@ -59,17 +52,6 @@ at_most_one xs x is own = ⊎_elim (λ (few : length xs < 2). omega arith)
     let second = own (get_or xs (0 + 1) 0) (Contains-get_or xs (0 + 1) 0 (omega arith)) in
     absurd (omega (arith, up, first, second)))
     (cases_lt (length xs) 2)
-
--- a batch of one order fits the cart of a wave
-pub alone_fits : (cart : Option LoadedCart) (orders : ℕ) (batch : List ℕ) (order : ℕ) → IsCartFor cart orders → order < orders → IsStrictlyIncreasing batch
-    → ((p : ℕ) → Contains batch p → p ≡ order) → FitsAnyCart cart batch
-alone_fits None orders batch order is low up own = tt
-alone_fits (Some held) orders batch order is low up own =
-    let loads = slice_index held.loads in
-    let only = no_heavier loads batch (order ∷ []) up (single_ascends order)
-    (λ p has. subst (λ (k : ℕ). Contains (order ∷ []) k) (sym (own p has)) (contains_first order [])) in
-    let light = is.0.light order 0 (omega (arith, low, is.1)) in
-    omega (arith, only, sum_by-cons loads order [], light)
 
 -- each order by itself is a batching
 pub singles_are_batching : (wave : WavePicks) (capacity : ℕ) (batches : List (List ℕ)) → IsWave wave → AreSingles batches (length wave.orders) → 1 ≤ capacity

@@ -5,11 +5,11 @@ use Rattle.std.proofs.lemmas.Bool.{cases_eq}
 use Rattle.std.proofs.lemmas.List.Elements.{All-contains}
 use Rattle.std.proofs.lemmas.List.{get_or_default}
 use Rattle.std.proofs.lemmas.Option.{get_or_from_slice_get, slice_get_within}
-use Rattle.wp_batch.specs.Batchings.{batch_at}
+use Rattle.wp_lengths.specs.Batchings.{batch_at}
 use Rattle.wp_batch.specs.declared.split.Split.{Split}
 use Rattle.wp_batch.specs.Splits.{CanReplace, DividesInto, IsDivided, IsSplit}
-use Rattle.wp_batch.specs.Waves.{WavePicks}
-use Rattle.wp_batch.proofs.Unions.{all_from_contained, nothing_in}
+use Rattle.wp_lengths.specs.Waves.{WavePicks}
+use Rattle.wp_lengths.proofs.Unions.{all_from_contained, nothing_in}
 
 -- what stands first in a list is in it
 pub first_in : (xs : List ℕ) (x : ℕ) → slice_get xs 0 ≡ Some x → Contains xs x

@@ -1,9 +1,26 @@
--- Two batches of a list that may be joined.
+-- Two batches of a list that may be joined, and batchings in which no two gain by that.
 use Rattle.std.specs.Prelude.{◌≡◌, ℕ, ◌+◌, ◌-◌, ◌^◌, ◌<◌, ◌≤◌, List, ◌++◌, All, length, min}
+use Rattle.wp_pairs.specs.Carts.{FitsAnyCart}
 use Rattle.wp_batch.specs.declared.merge.Join.{Join}
-use Rattle.wp_batch.specs.Batchings.{FitInOne, IsCost, batch_at}
-use Rattle.wp_batch.specs.Lengths.{IsLengthOf}
-use Rattle.wp_batch.specs.Waves.{WavePicks}
+use Rattle.wp_lengths.specs.Batchings.{IsCost, batch_at}
+use Rattle.wp_lengths.specs.Lengths.{IsLengthOf}
+use Rattle.wp_lengths.specs.Waves.{WavePicks}
+
+-- two batches fit into one: together they have no more orders than the capacity, which load no more than a cart holds
+pub record FitInOne (wave : WavePicks) (capacity : ℕ) (left right : List ℕ) : Type 0 where
+  pub few : length left + length right ≤ capacity
+  pub light : FitsAnyCart wave.cart (left ++ right)
+
+-- two batches that fit into one don't cost less as one
+abbrev pub NoGain : WavePicks → ℕ → List ℕ → List ℕ → Type 0
+NoGain wave capacity left right =
+    FitInOne wave capacity left right → (one other both : ℕ) → IsLengthOf wave left one → IsLengthOf wave right other
+    → IsLengthOf wave (left ++ right) both → one + other ≤ both
+
+-- no two batches gain by joining
+abbrev pub NoJoinGains : WavePicks → ℕ → List (List ℕ) → Type 0
+NoJoinGains wave capacity batches =
+    (left right : ℕ) → left < right → right < length batches → NoGain wave capacity (batch_at batches left) (batch_at batches right)
 
 -- two batches cost so much more than one of the orders of both
 pub record JoinSaves (wave : WavePicks) (left right : List ℕ) (saving : ℕ) : Type 0 where

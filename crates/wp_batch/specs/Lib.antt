@@ -1,13 +1,6 @@
-pub mod Waves
-pub mod Lengths
-pub mod Marks
-pub mod Batchings
 pub mod Joins
 pub mod Savings
-pub mod KeptLengths
 pub mod Splits
-pub mod Duals
-pub mod Visits
-pub mod Reaches
 pub mod Walks
 pub mod Changes
+pub mod LastPlaces

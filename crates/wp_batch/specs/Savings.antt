@@ -1,9 +1,9 @@
 -- The batching by savings (Clarke and Wright, 1964), which a start costs no more than: orders that begin alone are joined, each time by a join that saves most.
 use Rattle.std.specs.Prelude.{◌≡◌, ℕ, ◌<◌, ◌⊎◌, ◌↔◌, List, Contains, length, remove, set}
 use Rattle.wp_batch.specs.declared.merge.Join.{Join}
-use Rattle.wp_batch.specs.Batchings.{NoJoinGains, batch_at}
-use Rattle.wp_batch.specs.Joins.{CanJoin, CostNoMore, SavesAtMost}
-use Rattle.wp_batch.specs.Waves.{WavePicks}
+use Rattle.wp_batch.specs.Joins.{CanJoin, CostNoMore, NoJoinGains, SavesAtMost}
+use Rattle.wp_lengths.specs.Batchings.{batch_at}
+use Rattle.wp_lengths.specs.Waves.{WavePicks}
 
 -- so many orders, each of which is a batch alone
 pub record AreAlone (orders : ℕ) (batches : List (List ℕ)) : Type 0 where

@@ -2,8 +2,8 @@
 use Rattle.std.specs.Prelude.{ℕ, ◌<◌, ◌≤◌, ◌⊎◌, ◌↔◌, List, Contains, length}
 use Rattle.wp_pairs.specs.Batches.{IsBatch}
 use Rattle.wp_pairs.specs.Carts.{FitsAnyCart}
-use Rattle.wp_batch.specs.Batchings.{batch_at}
-use Rattle.wp_batch.specs.Waves.{WavePicks}
+use Rattle.wp_lengths.specs.Batchings.{batch_at}
+use Rattle.wp_lengths.specs.Waves.{WavePicks}
 use Rattle.wp_batch.specs.declared.split.Split.{Split}
 
 -- each order of a batch is in one of two others, and none is in both

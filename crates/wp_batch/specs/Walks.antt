@@ -1,7 +1,7 @@
 -- Walks from batching to batching.
 use Rattle.std.specs.Prelude.{◌≡◌, ℕ, length}
-use Rattle.wp_batch.specs.Batchings.{IsBatching}
-use Rattle.wp_batch.specs.Waves.{WavePicks}
+use Rattle.wp_lengths.specs.Batchings.{IsBatching}
+use Rattle.wp_lengths.specs.Waves.{WavePicks}
 use Rattle.wp_batch.specs.declared.walk.Walk.{Walk}
 
 -- where a walk is there is a batching, and the cheapest that it came past is one of as many batches

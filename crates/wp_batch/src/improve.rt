@@ -1,5 +1,5 @@
 ghost use Rattle.std.specs.Prelude.{◌≡◌, ◌<◌, ◌∷◌, [], All, Contains, IfSome, IsTrue, List, ℕ, length, set};
-ghost use Rattle.wp_batch.specs.Batchings.{IsBatching, IsCost};
+ghost use Rattle.wp_lengths.specs.Batchings.{IsBatching, IsCost};
 ghost use Rattle.wp_batch.specs.Joins.{CostNoMore};
 ghost use Rattle.wp_batch.specs.Splits.{CanReplace, DividesInto, IsDivided, IsFit, IsSplit};
 

@@ -1,8 +1,8 @@
 ghost use Rattle.std.specs.Prelude.{◌↔◌, IsTrue};
-ghost use Rattle.wp_batch.specs.Batchings.{FitInOne};
+ghost use Rattle.wp_batch.specs.Joins.{FitInOne};
 ghost use Rattle.wp_batch.specs.Splits.{IsFit};
 
-use crate::wave::Wave;
+use wp_lengths::Wave;
 use wp_pairs::Batch;
 
 /// What is to be put into batches: the orders of a wave, so many to a batch at most, 1 to 8, and no more than fits the wave's

@@ -1,5 +1,5 @@
 ghost use Rattle.std.specs.Prelude.{◌≡◌, IfNone, IfSome, replicate};
-ghost use Rattle.wp_batch.specs.Batchings.{IsNowhere, IsPlaceOf};
+ghost use Rattle.wp_batch.specs.LastPlaces.{IsNowhere, IsPlaceOf};
 
 use wp_pairs::Batch;
 

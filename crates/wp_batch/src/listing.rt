@@ -1,5 +1,5 @@
 ghost use Rattle.std.specs.Prelude.{◌≡◌, ◌≢◌, ◌≤◌, ◌<◌, ◌↔◌, ℕ, Some, IfNone, IfOk, IfSome, IsTrue, length, slice_get};
-ghost use Rattle.wp_batch.specs.Batchings.{IsBatching, IsListedByLeast, batch_at};
+ghost use Rattle.wp_lengths.specs.Batchings.{IsBatching, IsListedByLeast, batch_at};
 ghost use Rattle.wp_batch.specs.Joins.{CostNoMore};
 
 use crate::instance::Instance;

@@ -1,16 +1,15 @@
 ghost use Rattle.std.specs.Prelude.{◌≡◌, ◌+◌, ◌≤◌, ◌<◌, ◌^◌, ◌⊎◌, All, IfNone, IfOk, IfSome, length, vec_len, ℕ};
-ghost use Rattle.wp_batch.specs.Batchings.{FitInOne, IsBatching, IsListedByLeast, NoJoinGains};
-ghost use Rattle.wp_batch.specs.Joins.{AreKnown, CanJoin, CostNoMore, IsBestBelow, IsBestWith, JoinSaves, SavesAtMost};
+ghost use Rattle.wp_batch.specs.Joins.{AreKnown, CanJoin, CostNoMore, FitInOne, IsBestBelow, IsBestWith, JoinSaves, NoJoinGains, SavesAtMost};
+ghost use Rattle.wp_lengths.specs.Batchings.{IsBatching, IsListedByLeast};
 ghost use Rattle.wp_batch.specs.Savings.{AreAlone, AreMerged, CostNoMoreThanSavings, IsBySavings, IsGreatestJoin, IsJoined};
 
-use crate::batching::Batching;
 use crate::improve::improve;
 use crate::instance::Instance;
 use crate::listing::listed;
 use crate::seen::SeenLengths;
 use crate::starts::best_of_walks;
-use crate::wave::Wave;
 use std::alloc::Global;
+use wp_lengths::{Batching, Wave};
 use wp_model::Memory;
 use wp_pairs::Batch;
 

@@ -1,10 +1,8 @@
 ghost use Rattle.std.specs.Prelude.{◌<◌, ◌≤◌, ◌↔◌, IsTrue, All, length};
-ghost use Rattle.wp_batch.specs.Lengths.{IsLengthOf};
+ghost use Rattle.wp_lengths.specs.Lengths.{IsLengthOf};
 
-use crate::lengths::Length;
-use crate::places::Places;
-use crate::wave::Wave;
 use std::alloc::Global;
+use wp_lengths::{Length, Places, Wave};
 use wp_model::Memory;
 use wp_pairs::Batch;
 

@@ -1,5 +1,5 @@
 ghost use Rattle.std.specs.Prelude.{◌≡◌, ◌<◌, IfSome, length, set};
-ghost use Rattle.wp_batch.specs.Batchings.{IsBatching};
+ghost use Rattle.wp_lengths.specs.Batchings.{IsBatching};
 ghost use Rattle.wp_batch.specs.Splits.{CanReplace, IsSplit};
 
 use crate::instance::Instance;

@@ -1,5 +1,5 @@
 ghost use Rattle.std.specs.Prelude.{◌≡◌, ◌<◌, ◌≤◌, ◌⊎◌, IfOk, length};
-ghost use Rattle.wp_batch.specs.Batchings.{IsBatching};
+ghost use Rattle.wp_lengths.specs.Batchings.{IsBatching};
 ghost use Rattle.wp_batch.specs.Joins.{AreKnown, CostLess, CostNoMore, TellsCost};
 ghost use Rattle.wp_batch.specs.Walks.{IsWalk};
 
@@ -11,8 +11,8 @@ use crate::merge::merge;
 use crate::near::Nearness;
 use crate::seen::{SeenLengths, length_within};
 use crate::walk::{Mover, Walk};
-use crate::wave::Wave;
 use std::alloc::Global;
+use wp_lengths::Wave;
 use wp_model::Memory;
 use wp_pairs::Batch;
 

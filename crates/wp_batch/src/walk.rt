@@ -1,5 +1,5 @@
 ghost use Rattle.std.specs.Prelude.{◌≡◌, ◌<◌, IfOk, IfSome, length};
-ghost use Rattle.wp_batch.specs.Batchings.{IsBatching};
+ghost use Rattle.wp_lengths.specs.Batchings.{IsBatching};
 ghost use Rattle.wp_batch.specs.Walks.{IsWalk};
 
 use crate::draws::Draws;

@@ -4,7 +4,7 @@ use crate::exact::{is_within, length_of};
 use crate::rows::{adds_up, bracket, is_as_narrow};
 use std::alloc::Global;
 use std::thread::Threads;
-use wp_batch::Wave;
+use wp_lengths::Wave;
 use wp_lp::{Root, RootState};
 use wp_master::{Pool, solve};
 use wp_pairs::{Batch, Pairs};

@@ -1,9 +1,10 @@
 ghost use Rattle.std.specs.Prelude.{◌≤◌, ◌<◌, ℕ, Contains, IsTrue};
-ghost use Rattle.wp_batch.specs.Batchings.{IsBatching};
+ghost use Rattle.wp_lengths.specs.Batchings.{IsBatching};
 
 use std::alloc::Global;
 use std::thread::Threads;
-use wp_batch::{Batching, Marks, Wave, joined, merged_start};
+use wp_batch::{joined, merged_start};
+use wp_lengths::{Batching, Marks, Wave};
 use wp_pairs::Batch;
 use wp_samples::{Slots, are_exactly, batch_below, batch_of, wave_of};
 

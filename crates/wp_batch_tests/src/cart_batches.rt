@@ -2,7 +2,7 @@
 
 use crate::batch::{APART, Batches, MANY, SAME, TWICE, batches_of, is_joined_to, start_of};
 use std::alloc::Global;
-use wp_batch::Batching;
+use wp_lengths::Batching;
 use wp_samples::{Slots, are_exactly, cart_wave_of, wave_of};
 
 /// The orders of a wave, what its cart holds and what each order loads.

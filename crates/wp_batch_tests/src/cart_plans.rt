@@ -5,7 +5,7 @@ use crate::many::ORDERS;
 use crate::search::{APART, SAME, SHARED, Terms, checked_plan, own_nodes};
 use std::alloc::Global;
 use std::thread::Threads;
-use wp_batch::{Batching, Wave};
+use wp_lengths::{Batching, Wave};
 use wp_node::price_of;
 use wp_pairs::Capacity;
 use wp_samples::{Draws, Slots, are_exactly, batch_below, cart_wave_of, wave_of};

@@ -1,6 +1,6 @@
 use std::alloc::Global;
-use wp_batch::{Batching, Marks, Wave};
 use wp_cert::{CertFault, CertWhy, Duals, Node, Nodes, Own, Tree, check};
+use wp_lengths::{Batching, Marks, Wave};
 use wp_samples::{Slots, batch_of, wave_of};
 
 /// Three orders with a slot each.

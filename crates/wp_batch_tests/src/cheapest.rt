@@ -1,6 +1,6 @@
 use crate::starts::{length_within, start_cost};
 use std::alloc::Global;
-use wp_batch::Wave;
+use wp_lengths::Wave;
 use wp_pairs::Batch;
 use wp_samples::{Draws, made_wave};
 

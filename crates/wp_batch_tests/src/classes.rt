@@ -2,11 +2,11 @@
 //! answer.
 ghost use Rattle.std.specs.Prelude.{◌≡◌, ℕ, List, IfSome, IsTrue, length};
 ghost use Rattle.wp_pairs.specs.Permitted.{AllDecided};
-ghost use Rattle.wp_batch.specs.Batchings.{IsBatching};
-ghost use Rattle.wp_batch.specs.Duals.{AreTight, IsTightFor};
+ghost use Rattle.wp_lengths.specs.Batchings.{IsBatching};
+ghost use Rattle.wp_lengths.specs.Duals.{AreTight, IsTightFor};
 
 use std::alloc::Global;
-use wp_batch::{Batching, DualWave, OrderDuals, SIXTIETHS, Wave};
+use wp_lengths::{Batching, DualWave, OrderDuals, SIXTIETHS, Wave};
 use wp_node::class_batching;
 use wp_pairs::{Capacity, Pairs};
 use wp_samples::{Slots, are_exactly, wave_of};

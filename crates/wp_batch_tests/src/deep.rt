@@ -1,8 +1,8 @@
 //! A tree as deep as a search's can be is listed by a loop.
 
 use std::alloc::Global;
-use wp_batch::{Batching, Marks, OrderDuals};
 use wp_cert::Node;
+use wp_lengths::{Batching, Marks, OrderDuals};
 use wp_node::{NodeOwn, Worked};
 use wp_search::{Branch, Cut, list_nodes};
 

@@ -1,5 +1,5 @@
 //! What a bracket says is added up anew: its cover, its duals and both of its sides.
-use wp_batch::Wave;
+use wp_lengths::Wave;
 use wp_lp::Root;
 use wp_pairs::{Batch, Pairs};
 

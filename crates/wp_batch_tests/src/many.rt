@@ -4,7 +4,7 @@ use crate::price::{Given, Question, asked, duals_of};
 use crate::slow::batch_at;
 use std::alloc::Global;
 use std::thread::Threads;
-use wp_batch::{Marks, Wave};
+use wp_lengths::{Marks, Wave};
 use wp_outside::OpenGate;
 use wp_price::Priced;
 use wp_samples::{Slots, pairs_for, wave_of};

@@ -1,5 +1,5 @@
 //! The places at which the lengths of batches are kept. They decide how fast a length is found and no answer, so no public call shows them.
-use wp_batch::{Later, Part, Places};
+use wp_lengths::{Later, Part, Places};
 use wp_pairs::Batch;
 
 /// How many places one after the other are those of a batch and of all that begin with it, as a visit comes past them: each

@@ -1,9 +1,9 @@
 ghost use Rattle.std.specs.Prelude.{◌≡◌, ◌≤◌, All, IfSome};
-ghost use Rattle.wp_batch.specs.Duals.{greatest_dual};
+ghost use Rattle.wp_lengths.specs.Duals.{greatest_dual};
 
 use std::alloc::Global;
 use std::thread::Threads;
-use wp_batch::{GREATEST_DUAL, Marks, Wave};
+use wp_lengths::{GREATEST_DUAL, Marks, Wave};
 use wp_outside::{Gate, OpenGate};
 use wp_pairs::Pairs;
 use wp_price::{Priced, least_slack};

@@ -3,7 +3,7 @@
 use crate::exact::{cost_of, is_cover, sum_of};
 use std::alloc::Global;
 use std::thread::Threads;
-use wp_batch::Wave;
+use wp_lengths::Wave;
 use wp_lp::{Root, RootState, root_pair};
 use wp_pairs::Pairs;
 use wp_samples::{Slots, pairs_of, wave_of};

@@ -1,7 +1,7 @@
 use std::alloc::Global;
 use std::thread::Threads;
-use wp_batch::Wave;
 use wp_cert::{Node, Tree, check};
+use wp_lengths::Wave;
 use wp_outside::OpenGate;
 use wp_samples::{Slots, are_exactly, wave_of};
 use wp_search::{Planned, State, plan_wave};

@@ -3,7 +3,7 @@ ghost use Rattle.std.specs.Prelude.{◌≡◌, ◌<◌, All, length};
 use crate::price::{Given, Question, asked, duals_of};
 use std::alloc::Global;
 use std::thread::Threads;
-use wp_batch::{Wave, sum_of};
+use wp_lengths::{Wave, sum_of};
 use wp_outside::OpenGate;
 use wp_pairs::{Batch, Pairs};
 use wp_price::Priced;

@@ -1,7 +1,8 @@
 ghost use Rattle.std.specs.Prelude.{◌<◌, All, length};
 
 use std::alloc::Global;
-use wp_batch::{Batching, Wave, merged_start};
+use wp_batch::merged_start;
+use wp_lengths::{Batching, Wave};
 use wp_pairs::Batch;
 use wp_samples::{Draws, made_wave};
 

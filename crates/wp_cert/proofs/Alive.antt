@@ -10,13 +10,13 @@ use Rattle.wp_pairs.specs.Permitted.{AreJoined, ArePair, AreUndecided, IsHeld, P
 use Rattle.wp_pairs.proofs.Chains.{joined_back, joined_before, joined_more, joined_on}
 use Rattle.wp_pairs.proofs.Classes.{head_below, joined_in, no_longer, part_fits, tail_ascends}
 use Rattle.wp_pairs.proofs.Members.{ascending_cons, contains_cases, contains_first, contains_later, contains_none}
-use Rattle.wp_batch.specs.Batchings.{no_pairs}
-use Rattle.wp_batch.specs.Waves.{IsWave, WavePicks}
-use Rattle.wp_batch.proofs.Singles.{alone_fits}
-use Rattle.wp_batch.proofs.Unions.{all_from_contained}
+use Rattle.wp_lengths.specs.Batchings.{no_pairs}
+use Rattle.wp_lengths.specs.Waves.{IsWave, WavePicks}
+use Rattle.wp_lengths.proofs.NoPairs.{alone_fits}
+use Rattle.wp_lengths.proofs.Unions.{all_from_contained}
 use Rattle.wp_cert.specs.declared.tree.Node.{Node}
 use Rattle.wp_cert.specs.Trees.{IsRight, dead, kept, leaf, lower_of, split, with_pair}
-use Rattle.wp_batch.proofs.Ascending.{only_one, single_ascends}
+use Rattle.wp_lengths.proofs.Ascending.{only_one, single_ascends}
 
 -- of any two orders it is known whether they are joined
 abbrev pub AreTold : List OrderPair → Type 0

@@ -4,7 +4,7 @@ use Rattle.std.specs.List.Sorted.{IsStrictlyIncreasing}
 use Rattle.std.proofs.lemmas.Bool.{cases_eq, cases_lt}
 use Rattle.wp_pairs.proofs.Classes.{head_below, tail_ascends}
 use Rattle.wp_pairs.proofs.Members.{ascending_cons, contains_cases, contains_first, contains_later, contains_none}
-use Rattle.wp_batch.proofs.Ascending.{only_one, single_ascends}
+use Rattle.wp_lengths.proofs.Ascending.{only_one, single_ascends}
 
 -- an ascending list of what is in either of two lists, no longer than both
 pub record IsUnion (xs ys union : List ℕ) : Type 0 where

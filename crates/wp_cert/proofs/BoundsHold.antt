@@ -7,14 +7,14 @@ use Rattle.std.proofs.lemmas.Nat.{le-div}
 use Rattle.std.proofs.lemmas.List.Sums.{sum_by-le}
 use Rattle.std.proofs.lemmas.List.Elements.{All-contains}
 use Rattle.wp_pairs.proofs.Members.{contains_cases, contains_none}
-use Rattle.wp_batch.specs.Batchings.{IsBatching, no_pairs}
-use Rattle.wp_batch.specs.Lengths.{IsLengthOf}
-use Rattle.wp_batch.specs.Waves.{WavePicks}
-use Rattle.wp_batch.proofs.Unions.{all_from_contained}
+use Rattle.wp_lengths.specs.Batchings.{IsBatching, no_pairs}
+use Rattle.wp_lengths.specs.Lengths.{IsLengthOf}
+use Rattle.wp_lengths.specs.Waves.{WavePicks}
+use Rattle.wp_lengths.proofs.Unions.{all_from_contained}
 use Rattle.wp_cert.specs.Bounds.{BoundsHold}
-use Rattle.wp_batch.specs.Duals.{AreFeasible, AreShares, IsShare}
+use Rattle.wp_lengths.specs.Duals.{AreFeasible, AreShares, IsShare}
 use Rattle.wp_cert.proofs.Costs.{Respects, sum_within, tree_bounds}
-use Rattle.wp_batch.proofs.FewerOrders.{more_orders_no_shorter}
+use Rattle.wp_lengths.proofs.FewerOrders.{more_orders_no_shorter}
 
 -- an order alone is no longer than a batch that has it, so its share is no more than the batch's
 share_within : (wave : WavePicks) (capacity order share : ℕ) (batch : List ℕ) (total : ℕ) → 1 ≤ capacity → IsShare wave capacity order share

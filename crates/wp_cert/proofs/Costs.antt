@@ -7,12 +7,12 @@ use Rattle.std.proofs.lemmas.List.Sums.{sum_by-append}
 use Rattle.std.proofs.lemmas.List.Elements.{Contains-push_cases}
 use Rattle.wp_pairs.specs.declared.pair.OrderPair.{OrderPair}
 use Rattle.wp_pairs.specs.Permitted.{IsPermitted, Pairing}
-use Rattle.wp_batch.specs.Batchings.{IsCost, batch_at}
-use Rattle.wp_batch.specs.Waves.{WavePicks}
+use Rattle.wp_lengths.specs.Batchings.{IsCost, batch_at}
+use Rattle.wp_lengths.specs.Waves.{WavePicks}
 use Rattle.wp_cert.specs.declared.tree.Node.{Node}
-use Rattle.wp_batch.specs.Duals.{AreFeasible, duals_of}
+use Rattle.wp_lengths.specs.Duals.{AreFeasible, duals_of}
 use Rattle.wp_cert.specs.Trees.{IsRight, dead, kept, leaf, lower_of, split, with_pair}
-use Rattle.wp_batch.proofs.OrderSums.{all_of, covering_sum, in_all, sum_of_places, units_at_most}
+use Rattle.wp_lengths.proofs.OrderSums.{all_of, covering_sum, in_all, sum_of_places, units_at_most}
 
 -- batches that are all permitted, such that each order is in one of them and in no other
 pub record Respects (pairing : Pairing) (batches : List (List ℕ)) : Type 0 where

@@ -19,11 +19,11 @@ use Rattle.wp_classes.proofs.Routes.{IsLeastFirst, least_route, some_way_on}
 use Rattle.wp_classes.proofs.Shortest.{shortest}
 use Rattle.wp_fast.specs.Lengths.{by_some_way}
 use Rattle.wp_fast.proofs.LeastNeeded.{least_by_some}
-use Rattle.wp_batch.specs.Lengths.{batch_picks}
-use Rattle.wp_batch.specs.Waves.{WavePicks, picks_of}
-use Rattle.wp_batch.proofs.FewerOrders.{more_orders_no_shorter}
-use Rattle.wp_batch.specs.Duals.{duals_of}
-use Rattle.wp_batch.specs.Visits.{IsWithin}
+use Rattle.wp_lengths.specs.Lengths.{batch_picks}
+use Rattle.wp_lengths.specs.Waves.{WavePicks, picks_of}
+use Rattle.wp_lengths.proofs.FewerOrders.{more_orders_no_shorter}
+use Rattle.wp_lengths.specs.Duals.{duals_of}
+use Rattle.wp_lengths.specs.Visits.{IsWithin}
 use Rattle.wp_cert.specs.Visited.{HasEachLength, IsNoLess}
 
 -- there is a least length by some crossing, and on

@@ -5,10 +5,10 @@ use Rattle.std.proofs.lemmas.Option.{same_Some}
 use Rattle.std.proofs.lemmas.List.Elements.{Contains-append_cases, Contains-append_left, Contains-append_right}
 use Rattle.wp_model.specs.declared.point.Point.{Point}
 use Rattle.wp_graph.proofs.Members.{Contains-from_among, among-flat_map, among_from_Contains, flat_map_source}
-use Rattle.wp_batch.specs.Lengths.{IsLengthOf, batch_picks}
-use Rattle.wp_batch.specs.Waves.{WavePicks, picks_of}
+use Rattle.wp_lengths.specs.Lengths.{IsLengthOf, batch_picks}
+use Rattle.wp_lengths.specs.Waves.{WavePicks, picks_of}
 use Rattle.wp_model.specs.Tours.{IsShortest}
-use Rattle.wp_batch.proofs.Unions.{same_shortest}
+use Rattle.wp_lengths.proofs.Unions.{same_shortest}
 
 -- what a batch picks is picked by one whose orders are others besides
 more_picked : (wave : WavePicks) (fewer more : List ℕ) → ((order : ℕ) → Contains fewer order → Contains more order) → (p : Point)

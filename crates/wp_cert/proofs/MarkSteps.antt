@@ -4,12 +4,11 @@ use Rattle.std.specs.Prelude.{Some, slice_get}
 use Rattle.std.proofs.Math.Seq.{drop-cons}
 use Rattle.std.proofs.lemmas.Option.{get_or_from_slice_get, slice_get_within}
 use Rattle.wp_pairs.specs.Permitted.{IsPermitted, Pairing}
-use Rattle.wp_batch.specs.Waves.{WavePicks}
+use Rattle.wp_lengths.specs.Waves.{WavePicks}
 use Rattle.wp_cert.specs.declared.tree.CertWhy.{CertWhy}
 use Rattle.wp_cert.specs.declared.tree.CertWhy.TheVariants as why
 use Rattle.wp_cert.specs.Refusals.{IsRefusedVisit}
-use Rattle.wp_batch.specs.Visits.{AddsItem, Children, Due, IsItem, IsVisit, Place, TooMuch, Visit, Wrong}
-use Rattle.wp_batch.specs.Visits.{no_item, not_permitted, refused_batch, refused_mark}
+use Rattle.wp_lengths.specs.Visits.{AddsItem, Children, Due, IsItem, IsVisit, Place, TooMuch, Visit, Wrong, no_item, not_permitted, refused_batch, refused_mark}
 
 -- the marks from a place on begin with the mark there
 pub mark_first : (marks : List Bool) (next : ℕ) (mark : Bool) → slice_get marks next ≡ Some mark → drop next marks ≡ mark ∷ drop (next + 1) marks

@@ -3,8 +3,8 @@ use Rattle.std.proofs.Common.{◌≡◌, ℕ, ◌+◌, ◌<◌, ◌≤◌, true,
 use Rattle.std.proofs.lemmas.Bool.{cases_lt}
 use Rattle.std.specs.Prelude.{sum}
 use Rattle.wp_pairs.specs.Permitted.{Pairing}
-use Rattle.wp_batch.specs.Batchings.{no_pairs}
-use Rattle.wp_batch.specs.Waves.{WavePicks}
+use Rattle.wp_lengths.specs.Batchings.{no_pairs}
+use Rattle.wp_lengths.specs.Waves.{WavePicks}
 use Rattle.wp_cert.specs.declared.tree.CertFault.{CertFault}
 use Rattle.wp_cert.specs.declared.tree.CertWhy.{CertWhy}
 use Rattle.wp_cert.specs.declared.tree.CertWhy.TheVariants as why
@@ -14,7 +14,7 @@ use Rattle.wp_cert.specs.Bounds.{TreesBreakOneRuleFirst}
 use Rattle.wp_cert.specs.Refusals.{AreRefused, IsBroken, IsBrokenOwn, IsFirstBroken, IsFirstSlack, apart, bad_pair, cut, in_tree, kept_split, low, marks, nodes_left}
 use Rattle.wp_cert.specs.Refusals.{not_all, not_dead, not_tight, own_leaf, own_split, together}
 use Rattle.wp_cert.specs.Trees.{IsRight, with_pair}
-use Rattle.wp_batch.specs.Visits.{IsVisitOfAll, Passed, Place, TooMuch, Visit, Wrong}
+use Rattle.wp_lengths.specs.Visits.{IsVisitOfAll, Passed, Place, TooMuch, Visit, Wrong}
 use Rattle.wp_cert.proofs.OneOutcome.{own_not_broken, right_agree, right_not_broken, same_shares}
 use Rattle.wp_cert.proofs.OneVerdict.{marks_pass, one_visit}
 

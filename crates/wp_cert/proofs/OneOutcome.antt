@@ -6,21 +6,20 @@ use Rattle.std.specs.List.Sorted.{IsStrictlyIncreasing}
 use Rattle.wp_pairs.specs.Permitted.{IsPermitted, Pairing}
 use Rattle.wp_pairs.proofs.Classes.{head_below, tail_ascends}
 use Rattle.wp_pairs.proofs.Members.{contains_cases, contains_first, contains_later, contains_none}
-use Rattle.wp_batch.specs.Batchings.{no_pairs}
-use Rattle.wp_batch.specs.Waves.{WavePicks}
+use Rattle.wp_lengths.specs.Batchings.{no_pairs}
+use Rattle.wp_lengths.specs.Waves.{WavePicks}
 use Rattle.wp_cert.specs.declared.tree.CertFault.{CertFault}
 use Rattle.wp_cert.specs.declared.tree.CertWhy.{CertWhy}
 use Rattle.wp_cert.specs.declared.tree.CertWhy.TheVariants as why
 use Rattle.wp_cert.specs.declared.tree.Node.{Node}
 use Rattle.wp_cert.specs.declared.tree.Own.{Own}
-use Rattle.wp_batch.specs.Duals.{IsSumOfShares}
+use Rattle.wp_lengths.specs.Duals.{IsSumOfShares}
 use Rattle.wp_cert.specs.Refusals.{AreRefused, IsBroken, IsBrokenOwn, IsFirstBroken, apart, bad_pair, in_tree, low, marks, nodes_left}
 use Rattle.wp_cert.specs.Refusals.{not_all, not_dead, not_tight, own_leaf, own_split, together}
 use Rattle.wp_cert.specs.Trees.{IsBoundOf, IsRight, IsRightOwn, dead, kept, leaf, lower_of, split, with_pair}
-use Rattle.wp_batch.specs.Visits.{AddsItem, Children, Due, IsReach, IsVisit, Passed, Place, TooMuch, Visit, Wrong}
-use Rattle.wp_batch.specs.Visits.{all_added, entered, no_item, not_permitted, onward, pruned, refused_batch, refused_mark, too_much, unsound}
-use Rattle.wp_batch.proofs.FewerOrders.{same_length}
-use Rattle.wp_batch.proofs.OrderSums.{same_below, sum_below, sum_of_places}
+use Rattle.wp_lengths.specs.Visits.{AddsItem, Children, Due, IsReach, IsVisit, Passed, Place, TooMuch, Visit, Wrong, all_added, entered, no_item, not_permitted, onward, pruned, refused_batch, refused_mark, too_much, unsound}
+use Rattle.wp_lengths.proofs.FewerOrders.{same_length}
+use Rattle.wp_lengths.proofs.OrderSums.{same_below, sum_below, sum_of_places}
 
 -- ascending lists of the same numbers are one list
 same_list : (xs ys : List ℕ) → IsStrictlyIncreasing xs → IsStrictlyIncreasing ys → ((x : ℕ) → Contains xs x → Contains ys x)

@@ -9,26 +9,25 @@ use Rattle.wp_graph.proofs.Members.{Contains-from_among, among-flat_map, among_f
 use Rattle.wp_model.specs.Tours.{IsShortest}
 use Rattle.wp_pairs.specs.Carts.{LoadedCart}
 use Rattle.wp_pairs.specs.Permitted.{IsPermitted, Pairing}
-use Rattle.wp_batch.specs.Batchings.{no_pairs}
-use Rattle.wp_batch.specs.Lengths.{IsLengthOf, batch_picks}
-use Rattle.wp_batch.specs.Waves.{HaveSamePicks, WavePicks, picks_of}
-use Rattle.wp_batch.proofs.Unions.{nothing_in, same_shortest}
+use Rattle.wp_lengths.specs.Batchings.{no_pairs}
+use Rattle.wp_lengths.specs.Lengths.{IsLengthOf, batch_picks}
+use Rattle.wp_lengths.specs.Waves.{HaveSamePicks, WavePicks, picks_of}
+use Rattle.wp_lengths.proofs.Unions.{nothing_in, same_shortest}
 use Rattle.wp_cert.specs.declared.text.form.Form.{Form}
 use Rattle.wp_cert.specs.declared.tree.CertFault.{CertFault}
 use Rattle.wp_cert.specs.declared.tree.CertWhy.{CertWhy}
 use Rattle.wp_cert.specs.declared.tree.CertWhy.TheVariants as why
 use Rattle.wp_cert.specs.declared.tree.Node.{Node}
 use Rattle.wp_cert.specs.declared.tree.Own.{Own}
-use Rattle.wp_batch.specs.Duals.{IsShare, IsSumOfShares, IsTightFor, duals_of}
+use Rattle.wp_lengths.specs.Duals.{IsShare, IsSumOfShares, IsTightFor, duals_of}
 use Rattle.wp_cert.specs.Refusals.{AreRefused, IsBroken, IsBrokenOwn, IsFirstBroken, apart, bad_pair, in_tree, nodes_left}
 use Rattle.wp_cert.specs.Refusals.{low as sum_low, marks as marks_refused}
 use Rattle.wp_cert.specs.Refusals.{not_all, not_dead, not_tight, own_leaf, own_split, together}
 use Rattle.wp_cert.specs.Text.{IsSame, Tells, certificate_said}
 use Rattle.wp_cert.specs.Bounds.{TellsBound}
 use Rattle.wp_cert.specs.Trees.{IsBoundOf, IsRight, IsRightOwn, dead, kept, leaf, split, with_pair}
-use Rattle.wp_batch.specs.Visits.{AddsItem, Children, Due, IsItem, IsReach, IsVisit, IsVisitOfAll, IsWithin, Passed, Place as PlaceDue, TooMuch, Visit, Wrong}
-use Rattle.wp_batch.specs.Visits.{all_added, entered, missing, no_item, not_permitted, onward, pruned, refused_batch, refused_mark, too_much, unsound}
-use Rattle.wp_batch.proofs.FewerOrders.{same_length}
+use Rattle.wp_lengths.specs.Visits.{AddsItem, Children, Due, IsItem, IsReach, IsVisit, IsVisitOfAll, IsWithin, Passed, Place as PlaceDue, TooMuch, Visit, Wrong, all_added, entered, missing, no_item, not_permitted, onward, pruned, refused_batch, refused_mark, too_much, unsound}
+use Rattle.wp_lengths.proofs.FewerOrders.{same_length}
 use Rattle.wp_cert.proofs.TextBatches.{same_ascending}
 use Rattle.wp_cert.proofs.OneOutcome.{right_agree, same_number}
 use Rattle.wp_cert.proofs.TextSame.{told_once}

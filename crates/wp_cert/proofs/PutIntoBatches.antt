@@ -13,11 +13,11 @@ use Rattle.wp_pairs.specs.Permitted.{IsPermitted}
 use Rattle.wp_pairs.proofs.Classes.{head_below, tail_ascends}
 use Rattle.wp_pairs.proofs.KeptPairs.{in_or_not}
 use Rattle.wp_pairs.proofs.Members.{contains_cases, contains_first, contains_later, contains_none}
-use Rattle.wp_batch.specs.Batchings.{IsBatching, batch_at, no_pairs}
-use Rattle.wp_batch.specs.Waves.{WavePicks}
-use Rattle.wp_batch.proofs.Ascending.{single_ascends}
-use Rattle.wp_batch.proofs.Loads.{union_weighs}
-use Rattle.wp_batch.proofs.Unions.{all_from_contained}
+use Rattle.wp_lengths.specs.Batchings.{IsBatching, batch_at, no_pairs}
+use Rattle.wp_lengths.specs.Waves.{WavePicks}
+use Rattle.wp_lengths.proofs.Ascending.{single_ascends}
+use Rattle.wp_lengths.proofs.Loads.{union_weighs}
+use Rattle.wp_lengths.proofs.Unions.{all_from_contained}
 use Rattle.wp_cert.specs.Bounds.{PutBatchesAreBatchings}
 use Rattle.wp_cert.specs.Walks.{ArePutIntoBatches, times_in}
 use Rattle.wp_cert.proofs.AscendingUnions.{one_in}

@@ -6,7 +6,7 @@ use Rattle.std.specs.List.{AllZip, list_all}
 use Rattle.std.specs.Prelude.{nat_le}
 use Rattle.std.proofs.lemmas.List.Elements.{Contains-get_or, Contains-push, Contains-push_cases, Contains-append_left}
 use Rattle.std.proofs.lemmas.List.{take_more}
-use Rattle.wp_batch.specs.Waves.{HaveSamePicks}
+use Rattle.wp_lengths.specs.Waves.{HaveSamePicks}
 use Rattle.wp_model.specs.declared.point.Point.{Point}
 use Rattle.wp_graph.specs.PickSets.{PickSet}
 use Rattle.wp_model.specs.Warehouse.{Layout}

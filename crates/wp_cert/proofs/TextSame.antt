@@ -2,7 +2,7 @@
 use Rattle.std.proofs.Common.{◌≡◌, ℕ, zero, suc, ◌<◌, ◌↔◌, List, [], ◌∷◌, Contains, Ok, Result, length, get_or, arith, ap, sym, subst, ◌∙◌, option_map}
 use Rattle.wp_model.specs.Warehouse.{Layout}
 use Rattle.wp_model.specs.declared.point.Point.{Point}
-use Rattle.wp_batch.specs.Waves.{HaveSamePicks, WavePicks}
+use Rattle.wp_lengths.specs.Waves.{HaveSamePicks, WavePicks}
 use Rattle.wp_graph.specs.PickSets.{PickSet}
 use Rattle.wp_cert.specs.declared.text.form.Form.{Form}
 use Rattle.wp_cert.specs.declared.text.form.WrittenSlot.{WrittenSlot}

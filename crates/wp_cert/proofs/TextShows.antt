@@ -12,10 +12,10 @@ use Rattle.wp_graph.specs.Required.{has_point}
 use Rattle.wp_pairs.specs.Batches.{IsBatch}
 use Rattle.wp_pairs.specs.Carts.{IsCartFor, LoadedCart}
 use Rattle.wp_pairs.specs.Permitted.{IsPermitted, Pairing}
-use Rattle.wp_batch.specs.Batchings.{no_pairs}
-use Rattle.wp_batch.specs.Duals.{greatest_dual}
-use Rattle.wp_batch.specs.Waves.{IsWave, WavePicks}
-use Rattle.wp_batch.proofs.Unions.{all_from_contained}
+use Rattle.wp_lengths.specs.Batchings.{no_pairs}
+use Rattle.wp_lengths.specs.Duals.{greatest_dual}
+use Rattle.wp_lengths.specs.Waves.{IsWave, WavePicks}
+use Rattle.wp_lengths.proofs.Unions.{all_from_contained}
 use Rattle.wp_cert.specs.declared.tree.Node.{Node}
 use Rattle.wp_cert.specs.declared.tree.Node.TheVariants as node
 use Rattle.wp_cert.specs.declared.tree.Own.{Own}

@@ -8,7 +8,7 @@ use Rattle.serde_json.specs.Read.{read}
 use Rattle.wp_model.specs.declared.point.Point.{Point}
 use Rattle.wp_model.specs.Limits.{most_cart_units}
 use Rattle.wp_model.specs.Warehouse.{IsSlot, Layout}
-use Rattle.wp_batch.specs.Waves.{IsWave, WavePicks}
+use Rattle.wp_lengths.specs.Waves.{IsWave, WavePicks}
 use Rattle.wp_graph.proofs.Marks.{listed_passes, passing_listed}
 use Rattle.wp_graph.proofs.Members.{Contains-from_among, among-map, among_from_Contains, map_source}
 use Rattle.wp_graph.proofs.PointTests.{among_has, has_among}

@@ -4,18 +4,18 @@ use Rattle.std.specs.Prelude.{Option, Some, None, sum}
 use Rattle.std.specs.List.Sorted.{IsStrictlyIncreasing}
 use Rattle.wp_pairs.specs.Permitted.{AreJoined, AreUndecided, IsDead, IsPermitted, Pairing, itself}
 use Rattle.wp_pairs.proofs.Members.{contains_none}
-use Rattle.wp_batch.specs.Waves.{WavePicks}
+use Rattle.wp_lengths.specs.Waves.{WavePicks}
 use Rattle.wp_cert.specs.declared.tree.CertWhy.{CertWhy}
 use Rattle.wp_cert.specs.declared.tree.CertWhy.TheVariants as why
 use Rattle.wp_cert.specs.declared.tree.Node.{Node}
 use Rattle.wp_cert.specs.declared.tree.Node.TheVariants as node
 use Rattle.wp_cert.specs.declared.tree.Own.{Own}
-use Rattle.wp_batch.specs.Duals.{units_of}
+use Rattle.wp_lengths.specs.Duals.{units_of}
 use Rattle.wp_cert.specs.Paths.{IsBrokenHere}
 use Rattle.wp_cert.specs.Refusals.{IsBroken, IsBrokenOwn, bad_pair, kept_split, own_leaf, own_split}
 use Rattle.wp_cert.specs.Trees.{IsRight, IsRightOwn, kept, leaf}
-use Rattle.wp_batch.specs.Visits.{AddsItem}
-use Rattle.wp_batch.proofs.Visits.{empty_place, union_permitted}
+use Rattle.wp_lengths.specs.Visits.{AddsItem}
+use Rattle.wp_lengths.proofs.Visits.{empty_place, union_permitted}
 
 -- the orders that are joined to one, as they were added to no order
 pub adds_to_empty : (pairing : Pairing) (empty class union : List ℕ) (order : ℕ) → empty ≡ [] → IsStrictlyIncreasing union

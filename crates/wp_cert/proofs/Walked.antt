@@ -9,10 +9,10 @@ use Rattle.wp_model.specs.Warehouse.{Layout}
 use Rattle.wp_graph.specs.Members.{Among}
 use Rattle.wp_graph.specs.PickSets.{PickSet}
 use Rattle.wp_graph.proofs.Members.{Contains-from_among, among-flat_map, among_from_Contains, flat_map_source}
-use Rattle.wp_batch.specs.Batchings.{IsCost}
-use Rattle.wp_batch.specs.Lengths.{batch_picks}
-use Rattle.wp_batch.specs.Waves.{WavePicks, picks_of}
-use Rattle.wp_batch.proofs.Unions.{same_tour}
+use Rattle.wp_lengths.specs.Batchings.{IsCost}
+use Rattle.wp_lengths.specs.Lengths.{batch_picks}
+use Rattle.wp_lengths.specs.Waves.{WavePicks, picks_of}
+use Rattle.wp_lengths.proofs.Unions.{same_tour}
 use Rattle.wp_cert.specs.Bounds.{CostsAreWalked, NoBatchingCostsLess, WalksAreNoShorter}
 use Rattle.wp_cert.specs.Walks.{AreWalked, NoWalksAreShorter, order_points, picks_in}
 use Rattle.wp_cert.proofs.BoundsHold.{bounds_hold}

@@ -3,7 +3,7 @@ use Rattle.std.proofs.Common.{◌≡◌, ℕ, Bool, true, false, List, [], ◌�
 use Rattle.std.specs.Prelude.{Option, Some}
 use Rattle.std.proofs.lemmas.List.{length_push, same_from_push}
 use Rattle.wp_pairs.specs.declared.pair.OrderPair.{OrderPair}
-use Rattle.wp_batch.specs.Waves.{WavePicks}
+use Rattle.wp_lengths.specs.Waves.{WavePicks}
 use Rattle.wp_cert.specs.declared.tree.CertFault.{CertFault}
 use Rattle.wp_cert.specs.declared.tree.Node.{Node}
 use Rattle.wp_cert.specs.declared.way.Note.{Note}

@@ -2,11 +2,11 @@
 use Rattle.std.proofs.Common.{◌≡◌, ℕ, ◌<◌, ◌≤◌, List, [], length, drop, arith, refl, subst, length-drop}
 use Rattle.std.specs.Prelude.{IsSome, Option, Some, None}
 use Rattle.std.proofs.lemmas.List.{drop_all}
-use Rattle.wp_batch.specs.Waves.{IsWave, WavePicks}
+use Rattle.wp_lengths.specs.Waves.{IsWave, WavePicks}
 use Rattle.wp_cert.specs.declared.tree.CertFault.{CertFault}
 use Rattle.wp_cert.specs.declared.tree.CertWhy.TheVariants as why
 use Rattle.wp_cert.specs.declared.tree.Node.{Node}
-use Rattle.wp_batch.specs.Duals.{IsSumOfShares}
+use Rattle.wp_lengths.specs.Duals.{IsSumOfShares}
 use Rattle.wp_cert.specs.Paths.{IsRefusedFrom, pairing_of}
 use Rattle.wp_cert.specs.Refusals.{IsFirstBroken, in_tree, nodes_left}
 use Rattle.wp_cert.specs.Trees.{IsBoundOf, IsRight}

@@ -3,8 +3,8 @@ use Rattle.std.specs.Prelude.{◌≡◌, ℕ, ◌<◌, ◌≤◌, Err, List, All
 use Rattle.std.specs.List.Sorted.{IsStrictlyIncreasing}
 use Rattle.wp_model.specs.Warehouse.{Layout}
 use Rattle.wp_graph.specs.PickSets.{AreSlots}
-use Rattle.wp_batch.specs.Batchings.{IsBatching, IsCost}
-use Rattle.wp_batch.specs.Waves.{IsWave, WavePicks, picks_of}
+use Rattle.wp_lengths.specs.Batchings.{IsBatching, IsCost}
+use Rattle.wp_lengths.specs.Waves.{IsWave, WavePicks, picks_of}
 use Rattle.wp_cert.specs.declared.tree.Node.{Node}
 use Rattle.wp_cert.specs.declared.tree.CertFault.{CertFault}
 use Rattle.wp_cert.specs.declared.tree.CertWhy.{CertWhy}

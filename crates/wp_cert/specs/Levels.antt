@@ -2,8 +2,8 @@
 use Rattle.std.specs.Prelude.{◌≡◌, ℕ, ◌↔◌, ◌⊎◌, All, Contains, Option}
 use Rattle.std.specs.Option.{ForSome}
 use Rattle.wp_model.specs.declared.point.Point.{Point}
-use Rattle.wp_batch.specs.Lengths.{batch_picks}
-use Rattle.wp_batch.specs.Waves.{WavePicks}
+use Rattle.wp_lengths.specs.Lengths.{batch_picks}
+use Rattle.wp_lengths.specs.Waves.{WavePicks}
 use Rattle.wp_cert.specs.declared.levels.Level.{Level}
 use Rattle.wp_cert.specs.declared.levels.Levels.{Levels}
 use Rattle.wp_cert.specs.declared.levels.Reached.{Reached}

@@ -1,17 +1,17 @@
 -- Why a tree is refused: the first broken rule, in preorder of the nodes, and within a node in the order of its tests.
 use Rattle.std.specs.Prelude.{◌≡◌, ℕ, ◌+◌, ◌<◌, ◌≤◌, ◌⊎◌, Bool, true, false, List, [], ◌∷◌, Option, Some, None, length, sum}
 use Rattle.wp_pairs.specs.Permitted.{AreUndecided, IsDead, Pairing}
-use Rattle.wp_batch.specs.Batchings.{no_pairs}
-use Rattle.wp_batch.specs.Waves.{WavePicks}
+use Rattle.wp_lengths.specs.Batchings.{no_pairs}
+use Rattle.wp_lengths.specs.Waves.{WavePicks}
 use Rattle.wp_cert.specs.declared.tree.CertFault.{CertFault}
 use Rattle.wp_cert.specs.declared.tree.CertWhy.{CertWhy}
 use Rattle.wp_cert.specs.declared.tree.CertWhy.TheVariants as why
 use Rattle.wp_cert.specs.declared.tree.Node.{Node}
 use Rattle.wp_cert.specs.declared.tree.Node.TheVariants as node
 use Rattle.wp_cert.specs.declared.tree.Own.{Own}
-use Rattle.wp_batch.specs.Duals.{IsSumOfShares}
+use Rattle.wp_lengths.specs.Duals.{IsSumOfShares}
 use Rattle.wp_cert.specs.Trees.{HasAll, IsRight, IsRightOwn, IsTightAt, with_pair}
-use Rattle.wp_batch.specs.Visits.{Due, IsVisit, IsVisitOfAll, Passed, TooMuch, Wrong}
+use Rattle.wp_lengths.specs.Visits.{Due, IsVisit, IsVisitOfAll, Passed, TooMuch, Wrong}
 
 -- a visit ends with this refusal
 abbrev pub IsRefusedVisit : WavePicks → Pairing → List ℕ → Due → List Bool → CertWhy → Type 0

@@ -15,8 +15,8 @@ use Rattle.wp_model.specs.Limits.{most_cart_units}
 use Rattle.wp_model.specs.Warehouse.{Layout}
 use Rattle.wp_graph.specs.PickSets.{PickSet}
 use Rattle.wp_pairs.specs.Carts.{LoadedCart}
-use Rattle.wp_batch.specs.Waves.{HaveSamePicks, WavePicks}
-use Rattle.wp_batch.specs.Duals.{greatest_dual}
+use Rattle.wp_lengths.specs.Waves.{HaveSamePicks, WavePicks}
+use Rattle.wp_lengths.specs.Duals.{greatest_dual}
 use Rattle.wp_cert.specs.declared.tree.CertWhy.{CertWhy}
 use Rattle.wp_cert.specs.declared.tree.CertWhy.TheVariants as why
 use Rattle.wp_cert.specs.declared.tree.Node.{Node}

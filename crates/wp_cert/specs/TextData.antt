@@ -8,7 +8,7 @@ use Rattle.wp_model.specs.declared.point.Point.{Point}
 use Rattle.wp_model.specs.Warehouse.{Layout}
 use Rattle.wp_graph.specs.PickSets.{AreSlots, PickSet, points_in, points_where, slots_where}
 use Rattle.wp_graph.specs.Required.{has_point}
-use Rattle.wp_batch.specs.Waves.{WavePicks}
+use Rattle.wp_lengths.specs.Waves.{WavePicks}
 use Rattle.wp_pairs.specs.Batches.{IsBatch}
 use Rattle.wp_pairs.specs.Carts.{LoadedCart}
 use Rattle.wp_cert.specs.declared.tree.Node.{Node}

@@ -2,13 +2,13 @@
 -- together or apart (Ryan and Foster, 1981).
 use Rattle.std.specs.Prelude.{◌≡◌, ℕ, ◌<◌, ◌≤◌, min, Bool, true, false, List, [], ◌∷◌, ◌++◌, Option, Some, None, length, slice_index_or, sum}
 use Rattle.wp_pairs.specs.Permitted.{AreUndecided, IsDead, Pairing}
-use Rattle.wp_batch.specs.Batchings.{no_pairs}
-use Rattle.wp_batch.specs.Waves.{WavePicks}
+use Rattle.wp_lengths.specs.Batchings.{no_pairs}
+use Rattle.wp_lengths.specs.Waves.{WavePicks}
 use Rattle.wp_cert.specs.declared.tree.Node.{Node}
 use Rattle.wp_cert.specs.declared.tree.Node.TheVariants as node
 use Rattle.wp_cert.specs.declared.tree.Own.{Own}
-use Rattle.wp_batch.specs.Duals.{AreFeasible, AreTight, IsSumOfShares, IsTightFor, units_of}
-use Rattle.wp_batch.specs.Visits.{IsVisitOfAll, Passed}
+use Rattle.wp_lengths.specs.Duals.{AreFeasible, AreTight, IsSumOfShares, IsTightFor, units_of}
+use Rattle.wp_lengths.specs.Visits.{IsVisitOfAll, Passed}
 
 -- two more orders are to go together, or else apart
 abbrev pub with_pair : Pairing → ℕ → ℕ → Bool → Pairing

@@ -1,10 +1,10 @@
 -- What a visit knows of the lengths of batches where it measures no tour.
 use Rattle.std.specs.Prelude.{ℕ, ◌+◌, ◌<◌, ◌≤◌, List, All, length}
 use Rattle.wp_pairs.specs.Permitted.{Pairing}
-use Rattle.wp_batch.specs.Lengths.{IsLengthOf}
-use Rattle.wp_batch.specs.Waves.{WavePicks}
-use Rattle.wp_batch.specs.Duals.{duals_of, sixtieths_of}
-use Rattle.wp_batch.specs.Visits.{IsReach}
+use Rattle.wp_lengths.specs.Lengths.{IsLengthOf}
+use Rattle.wp_lengths.specs.Waves.{WavePicks}
+use Rattle.wp_lengths.specs.Duals.{duals_of, sixtieths_of}
+use Rattle.wp_lengths.specs.Visits.{IsReach}
 
 -- each batch of a wave's orders has a length
 abbrev pub HasEachLength : WavePicks → Type 0

@@ -5,7 +5,7 @@ use Rattle.wp_model.specs.declared.point.Point.{Point}
 use Rattle.wp_model.specs.Tours.{IsTour}
 use Rattle.wp_model.specs.Warehouse.{Layout}
 use Rattle.wp_pairs.specs.Carts.{FitsAnyCart}
-use Rattle.wp_batch.specs.Waves.{WavePicks}
+use Rattle.wp_lengths.specs.Waves.{WavePicks}
 
 -- how often an order stands in the batches
 abbrev pub times_in : List (List ℕ) → ℕ → ℕ

@@ -11,7 +11,7 @@ use crate::nodes::Nodes;
 use crate::tree::{CertFault, CertWhy, Node, Tree};
 use crate::way::{Met, NodeStep, Way};
 use std::alloc::Global;
-use wp_batch::{Wave, shares_of};
+use wp_lengths::{Wave, shares_of};
 use wp_pairs::{Capacity, OrderPair};
 
 /// What a tree shows: its bound, which it has not where all of its leaves are dead; and the place of the node after it.

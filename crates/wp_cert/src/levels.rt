@@ -1,13 +1,13 @@
 ghost use Rattle.std.specs.Prelude.{◌≡◌, ◌<◌, ◌++◌, ◌⊎◌, ◌↔◌, [], ℕ, All, Contains, IfSome, IsTrue, length};
 ghost use Rattle.std.specs.Option.{ForSome};
 ghost use Rattle.wp_model.specs.Tours.{IsShortest};
-ghost use Rattle.wp_batch.specs.Lengths.{IsLengthOf, batch_picks};
-ghost use Rattle.wp_batch.specs.Waves.{WavePicks};
+ghost use Rattle.wp_lengths.specs.Lengths.{IsLengthOf, batch_picks};
+ghost use Rattle.wp_lengths.specs.Waves.{WavePicks};
 ghost use Rattle.wp_cert.specs.Levels.{AreLevels, IsBoth, IsLevel};
 
-use wp_batch::Wave;
 use wp_fast::KeptWays;
 use wp_graph::{Layout, Picks};
+use wp_lengths::Wave;
 use wp_pairs::Batch;
 
 /// The most orders that a place has to which one more item is added.

@@ -8,7 +8,7 @@ ghost use Rattle.wp_cert.specs.Trees.{IsRight};
 use crate::own::test_own;
 use crate::path::{is_dead, is_open, pairs_of};
 use crate::tree::{CertWhy, Own};
-use wp_batch::{Wave, units_of};
+use wp_lengths::{Wave, units_of};
 use wp_pairs::{Capacity, OrderPair};
 
 /// Tests a leaf that isn't dead, and tells its bound.

@@ -1,14 +1,14 @@
 ghost use Rattle.std.specs.Prelude.{◌≡◌, ◌<◌, ◌≤◌, ◌↔◌, [], ℕ, IfErr, IfNone, IfOk, IfSome, IsTrue, OnOk, length, sum};
-ghost use Rattle.wp_batch.specs.Duals.{IsTightFor};
+ghost use Rattle.wp_lengths.specs.Duals.{IsTightFor};
 ghost use Rattle.wp_cert.specs.Refusals.{AreRefused, IsBrokenOwn, IsFirstSlack};
 ghost use Rattle.wp_cert.specs.Trees.{HasAll, IsRightOwn, IsTightAt};
 ghost use Rattle.wp_cert.specs.Visited.{HasEachLength};
-ghost use Rattle.wp_batch.specs.Visits.{IsVisitOfAll, Passed};
+ghost use Rattle.wp_lengths.specs.Visits.{IsVisitOfAll, Passed};
 
 use crate::levels::{Levels, Reached};
 use crate::tree::{CertWhy, Own};
 use crate::visit::visit;
-use wp_batch::{SIXTIETHS, Wave, sum_of, total_of};
+use wp_lengths::{SIXTIETHS, Wave, sum_of, total_of};
 use wp_pairs::{Batch, Pairs};
 
 /// What a node has of its own, to be tested: a wave, the node's pairs for as many orders, and a dual for each.

@@ -2,7 +2,7 @@ ghost use Rattle.std.specs.Prelude.{◌≡◌, ◌<◌, ◌↔◌, ℕ, IsTrue};
 ghost use Rattle.wp_pairs.specs.Permitted.{AreUndecided, IsDead};
 ghost use Rattle.wp_cert.specs.Paths.{IsPath, pairing_of};
 
-use wp_batch::Wave;
+use wp_lengths::Wave;
 use wp_pairs::{Batch, Capacity, OrderPair, Pairs};
 
 /// The pairs of a path, added one after the other to those of a wave.

@@ -1,5 +1,5 @@
 use crate::nodes::Nodes;
-use wp_batch::{Batching, Marks, Wave};
+use wp_lengths::{Batching, Marks, Wave};
 use wp_model::Listing;
 use wp_pairs::Batch;
 

@@ -1,16 +1,16 @@
 ghost use Rattle.std.specs.Prelude.{◌≡◌, ◌<◌, ◌≤◌, ◌+◌, ◌⊎◌, List, ℕ, All, IfErr, IfNone, IfOk, IfSome, IsTrue, drop, false, length};
 ghost use Rattle.wp_pairs.specs.Permitted.{IsPermitted};
-ghost use Rattle.wp_batch.specs.Lengths.{IsLengthOf};
+ghost use Rattle.wp_lengths.specs.Lengths.{IsLengthOf};
 ghost use Rattle.wp_cert.specs.Levels.{AreLevels, IsBoth};
 ghost use Rattle.wp_cert.specs.Refusals.{IsRefusedVisit};
 ghost use Rattle.wp_cert.specs.Visited.{HasEachLength, IsNoLess, ReachesTooMuch, StandsForMore};
-ghost use Rattle.wp_batch.specs.Duals.{duals_of, sixtieths_of};
-ghost use Rattle.wp_batch.specs.Visits.{AddsItem, IsItem, IsVisit, Passed, Place};
+ghost use Rattle.wp_lengths.specs.Duals.{duals_of, sixtieths_of};
+ghost use Rattle.wp_lengths.specs.Visits.{AddsItem, IsItem, IsVisit, Passed, Place};
 
 use crate::levels::{Levels, Reached};
 use crate::own::TestedOwn;
 use crate::tree::CertWhy;
-use wp_batch::{SIXTIETHS, Wave, is_later, reach_of, sum_of};
+use wp_lengths::{SIXTIETHS, Wave, is_later, reach_of, sum_of};
 use wp_pairs::{Batch, Pairs};
 
 // A place and one more item, where this order names one and both together are permitted.

@@ -3,7 +3,7 @@ use Rattle.std.proofs.Common.{◌≡◌, sym, subst, ℕ, ◌<◌, List, [], ◌
 use Rattle.std.proofs.lemmas.List.Elements.{Contains-append_left, Contains-get_or}
 use Rattle.wp_graph.proofs.Members.{Contains-from_among, among_from_Contains, map_source}
 use Rattle.wp_pairs.specs.Permitted.{Pairing}
-use Rattle.wp_batch.specs.Waves.{WavePicks}
+use Rattle.wp_lengths.specs.Waves.{WavePicks}
 use Rattle.wp_master.specs.Pools.{AreCovered, ColumnPool}
 use Rattle.wp_master.specs.declared.column.Column.{Column}
 use Rattle.wp_lp.specs.Rounds.{IsEnd, IsPoolHalt, IsRunPool}

@@ -7,11 +7,11 @@ use Rattle.std.proofs.lemmas.Int.{ints}
 use Rattle.std.proofs.lemmas.Nat.{mul-le}
 use Rattle.std.proofs.lemmas.List.{get_or-map, get_or_default, length-map}
 use Rattle.std.proofs.lemmas.List.Elements.{All-get_or, Contains-append_left, Contains-append_right, Contains-get_or, Contains-push, Contains-push_cases, Contains-append_cases}
-use Rattle.wp_batch.proofs.FewerOrders.{same_length}
-use Rattle.wp_batch.specs.Batchings.{batch_at}
-use Rattle.wp_batch.specs.Duals.{duals_of}
-use Rattle.wp_batch.specs.Lengths.{IsLengthOf}
-use Rattle.wp_batch.specs.Waves.{WavePicks}
+use Rattle.wp_lengths.proofs.FewerOrders.{same_length}
+use Rattle.wp_lengths.specs.Batchings.{batch_at}
+use Rattle.wp_lengths.specs.Duals.{duals_of}
+use Rattle.wp_lengths.specs.Lengths.{IsLengthOf}
+use Rattle.wp_lengths.specs.Waves.{WavePicks}
 use Rattle.wp_pairs.proofs.SumsUnder.{under_all}
 use Rattle.wp_pairs.specs.Permitted.{IsPermitted, Pairing}
 use Rattle.wp_master.proofs.Sums.{total_most, total_times}

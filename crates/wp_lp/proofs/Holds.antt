@@ -4,7 +4,7 @@ use Rattle.std.proofs.Common.{arith, ap, sym, subst, refl, ◌∙◌}
 use Rattle.std.proofs.lemmas.Bool.Decides.{eqb_tells}
 use Rattle.std.specs.List.{list_any}
 use Rattle.std.specs.List.Sorted.{IsStrictlyIncreasing}
-use Rattle.wp_batch.proofs.Unions.{all_from_contained, nothing_in}
+use Rattle.wp_lengths.proofs.Unions.{all_from_contained, nothing_in}
 use Rattle.wp_pairs.proofs.Classes.{no_longer, part_fits}
 use Rattle.wp_pairs.proofs.Members.{contains_cases, contains_first, contains_later, contains_none}
 use Rattle.wp_pairs.specs.Permitted.{IsPermitted, Pairing}

@@ -9,9 +9,9 @@ use Rattle.wp_master.proofs.Sums.{total_of_sums, total_times}
 use Rattle.wp_master.proofs.Totals.{no_total, same_total}
 use Rattle.wp_master.specs.Bases.{total_below}
 use Rattle.wp_master.specs.Pairs.{number_of}
-use Rattle.wp_batch.specs.Duals.{AreFeasible, duals_of}
+use Rattle.wp_lengths.specs.Duals.{AreFeasible, duals_of}
 use Rattle.wp_price.specs.Slacks.{IsLeastSlack}
-use Rattle.wp_batch.specs.Waves.{WavePicks}
+use Rattle.wp_lengths.specs.Waves.{WavePicks}
 use Rattle.wp_pairs.specs.Permitted.{IsPermitted, Pairing}
 use Rattle.wp_lp.proofs.Wholes.{times_most}
 use Rattle.wp_lp.specs.Covers.{AreFeasibleOver, IsBelowCovers, IsWeightedLength, dual_sum, has, sum_of_duals, weight_with}

@@ -2,10 +2,10 @@
 use Rattle.std.proofs.Common.{◌≡◌, ℕ, suc, ◌+◌, ◌<◌, ◌^◌, All, List, Option, [], ◌∷◌, ◌++◌, arith, length, take, get_or, refl, ap, sym, ◌∙◌, subst}
 use Rattle.std.proofs.lemmas.List.{map_push, take_more}
 use Rattle.std.proofs.lemmas.List.Elements.{All-push}
-use Rattle.wp_batch.specs.Batchings.{IsBatching, batch_at, no_pairs}
-use Rattle.wp_batch.specs.Lengths.{IsLengthOf}
-use Rattle.wp_batch.specs.Waves.{WavePicks}
-use Rattle.wp_batch.proofs.Unions.{nothing_in}
+use Rattle.wp_lengths.specs.Batchings.{IsBatching, batch_at, no_pairs}
+use Rattle.wp_lengths.specs.Lengths.{IsLengthOf}
+use Rattle.wp_lengths.specs.Waves.{WavePicks}
+use Rattle.wp_lengths.proofs.Unions.{nothing_in}
 use Rattle.wp_pairs.specs.Carts.{FitsAnyCart, LoadedCart}
 use Rattle.wp_pairs.specs.Permitted.{IsPermitted, Pairing}
 use Rattle.wp_master.specs.Pools.{ColumnPool}

@@ -2,10 +2,10 @@
 use Rattle.std.proofs.Common.{◌≡◌, ⊎_elim, ℕ, ◌*◌, ◌/◌, ◌≤◌, List, [], ◌∷◌, length, Contains, arith, ap, subst}
 use Rattle.std.specs.Prelude.{slice_index}
 use Rattle.std.proofs.lemmas.Nat.{div-add-mod', le-div, mul-le}
-use Rattle.wp_batch.proofs.DualBounds.{bounded_sum}
-use Rattle.wp_batch.proofs.FewerOrders.{more_orders_no_shorter}
-use Rattle.wp_batch.specs.Duals.{AreFeasible, AreShares}
-use Rattle.wp_batch.specs.Waves.{WavePicks}
+use Rattle.wp_lengths.proofs.DualBounds.{bounded_sum}
+use Rattle.wp_lengths.proofs.FewerOrders.{more_orders_no_shorter}
+use Rattle.wp_lengths.specs.Duals.{AreFeasible, AreShares}
+use Rattle.wp_lengths.specs.Waves.{WavePicks}
 use Rattle.wp_pairs.proofs.Members.{contains_cases, contains_none}
 use Rattle.wp_pairs.specs.Permitted.{Pairing}
 use Rattle.wp_lp.proofs.Sides.{known_orders}

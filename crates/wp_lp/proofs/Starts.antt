@@ -6,8 +6,8 @@ use Rattle.std.proofs.Math.IntN.{*ℤ_comm}
 use Rattle.std.proofs.lemmas.Int.{ints}
 use Rattle.std.proofs.lemmas.List.Elements.{All-get_or, All-head, All-tail}
 use Rattle.std.proofs.lemmas.List.Sums.{sum_by-cons, sum_by-le, sum_by_push}
-use Rattle.wp_batch.specs.Lengths.{IsLengthOf}
-use Rattle.wp_batch.specs.Waves.{WavePicks}
+use Rattle.wp_lengths.specs.Lengths.{IsLengthOf}
+use Rattle.wp_lengths.specs.Waves.{WavePicks}
 use Rattle.wp_pairs.specs.Permitted.{IsPermitted, Pairing}
 use Rattle.wp_master.proofs.Numbers.{product_of_sum, product_of_product}
 use Rattle.wp_master.specs.Bases.{total_below}
@@ -19,7 +19,7 @@ use Rattle.wp_lp.proofs.Wholes.{times_most}
 use Rattle.wp_lp.specs.Covers.{has}
 use Rattle.wp_lp.specs.Parts.{IsCapped, IsPart, cost_of, cover_of, weighed, weight_for}
 use Rattle.std.proofs.lemmas.List.{get_or-map, length-map}
-use Rattle.wp_batch.specs.Batchings.{batch_at}
+use Rattle.wp_lengths.specs.Batchings.{batch_at}
 use Rattle.wp_lp.specs.Runs.{IsBatchingUnder, IsPermittedPool}
 use Rattle.wp_lp.specs.declared.part.Part.{Part}
 

@@ -1,8 +1,8 @@
 -- Parts of a cover: batches with their lengths and weights, and what comes of them where orders are taken out.
 use Rattle.std.specs.Prelude.{◌≡◌, ◌≢◌, ◌⊎◌, ℕ, ◌+◌, ◌*◌, ◌≤◌, ◌<◌, ◌^◌, ◌*ℤ◌, ◌≤ℤ◌, if◌then◌else◌, List, All, length, map, sum, sum_by, ℤ, pos}
 use Rattle.wp_pairs.specs.Permitted.{IsPermitted, Pairing}
-use Rattle.wp_batch.specs.Lengths.{IsLengthOf}
-use Rattle.wp_batch.specs.Waves.{WavePicks}
+use Rattle.wp_lengths.specs.Lengths.{IsLengthOf}
+use Rattle.wp_lengths.specs.Waves.{WavePicks}
 use Rattle.wp_master.specs.Pairs.{number_of}
 use Rattle.wp_lp.specs.Covers.{has}
 use Rattle.wp_lp.specs.declared.part.Part.{Part}

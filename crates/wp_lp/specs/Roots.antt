@@ -2,7 +2,7 @@
 use Rattle.std.specs.Int.{w128}
 use Rattle.std.specs.Prelude.{◌≡◌, ℕ, ◌^◌, ◌<◌, ◌⊎◌, FitsSigned, List, length, ℤ, pos, ◌-ℤ◌, ◌*ℤ◌, ◌<ℤ◌, ◌≤ℤ◌}
 use Rattle.wp_pairs.specs.Permitted.{Pairing}
-use Rattle.wp_batch.specs.Waves.{WavePicks}
+use Rattle.wp_lengths.specs.Waves.{WavePicks}
 use Rattle.wp_master.specs.Faults.{IsTooWide}
 use Rattle.wp_master.specs.Pivots.{PivotRun, Table, entry_of, last_row, places}
 use Rattle.wp_master.specs.Pools.{ColumnPool}

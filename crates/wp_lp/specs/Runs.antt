@@ -1,9 +1,9 @@
 -- Priced runs: pools of a wave's batches, to each of which a batch of negative slack was appended.
 use Rattle.std.specs.Prelude.{◌≡◌, ℕ, suc, ◌+◌, ◌<◌, List, [], ◌∷◌, ◌++◌, All, Contains, length, map, slice_index, ℤ, pos, ◌*ℤ◌, ◌≤ℤ◌, ◌<ℤ◌}
 use Rattle.wp_pairs.specs.Permitted.{IsPermitted, Pairing}
-use Rattle.wp_batch.specs.Batchings.{batch_at}
-use Rattle.wp_batch.specs.Lengths.{IsLengthOf}
-use Rattle.wp_batch.specs.Waves.{WavePicks}
+use Rattle.wp_lengths.specs.Batchings.{batch_at}
+use Rattle.wp_lengths.specs.Lengths.{IsLengthOf}
+use Rattle.wp_lengths.specs.Waves.{WavePicks}
 use Rattle.wp_master.specs.Pairs.{AreNumbers, AreOfRun, CoverOrders, FitColumns, length_of, number_of, sum_of}
 use Rattle.wp_master.specs.Pools.{AreCovered, ColumnPool}
 use Rattle.wp_master.specs.declared.column.Column.{Column}

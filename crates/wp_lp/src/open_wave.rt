@@ -1,7 +1,7 @@
 ghost use Rattle.std.specs.Prelude.{◌≡◌, ◌≤◌, [], length};
 ghost use Rattle.wp_lp.specs.Covers.{pairs_of};
 
-use wp_batch::Wave;
+use wp_lengths::Wave;
 use wp_pairs::Pairs;
 
 /// A wave and its pairs for a capacity, of which none is decided.

@@ -1,6 +1,6 @@
 //! One round of the search: a pool is solved, its duals are rounded down, and they are priced.
 ghost use Rattle.std.specs.Prelude.{◌≡◌, ◌<◌, ◌^◌, ℕ, suc, All, IfOk, IfErr, IfSome, IfNone, length, pos, ◌<ℤ◌};
-ghost use Rattle.wp_batch.specs.Duals.{AreFeasible};
+ghost use Rattle.wp_lengths.specs.Duals.{AreFeasible};
 ghost use Rattle.wp_master.specs.Pools.{AreCovered};
 ghost use Rattle.wp_lp.specs.Rounds.{IsEnd, IsNarrowRoot, IsNegative, IsPoolHalt, IsRunPool, IsShortPool, IsUnscalable};
 ghost use Rattle.wp_lp.specs.Runs.{AreSixtieths, IsAnswer};

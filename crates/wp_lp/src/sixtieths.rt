@@ -1,12 +1,12 @@
 //! Duals in sixtieths of a unit of length: those of a pool's solution, rounded down, and the share duals.
 ghost use Rattle.std.specs.Prelude.{◌≡◌, ◌<◌, ◌≤◌, ◌^◌, ◌*◌, ◌/◌, All, IfOk, length, pos, ◌*ℤ◌, ◌<ℤ◌, ◌≤ℤ◌};
-ghost use Rattle.wp_batch.specs.Duals.{AreShares};
+ghost use Rattle.wp_lengths.specs.Duals.{AreShares};
 ghost use Rattle.wp_lp.specs.Parts.{AreSmallOver};
 ghost use Rattle.wp_lp.specs.Runs.{AreSixtieths, IsSixtieths};
 
 use crate::whole::natural;
 use std::alloc::Global;
-use wp_batch::{SIXTIETHS, Wave, share_of};
+use wp_lengths::{SIXTIETHS, Wave, share_of};
 use wp_model::Memory;
 use wp_pairs::Capacity;
 

@@ -1,6 +1,6 @@
 //! The pool with which a search begins, and the parts with which a cover begins.
 ghost use Rattle.std.specs.Prelude.{◌≡◌, ◌≤◌, ◌<◌, ◌^◌, ◌*◌, ℕ, All, IfOk, length, pos, ◌*ℤ◌, ◌<ℤ◌, ◌≤ℤ◌};
-ghost use Rattle.wp_batch.specs.Waves.{WavePicks};
+ghost use Rattle.wp_lengths.specs.Waves.{WavePicks};
 ghost use Rattle.wp_pairs.specs.Permitted.{Pairing};
 ghost use Rattle.wp_master.specs.Pairs.{number_of, sum_of};
 ghost use Rattle.wp_master.specs.Pools.{column_of};
@@ -12,7 +12,7 @@ use crate::open_wave::OpenWave;
 use crate::part::Part;
 use crate::whole::natural;
 use std::alloc::Global;
-use wp_batch::SIXTIETHS;
+use wp_lengths::SIXTIETHS;
 use wp_master::{Pair, Pool};
 use wp_model::Memory;
 use wp_pairs::Batch;

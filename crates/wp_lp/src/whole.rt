@@ -6,7 +6,7 @@ ghost use Rattle.wp_lp.specs.declared.part.Part.{Part as PartData};
 use crate::part::Part;
 use crate::root::{Root, RootState};
 use std::alloc::Global;
-use wp_batch::total_of;
+use wp_lengths::total_of;
 use wp_model::Memory;
 use wp_pairs::Batch;
 

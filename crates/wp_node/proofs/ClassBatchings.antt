@@ -13,14 +13,14 @@ use Rattle.wp_pairs.specs.Carts.{FitsAnyCart, LoadedCart}
 use Rattle.wp_pairs.specs.Permitted.{AllDecided, AreJoined, IsPermitted, Pairing, itself}
 use Rattle.wp_pairs.proofs.Chains.{joined_back, joined_on, joined_same, parted_back}
 use Rattle.wp_pairs.proofs.Classes.{joined_in, no_longer, part_fits, permitted_keeps}
-use Rattle.wp_batch.specs.Batchings.{IsBatching, IsCost, IsListedByLeast, batch_at, no_pairs}
-use Rattle.wp_batch.specs.Lengths.{IsLengthOf, batch_picks}
-use Rattle.wp_batch.specs.Waves.{WavePicks}
-use Rattle.wp_batch.proofs.Joining.{first_least, permitted_alone}
-use Rattle.wp_batch.proofs.Unions.{same_shortest}
-use Rattle.wp_batch.specs.Duals.{AreTight, duals_of, units_of}
-use Rattle.wp_batch.proofs.Ascending.{same_sum}
-use Rattle.wp_batch.proofs.FewerOrders.{picked_by_more}
+use Rattle.wp_lengths.specs.Batchings.{IsBatching, IsCost, IsListedByLeast, batch_at, no_pairs}
+use Rattle.wp_lengths.specs.Lengths.{IsLengthOf, batch_picks}
+use Rattle.wp_lengths.specs.Waves.{WavePicks}
+use Rattle.wp_lengths.proofs.Ascending.{first_least, same_sum}
+use Rattle.wp_lengths.proofs.NoPairs.{permitted_alone}
+use Rattle.wp_lengths.proofs.Unions.{same_shortest}
+use Rattle.wp_lengths.specs.Duals.{AreTight, duals_of, units_of}
+use Rattle.wp_lengths.proofs.FewerOrders.{picked_by_more}
 use Rattle.wp_pairs.proofs.SumsUnder.{under_all}
 use Rattle.wp_node.proofs.OrderTotals.{first_values, total_under}
 

@@ -8,9 +8,9 @@ use Rattle.std.proofs.lemmas.List.{get_or-set_same, get_or-set_other}
 use Rattle.std.proofs.lemmas.List.Sums.{sum_by-cons}
 use Rattle.wp_pairs.proofs.Classes.{head_below, tail_ascends}
 use Rattle.wp_pairs.proofs.Members.{contains_cases, contains_first, contains_later, contains_none}
-use Rattle.wp_batch.specs.Duals.{duals_of}
-use Rattle.wp_batch.proofs.Ascending.{all_in_or_out, only_one}
-use Rattle.wp_batch.proofs.OrderSums.{leave_out}
+use Rattle.wp_lengths.specs.Duals.{duals_of}
+use Rattle.wp_lengths.proofs.Ascending.{all_in_or_out, only_one}
+use Rattle.wp_lengths.proofs.OrderSums.{leave_out}
 use Rattle.wp_node.specs.Raises.{AreNoLower}
 
 -- a number is in a list or isn't

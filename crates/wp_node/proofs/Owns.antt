@@ -6,9 +6,9 @@ use Rattle.std.proofs.lemmas.List.Sums.{list_all-from_AllPass}
 use Rattle.std.specs.Prelude.{◌&&◌, Some, nat_le, slice_index_or, sum}
 use Rattle.std.specs.List.{list_all}
 use Rattle.wp_pairs.specs.Permitted.{Pairing}
-use Rattle.wp_batch.specs.Waves.{WavePicks}
-use Rattle.wp_batch.specs.Duals.{AreDuals, AreFeasible, greatest_dual}
-use Rattle.wp_batch.specs.Visits.{IsVisitOfAll, Passed}
+use Rattle.wp_lengths.specs.Waves.{WavePicks}
+use Rattle.wp_lengths.specs.Duals.{AreDuals, AreFeasible, greatest_dual}
+use Rattle.wp_lengths.specs.Visits.{IsVisitOfAll, Passed}
 use Rattle.wp_cert.specs.TextData.{HaveDualsWithin}
 use Rattle.wp_cert.specs.Trees.{IsRightOwn}
 use Rattle.wp_cert.specs.declared.tree.Node.TheVariants as node

@@ -1,19 +1,17 @@
 -- Raising the dual of an order by what its batch of least slack has room for.
 use Rattle.std.proofs.Common.{◌≡◌, ◌≢◌, ℕ, ◌+◌, ◌*◌, ◌-◌, ◌<◌, ◌≤◌, List, [], ◌∷◌, ◌++◌, length, length-append, get_or, set, arith, refl, ap, sym, ◌∙◌}
-use Rattle.std.proofs.Common.{subst, ⊎_elim, Contains, pos, neg_ℤ, ◌≤ℤ◌, ℤ}
+use Rattle.std.proofs.Common.{subst, ⊎_elim, Contains, pos, ℤ}
 use Rattle.std.specs.Prelude.{Option, Some, None, IfNone, IsSome, slice_index, All, ◌↔◌, ◌⊎◌}
-use Rattle.std.proofs.Math.ListN.{length-set}
-use Rattle.std.proofs.lemmas.Bool.{cases_eq, cases_lt}
+use Rattle.std.proofs.lemmas.Bool.{cases_eq}
 use Rattle.std.proofs.lemmas.Int.{ints}
 use Rattle.std.proofs.lemmas.List.{get_or_append_left, get_or_push}
-use Rattle.std.proofs.lemmas.List.Elements.{All-contains, All-set}
+use Rattle.std.proofs.lemmas.List.Elements.{All-contains}
 use Rattle.wp_pairs.specs.Permitted.{AreHeldBelow, IsPermitted, Pairing}
-use Rattle.wp_batch.specs.Lengths.{IsLengthOf}
-use Rattle.wp_batch.specs.Waves.{WavePicks}
-use Rattle.wp_batch.proofs.Unions.{all_from_contained}
-use Rattle.wp_batch.specs.Duals.{AreFeasible, IsTightFor, duals_of, greatest_dual}
-use Rattle.wp_batch.proofs.FewerOrders.{same_length}
-use Rattle.wp_price.specs.Slacks.{HasNoCandidate, IsLeastSlack, IsSlack}
+use Rattle.wp_lengths.specs.Waves.{WavePicks}
+use Rattle.wp_lengths.proofs.Unions.{all_from_contained}
+use Rattle.wp_lengths.specs.Duals.{AreFeasible, IsTightFor, duals_of, greatest_dual}
+use Rattle.wp_lengths.proofs.FewerOrders.{same_length}
+use Rattle.wp_price.specs.Slacks.{HasNoCandidate, IsLeastSlack}
 use Rattle.wp_node.specs.Raises.{AreListedTight, AreNoLower, IsListedWith, IsRoom}
 use Rattle.wp_node.proofs.DualSums.{dual_in_batch, in_or_out, more_with, no_lower_batch, same_without}
 

@@ -4,8 +4,8 @@ use Rattle.std.specs.Prelude.{All, slice_index}
 use Rattle.std.proofs.lemmas.Bool.{cases_eq}
 use Rattle.std.proofs.lemmas.List.{get_or_append_left, get_or_push}
 use Rattle.std.proofs.lemmas.List.Elements.{All-nil, All-push}
-use Rattle.wp_batch.specs.Waves.{WavePicks}
-use Rattle.wp_batch.specs.Duals.{AreDuals, AreShares, IsShare, greatest_dual}
+use Rattle.wp_lengths.specs.Waves.{WavePicks}
+use Rattle.wp_lengths.specs.Duals.{AreDuals, AreShares, IsShare, greatest_dual}
 
 -- the share duals of the orders below this one
 pub record AreSharesBelow (wave : WavePicks) (capacity order : ℕ) (shares : List ℕ) : Type 0 where

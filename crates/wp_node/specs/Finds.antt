@@ -1,7 +1,7 @@
 -- What a visit finds: batches of a wave with their lengths.
-use Rattle.std.specs.Prelude.{ℕ, ◌<◌, List, All, length}
-use Rattle.wp_batch.specs.Lengths.{IsLengthOf}
-use Rattle.wp_batch.specs.Waves.{WavePicks}
+use Rattle.std.specs.Prelude.{◌<◌, List, All, length}
+use Rattle.wp_lengths.specs.Lengths.{IsLengthOf}
+use Rattle.wp_lengths.specs.Waves.{WavePicks}
 use Rattle.wp_node.specs.declared.visit.Find.{Find}
 
 -- a find is a batch of the wave's orders with the length of a shortest tour of it

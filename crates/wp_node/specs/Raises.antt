@@ -1,10 +1,10 @@
 -- Duals that are raised, order by order, until each order has a tight batch.
-use Rattle.std.specs.Prelude.{◌≡◌, ℕ, ◌+◌, ◌*◌, ◌<◌, ◌≤◌, ◌^◌, List, [], Contains, length, slice_index, slice_index_or}
+use Rattle.std.specs.Prelude.{◌≡◌, ℕ, ◌+◌, ◌<◌, ◌≤◌, ◌^◌, List, [], Contains, length, slice_index, slice_index_or}
 use Rattle.wp_pairs.specs.Permitted.{AreHeldBelow, Pairing}
-use Rattle.wp_batch.specs.Batchings.{no_pairs}
-use Rattle.wp_batch.specs.Lengths.{IsLengthOf}
-use Rattle.wp_batch.specs.Waves.{WavePicks}
-use Rattle.wp_batch.specs.Duals.{AreFeasible, IsTightFor, duals_of, sixtieths_of}
+use Rattle.wp_lengths.specs.Batchings.{no_pairs}
+use Rattle.wp_lengths.specs.Lengths.{IsLengthOf}
+use Rattle.wp_lengths.specs.Waves.{WavePicks}
+use Rattle.wp_lengths.specs.Duals.{AreFeasible, IsTightFor, duals_of, sixtieths_of}
 
 -- duals that stand above a node: one for each order of the wave, and feasible there
 pub record AreFeasibleDuals (wave : WavePicks) (pairing : Pairing) (duals : List ℕ) : Type 0 where

@@ -1,7 +1,7 @@
 ghost use Rattle.std.specs.Prelude.{◌≤◌};
 
 use crate::items::total_in;
-use wp_batch::{SIXTIETHS, total_of};
+use wp_lengths::{SIXTIETHS, total_of};
 use wp_master::Column;
 use wp_pairs::Batch;
 

@@ -4,7 +4,7 @@ use crate::columns::{add_finds, nearest, pool_of};
 use crate::visit::{PARTS, RAISED_PARTS, visit};
 use std::alloc::Global;
 use std::thread::Threads;
-use wp_batch::{PairedWave, SIXTIETHS, Wave};
+use wp_lengths::{PairedWave, SIXTIETHS, Wave};
 use wp_master::{Column, MasterFault, Pair, solve};
 use wp_model::Memory;
 use wp_outside::Gate;

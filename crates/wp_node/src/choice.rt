@@ -7,7 +7,7 @@ use crate::bound::WHOLE;
 use crate::items::total_in;
 use crate::work::{Weighted, Worked};
 use std::alloc::Global;
-use wp_batch::SIXTIETHS;
+use wp_lengths::SIXTIETHS;
 use wp_master::Column;
 use wp_model::Memory;
 use wp_pairs::{Batch, Pairs};

@@ -1,10 +1,10 @@
 ghost use Rattle.std.specs.Prelude.{IfOk, length, sum};
 ghost use Rattle.wp_pairs.specs.Permitted.{AllDecided};
-ghost use Rattle.wp_batch.specs.Batchings.{IsBatching, IsCost, IsListedByLeast};
-ghost use Rattle.wp_batch.specs.Duals.{AreTight, units_of};
+ghost use Rattle.wp_lengths.specs.Batchings.{IsBatching, IsCost, IsListedByLeast};
+ghost use Rattle.wp_lengths.specs.Duals.{AreTight, units_of};
 
 use std::alloc::Global;
-use wp_batch::{Batching, DualWave};
+use wp_lengths::{Batching, DualWave};
 use wp_model::Memory;
 
 /// The batching of a wave at a node at which all pairs of orders are decided: the classes of the orders that are to go

@@ -4,7 +4,7 @@ ghost use Rattle.wp_master.specs.Pools.{IsColumn};
 use crate::items::total_in;
 use crate::visit::{FEW, Find, slack_of};
 use std::alloc::Global;
-use wp_batch::{PairedWave, Wave};
+use wp_lengths::{PairedWave, Wave};
 use wp_master::{Column, Pool};
 use wp_model::Memory;
 use wp_pairs::Batch;

@@ -1,14 +1,14 @@
 ghost use Rattle.std.specs.Prelude.{◌≡◌, IfOk, length, sum};
 ghost use Rattle.wp_cert.specs.Trees.{IsRightOwn};
-ghost use Rattle.wp_batch.specs.Duals.{AreDuals};
+ghost use Rattle.wp_lengths.specs.Duals.{AreDuals};
 ghost use Rattle.wp_price.specs.ShortMarks.{AreShortMarks};
 ghost use Rattle.wp_node.specs.Owns.{as_own};
 ghost use Rattle.wp_node.specs.Raises.{IsStart};
 
 use crate::raise::raise_all;
 use std::thread::Threads;
-use wp_batch::{Batching, DualWave, Marks, OrderDuals, PairedWave};
 use wp_cert::Own;
+use wp_lengths::{Batching, DualWave, Marks, OrderDuals, PairedWave};
 use wp_model::Memory;
 use wp_outside::Gate;
 use wp_price::{Workers, are_feasible, short_marks};

@@ -1,10 +1,10 @@
 ghost use Rattle.std.specs.Prelude.{◌≡◌, ◌≤◌, ◌<◌, All, IfOk, IfSome, OnErr, length, ℕ};
-ghost use Rattle.wp_batch.specs.Lengths.{IsLengthOf};
-ghost use Rattle.wp_batch.specs.Duals.{IsTightFor, duals_of, sixtieths_of};
+ghost use Rattle.wp_lengths.specs.Lengths.{IsLengthOf};
+ghost use Rattle.wp_lengths.specs.Duals.{IsTightFor, duals_of, sixtieths_of};
 ghost use Rattle.wp_node.specs.Raises.{AreListedTight, AreNoLower, IsListedWith, IsRoom, IsStart};
 
 use std::thread::Threads;
-use wp_batch::{DualWave, OrderDuals, PairedWave, SIXTIETHS};
+use wp_lengths::{DualWave, OrderDuals, PairedWave, SIXTIETHS};
 use wp_model::Memory;
 use wp_outside::Gate;
 use wp_pairs::Batch;

@@ -1,8 +1,8 @@
 ghost use Rattle.std.specs.Prelude.{◌≡◌, ◌≤◌, IfOk, length, sum};
-ghost use Rattle.wp_batch.specs.Duals.{AreShares};
+ghost use Rattle.wp_lengths.specs.Duals.{AreShares};
 
 use std::alloc::Global;
-use wp_batch::{OrderDuals, Wave, share_of};
+use wp_lengths::{OrderDuals, Wave, share_of};
 use wp_model::Memory;
 use wp_pairs::Capacity;
 

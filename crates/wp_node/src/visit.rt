@@ -1,5 +1,5 @@
 ghost use Rattle.std.specs.Prelude.{◌≡◌, ◌<◌, All, IfOk, length};
-ghost use Rattle.wp_batch.specs.Waves.{WavePicks};
+ghost use Rattle.wp_lengths.specs.Waves.{WavePicks};
 ghost use Rattle.wp_node.specs.Finds.{AreFinds, IsFind};
 
 use crate::items::{Item, VisitPlace, items_of, no_place, widened};
@@ -8,7 +8,7 @@ use std::alloc::Global;
 use std::marker::Model;
 use std::thread;
 use std::thread::Threads;
-use wp_batch::{PairedWave, SIXTIETHS, Wave};
+use wp_lengths::{PairedWave, SIXTIETHS, Wave};
 use wp_model::Memory;
 use wp_outside::Gate;
 use wp_pairs::{Batch, Pairs};
@@ -44,7 +44,7 @@ struct BatchVisit<'a> {
 
 impl<'a> Model for BatchVisit<'a> {
     ghost use Rattle.std.specs.Prelude.{length};
-    ghost use Rattle.wp_batch.specs.Waves.{WavePicks};
+    ghost use Rattle.wp_lengths.specs.Waves.{WavePicks};
     ghost use Rattle.wp_node.specs.Items.{AreItems};
 
     ghost Value = { WavePicks };

@@ -1,6 +1,6 @@
 ghost use Rattle.std.specs.Prelude.{◌≡◌, All, IfOk, IfSome, length, slice_index, sum};
 ghost use Rattle.wp_cert.specs.Trees.{IsRightOwn};
-ghost use Rattle.wp_batch.specs.Duals.{AreDuals};
+ghost use Rattle.wp_lengths.specs.Duals.{AreDuals};
 ghost use Rattle.wp_price.specs.ShortMarks.{AreShortMarks};
 ghost use Rattle.wp_node.specs.Owns.{as_own};
 ghost use Rattle.wp_node.specs.Raises.{IsStart};
@@ -13,7 +13,7 @@ use crate::own::{NodeOwn, own_of};
 use crate::visit::{FEW, Find, PARTS, RAISED_PARTS, visit};
 use std::alloc::Global;
 use std::thread::Threads;
-use wp_batch::{OrderDuals, PairedWave};
+use wp_lengths::{OrderDuals, PairedWave};
 use wp_master::Column;
 use wp_model::Memory;
 use wp_outside::Gate;

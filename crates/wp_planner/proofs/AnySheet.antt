@@ -1,9 +1,9 @@
 -- A wave that went out and has a good plan has a sheet.
 use Rattle.std.proofs.Common.{ℕ, ◌+◌, All, Bool, true, false, List, [], ◌∷◌, ◌++◌, refl}
 use Rattle.std.proofs.lemmas.List.Elements.{All-head, All-tail}
-use Rattle.wp_batch.specs.Batchings.{IsCost}
-use Rattle.wp_batch.specs.Lengths.{batch_picks}
-use Rattle.wp_batch.specs.Waves.{WavePicks}
+use Rattle.wp_lengths.specs.Batchings.{IsCost}
+use Rattle.wp_lengths.specs.Lengths.{batch_picks}
+use Rattle.wp_lengths.specs.Waves.{WavePicks}
 use Rattle.wp_graph.specs.PickSets.{AreSlots}
 use Rattle.wp_machine.specs.declared.outcome.WaveHolds.{WaveHolds}
 use Rattle.wp_model.specs.Opening.{Opening, Stock}

@@ -5,9 +5,9 @@ use Rattle.std.proofs.lemmas.List.Elements.{All-contains, Contains-get_or}
 use Rattle.std.proofs.lemmas.List.{get_or_default}
 use Rattle.std.proofs.lemmas.Option.{same_Some}
 use Rattle.std.specs.Prelude.{slice_index}
-use Rattle.wp_batch.specs.Batchings.{IsListedByLeast, batch_at}
-use Rattle.wp_batch.specs.Lengths.{batch_picks}
-use Rattle.wp_batch.specs.Waves.{WavePicks, picks_of}
+use Rattle.wp_lengths.specs.Batchings.{IsListedByLeast, batch_at}
+use Rattle.wp_lengths.specs.Lengths.{batch_picks}
+use Rattle.wp_lengths.specs.Waves.{WavePicks, picks_of}
 use Rattle.wp_cert.specs.Walks.{ArePutIntoBatches}
 use Rattle.wp_graph.proofs.Members.{Contains-from_among, among-flat_map, among_from_Contains}
 use Rattle.wp_machine.specs.declared.outcome.WaveHolds.{WaveHolds}

@@ -1,8 +1,8 @@
 -- The picks of a batch of a wave that went out are slots of the layout.
 use Rattle.std.proofs.Common.{◌<◌, ℕ, List, All, arith, length, sym, subst}
 use Rattle.std.proofs.lemmas.List.Elements.{All-contains, All-weaker}
-use Rattle.wp_batch.specs.Lengths.{batch_picks}
-use Rattle.wp_batch.specs.Waves.{WavePicks, picks_of}
+use Rattle.wp_lengths.specs.Lengths.{batch_picks}
+use Rattle.wp_lengths.specs.Waves.{WavePicks, picks_of}
 use Rattle.wp_graph.proofs.Members.{Contains-from_among, among_from_Contains, flat_map_source}
 use Rattle.wp_graph.specs.PickSets.{AreSlots}
 use Rattle.wp_machine.specs.declared.outcome.WaveHolds.{WaveHolds}

@@ -1,9 +1,8 @@
 -- Tours past what a batch picks.
 use Rattle.std.proofs.Common.{◌≡◌, ℕ, ◌↔◌, List, Contains, subst}
-use Rattle.wp_batch.proofs.Gains.{one_length}
-use Rattle.wp_batch.proofs.Unions.{same_shortest, same_tour}
-use Rattle.wp_batch.specs.Lengths.{IsLengthOf, batch_picks}
-use Rattle.wp_batch.specs.Waves.{WavePicks}
+use Rattle.wp_lengths.proofs.Unions.{one_length, same_shortest, same_tour}
+use Rattle.wp_lengths.specs.Lengths.{IsLengthOf, batch_picks}
+use Rattle.wp_lengths.specs.Waves.{WavePicks}
 use Rattle.wp_model.specs.Tours.{IsShortest, IsTour}
 use Rattle.wp_model.specs.Warehouse.{Layout}
 use Rattle.wp_model.specs.declared.point.Point.{Point}

@@ -1,7 +1,7 @@
 -- The certificate of a plan tells the plan's bound.
 use Rattle.std.proofs.Common.{subst, sym, ℕ, ◌≤◌, [], arith}
 use Rattle.std.proofs.lemmas.List.{get_or_default}
-use Rattle.wp_batch.specs.Waves.{IsWave, WavePicks}
+use Rattle.wp_lengths.specs.Waves.{IsWave, WavePicks}
 use Rattle.wp_cert.proofs.OneVerdict.{one_told}
 use Rattle.wp_cert.proofs.TextShows.{shows_bound}
 use Rattle.wp_cert.specs.Bounds.{TellsBound}

@@ -8,7 +8,7 @@ use Rattle.std.proofs.lemmas.List.{get_or_append_left, get_or_push}
 use Rattle.std.proofs.Math.Seq.{take-suc}
 use Rattle.std.proofs.lemmas.Option.{same_Some, slice_get-get_or}
 use Rattle.wp_graph.proofs.Members.{Contains-from_among, among-append, among-append_left, among-append_right, among_from_Contains}
-use Rattle.wp_batch.specs.Waves.{HaveSamePicks, WavePicks}
+use Rattle.wp_lengths.specs.Waves.{HaveSamePicks, WavePicks}
 use Rattle.wp_graph.specs.PickSets.{PickSet}
 use Rattle.wp_model.proofs.Elements.{All-at, within_some}
 use Rattle.wp_model.specs.HoldLists.{IsHoldWithin}

@@ -1,8 +1,8 @@
 -- The batches of a day, and the crew to which they are dealt.
 use Rattle.std.specs.Prelude.{◌≡◌, ℕ, ◌+◌, ◌≤◌, ◌^◌, ⊤, All, List, [], ◌∷◌, ◌++◌, None, Option, Some, map}
 use Rattle.std.specs.Option.{option_map_or}
-use Rattle.wp_batch.specs.Lengths.{IsLengthOf}
-use Rattle.wp_batch.specs.Waves.{WavePicks}
+use Rattle.wp_lengths.specs.Lengths.{IsLengthOf}
+use Rattle.wp_lengths.specs.Waves.{WavePicks}
 use Rattle.wp_crew.specs.Crews.{IsCrew, IsNearTheMean, NoneIsBelow}
 use Rattle.wp_machine.specs.declared.outcome.WaveHolds.{WaveHolds}
 use Rattle.wp_sheets.specs.Crews.{crew_section}

@@ -3,7 +3,7 @@ use Rattle.std.specs.Prelude.{◌↔◌, Option, IfSome, IsSome}
 use Rattle.wp_model.specs.Opening.{Opening}
 use Rattle.wp_model.specs.Warehouse.{Layout}
 use Rattle.wp_machine.specs.declared.outcome.WaveHolds.{WaveHolds}
-use Rattle.wp_batch.specs.Waves.{WavePicks}
+use Rattle.wp_lengths.specs.Waves.{WavePicks}
 use Rattle.wp_cert.specs.Bounds.{TellsBound}
 use Rattle.wp_cert.specs.TextData.{certificate_text, wave_places}
 use Rattle.wp_search.specs.Plans.{IsGoodPlan}

@@ -7,7 +7,7 @@ use Rattle.wp_model.specs.Warehouse.{IsSlot, Layout}
 use Rattle.wp_model.specs.declared.point.Point.{Point}
 use Rattle.wp_model.specs.declared.row.Hold.{Hold}
 use Rattle.wp_machine.specs.declared.outcome.WaveHolds.{WaveHolds}
-use Rattle.wp_batch.specs.Waves.{WavePicks, picks_of}
+use Rattle.wp_lengths.specs.Waves.{WavePicks, picks_of}
 use Rattle.wp_graph.specs.PickSets.{AreSlots}
 use Rattle.wp_planner.specs.Loads.{AreLight, IsCartOf, load_for}
 use Rattle.wp_planner.specs.Slots.{HoldsAt, slot_at}

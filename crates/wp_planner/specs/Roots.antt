@@ -1,6 +1,6 @@
 -- Brackets of the linear bounds of waves that went out.
 use Rattle.std.specs.Prelude.{◌≡◌, ℕ, ◌<◌, ◌/◌, Bool, true, false, List, [], None, Option, Some, length, ℤ, ◌*ℤ◌, ◌≤ℤ◌}
-use Rattle.wp_batch.specs.Waves.{WavePicks}
+use Rattle.wp_lengths.specs.Waves.{WavePicks}
 use Rattle.wp_lp.specs.Covers.{IsBelowCovers, IsLinearBound, pairs_of}
 use Rattle.wp_lp.specs.Roots.{IsRoot}
 use Rattle.wp_lp.specs.Runs.{HasPermitted}

@@ -5,8 +5,8 @@ use Rattle.wp_model.specs.Opening.{Opening, Stock}
 use Rattle.wp_model.specs.Tours.{IsTour}
 use Rattle.wp_model.specs.declared.point.Point.{Point}
 use Rattle.wp_machine.specs.declared.outcome.WaveHolds.{WaveHolds}
-use Rattle.wp_batch.specs.Lengths.{IsLengthOf, batch_picks}
-use Rattle.wp_batch.specs.Waves.{WavePicks}
+use Rattle.wp_lengths.specs.Lengths.{IsLengthOf, batch_picks}
+use Rattle.wp_lengths.specs.Waves.{WavePicks}
 use Rattle.wp_cert.specs.Bounds.{TellsBound}
 use Rattle.wp_cert.specs.TextData.{certificate_text, wave_places}
 use Rattle.wp_search.specs.declared.plan.Planned.{Planned}

@@ -1,6 +1,6 @@
 ghost use Rattle.std.specs.Prelude.{◌≡◌, ◌<◌, ◌++◌, All, IfOk, length};
 ghost use Rattle.wp_model.specs.Warehouse.{Layout as Block};
-ghost use Rattle.wp_batch.specs.Lengths.{IsLengthOf};
+ghost use Rattle.wp_lengths.specs.Lengths.{IsLengthOf};
 ghost use Rattle.wp_cert.specs.TextData.{HaveDualsWithin};
 ghost use Rattle.wp_sheets.specs.Picks.{AreSingle};
 ghost use Rattle.wp_planner.specs.Plans.{IsPlanOf};
@@ -14,8 +14,8 @@ use crate::planner::WavePlan;
 use crate::terms::Terms;
 use crate::tours::tour_of;
 use std::alloc::Global;
-use wp_batch::Wave;
 use wp_cert::print_certificate;
+use wp_lengths::Wave;
 use wp_lp::{Root, RootState};
 use wp_machine::{Opening, WaveHolds};
 use wp_model::Memory;

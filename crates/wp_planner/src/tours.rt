@@ -1,11 +1,11 @@
 ghost use Rattle.std.specs.Prelude.{◌<◌, ℕ, All, IfOk, length};
 ghost use Rattle.wp_model.specs.Tours.{IsTour};
-ghost use Rattle.wp_batch.specs.Lengths.{IsLengthOf, batch_picks};
+ghost use Rattle.wp_lengths.specs.Lengths.{IsLengthOf, batch_picks};
 
 use std::alloc::Global;
-use wp_batch::Wave;
 use wp_classes::tour_choice;
 use wp_graph::Point;
+use wp_lengths::Wave;
 use wp_model::Memory;
 use wp_pairs::Batch;
 use wp_walk::walk_of;

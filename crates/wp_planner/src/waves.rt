@@ -4,8 +4,8 @@ ghost use Rattle.wp_planner.specs.Released.{IsReleased, IsWaveOf, LiesIn};
 use crate::loads::cart_of;
 use crate::slots::order_picks;
 use std::alloc::Global;
-use wp_batch::Wave;
 use wp_graph::Layout;
+use wp_lengths::Wave;
 use wp_machine::{Opening, WaveHolds};
 use wp_model::Memory;
 

@@ -15,18 +15,17 @@ use Rattle.wp_pairs.proofs.Carrying.{fits_carried, loads_together, none_loads}
 use Rattle.wp_pairs.proofs.Chains.{joined_back, joined_on, joined_parted, parted_back, parted_joined}
 use Rattle.wp_pairs.proofs.Classes.{joined_in, joined_known, keeping_permitted, permitted_keeps}
 use Rattle.wp_pairs.proofs.Members.{contains_none}
-use Rattle.wp_batch.proofs.Joining.{first_least}
-use Rattle.wp_batch.specs.Duals.{duals_of}
-use Rattle.wp_batch.specs.Visits.{AddsItem, IsItem}
-use Rattle.wp_batch.proofs.Ascending.{split_off}
-use Rattle.wp_batch.proofs.Further.{none_first}
-use Rattle.wp_batch.proofs.Visits.{IsPlace, empty_place, permitted_place, union_permitted}
+use Rattle.wp_lengths.proofs.Ascending.{first_least, split_off}
+use Rattle.wp_lengths.specs.Duals.{duals_of}
+use Rattle.wp_lengths.specs.Visits.{AddsItem, IsItem}
+use Rattle.wp_lengths.proofs.Further.{none_first}
+use Rattle.wp_lengths.proofs.Visits.{IsPlace, empty_place, permitted_place, union_permitted}
 use Rattle.wp_price.specs.declared.item.Item.{Item}
 use Rattle.wp_price.specs.declared.place.Place.{Place}
 use Rattle.wp_price.specs.Items.{AreItemsBelow, IsItemOf, IsUsable}
 use Rattle.wp_price.specs.Searches.{IsAt, IsBlocked, IsNoChild, IsReached, IsTask, NamesBelow, Task}
 use Rattle.wp_price.specs.Slacks.{HasNoCandidate}
-use Rattle.wp_batch.proofs.DualBounds.{bounded_duals}
+use Rattle.wp_lengths.proofs.DualBounds.{bounded_duals}
 use Rattle.wp_price.proofs.Lists.{one_list}
 
 -- nothing is in no order

@@ -8,11 +8,11 @@ use Rattle.wp_pairs.proofs.Chains.{joined_back, joined_on}
 use Rattle.wp_pairs.proofs.Classes.{joined_in}
 use Rattle.wp_pairs.proofs.KeptPairs.{in_or_not}
 use Rattle.wp_pairs.proofs.Members.{contains_none}
-use Rattle.wp_batch.proofs.Unions.{all_from_contained}
-use Rattle.wp_batch.specs.Visits.{AddsItem, AreFurther, IsItem, IsLater, IsReach}
-use Rattle.wp_batch.proofs.Ascending.{IsSplit, split_off}
-use Rattle.wp_batch.proofs.FewerOrders.{more_orders_no_shorter, same_length}
-use Rattle.wp_batch.proofs.Visits.{Extends, IsPlace, union_permitted}
+use Rattle.wp_lengths.proofs.Unions.{all_from_contained}
+use Rattle.wp_lengths.specs.Visits.{AddsItem, AreFurther, IsItem, IsLater, IsReach}
+use Rattle.wp_lengths.proofs.Ascending.{IsSplit, split_off}
+use Rattle.wp_lengths.proofs.FewerOrders.{more_orders_no_shorter, same_length}
+use Rattle.wp_lengths.proofs.Visits.{Extends, IsPlace, union_permitted}
 use Rattle.wp_price.specs.declared.best.LeastBatch.{LeastBatch}
 use Rattle.wp_price.specs.Bests.{IsNoWorse}
 use Rattle.wp_price.specs.Searches.{IsBeaten, IsNoChild, IsRaised, Task}

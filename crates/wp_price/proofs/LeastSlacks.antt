@@ -3,9 +3,9 @@ use Rattle.std.proofs.Common.{ℕ, ◌+◌, ◌*◌, ◌-◌, ◌≤◌, List, a
 use Rattle.std.specs.Prelude.{Option, Some, None}
 use Rattle.std.proofs.lemmas.Int.{ints}
 use Rattle.wp_pairs.specs.Permitted.{IsPermitted}
-use Rattle.wp_batch.specs.Lengths.{IsLengthOf}
-use Rattle.wp_batch.specs.Duals.{AreFeasible, duals_of}
-use Rattle.wp_batch.proofs.FewerOrders.{same_length}
+use Rattle.wp_lengths.specs.Lengths.{IsLengthOf}
+use Rattle.wp_lengths.specs.Duals.{AreFeasible, duals_of}
+use Rattle.wp_lengths.proofs.FewerOrders.{same_length}
 use Rattle.wp_price.specs.declared.best.LeastBatch.{LeastBatch}
 use Rattle.wp_price.specs.Searches.{IsBeaten, IsRaised, Task, raise}
 use Rattle.wp_price.specs.Slacks.{IsCandidate, IsLeastSlack, IsSlack}

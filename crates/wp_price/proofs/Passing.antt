@@ -3,11 +3,11 @@ use Rattle.std.proofs.Common.{◌≡◌, ℕ, ◌+◌, ◌*◌, ◌≤◌, Bool,
 use Rattle.std.proofs.Common.{append_assoc, append-nil}
 use Rattle.std.specs.Prelude.{⊤}
 use Rattle.wp_pairs.specs.Permitted.{IsPermitted, Pairing}
-use Rattle.wp_batch.specs.Lengths.{IsLengthOf}
-use Rattle.wp_batch.specs.Waves.{WavePicks}
-use Rattle.wp_batch.specs.Duals.{AreFeasible, duals_of}
-use Rattle.wp_batch.specs.Visits.{AddsItem, Children, Due, IsItem, IsReach, IsVisit, IsVisitOfAll, IsWithin, Passed, Place}
-use Rattle.wp_batch.specs.Visits as visit
+use Rattle.wp_lengths.specs.Lengths.{IsLengthOf}
+use Rattle.wp_lengths.specs.Waves.{WavePicks}
+use Rattle.wp_lengths.specs.Duals.{AreFeasible, duals_of}
+use Rattle.wp_lengths.specs.Visits.{AddsItem, Children, Due, IsItem, IsReach, IsVisit, IsVisitOfAll, IsWithin, Passed, Place}
+use Rattle.wp_lengths.specs.Visits as visit
 use Rattle.wp_price.specs.Searches.{IsNoChild, IsReached, NamesBelow}
 use Rattle.wp_price.specs.ShortMarks.{AreShort, AreShortMarks, IsMarked}
 use Rattle.wp_price.specs.ShortMarks as short

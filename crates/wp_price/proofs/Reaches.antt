@@ -5,10 +5,10 @@ use Rattle.std.proofs.lemmas.Bool.{cases_eq}
 use Rattle.std.proofs.lemmas.Grind.{get_or-set_at}
 use Rattle.std.proofs.lemmas.List.{get_or-set_other}
 use Rattle.wp_pairs.specs.Permitted.{Pairing}
-use Rattle.wp_batch.specs.Duals.{duals_of}
-use Rattle.wp_batch.specs.Reaches.{HaveMost}
-use Rattle.wp_batch.specs.Visits.{IsReach}
-use Rattle.wp_batch.proofs.Further.{most_of_none, reach_from}
+use Rattle.wp_lengths.specs.Duals.{duals_of}
+use Rattle.wp_lengths.specs.Reaches.{HaveMost}
+use Rattle.wp_lengths.specs.Visits.{IsReach}
+use Rattle.wp_lengths.proofs.Further.{most_of_none, reach_from}
 use Rattle.wp_price.specs.Items.{AreReachesBelow, IsMost}
 
 -- no order has the most of none: nothing

@@ -3,8 +3,8 @@ use Rattle.std.proofs.Common.{◌≡◌, ℕ, zero, suc, ◌+◌, ◌-◌, ◌<�
 use Rattle.std.proofs.Common.{Contains, length}
 use Rattle.std.specs.Prelude.{Option, Some, None, IfSome, slice_index_or}
 use Rattle.wp_pairs.specs.Permitted.{AreJoined, IsPermitted, itself}
-use Rattle.wp_batch.specs.Visits.{AddsItem}
-use Rattle.wp_batch.proofs.Visits.{Extends, IsPlace}
+use Rattle.wp_lengths.specs.Visits.{AddsItem}
+use Rattle.wp_lengths.proofs.Visits.{Extends, IsPlace}
 use Rattle.wp_price.specs.declared.best.LeastBatch.{LeastBatch}
 use Rattle.wp_price.specs.Bests.{IsBestAmong, IsBetterOf, IsNoBetter, IsNoWorse}
 use Rattle.wp_price.specs.Searches.{AreItemsSearched, AreSharesOf, AreSharesSearched, IsBeaten, IsFound, IsItemPast, IsNoChild, IsRaised, IsSearched, Task}

@@ -1,7 +1,7 @@
 -- Short marks of the subtrees of first items, which workers find.
 use Rattle.std.specs.Prelude.{◌≡◌, ℕ, ◌+◌, ◌<◌, Bool, List, [], ◌++◌, Contains, Option, None, Result, IfNone, IfOk, IfSome, IsOkAnd, length, slice_index_or}
 use Rattle.wp_pairs.specs.Permitted.{IsPermitted}
-use Rattle.wp_batch.specs.Visits.{AddsItem, Children, IsItem, Place}
+use Rattle.wp_lengths.specs.Visits.{AddsItem, Children, IsItem, Place}
 use Rattle.wp_price.specs.Searches.{IsNoChild, Task}
 use Rattle.wp_price.specs.ShortMarks.{AreShort}
 

@@ -3,9 +3,9 @@ use Rattle.std.specs.Prelude.{◌≡◌, ℕ, ◌+◌, ◌*◌, ◌^◌, ◌<◌
 use Rattle.std.specs.List.Sorted.{IsStrictlyIncreasing}
 use Rattle.wp_pairs.specs.Carts.{any_load}
 use Rattle.wp_pairs.specs.Permitted.{AreJoined, AreParted, IsPermitted, Pairing}
-use Rattle.wp_batch.specs.Duals.{duals_of, greatest_dual}
-use Rattle.wp_batch.specs.Reaches.{HaveMost}
-use Rattle.wp_batch.specs.Visits.{IsItem}
+use Rattle.wp_lengths.specs.Duals.{duals_of, greatest_dual}
+use Rattle.wp_lengths.specs.Reaches.{HaveMost}
+use Rattle.wp_lengths.specs.Visits.{IsItem}
 use Rattle.wp_price.specs.declared.item.Item.{Item}
 
 -- the most that so many orders, all of items from an order on, have in duals

@@ -3,11 +3,11 @@ use Rattle.std.specs.Prelude.{◌≡◌, ℕ, ◌+◌, ◌*◌, ◌^◌, ◌<◌
 use Rattle.wp_pairs.specs.Carts.{any_load}
 use Rattle.wp_pairs.specs.Kept.{IsPairing}
 use Rattle.wp_pairs.specs.Permitted.{AreParted, IsPermitted, Pairing}
-use Rattle.wp_batch.specs.Lengths.{IsLengthOf}
-use Rattle.wp_batch.specs.Waves.{WavePicks}
-use Rattle.wp_batch.specs.Duals.{AreDuals, duals_of, greatest_dual, sixtieths_of}
-use Rattle.wp_batch.specs.Visits.{AddsItem, IsItem}
-use Rattle.wp_batch.proofs.Visits.{Extends}
+use Rattle.wp_lengths.specs.Lengths.{IsLengthOf}
+use Rattle.wp_lengths.specs.Waves.{WavePicks}
+use Rattle.wp_lengths.specs.Duals.{AreDuals, duals_of, greatest_dual, sixtieths_of}
+use Rattle.wp_lengths.specs.Visits.{AddsItem, IsItem}
+use Rattle.wp_lengths.proofs.Visits.{Extends}
 use Rattle.wp_price.specs.declared.best.LeastBatch.{LeastBatch}
 use Rattle.wp_price.specs.declared.item.Item.{Item}
 use Rattle.wp_price.specs.declared.place.Place.{Place}

@@ -1,10 +1,10 @@
 -- Short marks: those of the visit that enters a place only where its reach is too much.
 use Rattle.std.specs.Prelude.{◌≡◌, ℕ, ◌+◌, ◌<◌, ◌≤◌, Bool, true, false, List, [], ◌∷◌, ◌++◌}
 use Rattle.wp_pairs.specs.Permitted.{IsPermitted, Pairing}
-use Rattle.wp_batch.specs.Lengths.{IsLengthOf}
-use Rattle.wp_batch.specs.Waves.{WavePicks}
-use Rattle.wp_batch.specs.Duals.{duals_of, sixtieths_of}
-use Rattle.wp_batch.specs.Visits.{AddsItem, Children, Due, IsItem, IsReach, Place}
+use Rattle.wp_lengths.specs.Lengths.{IsLengthOf}
+use Rattle.wp_lengths.specs.Waves.{WavePicks}
+use Rattle.wp_lengths.specs.Duals.{duals_of, sixtieths_of}
+use Rattle.wp_lengths.specs.Visits.{AddsItem, Children, Due, IsItem, IsReach, Place}
 
 -- The short marks of what is due. A place is marked as not to be entered exactly where its reach doesn't make it too much; else it is entered, and the places
 -- with one more item follow in the order of the items. An item that with the place makes no permitted batch is passed over.

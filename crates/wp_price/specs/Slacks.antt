@@ -1,9 +1,9 @@
 -- The slack of a batch, and the batch of least slack among those that are permitted.
 use Rattle.std.specs.Prelude.{◌≡◌, ℕ, Bool, true, false, List, [], ◌∷◌, Option, Some, None, Contains, if◌then◌else◌, nat_lt, ℤ, pos, ◌+ℤ◌, ◌≤ℤ◌}
 use Rattle.wp_pairs.specs.Permitted.{IsPermitted, Pairing}
-use Rattle.wp_batch.specs.Lengths.{IsLengthOf}
-use Rattle.wp_batch.specs.Waves.{WavePicks}
-use Rattle.wp_batch.specs.Duals.{duals_of, sixtieths_of}
+use Rattle.wp_lengths.specs.Lengths.{IsLengthOf}
+use Rattle.wp_lengths.specs.Waves.{WavePicks}
+use Rattle.wp_lengths.specs.Duals.{duals_of, sixtieths_of}
 
 -- the slack of a batch: sixty times its length, less what its orders have in duals
 pub record IsSlack (wave : WavePicks) (duals batch : List ℕ) (slack : ℤ) : Type 0 where

@@ -1,8 +1,8 @@
 ghost use Rattle.std.specs.Prelude.{◌≡◌, [], ◌+◌, ◌<◌, ◌≤◌, replicate};
-ghost use Rattle.wp_batch.specs.Visits.{IsReach};
+ghost use Rattle.wp_lengths.specs.Visits.{IsReach};
 ghost use Rattle.wp_price.specs.Items.{AreReachesBelow, IsItemOf};
 
-use wp_batch::{DualWave, is_later, take_best};
+use wp_lengths::{DualWave, is_later, take_best};
 use wp_pairs::Batch;
 
 /// What an order brings to a place: the orders that are joined to it and those that are parted from it. It is usable where

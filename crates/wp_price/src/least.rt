@@ -1,6 +1,6 @@
 ghost use Rattle.std.specs.Prelude.{◌≡◌, ◌+◌, ◌<◌, ◌≤◌, ◌↔◌, List, ℕ, Contains, IfNone, IfOk, IfSome, Some, false};
 ghost use Rattle.wp_pairs.specs.Permitted.{AreJoined, IsPermitted};
-ghost use Rattle.wp_batch.proofs.Visits.{Extends};
+ghost use Rattle.wp_lengths.proofs.Visits.{Extends};
 ghost use Rattle.wp_price.specs.Bests.{IsNoWorse};
 ghost use Rattle.wp_price.specs.Searches.{AreItemsSearched, IsAt, IsBeaten, IsRaised, IsSearched};
 ghost use Rattle.wp_price.specs.Slacks.{HasNoCandidate, IsCandidate};
@@ -10,7 +10,7 @@ use crate::place::Place;
 use crate::search::SlackSearch;
 use crate::workers::Workers;
 use std::thread::Threads;
-use wp_batch::{GREATEST_DUAL, SIXTIETHS};
+use wp_lengths::{GREATEST_DUAL, SIXTIETHS};
 use wp_model::Memory;
 use wp_outside::Gate;
 

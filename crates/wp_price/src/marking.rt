@@ -10,7 +10,7 @@ use std::alloc::Global;
 use std::marker::Model;
 use std::thread;
 use std::thread::Threads;
-use wp_batch::Marks;
+use wp_lengths::Marks;
 use wp_model::Memory;
 use wp_outside::Gate;
 use wp_pairs::Batch;

@@ -1,4 +1,4 @@
-use wp_batch::Marks;
+use wp_lengths::Marks;
 use wp_pairs::Batch;
 
 /// The batch of least slack, its slack in sixtieths of a unit, and where it isn't below 0 the short marks of the duals.

@@ -1,6 +1,6 @@
 ghost use Rattle.std.specs.Prelude.{◌≡◌, ◌≤◌, ◌<◌, ◌↔◌, [], All, IfOk, IfSome, IfNone, IsSome, IsTrue, None, length, pos, ◌≤ℤ◌};
-ghost use Rattle.wp_batch.specs.Duals.{AreFeasible, greatest_dual};
-ghost use Rattle.wp_batch.specs.Visits.{IsVisitOfAll, Passed};
+ghost use Rattle.wp_lengths.specs.Duals.{AreFeasible, greatest_dual};
+ghost use Rattle.wp_lengths.specs.Visits.{IsVisitOfAll, Passed};
 ghost use Rattle.wp_price.specs.ShortMarks.{AreShortMarks};
 ghost use Rattle.wp_price.specs.Slacks.{HasNoCandidate, IsLeastSlack};
 
@@ -9,7 +9,7 @@ use crate::search::SlackSearch;
 use crate::workers::Workers;
 use std::alloc::Global;
 use std::thread::Threads;
-use wp_batch::{DualWave, Marks, OrderDuals, Wave};
+use wp_lengths::{DualWave, Marks, OrderDuals, Wave};
 use wp_model::Memory;
 use wp_outside::Gate;
 use wp_pairs::Pairs;

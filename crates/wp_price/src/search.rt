@@ -1,9 +1,9 @@
 ghost use Rattle.std.specs.Prelude.{◌≡◌, ◌+◌, ◌<◌, ◌≤◌, ◌^◌, ◌↔◌, [], ℕ, Contains, IfNone, IfOk, IfSome, List, length, pos, ◌+ℤ◌};
 ghost use Rattle.wp_pairs.specs.Kept.{IsPairing};
 ghost use Rattle.wp_pairs.specs.Permitted.{AreJoined, IsPermitted};
-ghost use Rattle.wp_batch.specs.Lengths.{IsLengthOf};
-ghost use Rattle.wp_batch.specs.Duals.{duals_of, sixtieths_of};
-ghost use Rattle.wp_batch.specs.Visits.{AddsItem, IsItem, IsReach};
+ghost use Rattle.wp_lengths.specs.Lengths.{IsLengthOf};
+ghost use Rattle.wp_lengths.specs.Duals.{duals_of, sixtieths_of};
+ghost use Rattle.wp_lengths.specs.Visits.{AddsItem, IsItem, IsReach};
 ghost use Rattle.wp_price.specs.Items.{AreItemsBelow};
 ghost use Rattle.wp_price.specs.Searches.{IsAt, IsNoChild, raise};
 ghost use Rattle.wp_price.specs.Slacks.{IsSlack};
@@ -12,7 +12,7 @@ use crate::item::{Item, item_of, whole_reach};
 use crate::place::Place;
 use std::alloc::Global;
 use std::marker::Model;
-use wp_batch::{DualWave, OrderDuals, SIXTIETHS, Wave};
+use wp_lengths::{DualWave, OrderDuals, SIXTIETHS, Wave};
 use wp_model::Memory;
 use wp_pairs::{Batch, Pairs};
 

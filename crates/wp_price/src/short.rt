@@ -1,11 +1,11 @@
 ghost use Rattle.std.specs.Prelude.{◌≡◌, ◌≤◌, OnOk, []};
-ghost use Rattle.wp_batch.specs.Visits.{IsReach, Place as PlaceDue};
+ghost use Rattle.wp_lengths.specs.Visits.{IsReach, Place as PlaceDue};
 ghost use Rattle.wp_price.specs.Searches.{IsAt, NamesBelow};
 ghost use Rattle.wp_price.specs.ShortMarks.{AddsShort, IsMarked};
 
 use crate::place::Place;
 use crate::search::SlackSearch;
-use wp_batch::{Marks, SIXTIETHS};
+use wp_lengths::{Marks, SIXTIETHS};
 use wp_model::Memory;
 
 impl SlackSearch<'_> {

@@ -1,6 +1,6 @@
 ghost use Rattle.std.specs.Prelude.{◌<◌, All, IfSome};
 
-use wp_batch::Batching;
+use wp_lengths::Batching;
 use wp_pairs::Batch;
 
 /// The batch of these orders, where all are below so many.

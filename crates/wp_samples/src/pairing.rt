@@ -1,6 +1,6 @@
 ghost use Rattle.std.specs.Prelude.{◌≡◌, IfSome};
 
-use wp_batch::Wave;
+use wp_lengths::Wave;
 use wp_pairs::Pairs;
 
 /// Two orders, and whether they are to go together.

@@ -4,8 +4,8 @@ use crate::draws::Draws;
 use crate::layouts::{layout_of, small_layout};
 use crate::picking::{picked, slot_of};
 use std::alloc::Global;
-use wp_batch::Wave;
 use wp_graph::{Layout, Picks};
+use wp_lengths::Wave;
 use wp_pairs::Cart;
 
 /// Where an order picks: aisles and slots.

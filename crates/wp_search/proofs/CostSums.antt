@@ -1,9 +1,9 @@
 -- Costs, batch by batch.
 use Rattle.std.proofs.Common.{ℕ, ◌+◌, ◌<◌, List, [], ◌∷◌, ◌++◌, length, take, arith, refl, sym, subst}
 use Rattle.std.proofs.lemmas.List.{take_more}
-use Rattle.wp_batch.specs.Batchings.{IsCost, batch_at}
-use Rattle.wp_batch.specs.Lengths.{IsLengthOf}
-use Rattle.wp_batch.specs.Waves.{WavePicks}
+use Rattle.wp_lengths.specs.Batchings.{IsCost, batch_at}
+use Rattle.wp_lengths.specs.Lengths.{IsLengthOf}
+use Rattle.wp_lengths.specs.Waves.{WavePicks}
 
 cost_push : (wave : WavePicks) (batches : List (List ℕ)) (batch : List ℕ) (cost more : ℕ) → IsCost wave batches cost → IsLengthOf wave batch more
     → IsCost wave (batches ++ batch ∷ []) (cost + more)

@@ -2,14 +2,14 @@
 use Rattle.std.proofs.Common.{◌≡◌, ℕ, ◌+◌, ◌-◌, ◌*◌, ◌<◌, ◌≤◌, ◌⊎◌, ◌↔◌, List, length, arith, ap, sym, ◌∙◌, inl, inr, ⊎_elim, mul-le-mul_right}
 use Rattle.std.specs.Prelude.{IfOk, Some, Result, Ok, Err, sum}
 use Rattle.wp_model.specs.declared.memory.Memory.{Memory}
-use Rattle.wp_batch.specs.Waves.{WavePicks}
+use Rattle.wp_lengths.specs.Waves.{WavePicks}
 use Rattle.wp_cert.specs.Trees.{IsBoundOf}
 use Rattle.std.specs.List.Sorted.{IsStrictlyIncreasing}
 use Rattle.wp_cert.proofs.BoundsHold.{bounds_hold}
 use Rattle.wp_cert.proofs.PutIntoBatches.{all_places, batching_is_put}
 use Rattle.wp_cert.proofs.Walked.{no_walks_are_shorter}
-use Rattle.wp_batch.specs.Batchings.{no_pairs}
-use Rattle.wp_batch.specs.Duals.{AreShares, units_of}
+use Rattle.wp_lengths.specs.Batchings.{no_pairs}
+use Rattle.wp_lengths.specs.Duals.{AreShares, units_of}
 use Rattle.wp_search.specs.Branches.{bound_of, nodes_of}
 use Rattle.wp_search.specs.Counts.{own_nodes}
 use Rattle.wp_search.specs.Plans.{IsGoodPlan}

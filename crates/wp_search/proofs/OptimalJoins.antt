@@ -4,13 +4,14 @@ use Rattle.std.proofs.lemmas.List.Elements.{All-contains, Contains-append_cases,
 use Rattle.wp_pairs.specs.Batches.{IsBatch}
 use Rattle.wp_pairs.specs.Permitted.{IsPermitted}
 use Rattle.wp_pairs.proofs.Members.{contains_none}
-use Rattle.wp_batch.specs.Batchings.{IsBatching, IsCost, NoJoinGains, batch_at, no_pairs}
-use Rattle.wp_batch.specs.Lengths.{IsLengthOf, batch_picks}
-use Rattle.wp_batch.specs.Waves.{IsWave, WavePicks}
+use Rattle.wp_lengths.specs.Batchings.{IsBatching, IsCost, batch_at, no_pairs}
+use Rattle.wp_batch.specs.Joins.{NoJoinGains}
+use Rattle.wp_lengths.specs.Lengths.{IsLengthOf, batch_picks}
+use Rattle.wp_lengths.specs.Waves.{IsWave, WavePicks}
 use Rattle.wp_batch.proofs.Joining.{permitted_as_one}
-use Rattle.wp_batch.proofs.Unions.{all_from_contained, same_shortest}
-use Rattle.wp_batch.proofs.FewerOrders.{picked_by_more, same_length}
-use Rattle.wp_batch.proofs.OrderSums.{all_of, in_all}
+use Rattle.wp_lengths.proofs.Unions.{all_from_contained, same_shortest}
+use Rattle.wp_lengths.proofs.FewerOrders.{picked_by_more, same_length}
+use Rattle.wp_lengths.proofs.OrderSums.{all_of, in_all}
 use Rattle.wp_cert.specs.Bounds.{NoBatchingCostsLess}
 use Rattle.wp_cert.proofs.AscendingUnions.{IsUnion, union_of}
 

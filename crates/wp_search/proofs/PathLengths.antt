@@ -12,7 +12,7 @@ use Rattle.wp_pairs.specs.declared.pair.OrderPair.{OrderPair}
 use Rattle.wp_pairs.specs.Kept.{number_of, pairs_of}
 use Rattle.wp_pairs.specs.Permitted.{AreDecided}
 use Rattle.wp_pairs.proofs.PairNumbers.{added_decided}
-use Rattle.wp_batch.specs.Waves.{WavePicks}
+use Rattle.wp_lengths.specs.Waves.{WavePicks}
 use Rattle.wp_cert.specs.Paths.{IsPath}
 
 -- the pairs with a lower second order come before

@@ -8,8 +8,8 @@ use Rattle.std.proofs.lemmas.Bool.{false≢true}
 use Rattle.std.specs.Prelude.{◌&&◌, All, IsTrue, Option, Some, None, IsSome, sum}
 use Rattle.wp_model.proofs.Sums.{term-le-sum}
 use Rattle.wp_pairs.specs.Permitted.{Pairing}
-use Rattle.wp_batch.specs.Batchings.{no_pairs}
-use Rattle.wp_batch.specs.Waves.{IsWave, WavePicks}
+use Rattle.wp_lengths.specs.Batchings.{no_pairs}
+use Rattle.wp_lengths.specs.Waves.{IsWave, WavePicks}
 use Rattle.wp_cert.specs.Text.{is_node_within}
 use Rattle.wp_cert.specs.TextData.{HaveDualsWithin}
 use Rattle.wp_cert.specs.Trees.{IsBoundOf, IsRight, dead, kept, leaf, lower_of, split, with_pair}
@@ -17,7 +17,7 @@ use Rattle.wp_cert.specs.declared.tree.Node.{Node}
 use Rattle.wp_cert.specs.declared.tree.Node.TheVariants as node
 use Rattle.wp_cert.proofs.Alive.{HasBound as IsThere, right_has_bound}
 use Rattle.wp_cert.proofs.BoundsHold.{bounds_hold}
-use Rattle.wp_batch.specs.Duals.{AreShares, units_of}
+use Rattle.wp_lengths.specs.Duals.{AreShares, units_of}
 use Rattle.wp_search.specs.Branches.{AreCutsWithin, HasBound, IsBranch, bound_of, nodes_of, own_bound, own_count, turns_left}
 use Rattle.wp_search.specs.Counts.{own_nodes}
 use Rattle.wp_search.specs.Plans.{HasShortMarks, IsSplitWithin}

@@ -6,9 +6,9 @@ use Rattle.std.specs.Prelude.{IfOk, Option, Some, None, Result, Ok, Err, min, su
 use Rattle.wp_model.specs.declared.memory.Memory.{Memory}
 use Rattle.wp_pairs.specs.declared.pair.OrderPair.{OrderPair}
 use Rattle.wp_pairs.specs.Permitted.{AreUndecided, IsPermitted, Pairing}
-use Rattle.wp_batch.specs.Waves.{WavePicks}
+use Rattle.wp_lengths.specs.Waves.{WavePicks}
 use Rattle.wp_cert.specs.Trees.{lower_of, with_pair}
-use Rattle.wp_batch.specs.Duals.{AreFeasible, units_of}
+use Rattle.wp_lengths.specs.Duals.{AreFeasible, units_of}
 use Rattle.wp_search.specs.Branches.{IsBranch, IsFreshSplit, IsWorked, bound_of, own_bound, turns_left}
 use Rattle.wp_search.specs.Turns.{HasReason, IsNoLower, IsTurned}
 use Rattle.wp_search.specs.declared.branch.Branch.{Branch}

@@ -2,8 +2,8 @@
 use Rattle.std.proofs.Common.{◌≡◌, ◌≢◌, ℕ, ◌+◌, ◌<◌, ◌↔◌, ◌⊎◌, List, length, arith, ap, sym, ◌∙◌, subst, inl, inr, ⊎_elim, Contains}
 use Rattle.std.proofs.lemmas.Bool.{cases_eq}
 use Rattle.wp_pairs.specs.Permitted.{IsPermitted}
-use Rattle.wp_batch.specs.Batchings.{IsBatching, batch_at, no_pairs}
-use Rattle.wp_batch.specs.Waves.{WavePicks}
+use Rattle.wp_lengths.specs.Batchings.{IsBatching, batch_at, no_pairs}
+use Rattle.wp_lengths.specs.Waves.{WavePicks}
 
 -- so many of the batches are permitted, no two of them meet, and these are their orders
 pub record AreApartBelow (wave : WavePicks) (capacity : ℕ) (batches : List (List ℕ)) (count : ℕ) (covered : List ℕ) : Type 0 where

@@ -2,11 +2,11 @@
 use Rattle.std.specs.Prelude.{◌≡◌, ℕ, ◌+◌, ◌≤◌, ⊤, true, false, List, [], ◌∷◌, ◌++◌, Option, Some, None, reverse, sum}
 use Rattle.std.specs.List.{flat_map}
 use Rattle.wp_pairs.specs.Permitted.{AreUndecided, IsDead, Pairing}
-use Rattle.wp_batch.specs.Waves.{WavePicks}
+use Rattle.wp_lengths.specs.Waves.{WavePicks}
 use Rattle.wp_cert.specs.Trees.{IsRightOwn, lower_of, with_pair}
 use Rattle.wp_cert.specs.declared.tree.Node.{Node}
 use Rattle.wp_cert.specs.declared.tree.Node.TheVariants as node
-use Rattle.wp_batch.specs.Duals.{AreDuals, units_of}
+use Rattle.wp_lengths.specs.Duals.{AreDuals, units_of}
 use Rattle.wp_price.specs.ShortMarks.{AreShortMarks}
 use Rattle.wp_node.specs.Owns.{as_own}
 use Rattle.wp_search.specs.declared.branch.Branch.{Branch}

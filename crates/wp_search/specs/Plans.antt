@@ -2,15 +2,16 @@
 use Rattle.std.specs.Prelude.{◌≡◌, ℕ, ◌*◌, ◌≤◌, ◌⊎◌, ◌↔◌, ⊤, true, false, List, [], ◌∷◌, All, None, Some, length, sum}
 use Rattle.std.specs.List.Sorted.{IsStrictlyIncreasing}
 use Rattle.wp_pairs.specs.Permitted.{Pairing}
-use Rattle.wp_batch.specs.Batchings.{IsCost, IsListedByLeast, NoJoinGains, no_pairs}
-use Rattle.wp_batch.specs.Waves.{WavePicks}
+use Rattle.wp_lengths.specs.Batchings.{IsCost, IsListedByLeast, no_pairs}
+use Rattle.wp_batch.specs.Joins.{NoJoinGains}
+use Rattle.wp_lengths.specs.Waves.{WavePicks}
 use Rattle.wp_cert.specs.TextData.{HaveDualsWithin}
 use Rattle.wp_cert.specs.Trees.{IsBoundOf, with_pair}
 use Rattle.wp_cert.specs.Walks.{ArePutIntoBatches, NoWalksAreShorter}
 use Rattle.wp_cert.specs.declared.tree.Node.{Node}
 use Rattle.wp_cert.specs.declared.tree.Node.TheVariants as node
 use Rattle.wp_cert.specs.declared.tree.Own.{Own}
-use Rattle.wp_batch.specs.Duals.{units_of}
+use Rattle.wp_lengths.specs.Duals.{units_of}
 use Rattle.wp_price.specs.ShortMarks.{AreShortMarks}
 use Rattle.wp_search.specs.Counts.{own_nodes}
 use Rattle.wp_node.specs.Prices.{full, price}

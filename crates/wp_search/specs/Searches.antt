@@ -1,8 +1,8 @@
 -- The search for a plan: its tree, its best batching, and what is left of its budget.
 use Rattle.std.specs.Prelude.{◌≡◌, ℕ, ◌+◌, ◌-◌, ◌*◌, ◌<◌, ◌≤◌, ◌⊎◌, Bool, true, false, Some, length}
-use Rattle.wp_batch.specs.Batchings.{IsCost, no_pairs}
-use Rattle.wp_batch.specs.Waves.{WavePicks}
-use Rattle.wp_batch.specs.Duals.{units_of}
+use Rattle.wp_lengths.specs.Batchings.{IsCost, no_pairs}
+use Rattle.wp_lengths.specs.Waves.{WavePicks}
+use Rattle.wp_lengths.specs.Duals.{units_of}
 use Rattle.wp_search.specs.Branches.{AreCutsWithin, IsBranch, bound_of, own_count, turns_left}
 use Rattle.wp_node.specs.Prices.{price}
 use Rattle.wp_search.specs.Turns.{IsProper}

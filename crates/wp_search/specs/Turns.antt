@@ -1,9 +1,10 @@
 -- Turns of the search: what one does to a subtree, and to the tree.
 use Rattle.std.specs.Prelude.{◌≡◌, ℕ, ◌+◌, ◌≤◌, ⊤, Bool, true, false, List, Option, Some, None}
 use Rattle.wp_pairs.specs.Permitted.{Pairing}
-use Rattle.wp_batch.specs.Batchings.{IsBatching, IsCost, IsListedByLeast, NoJoinGains}
-use Rattle.wp_batch.specs.Waves.{WavePicks}
-use Rattle.wp_batch.specs.Duals.{units_of}
+use Rattle.wp_lengths.specs.Batchings.{IsBatching, IsCost, IsListedByLeast}
+use Rattle.wp_batch.specs.Joins.{NoJoinGains}
+use Rattle.wp_lengths.specs.Waves.{WavePicks}
+use Rattle.wp_lengths.specs.Duals.{units_of}
 use Rattle.wp_search.specs.Branches.{AreCutsWithin, IsBranch, bound_of, nodes_of, own_bound, own_count, turns_left}
 use Rattle.wp_search.specs.declared.branch.Branch.{Branch}
 use Rattle.wp_search.specs.declared.branch.Branch.TheVariants.{Split'}

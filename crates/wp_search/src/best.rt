@@ -1,10 +1,10 @@
 ghost use Rattle.std.specs.Prelude.{◌≡◌, ◌≤◌, ◌⊎◌, ℕ, IfSome, Some, length};
-ghost use Rattle.wp_batch.specs.Batchings.{IsCost};
+ghost use Rattle.wp_lengths.specs.Batchings.{IsCost};
 ghost use Rattle.wp_search.specs.Searches.{IsBest, KeepsBest};
 ghost use Rattle.wp_search.specs.Turns.{IsFound, IsProper};
 
 use crate::cost::cost_of;
-use wp_batch::{Batching, Wave};
+use wp_lengths::{Batching, Wave};
 
 /// A batching of a wave, and what it costs in units of length.
 #[derive(Drop)]

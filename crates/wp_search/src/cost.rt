@@ -1,7 +1,7 @@
 ghost use Rattle.std.specs.Prelude.{length};
-ghost use Rattle.wp_batch.specs.Batchings.{IsBatching, IsCost};
+ghost use Rattle.wp_lengths.specs.Batchings.{IsBatching, IsCost};
 
-use wp_batch::{Batching, Wave};
+use wp_lengths::{Batching, Wave};
 
 /// What a batching of a wave within a capacity costs: the sum of the lengths of its batches, below 2 ^ 60 units.
 pub fn cost_of(wave: &Wave, capacity: u32, batching: &Batching) -> u64

@@ -1,5 +1,5 @@
-use wp_batch::Batching;
 use wp_cert::Tree;
+use wp_lengths::Batching;
 
 /// Whether a plan is shown to be cheapest.
 #[derive(Clone, Copy, PartialEq, Eq)]

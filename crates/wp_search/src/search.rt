@@ -1,6 +1,6 @@
 ghost use Rattle.std.specs.Prelude.{◌≡◌, ◌+◌, ◌<◌, ◌≤◌, ◌⊎◌, ◌^◌, ℕ, Bool, IfOk, OnOk, Some, length, sum};
-ghost use Rattle.wp_batch.specs.Batchings.{no_pairs};
-ghost use Rattle.wp_batch.specs.Duals.{AreShares, units_of};
+ghost use Rattle.wp_lengths.specs.Batchings.{no_pairs};
+ghost use Rattle.wp_lengths.specs.Duals.{AreShares, units_of};
 ghost use Rattle.wp_search.specs.Branches.{HasBound, IsBranch, bound_of as least_of};
 ghost use Rattle.wp_node.specs.Prices.{price};
 ghost use Rattle.wp_search.specs.Searches.{HasEnded, IsBest, IsOnward, IsSearch, KeepsBest};
@@ -10,7 +10,7 @@ use crate::best::{BestBatching, best_of, cheaper_of};
 use crate::branch::Branch;
 use crate::turn::{LeafTurn, Turner, take_turn};
 use std::thread::Threads;
-use wp_batch::{Batching, OrderDuals, Wave};
+use wp_lengths::{Batching, OrderDuals, Wave};
 use wp_model::Memory;
 use wp_node::{pays, price_of};
 use wp_outside::Gate;

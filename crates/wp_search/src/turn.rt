@@ -1,7 +1,7 @@
 ghost use Rattle.std.specs.Prelude.{◌≡◌, ◌<◌, ◌≤◌, ℕ, ◌++◌, ◌∷◌, [], ◌↔◌, IfOk, IsTrue, OnOk, Some, length, sum};
 ghost use Rattle.wp_cert.specs.Paths.{IsPath, pairing_of};
 ghost use Rattle.wp_cert.specs.Trees.{lower_of, with_pair};
-ghost use Rattle.wp_batch.specs.Duals.{units_of};
+ghost use Rattle.wp_lengths.specs.Duals.{units_of};
 ghost use Rattle.wp_pairs.specs.Permitted.{AreUndecided};
 ghost use Rattle.wp_search.specs.Branches.{HasBound, IsBranch, IsCut, IsFreshSplit, IsLeaf, IsWorked, bound_of as least_of, own_bound};
 ghost use Rattle.wp_node.specs.Raises.{AreFeasibleDuals};
@@ -12,8 +12,8 @@ use crate::branch::{Branch, Cut, lower_bound};
 use crate::whole::better_batching;
 use std::alloc::Global;
 use std::thread::Threads;
-use wp_batch::{Batching, DualWave, OrderDuals, PairedWave, Wave};
 use wp_cert::pairs_of;
+use wp_lengths::{Batching, DualWave, OrderDuals, PairedWave, Wave};
 use wp_model::Memory;
 use wp_node::{Worked, choose_pair, class_batching, work_node};
 use wp_outside::Gate;

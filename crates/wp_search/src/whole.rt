@@ -1,9 +1,10 @@
 ghost use Rattle.std.specs.Prelude.{◌<◌, ℕ, Contains, IfOk, IsTrue, length};
-ghost use Rattle.wp_batch.specs.Batchings.{IsBatching};
+ghost use Rattle.wp_lengths.specs.Batchings.{IsBatching};
 ghost use Rattle.wp_search.specs.Turns.{IsFound};
 
 use std::alloc::Global;
-use wp_batch::{Batching, Wave, improved};
+use wp_batch::improved;
+use wp_lengths::{Batching, Wave};
 use wp_model::Memory;
 use wp_pairs::{Batch, Capacity};
 

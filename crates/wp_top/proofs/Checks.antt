@@ -1,7 +1,7 @@
 -- What the check of a certificate comes to.
 use Rattle.std.proofs.Common.{◌≡◌, ◌∙◌, refl, sym, ap, subst, ℕ, inl, inr, Bool, true, false, List, [], ◌∷◌, Ok, Err, Result, true≢false, if◌then◌else◌}
 use Rattle.std.specs.Prelude.{IfOk}
-use Rattle.wp_batch.specs.Waves.{WavePicks}
+use Rattle.wp_lengths.specs.Waves.{WavePicks}
 use Rattle.wp_cert.proofs.OneVerdict.{told_not_refused, told_right}
 use Rattle.wp_cert.proofs.Walked.{no_walks_are_shorter}
 use Rattle.wp_cert.specs.Bounds.{NoBatchingCostsLess, TellsBound}

@@ -1,7 +1,7 @@
 -- What a job comes to.
 use Rattle.std.specs.Prelude.{◌≡◌, ◌⊎◌, ◌++◌, ℕ, ⊤, List, Option, Err, codes, length}
 use Rattle.std.specs.List.{sum_by}
-use Rattle.wp_batch.specs.Waves.{WavePicks}
+use Rattle.wp_lengths.specs.Waves.{WavePicks}
 use Rattle.wp_cert.specs.Bounds.{TellsBound}
 use Rattle.wp_cert.specs.Refusals.{IsFirstBroken}
 use Rattle.wp_cert.specs.Text.{Tells, certificate_said}

@@ -9,7 +9,7 @@ use crate::text::part::{Part, list_at, read_list};
 use crate::{Node, Own};
 use serde_json::Value;
 use std::alloc::Global;
-use wp_batch::Marks;
+use wp_lengths::Marks;
 use wp_model::Listing;
 use wp_pairs::Batch;
 

@@ -3,7 +3,7 @@ ghost use Rattle.serde_json.specs.Data.{array, put};
 ghost use Rattle.serde_json.specs.View.{items_of, members_view, view};
 ghost use Rattle.wp_model.specs.declared.point.Point.{Point as PointData};
 ghost use Rattle.wp_graph.specs.PickSets.{AreSlots};
-ghost use Rattle.wp_batch.specs.Waves.{IsWave, picks_of};
+ghost use Rattle.wp_lengths.specs.Waves.{IsWave, picks_of};
 ghost use Rattle.wp_cert.specs.Text.{Tells, place_of};
 ghost use Rattle.wp_cert.specs.TextData.{HaveDualsWithin, HaveSlots, IsKeptNode, aisle_points, certificate_data, certificate_text, list_data};
 ghost use Rattle.wp_cert.specs.TextData.{loaded_data, node_data, number_data, order_data, order_places, place_data, plain_data, point_data, wave_places};
@@ -12,8 +12,8 @@ use crate::Tree;
 use crate::text::to_json::list_json;
 use serde_json::{Map, Value, json};
 use std::alloc::{AllocError, Global};
-use wp_batch::Wave;
 use wp_graph::{Layout, Picks};
+use wp_lengths::Wave;
 use wp_model::{Memory, Point};
 use wp_pairs::Cart;
 

@@ -1,6 +1,6 @@
 ghost use Rattle.std.specs.Prelude.{ℕ, List, ◌≡◌, ◌≢◌, IfOk, IfErr, None, Err, Ok, Some, option_map, true};
 ghost use Rattle.serde_json.specs.View.{view};
-ghost use Rattle.wp_batch.specs.Waves.{WavePicks};
+ghost use Rattle.wp_lengths.specs.Waves.{WavePicks};
 ghost use Rattle.wp_cert.specs.declared.tree.Node.{Node};
 ghost use Rattle.wp_cert.specs.Text.{IsSame, PickAt, Tells, any_cart_said, cart_said, certificate_said, form_said, is_within, loaded_cart};
 ghost use Rattle.wp_cert.specs.Text.{parts_said, value_read, value_says, why_unread};

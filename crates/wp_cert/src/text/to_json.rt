@@ -8,7 +8,7 @@ ghost use Rattle.wp_cert.specs.TextData.{mark_code, marks_data, node_data, numbe
 use crate::{Node, Own};
 use serde_json::{Map, Value, json};
 use std::alloc::{AllocError, Global};
-use wp_batch::Marks;
+use wp_lengths::Marks;
 use wp_pairs::Batch;
 
 /// What is printed as a value of JSON.

@@ -7,8 +7,8 @@ ghost use Rattle.wp_cert.specs.Text.{PickAt, PicksAt, is_order_of, is_slot_of, i
 
 use crate::text::form::{Form, WrittenCart, WrittenSlot};
 use std::alloc::Global;
-use wp_batch::Wave;
 use wp_graph::{Layout, Picks};
+use wp_lengths::Wave;
 use wp_model::{Listing, Memory, Point};
 use wp_pairs::Cart;
 

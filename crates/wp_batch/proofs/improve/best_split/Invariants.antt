@@ -1,5 +1,5 @@
 use Rattle.std.proofs.Common.{◌<◌, ◌≤◌, ◌∷◌, [], IfSome}
-use Rattle.wp_batch.specs.Batchings.{IsCost}
+use Rattle.wp_lengths.specs.Batchings.{IsCost}
 use Rattle.wp_batch.specs.Splits.{IsSplit}
 use Rattle.wp_batch.specs.declared.split.Split.{Split}
 use Rattle.wp_batch.proofs.improve.best_split.Given as goal

@@ -1,5 +1,5 @@
 use Rattle.std.proofs.Common.{◌≡◌, length}
-use Rattle.wp_batch.specs.Batchings.{IsBatching}
+use Rattle.wp_lengths.specs.Batchings.{IsBatching}
 use Rattle.wp_batch.specs.Joins.{CostNoMore}
 use Rattle.wp_batch.proofs.improve.improve.Given as goal
 

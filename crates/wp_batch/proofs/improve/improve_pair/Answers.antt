@@ -1,10 +1,10 @@
 use Rattle.std.proofs.Common.{◌<◌, ℕ, List, arith, length, subst, ⊎_elim}
 use Rattle.std.proofs.lemmas.List.Elements.{All-contains}
-use Rattle.wp_batch.specs.Lengths.{IsLengthOf}
+use Rattle.wp_lengths.specs.Lengths.{IsLengthOf}
 use Rattle.wp_batch.proofs.Costs.{replaced_cost_no_more}
 use Rattle.wp_batch.proofs.Gains.{batch_read, batching_is_known, known_read}
 use Rattle.wp_batch.proofs.Splits.{can_replace}
-use Rattle.wp_batch.proofs.Unions.{all_from_contained}
+use Rattle.wp_lengths.proofs.Unions.{all_from_contained}
 use Rattle.wp_batch.proofs.improve.improve_pair.Goals as goal
 
 pub cheaper_split-requires : goal.cheaper_split-requires

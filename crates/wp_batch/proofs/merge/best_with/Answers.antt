@@ -1,7 +1,7 @@
 use Rattle.std.proofs.Common.{List, ℕ, arith, refl, subst}
 use Rattle.wp_batch.specs.declared.merge.Join.{Join}
-use Rattle.wp_batch.specs.Batchings.{FitInOne, batch_at}
-use Rattle.wp_batch.specs.Joins.{JoinSaves, SavesAtMost}
+use Rattle.wp_batch.specs.Joins.{FitInOne, JoinSaves, SavesAtMost}
+use Rattle.wp_lengths.specs.Batchings.{batch_at}
 use Rattle.wp_batch.proofs.Gains.{batch_read, known_read, one_more_before}
 use Rattle.wp_batch.proofs.merge.best_with.Goals as goal
 

@@ -1,5 +1,5 @@
 use Rattle.std.proofs.Common.{List, ℕ, subst, sym}
-use Rattle.wp_batch.specs.Batchings.{NoJoinGains}
+use Rattle.wp_batch.specs.Joins.{NoJoinGains}
 use Rattle.wp_batch.proofs.Costs.{no_more_through}
 use Rattle.wp_batch.proofs.merge.joined.Goals as goal
 

@@ -1,5 +1,5 @@
 use Rattle.std.proofs.Common.{List, ℕ, arith, subst}
-use Rattle.wp_batch.specs.Batchings.{NoJoinGains}
+use Rattle.wp_batch.specs.Joins.{NoJoinGains}
 use Rattle.wp_batch.specs.Savings.{begun, onward}
 use Rattle.wp_batch.proofs.Costs.{no_more_through}
 use Rattle.wp_batch.proofs.merge.merge.Goals as goal

@@ -1,5 +1,5 @@
 use Rattle.std.proofs.Common.{◌≤◌, vec_len}
-use Rattle.wp_batch.specs.Batchings.{IsBatching, IsListedByLeast}
+use Rattle.wp_lengths.specs.Batchings.{IsBatching, IsListedByLeast}
 use Rattle.wp_batch.specs.Joins.{CostNoMore}
 use Rattle.wp_batch.specs.Savings.{AreMerged}
 use Rattle.wp_batch.proofs.merge.merge.Given as goal

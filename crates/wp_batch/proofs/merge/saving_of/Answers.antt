@@ -1,7 +1,7 @@
 use Rattle.std.proofs.Common.{◌<◌, ℕ, length, ⊎_elim}
 use Rattle.std.proofs.lemmas.List.Elements.{All-contains}
 use Rattle.wp_batch.proofs.Gains.{both_length, saves_at_most}
-use Rattle.wp_batch.proofs.Unions.{all_from_contained}
+use Rattle.wp_lengths.proofs.Unions.{all_from_contained}
 use Rattle.wp_batch.proofs.merge.saving_of.Goals as goal
 
 pub batch_length-requires : goal.batch_length-requires

@@ -1,8 +1,8 @@
-use Rattle.std.proofs.Common.{◌≡◌, ◌≢◌, ℕ, ◌<◌, ◌≤◌, List, [], ◌∷◌, All, Contains, length, arith, inl, inr, refl, ⊎_elim}
+use Rattle.std.proofs.Common.{◌≡◌, ◌≢◌, ℕ, ◌<◌, List, [], ◌∷◌, Contains, length, arith, inl, inr, refl, ⊎_elim}
 use Rattle.std.proofs.lemmas.Bool.{cases_eq}
 use Rattle.std.proofs.lemmas.List.Elements.{All-contains}
 use Rattle.wp_pairs.proofs.Members.{contains_first}
-use Rattle.wp_batch.proofs.Unions.{all_from_contained}
+use Rattle.wp_lengths.proofs.Unions.{all_from_contained}
 use Rattle.wp_batch.proofs.seen.is_below.Goals as goal
 
 some_order : (orders : List ℕ) → 0 < length orders → (order : ℕ) × Contains orders order

@@ -1,4 +1,4 @@
-use Rattle.wp_batch.specs.Batchings.{IsBatching}
+use Rattle.wp_lengths.specs.Batchings.{IsBatching}
 use Rattle.wp_batch.proofs.starts.best_of_round.Given as goal
 
 abbrev pub invariant-loop-stage : goal.invariant-loop-stage

@@ -1,7 +1,7 @@
 use Rattle.std.proofs.Common.{inr}
 use Rattle.wp_batch.proofs.Costs.{cheaper_taken, kept_costs_no_more}
 use Rattle.wp_batch.proofs.starts.best_of_walks.Goals as goal
-use Rattle.wp_batch.proofs.starts.best_of_walks.Goals.{then-total-least, else-total-least}
+use Rattle.wp_batch.proofs.starts.best_of_walks.Goals.{else-total-least, then-total-least}
 
 pub loop-preserved : goal.loop-preserved
 loop-preserved c =

@@ -1,5 +1,5 @@
 use Rattle.std.proofs.Common.{◌≡◌, ◌⊎◌}
-use Rattle.wp_batch.specs.Batchings.{IsBatching}
+use Rattle.wp_lengths.specs.Batchings.{IsBatching}
 use Rattle.wp_batch.specs.Joins.{CostLess, TellsCost}
 use Rattle.wp_batch.proofs.starts.best_of_walks.Given as goal
 

@@ -1,5 +1,5 @@
 use Rattle.std.proofs.Common.{◌<◌, ℕ, List}
-use Rattle.wp_batch.specs.Duals.{IsTightFor}
+use Rattle.wp_lengths.specs.Duals.{IsTightFor}
 use Rattle.wp_batch_tests.proofs.classes.are_classes_tight.Given as goal
 
 abbrev pub invariant-loop-order : goal.invariant-loop-order

@@ -1,5 +1,5 @@
 use Rattle.std.proofs.Common.{◌≤◌, All}
-use Rattle.wp_batch.specs.Duals.{greatest_dual}
+use Rattle.wp_lengths.specs.Duals.{greatest_dual}
 use Rattle.wp_batch_tests.proofs.price.duals_of.Given as goal
 
 abbrev pub invariant-loop-dual : goal.invariant-loop-dual

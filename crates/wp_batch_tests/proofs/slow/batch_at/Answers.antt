@@ -1,5 +1,5 @@
 use Rattle.std.proofs.Common.{◌<◌, ℕ, arith, length, ⊎_elim}
-use Rattle.wp_batch.proofs.Unions.{all_from_contained, nothing_in}
+use Rattle.wp_lengths.proofs.Unions.{all_from_contained, nothing_in}
 use Rattle.wp_batch_tests.proofs.slow.batch_at.Goals as goal
 use Rattle.wp_batch_tests.proofs.slow.batch_at.Goals.{then-bits-min-eq1, else-bits-min-eq1}
 

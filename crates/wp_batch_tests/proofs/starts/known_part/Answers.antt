@@ -1,5 +1,5 @@
 use Rattle.std.proofs.Common.{◌<◌, ℕ, arith, length, ⊎_elim}
-use Rattle.wp_batch.proofs.Unions.{all_from_contained, nothing_in}
+use Rattle.wp_lengths.proofs.Unions.{all_from_contained, nothing_in}
 use Rattle.wp_batch_tests.proofs.starts.known_part.Goals as goal
 use Rattle.wp_batch_tests.proofs.starts.known_part.Goals.{then-has, else-has}
 

@@ -1,6 +1,6 @@
 use Rattle.std.proofs.Common.{◌<◌, inl, inr, length, sym, ◌∙◌, ⊎_elim}
 use Rattle.std.proofs.lemmas.List.Elements.{All-contains}
-use Rattle.wp_batch.proofs.Unions.{all_from_contained}
+use Rattle.wp_lengths.proofs.Unions.{all_from_contained}
 use Rattle.wp_cert.proofs.LevelPicks.{both_picked}
 use Rattle.wp_cert.proofs.levels.raised.Goals as goal
 

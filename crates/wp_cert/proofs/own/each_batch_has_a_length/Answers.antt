@@ -2,7 +2,7 @@ use Rattle.std.proofs.Common.{◌≡◌, ◌≢◌, ℕ, arith, subst, sym, ⊎_
 use Rattle.std.proofs.lemmas.Bool.{cases_eq}
 use Rattle.wp_model.specs.Warehouse.{Layout}
 use Rattle.wp_graph.specs.PickSets.{AreSlots}
-use Rattle.wp_batch.specs.Waves.{picks_of}
+use Rattle.wp_lengths.specs.Waves.{picks_of}
 use Rattle.wp_cert.proofs.HaveLengths.{each_has_length}
 use Rattle.wp_cert.proofs.TextOrders.{same_slots}
 use Rattle.wp_cert.proofs.own.each_batch_has_a_length.Goals as goal

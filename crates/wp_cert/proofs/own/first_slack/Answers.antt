@@ -1,7 +1,7 @@
 use Rattle.std.proofs.Common.{◌≡◌, ◌≢◌, ℕ, List, [], arith, subst, sym, ⊎_elim}
 use Rattle.std.proofs.lemmas.Bool.{both_ways, cases_eq}
 use Rattle.std.proofs.lemmas.Option.{get_or_from_slice_get}
-use Rattle.wp_batch.specs.Duals.{IsTightFor}
+use Rattle.wp_lengths.specs.Duals.{IsTightFor}
 use Rattle.wp_cert.specs.Trees.{IsTightAt}
 use Rattle.wp_cert.proofs.own.first_slack.Goals as goal
 

@@ -3,7 +3,7 @@ use Rattle.std.proofs.Common.{arith}
 use Rattle.std.proofs.lemmas.Bool.{both_ways}
 use Rattle.std.proofs.lemmas.Result.{err_from_is_err_and}
 use Rattle.wp_cert.specs.Refusals.{low, marks, not_all, not_tight}
-use Rattle.wp_batch.proofs.Visits.{marks_are_sound}
+use Rattle.wp_lengths.proofs.Visits.{marks_are_sound}
 use Rattle.wp_cert.proofs.own.test_own.Goals as goal
 
 pub returns-then-not-has_all-clause-err : goal.returns-then-not-has_all-clause-err

@@ -2,8 +2,7 @@ use Rattle.std.proofs.lemmas.Result.{err_from_is_err_and}
 use Rattle.std.proofs.lemmas.List.{drop_all}
 use Rattle.std.proofs.Common.{◌≡◌, ◌↔◌, ◌⊎◌, ℕ, Contains, Bool, true, false, [], drop, arith, ap, inl, inr, ⊎_elim, ◌∙◌}
 use Rattle.std.specs.Prelude.{Some}
-use Rattle.wp_batch.specs.Visits.{Children, Passed}
-use Rattle.wp_batch.specs.Visits.{all_added, entered, missing, onward, pruned, too_much, unsound}
+use Rattle.wp_lengths.specs.Visits.{Children, Passed, all_added, entered, missing, onward, pruned, too_much, unsound}
 use Rattle.wp_cert.proofs.HaveLengths.{no_less_with_more, within_known}
 use Rattle.wp_cert.proofs.MarkSteps.{mark_first, passed_over, refused_child, refused_so}
 use Rattle.wp_cert.proofs.visit.+visit.Goals as goal

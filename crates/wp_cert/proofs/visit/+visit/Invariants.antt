@@ -1,5 +1,5 @@
 use Rattle.std.proofs.Common.{◌+◌, ◌-◌, ◌≤◌, drop, length}
-use Rattle.wp_batch.specs.Visits.{Children, IsVisit, Visit}
+use Rattle.wp_lengths.specs.Visits.{Children, IsVisit, Visit}
 use Rattle.wp_cert.specs.Levels.{AreLevels}
 use Rattle.wp_cert.proofs.visit.+visit.Given as goal
 

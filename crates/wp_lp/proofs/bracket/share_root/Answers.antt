@@ -3,7 +3,7 @@ use Rattle.std.proofs.lemmas.List.Elements.{All-same}
 use Rattle.std.proofs.lemmas.Result.{IfOk-weaker}
 use Rattle.wp_lp.specs.Parts.{AreExact, IsPart, IsRootOf}
 use Rattle.wp_lp.specs.declared.part.Part.{Part}
-use Rattle.wp_batch.specs.Duals.{AreShares}
+use Rattle.wp_lengths.specs.Duals.{AreShares}
 use Rattle.wp_lp.specs.Rounds.{IsBracketIn}
 use Rattle.wp_lp.proofs.ShareDuals.{shares_feasible}
 use Rattle.wp_lp.proofs.Sides.{bracket_of, weights_small}

@@ -2,7 +2,7 @@ use Rattle.std.proofs.Common.{to_z, of_z, ℕ, ℤ, List, rules, sym, subst, ref
 use Rattle.std.specs.Int.{w128}
 use mir.Val.{SFits}
 use Rattle.std.proofs.lemmas.Int.{to_z-of_z}
-use Rattle.wp_batch.specs.Duals.{AreFeasible}
+use Rattle.wp_lengths.specs.Duals.{AreFeasible}
 use Rattle.wp_lp.specs.Parts.{AreSmallOver}
 use Rattle.wp_lp.specs.Rounds.{IsEnd, IsNegative}
 use Rattle.wp_lp.specs.Runs.{AreSixtieths}

@@ -1,6 +1,6 @@
 use Rattle.std.proofs.Common.{◌≡◌, ◌<◌, ◌^◌, ℕ, All, length}
 use Rattle.std.specs.Prelude.{slice_index}
-use Rattle.wp_batch.specs.Duals.{IsShare}
+use Rattle.wp_lengths.specs.Duals.{IsShare}
 use Rattle.wp_lp.proofs.sixtieths.share_values.Given as goal
 
 abbrev pub invariant-loop-order : goal.invariant-loop-order

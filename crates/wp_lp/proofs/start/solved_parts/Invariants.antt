@@ -1,5 +1,5 @@
 use Rattle.std.proofs.Common.{◌<◌, ℕ, All, pos, ◌*ℤ◌, ◌≤ℤ◌}
-use Rattle.wp_batch.specs.Waves.{WavePicks}
+use Rattle.wp_lengths.specs.Waves.{WavePicks}
 use Rattle.wp_pairs.specs.Permitted.{Pairing}
 use Rattle.wp_lp.specs.Parts.{IsPart, cost_of}
 use Rattle.wp_lp.specs.Runs.{IsPermittedPool}

@@ -1,8 +1,8 @@
 use Rattle.std.proofs.Common.{◌<◌, ℕ, arith, length}
 use Rattle.std.proofs.lemmas.List.Elements.{All-contains}
 use Rattle.std.proofs.lemmas.Result.{on_ok_weaker}
-use Rattle.wp_batch.proofs.FewerOrders.{more_orders_no_shorter}
-use Rattle.wp_batch.proofs.Unions.{all_from_contained}
+use Rattle.wp_lengths.proofs.FewerOrders.{more_orders_no_shorter}
+use Rattle.wp_lengths.proofs.Unions.{all_from_contained}
 use Rattle.wp_lp.proofs.Holds.{some_permitted}
 use Rattle.wp_lp.proofs.Trims.{cut_part}
 use Rattle.wp_lp.proofs.trim.add_without.Goals as goal

@@ -1,4 +1,4 @@
-use Rattle.wp_batch.specs.Waves.{WavePicks}
+use Rattle.wp_lengths.specs.Waves.{WavePicks}
 use Rattle.wp_node.specs.Finds.{AreFinds, IsFind}
 use Rattle.wp_node.proofs.visit.keep.Given as goal
 

@@ -1,5 +1,5 @@
 use Rattle.std.proofs.Common.{◌≡◌, length}
-use Rattle.wp_batch.specs.Waves.{WavePicks}
+use Rattle.wp_lengths.specs.Waves.{WavePicks}
 use Rattle.wp_node.specs.Finds.{AreFinds, IsFind}
 use Rattle.wp_node.proofs.visit.keep_among.Given as goal
 

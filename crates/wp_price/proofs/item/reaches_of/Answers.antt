@@ -1,8 +1,8 @@
 use Rattle.std.proofs.Common.{arith, ap, ℕ, ◌+◌, ◌<◌, ◌∙◌, length, length-set, subst, sym}
 use Rattle.std.proofs.lemmas.List.Elements.{All-weaker}
-use Rattle.wp_batch.specs.Reaches.{HaveMost}
-use Rattle.wp_batch.specs.Visits.{IsLater}
-use Rattle.wp_batch.proofs.Further.{most_of_none}
+use Rattle.wp_lengths.specs.Reaches.{HaveMost}
+use Rattle.wp_lengths.specs.Visits.{IsLater}
+use Rattle.wp_lengths.proofs.Further.{most_of_none}
 use Rattle.wp_price.specs.Items.{AreReachesBelow}
 use Rattle.wp_price.proofs.Reaches.{more_reaches, reaches_of_none, taken_more}
 use Rattle.wp_price.proofs.item.reaches_of.Goals as goal

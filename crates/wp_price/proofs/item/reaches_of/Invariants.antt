@@ -1,5 +1,5 @@
 use Rattle.std.proofs.Common.{◌≡◌, ◌+◌, length}
-use Rattle.wp_batch.specs.Reaches.{HaveMost}
+use Rattle.wp_lengths.specs.Reaches.{HaveMost}
 use Rattle.wp_price.specs.Items.{AreReachesBelow}
 use Rattle.wp_price.proofs.item.reaches_of.Given as goal
 

@@ -1,5 +1,5 @@
 use Rattle.std.proofs.Common.{◌<◌, ℕ, arith, ⊎_elim}
-use Rattle.wp_batch.proofs.Unions.{all_from_contained, nothing_in}
+use Rattle.wp_lengths.proofs.Unions.{all_from_contained, nothing_in}
 use Rattle.wp_samples.proofs.batches.batch_below.Goals as goal
 
 pub loop-order-init : goal.loop-order-init

@@ -1,6 +1,6 @@
 use Rattle.std.proofs.Common.{ℕ, List, [], arith, subst, sym}
 use Rattle.std.proofs.lemmas.Option.{get_or_from_slice_get, slice_get_within}
-use Rattle.wp_batch.specs.Lengths.{IsLengthOf}
+use Rattle.wp_lengths.specs.Lengths.{IsLengthOf}
 use Rattle.wp_search.proofs.CostSums.{cost_more}
 use Rattle.wp_search.proofs.cost.cost_of.Goals as goal
 

@@ -1,5 +1,5 @@
 use Rattle.std.proofs.Common.{◌*◌, ◌^◌, ◌≤◌, take}
-use Rattle.wp_batch.specs.Batchings.{IsCost}
+use Rattle.wp_lengths.specs.Batchings.{IsCost}
 use Rattle.wp_search.proofs.cost.cost_of.Given as goal
 
 abbrev pub invariant-loop-place : goal.invariant-loop-place

@@ -2,7 +2,7 @@ use Rattle.std.proofs.Common.{List, sym, subst}
 use Rattle.wp_pairs.specs.declared.pair.OrderPair.{OrderPair}
 use Rattle.wp_cert.specs.Paths.{pairing_of}
 use Rattle.wp_cert.proofs.BoundsHold.{shares_feasible}
-use Rattle.wp_batch.specs.Duals.{AreFeasible}
+use Rattle.wp_lengths.specs.Duals.{AreFeasible}
 use Rattle.wp_search.proofs.search.turn_at_root.Goals as goal
 
 pub take_turn-requires-clause-above : goal.take_turn-requires-clause-above

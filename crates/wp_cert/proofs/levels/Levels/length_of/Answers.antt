@@ -1,6 +1,6 @@
 use Rattle.std.proofs.Common.{◌<◌, inl, length}
 use Rattle.std.proofs.lemmas.List.Elements.{All-contains}
-use Rattle.wp_batch.proofs.Unions.{all_from_contained}
+use Rattle.wp_lengths.proofs.Unions.{all_from_contained}
 use Rattle.wp_cert.proofs.levels.Levels.length_of.Goals as goal
 use Rattle.wp_cert.proofs.levels.Levels.length_of.Goals.{then-not-has, else-not-has}
 

@@ -1,6 +1,6 @@
 use Rattle.std.proofs.Common.{◌<◌, ◌↔◌, ◌⊎◌, Contains, List, ℕ, arith, inr, length, subst, sym}
 use Rattle.std.proofs.lemmas.List.Elements.{All-contains}
-use Rattle.wp_batch.proofs.Unions.{all_from_contained}
+use Rattle.wp_lengths.proofs.Unions.{all_from_contained}
 use Rattle.wp_cert.proofs.LevelPicks.{length_of_both}
 use Rattle.wp_cert.proofs.levels.Levels.measured.Goals as goal
 

@@ -2,7 +2,7 @@ use Rattle.std.proofs.Common.{All, List, [], ◌∷◌, zero, suc, arith}
 use Rattle.std.proofs.lemmas.Option.{none-some}
 use Rattle.std.specs.Option.{ForSome}
 use Rattle.std.specs.Prelude.{Option, None}
-use Rattle.wp_batch.specs.Waves.{WavePicks}
+use Rattle.wp_lengths.specs.Waves.{WavePicks}
 use Rattle.wp_cert.specs.declared.levels.Level.{Level}
 use Rattle.wp_cert.specs.Levels.{IsLevel}
 use Rattle.wp_cert.proofs.levels.Levels.none.Goals as goal

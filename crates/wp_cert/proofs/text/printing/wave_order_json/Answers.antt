@@ -3,7 +3,7 @@ use Rattle.std.proofs.lemmas.Result.{IfOk-weaker}
 use Rattle.serde_json.specs.View.{view}
 use Rattle.serde_json.specs.declared.value.Value.{Value}
 use Rattle.wp_model.specs.Warehouse.{Layout}
-use Rattle.wp_batch.specs.Waves.{picks_of}
+use Rattle.wp_lengths.specs.Waves.{picks_of}
 use Rattle.wp_graph.specs.PickSets.{AreSlots}
 use Rattle.wp_cert.specs.TextData.{list_data, order_data, order_places, place_data}
 use Rattle.wp_cert.proofs.TextOrders.{same_places, same_slots}

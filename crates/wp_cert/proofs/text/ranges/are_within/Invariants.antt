@@ -1,7 +1,7 @@
 use Rattle.std.proofs.Common.{◌≡◌, true, take}
 use Rattle.std.specs.Prelude.{nat_le}
 use Rattle.std.specs.List.{list_all}
-use Rattle.wp_batch.specs.Duals.{greatest_dual}
+use Rattle.wp_lengths.specs.Duals.{greatest_dual}
 use Rattle.wp_cert.proofs.text.ranges.are_within.Given as goal
 
 abbrev pub invariant-loop-dual : goal.invariant-loop-dual

@@ -1,5 +1,5 @@
 use Rattle.std.proofs.Common.{◌≡◌, ℕ, List, drop, length}
-use Rattle.wp_batch.specs.Waves.{WavePicks}
+use Rattle.wp_lengths.specs.Waves.{WavePicks}
 use Rattle.wp_cert.specs.declared.tree.Node.{Node}
 use Rattle.wp_cert.specs.Paths.{pairing_of}
 use Rattle.wp_cert.specs.Trees.{IsRight}

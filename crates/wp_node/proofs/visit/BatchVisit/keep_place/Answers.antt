@@ -1,6 +1,6 @@
 use Rattle.std.proofs.Common.{subst}
-use Rattle.wp_batch.specs.Waves.{WavePicks}
-use Rattle.wp_batch.specs.Lengths.{IsLengthOf}
+use Rattle.wp_lengths.specs.Waves.{WavePicks}
+use Rattle.wp_lengths.specs.Lengths.{IsLengthOf}
 use Rattle.wp_node.proofs.visit.BatchVisit.keep_place.Goals as goal
 
 pub returns-then-slack-self : goal.returns-then-slack-self

@@ -1,5 +1,5 @@
 use Rattle.std.proofs.Common.{subst}
-use Rattle.wp_batch.specs.Waves.{WavePicks}
+use Rattle.wp_lengths.specs.Waves.{WavePicks}
 use Rattle.wp_node.specs.Finds.{AreFinds}
 use Rattle.wp_node.proofs.visit.BatchVisit.visit_share.Goals as goal
 use Rattle.wp_node.proofs.visit.BatchVisit.visit_share.Goals.{then-has, else-has}

@@ -1,5 +1,5 @@
 use Rattle.std.proofs.Common.{arith, append-nil, [], subst}
-use Rattle.wp_batch.specs.Visits.{Children}
+use Rattle.wp_lengths.specs.Visits.{Children}
 use Rattle.wp_price.specs.ShortMarks.{AreShort, all_added}
 use Rattle.wp_price.proofs.ItemMarking.{all_none}
 use Rattle.wp_price.proofs.search.SlackSearch.push_items.Goals as goal

@@ -1,5 +1,5 @@
 use Rattle.std.proofs.Common.{◌≡◌, List, Bool, [], ◌++◌}
-use Rattle.wp_batch.specs.Visits.{Children}
+use Rattle.wp_lengths.specs.Visits.{Children}
 use Rattle.wp_price.specs.ShortMarks.{AreShort}
 use Rattle.wp_price.proofs.search.SlackSearch.push_items.Given as goal
 

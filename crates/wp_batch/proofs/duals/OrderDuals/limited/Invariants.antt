@@ -1,9 +1,0 @@
-use Rattle.std.proofs.Common.{◌≡◌, ◌≤◌, All, length}
-use Rattle.wp_batch.specs.Duals.{greatest_dual}
-use Rattle.wp_batch.proofs.duals.OrderDuals.limited.Given as goal
-
-abbrev pub invariant-loop-order : goal.invariant-loop-order
-invariant-loop-order l = record {
-  count : length l.limited.items ≡ l.order;
-  within : All (λ dual. dual ≤ greatest_dual) l.limited.items;
-}

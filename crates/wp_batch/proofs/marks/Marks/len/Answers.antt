@@ -1,6 +1,0 @@
-use Rattle.std.proofs.Common.{sym}
-use Rattle.wp_batch.proofs.MarkLists.{marks_length}
-use Rattle.wp_batch.proofs.marks.Marks.len.Goals as goal
-
-pub returns : goal.returns
-returns c = rw (← c.self.view_is) (sym (marks_length _ _))

@@ -1,0 +1,12 @@
+pub mod MarkLists
+pub mod Unions
+pub mod KeptLengths
+pub mod Loads
+pub mod OrderSums
+pub mod FewerOrders
+pub mod Ascending
+pub mod Visits
+pub mod Further
+pub mod ShareSums
+pub mod DualBounds
+pub mod NoPairs

@@ -1,0 +1,20 @@
+use Rattle.std.proofs.Common.{◌≡◌, ◌<◌, ◌*◌, ◌/◌, ℕ, List, arith, ap, subst, ⊎_elim, length}
+use Rattle.wp_lengths.proofs.Unions.{all_from_contained}
+use Rattle.wp_lengths.specs.Lengths.{IsLengthOf}
+use Rattle.wp_pairs.proofs.Members.{contains_none}
+use Rattle.std.proofs.Common.{Contains}
+use Rattle.wp_lengths.proofs.ShareSums.{one_order}
+use Rattle.wp_lengths.proofs.shares.share_of.Goals as goal
+
+pub batch_length-alone-requires : goal.batch_length-alone-requires
+batch_length-alone-requires c = all_from_contained (λ (o : ℕ). o < length c.args.wave.now.orders) c.with.result
+    (λ p has. ⊎_elim (λ l. absurd (contains_none p (subst (λ (xs : List ℕ). Contains xs p) c.empty.ensures l)))
+    (λ (e : p ≡ c.args.order). omega (arith, e, c.requires.known)) ((c.with.ensures.orders p).0 has))
+
+pub returns-clause-is : goal.returns-clause-is
+returns-clause-is c =
+    let one = one_order c.empty.result c.with.result c.args.order c.empty.ensures c.with.ensures.valid.ascending c.with.ensures.orders in record {
+      total = c.batch_length-alone.result;
+      alone = subst (λ (xs : List ℕ). IsLengthOf c.args.wave.now xs c.batch_length-alone.result) one c.batch_length-alone.ensures.is;
+      is = ap (λ (k : ℕ). 60 * c.batch_length-alone.result / k) c.from.ensures;
+    }
