@@ -1,16 +1,16 @@
 -- The slots of orders as they are printed.
-use Rattle.std.proofs.Common.{◌≡◌, ℕ, zero, suc, ◌+◌, ◌↔◌, Bool, true, false, List, [], ◌∷◌, ◌++◌, map, Contains}
+use Rattle.std.proofs.Common.{◌≡◌, ℕ, zero, suc, ◌+◌, Bool, true, false, List, [], ◌∷◌, ◌++◌, map, Contains}
 use Rattle.std.proofs.Common.{arith, refl, sym, ap, ◌∙◌, append_assoc}
 use Rattle.std.specs.List.{filter, flat_map, range_with_len}
 use Rattle.std.proofs.lemmas.List.{map-append}
 use Rattle.std.proofs.lemmas.List.Concat.{flat_map-append}
-use Rattle.std.proofs.lemmas.List.Elements.{filter-append, filter_agree}
+use Rattle.std.proofs.lemmas.List.Elements.{filter-append}
 use Rattle.serde_json.specs.Data.{Data, array}
 use Rattle.serde_json.specs.View.{items_of, view}
 use Rattle.serde_json.specs.declared.value.Value.{Value}
 use Rattle.wp_model.specs.declared.point.Point.{Point}
 use Rattle.wp_model.specs.Warehouse.{Layout}
-use Rattle.wp_graph.specs.PickSets.{AreSlots, PickSet, points_in, points_where, slots_where}
+use Rattle.wp_graph.specs.PickSets.{PickSet, points_in, points_where, slots_where}
 use Rattle.wp_graph.specs.Required.{has_point}
 use Rattle.wp_graph.proofs.Members.{Contains-from_among, among_from_Contains}
 use Rattle.wp_graph.proofs.PointTests.{among_has, has_among, same_tests}
@@ -80,38 +80,6 @@ aisles_all layout points = refl
 pub places_shown : (points : List Point) → map place_data (map place_of points) ≡ map point_data points
 places_shown [] = refl
 places_shown (p ∷ points) = ap (λ (ds : List Data). point_data p ∷ ds) (places_shown points)
-
-aisles_agree : (f g : ℕ → List Point) → ((aisle : ℕ) → f aisle ≡ g aisle) → (xs : List ℕ) → flat_map f xs ≡ flat_map g xs
-aisles_agree f g same [] = refl
-aisles_agree f g same (x ∷ xs) = rw (same x, aisles_agree f g same xs) refl
-
--- two tests that agree list the same points
-points_agree : (layout : Layout) (one other : ℕ → ℕ → Bool) → ((aisle slot : ℕ) → one aisle slot ≡ other aisle slot)
-    → points_where layout one ≡ points_where layout other
-unfolding points_where slots_where
-points_agree layout one other same =
-    aisles_agree _ _ (λ aisle. ap (points_in aisle) (filter_agree (one aisle) (other aisle) (same aisle) (range_with_len 1 layout.slots)))
-    (range_with_len 1 layout.aisles)
-
--- two lists that both have a point, or neither, are told the same of it
-same_test : (left right : List Point) (point : Point) → (Contains left point ↔ Contains right point)
-    → has_point left point.aisle point.slot ≡ has_point right point.aisle point.slot
-same_test left right point same =
-    has_told left point (has_point right point.aisle point.slot)
-    (λ is. same.1 (Contains-from_among right point (has_among right point.aisle point.slot is)))
-    (λ is. among_has right point (among_from_Contains right point (same.0 is)))
-
--- the same slots are printed the same
-pub same_places : (layout : Layout) (left right : List Point) → ((p : Point) → Contains left p ↔ Contains right p)
-    → order_places layout left ≡ order_places layout right
-same_places layout left right same =
-    ap (map place_of) (points_agree layout (has_point left) (has_point right)
-    (λ aisle slot. same_test left right (record { aisle = aisle; slot = slot }) (same (record { aisle = aisle; slot = slot }))))
-
--- the same slots are slots
-pub same_slots : (layout : Layout) (left right : List Point) → ((p : Point) → Contains left p ↔ Contains right p) → AreSlots layout left
-    → AreSlots layout right
-same_slots layout left right same slots = record { ranges = slots.ranges; slots = λ p has. slots.slots p ((same p).1 has) }
 
 -- no slot of an aisle
 pub aisle_none : (points : List Point) (aisle : ℕ) → aisle_points points aisle 0 ≡ []

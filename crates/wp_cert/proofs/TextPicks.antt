@@ -6,7 +6,6 @@ use Rattle.std.specs.List.{AllZip, list_all}
 use Rattle.std.specs.Prelude.{nat_le}
 use Rattle.std.proofs.lemmas.List.Elements.{Contains-get_or, Contains-push, Contains-push_cases, Contains-append_left}
 use Rattle.std.proofs.lemmas.List.{take_more}
-use Rattle.wp_lengths.specs.Waves.{HaveSamePicks}
 use Rattle.wp_model.specs.declared.point.Point.{Point}
 use Rattle.wp_graph.specs.PickSets.{PickSet}
 use Rattle.wp_model.specs.Warehouse.{Layout}
@@ -80,23 +79,6 @@ passes_at test (x ∷ xs) (suc i) d within all = passes_at test xs i d (omega ar
 -- a number in its range is no more than the most
 pub no_more : (most n : ℕ) → is_up_to most n ≡ true → n ≤ most
 no_more most n h = grind arith
-
-tail_same : (x y : PickSet) (xs ys : List PickSet) → HaveSamePicks (x ∷ xs) (y ∷ ys) → HaveSamePicks xs ys
-tail_same x y xs ys same = record {
-  count = omega (arith, same.count);
-  each = λ order d within p. same.each (suc order) d (omega arith) p;
-}
-
--- orders that pick at the same slots pick at the same places
-pub same_picks : (left right : List PickSet) (places : List (List WrittenSlot)) → HaveSamePicks left right → PickAt right places → PickAt left places
-same_picks [] [] places same at = at
-same_picks [] (y ∷ ys) places same at = absurd (omega (arith, same.count))
-same_picks (x ∷ xs) [] places same at = absurd (omega (arith, same.count))
-same_picks (x ∷ xs) (y ∷ ys) [] same at = absurd at
-same_picks (x ∷ xs) (y ∷ ys) (z ∷ zs) same at = (
-  λ p. let here = same.each 0 y (omega arith) p in (λ has. (at.0 p).0 (here.0 has), λ has. here.1 ((at.0 p).1 has)),
-  same_picks xs ys zs (tail_same x y xs ys same) at.1,
-)
 
 -- there are as many orders as the text has
 pub as_many : (orders : List PickSet) (places : List (List WrittenSlot)) → PickAt orders places → length orders ≡ length places

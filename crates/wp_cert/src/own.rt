@@ -33,7 +33,7 @@ fn each_batch_has_a_length(wave: &Wave)
     ensures { HasEachLength wave.now }
 {
     for order in 0..wave.orders() {
-        wave.picks(order).needed_below(1);
+        wave.order(order).needed_below(1);
     }
 }
 

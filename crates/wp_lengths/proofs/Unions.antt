@@ -1,6 +1,6 @@
 -- The picks of a batch, order by order and as one set, and shortest tours past the same picks.
-use Rattle.std.proofs.Common.{◌≡◌, ◌≢◌, ℕ, ◌+◌, ◌<◌, ◌≤◌, ◌↔◌, List, [], ◌∷◌, ◌++◌, length}
-use Rattle.std.proofs.Common.{length-append, get_or, arith, ap, sym, ◌∙◌, subst, inl, inr, refl, ◌⊎◌, ⊎_elim, Contains, All, Option}
+use Rattle.std.proofs.Common.{◌≡◌, ◌≢◌, ℕ, ◌+◌, ◌<◌, ◌↔◌, List, [], ◌∷◌, ◌++◌, length}
+use Rattle.std.proofs.Common.{length-append, get_or, arith, ap, sym, ◌∙◌, subst, inl, inr, refl, ◌⊎◌, ⊎_elim, Contains, All}
 use Rattle.std.proofs.lemmas.Bool.{cases_eq}
 use Rattle.std.proofs.lemmas.List.Elements.{All-contains, All-push, Contains-get_or}
 use Rattle.std.proofs.lemmas.List.{get_or_append_left, get_or_default, get_or_push}
@@ -8,10 +8,9 @@ use Rattle.wp_model.specs.declared.point.Point.{Point}
 use Rattle.wp_model.specs.Tours.{IsShortest, IsTour}
 use Rattle.wp_model.specs.Warehouse.{Layout}
 use Rattle.wp_graph.specs.PickSets.{PickSet}
-use Rattle.wp_pairs.specs.Carts.{IsCartFor, LoadedCart}
 use Rattle.wp_graph.proofs.Members.{Contains-from_among, among-flat_map, among_from_Contains, flat_map_source}
 use Rattle.wp_lengths.specs.Lengths.{batch_picks}
-use Rattle.wp_lengths.specs.Waves.{HaveSamePicks, IsWave, WavePicks, picks_of}
+use Rattle.wp_lengths.specs.Waves.{HaveSamePicks, WavePicks, picks_of}
 
 -- what holds of all that a list contains holds of all of it
 pub all_from_contained : {X : Type 0} (P : X → Type 0) (xs : List X) → ((x : X) → Contains xs x → P x) → All P xs
@@ -172,19 +171,12 @@ read_of now wave items place item view same within is =
     let e : items ≡ now.orders = same ∙ ap (λ (w : WavePicks). w.orders) view in
     order_read now place item (subst (λ (xs : List PickSet). place < length xs) e within) (subst (λ (xs : List PickSet). item ≡ get_or xs place item) e is)
 
--- copies of the picks of a wave's orders make a wave
-pub wave_of_copies : (layout : Layout) (originals copies : List PickSet) (cart : Option LoadedCart) → HaveSamePicks copies originals → All (λ picks. picks.layout ≡ layout) copies
-    → 1 ≤ length originals → length originals ≤ 64 → All (λ picks. 0 < length picks.points) originals
-    → IsCartFor cart (length originals) → IsWave (record { layout = layout; orders = copies; cart = cart })
-wave_of_copies layout originals copies cart same of_layout some most filled loaded = record {
-  some = omega (arith, same.count);
-  most = omega (arith, same.count);
-  of_layout = of_layout;
-  cart = subst (IsCartFor cart) (sym same.count) loaded;
-  filled = λ k d within.
-      let there = filled k d (omega (arith, same.count)) in
-      let first : Point = record { aisle = 0; slot = 0 } in
-      let points = (get_or originals k d).points in
-      let has = (same.each k d within (get_or points 0 first)).1 (Contains-get_or points 0 first there) in
-      omega (arith, has.1);
-}
+-- copies of the picks of orders of which each picks at some slot do so too
+pub copies_filled : (originals copies : List PickSet) → HaveSamePicks copies originals → All (λ picks. 0 < length picks.points) originals
+    → All (λ picks. 0 < length picks.points) copies
+copies_filled originals copies same filled = λ k d within.
+    let there = filled k d (omega (arith, same.count)) in
+    let first : Point = record { aisle = 0; slot = 0 } in
+    let points = (get_or originals k d).points in
+    let has = (same.each k d within (get_or points 0 first)).1 (Contains-get_or points 0 first there) in
+    omega (arith, has.1)

@@ -81,7 +81,7 @@ fn part_size(count: usize, workers: u32) -> usize
 }
 
 impl Wave {
-    /// The wave of these orders' picks in a layout.
+    /// The wave of these orders' picks in a layout, of which it keeps copies.
     pub fn of(alloc: Global, layout: Layout, orders: &Vec<Picks>) -> Result<Wave, Memory>
         requires some { 1 ≤ length orders.now.items }
         requires most { length orders.now.items ≤ 64 }
@@ -91,10 +91,11 @@ impl Wave {
         ensures orders { IfOk result (λ wave. HaveSamePicks wave.orders orders.now.items) }
         ensures cart { IfOk result (λ wave. wave.cart ≡ None) }
     {
-        Wave::begun(alloc, layout, orders, None)
+        let copies = copies_of(alloc, &layout, orders)?;
+        Ok(Wave::taking(alloc, layout, copies))
     }
 
-    /// The wave of these orders' picks in a layout, with a cart that has a load for each of them.
+    /// The wave of copies of these orders' picks in a layout, with a cart that has a load for each of them.
     pub fn with_cart(
         alloc: Global,
         layout: Layout,
@@ -108,34 +109,56 @@ impl Wave {
         ensures orders { IfOk result (λ wave. HaveSamePicks wave.orders orders.now.items) }
         ensures cart { IfOk result (λ wave. wave.cart ≡ Some cart) }
     {
+        let copies = copies_of(alloc, &layout, orders)?;
+        Ok(Wave::taking_with_cart(alloc, layout, copies, cart))
+    }
+
+    /// The wave that takes over these orders' picks in a layout. It takes no memory.
+    pub fn taking(alloc: Global, layout: Layout, orders: Vec<Picks>) -> Wave
+        requires some { 1 ≤ length orders.items }
+        requires most { length orders.items ≤ 64 }
+        requires of_layout { All (λ picks. picks.layout ≡ layout) orders.items }
+        requires filled { All (λ picks. 0 < length picks.points) orders.items }
+        ensures layout { result.layout ≡ layout }
+        ensures orders { result.orders ≡ orders.items }
+        ensures cart { result.cart ≡ None }
+    {
+        Wave::begun(alloc, layout, orders, None)
+    }
+
+    /// The wave that takes over these orders' picks in a layout, with a cart that has a load for each of them. It takes no
+    /// memory.
+    pub fn taking_with_cart(alloc: Global, layout: Layout, orders: Vec<Picks>, cart: Cart) -> Wave
+        requires loads { length cart.loads ≡ length orders.items }
+        requires of_layout { All (λ picks. picks.layout ≡ layout) orders.items }
+        requires filled { All (λ picks. 0 < length picks.points) orders.items }
+        ensures layout { result.layout ≡ layout }
+        ensures orders { result.orders ≡ orders.items }
+        ensures cart { result.cart ≡ Some cart }
+    {
         let of_wave = cart.orders() as usize == orders.len();
         prove!(of_wave);
         Wave::begun(alloc, layout, orders, Some(cart))
     }
 
     // The wave of these orders' picks in a layout, with a cart for them or with none.
-    fn begun(
-        alloc: Global,
-        layout: Layout,
-        orders: &Vec<Picks>,
-        cart: Option<Cart>,
-    ) -> Result<Wave, Memory>
-        requires some { 1 ≤ length orders.now.items }
-        requires most { length orders.now.items ≤ 64 }
-        requires of_layout { All (λ picks. picks.layout ≡ layout) orders.now.items }
-        requires filled { All (λ picks. 0 < length picks.points) orders.now.items }
-        requires cart { IsCartFor cart (length orders.now.items) }
-        ensures layout { IfOk result (λ wave. wave.layout ≡ layout) }
-        ensures orders { IfOk result (λ wave. HaveSamePicks wave.orders orders.now.items) }
-        ensures cart { IfOk result (λ wave. wave.cart ≡ cart) }
+    fn begun(alloc: Global, layout: Layout, orders: Vec<Picks>, cart: Option<Cart>) -> Wave
+        requires some { 1 ≤ length orders.items }
+        requires most { length orders.items ≤ 64 }
+        requires of_layout { All (λ picks. picks.layout ≡ layout) orders.items }
+        requires filled { All (λ picks. 0 < length picks.points) orders.items }
+        requires cart { IsCartFor cart (length orders.items) }
+        ensures layout { result.layout ≡ layout }
+        ensures orders { result.orders ≡ orders.items }
+        ensures cart { result.cart ≡ cart }
     {
-        Ok(Wave {
+        Wave {
             layout,
-            orders: copies_of(alloc, &layout, orders)?,
+            orders,
             cart,
             places: Places::none(),
             lengths: Vec::new(alloc),
-        })
+        }
     }
 
     /// The number of orders, 1 to 64.

@@ -68,7 +68,7 @@ fn wave_order_json(alloc: Global, wave: &Wave, order: u32) -> Result<Value, Allo
     ensures value { IfOk result (λ value. view value ≡ list_data place_data (order_places wave.now.layout (picks_of wave.now order))) }
     ensures slots { IfOk result (λ value. AreSlots wave.now.layout (picks_of wave.now order)) }
 {
-    order_json(alloc, &wave.layout(), &wave.picks(order))
+    order_json(alloc, &wave.layout(), wave.order(order))
 }
 
 // The slots of all orders of a wave as a value.

@@ -99,7 +99,7 @@ pub(crate) fn wave_of(alloc: Global, layout: &Layout, form: &Form) -> Result<Wav
 {
     let all = all_picks(alloc, layout, form.orders.as_slice())?;
     match any_cart_of(alloc, &form.cart)? {
-        None => Wave::of(alloc, *layout, &all),
-        Some(cart) => Wave::with_cart(alloc, *layout, &all, cart),
+        None => Ok(Wave::taking(alloc, *layout, all)),
+        Some(cart) => Ok(Wave::taking_with_cart(alloc, *layout, all, cart)),
     }
 }
