@@ -3,7 +3,6 @@
 #![tactic(auto)]
 
 mod changes;
-mod draws;
 mod improve;
 mod instance;
 mod last_places;

@@ -3,7 +3,6 @@ ghost use Rattle.wp_lengths.specs.Batchings.{IsBatching};
 ghost use Rattle.wp_batch.specs.Joins.{AreKnown, CostLess, CostNoMore, TellsCost};
 ghost use Rattle.wp_batch.specs.Walks.{IsWalk};
 
-use crate::draws::Draws;
 use crate::instance::Instance;
 use crate::last_places::LastPlaces;
 use crate::listing::listed;
@@ -12,6 +11,7 @@ use crate::near::Nearness;
 use crate::seen::{SeenLengths, length_within};
 use crate::walk::{Mover, Walk};
 use std::alloc::Global;
+use wp_draws::Draws;
 use wp_lengths::Wave;
 use wp_model::Memory;
 use wp_pairs::Batch;

@@ -2,7 +2,6 @@ ghost use Rattle.std.specs.Prelude.{◌≡◌, ◌<◌, IfOk, IfSome, length};
 ghost use Rattle.wp_lengths.specs.Batchings.{IsBatching};
 ghost use Rattle.wp_batch.specs.Walks.{IsWalk};
 
-use crate::draws::Draws;
 use crate::instance::Instance;
 use crate::last_places::LastPlaces;
 use crate::moves::least_and_rest;
@@ -10,6 +9,7 @@ use crate::near::Nearness;
 use crate::seen::SeenLengths;
 use crate::split::{replace, split_of};
 use std::alloc::Global;
+use wp_draws::Draws;
 use wp_model::Memory;
 use wp_pairs::Batch;
 
@@ -155,7 +155,7 @@ impl Mover<'_> {
         if count == 0 {
             return None;
         }
-        order_at(batch, self.draws.below(count))
+        order_at(batch, self.draws.below(u64::from(count)) as u32)
     }
 
     // Which order goes back from a batch: none where there is room and this is drawn.
@@ -163,7 +163,7 @@ impl Mover<'_> {
         ensures { IfSome result (λ order. order < 64) }
     {
         let orders = to.len();
-        if orders < capacity && self.draws.below(orders + 1) == 0 {
+        if orders < capacity && self.draws.below(u64::from(orders) + 1) == 0 {
             return None;
         }
         self.draw_order(to)
@@ -171,8 +171,8 @@ impl Mover<'_> {
 
     // A drawn move: an order goes to the batch of one that lies near it.
     fn draw_move(&mut self, instance: &Instance<'_>, batches: &[Batch]) -> Option<Move> {
-        let order = self.draws.below(instance.wave.orders());
-        let choice = self.draws.below(self.nearness.count().max(1));
+        let order = self.draws.below(u64::from(instance.wave.orders())) as u32;
+        let choice = self.draws.below(u64::from(self.nearness.count().max(1))) as u32;
         let beside = self.nearness.near(order, choice)?;
         let first = self.found.place_with(batches, order)?;
         let second = self.found.place_with(batches, beside)?;

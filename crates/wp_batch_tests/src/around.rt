@@ -4,11 +4,12 @@ use crate::exact::{is_within, length_of};
 use crate::rows::{adds_up, bracket, is_as_narrow};
 use std::alloc::Global;
 use std::thread::Threads;
+use wp_draws::Draws;
 use wp_lengths::Wave;
 use wp_lp::{Root, RootState};
 use wp_master::{Pool, solve};
 use wp_pairs::{Batch, Pairs};
-use wp_samples::{Draws, made_wave, pairs_of};
+use wp_samples::{made_wave, pairs_of};
 
 /// How many orders a drawn wave has at most.
 const MOST_ORDERS: u32 = 8;

@@ -2,8 +2,9 @@
 
 use crate::batch::SAME;
 use std::alloc::Global;
+use wp_draws::Draws;
 use wp_pairs::{Batch, Cart, Pairs};
-use wp_samples::{Draws, PairRow, batch_of, cart_wave_of, pairs_for};
+use wp_samples::{PairRow, batch_of, cart_wave_of, pairs_for};
 
 /// How many carts of each kind are drawn.
 const CARTS: u32 = 10;

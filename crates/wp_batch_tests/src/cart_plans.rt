@@ -5,10 +5,11 @@ use crate::many::ORDERS;
 use crate::search::{APART, SAME, SHARED, Terms, checked_plan, own_nodes};
 use std::alloc::Global;
 use std::thread::Threads;
+use wp_draws::Draws;
 use wp_lengths::{Batching, Wave};
 use wp_node::price_of;
 use wp_pairs::Capacity;
-use wp_samples::{Draws, Slots, are_exactly, batch_below, cart_wave_of, wave_of};
+use wp_samples::{Slots, are_exactly, batch_below, cart_wave_of, wave_of};
 use wp_search::{Planned, State};
 
 /// A wave, what its cart holds, what each order loads, a capacity and a budget; the batches, the cost and the bound of its plan.

@@ -4,7 +4,8 @@ use crate::price::Given;
 use crate::slow::{GIVEN, ORDERS, are_same_through_all};
 use std::alloc::Global;
 use std::thread::Threads;
-use wp_samples::{Draws, cart_wave_of};
+use wp_draws::Draws;
+use wp_samples::cart_wave_of;
 
 /// How many carts are drawn for each of the duals and capacities.
 const CARTS: u32 = 3;

@@ -1,8 +1,9 @@
 use crate::starts::{length_within, start_cost};
 use std::alloc::Global;
+use wp_draws::Draws;
 use wp_lengths::Wave;
 use wp_pairs::Batch;
-use wp_samples::{Draws, made_wave};
+use wp_samples::made_wave;
 
 /// How many made waves are drawn of each kind.
 const WAVES: u32 = 10;

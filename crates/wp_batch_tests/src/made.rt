@@ -1,7 +1,8 @@
 use crate::search::{Terms, checked_plan};
 use std::alloc::Global;
 use std::thread::Threads;
-use wp_samples::{Draws, made_wave};
+use wp_draws::Draws;
+use wp_samples::made_wave;
 use wp_search::State;
 
 /// How many orders the waves of the table have.

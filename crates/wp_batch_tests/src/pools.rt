@@ -1,7 +1,7 @@
 use crate::master::is_added;
 use std::alloc::Global;
+use wp_draws::Draws;
 use wp_master::{Pool, solve};
-use wp_samples::Draws;
 
 /// How many times the lengths of each pool's columns are drawn.
 const TIMES: u32 = 3;

@@ -2,9 +2,10 @@ ghost use Rattle.std.specs.Prelude.{◌<◌, All, length};
 
 use std::alloc::Global;
 use wp_batch::merged_start;
+use wp_draws::Draws;
 use wp_lengths::{Batching, Wave};
 use wp_pairs::Batch;
-use wp_samples::{Draws, made_wave};
+use wp_samples::made_wave;
 
 /// Made waves, drawn one after the other, of so many orders each, and what their starts cost with at most so many orders in a batch.
 struct Starts {

@@ -4,7 +4,7 @@ use Rattle.std.proofs.lemmas.Bool.{cases_eq}
 use Rattle.wp_model.specs.Tours.{IsShortest}
 use Rattle.wp_model.specs.Warehouse.{Layout}
 use Rattle.wp_model.specs.declared.point.Point.{Point}
-use Rattle.wp_make.specs.Draws.{next_state, state_after}
+use Rattle.wp_draws.specs.Draws.{next_state, state_after}
 use Rattle.wp_make.specs.Lines.{after_orders, line_count, line_from}
 use Rattle.wp_make.specs.Texts.{made_layout}
 use Rattle.wp_bench.specs.Made.{IsOfLines, IsOfOrder, IsOfOrders, IsSumOfTours, IsTourOfBatch, aisles_of_batches, slot_of}

@@ -1,6 +1,6 @@
 -- The slots of made orders, and the sum of the tours of made batches.
 use Rattle.std.specs.Prelude.{◌≡◌, ℕ, zero, suc, ◌+◌, ◌*◌, ◌<◌, ◌↔◌, Contains, List}
-use Rattle.wp_make.specs.Draws.{next_state, state_after}
+use Rattle.wp_draws.specs.Draws.{next_state, state_after}
 use Rattle.wp_make.specs.Lines.{after_orders, line_count, line_from}
 use Rattle.wp_make.specs.Texts.{made_layout}
 use Rattle.wp_make.specs.declared.generator.MadeLine.{MadeLine}

@@ -1,6 +1,6 @@
 ghost use Rattle.std.specs.Prelude.{◌≡◌, ◌<◌, ◌≤◌, ◌*◌, ◌^◌, ◌↔◌, ◌⊎◌, ℕ, Contains, IfSome, IsSome};
 ghost use Rattle.wp_bench.specs.Made.{IsOfOrder, IsOfOrders, IsSumOfTours};
-ghost use Rattle.wp_make.specs.Draws.{next_state, state_after};
+ghost use Rattle.wp_draws.specs.Draws.{next_state, state_after};
 ghost use Rattle.wp_make.specs.Lines.{after_orders, line_count};
 ghost use Rattle.wp_model.specs.declared.point.Point.{Point as PointData};
 

@@ -13,7 +13,7 @@ use Rattle.wp_model.specs.Warehouse.{spacing_after}
 use Rattle.wp_tables.specs.DeskFile.{desks_heading}
 use Rattle.wp_tables.specs.OrderFile.{orders_heading}
 use Rattle.wp_tables.specs.StockFile.{stock_heading}
-use Rattle.wp_make.specs.Draws.{next_state, state_after}
+use Rattle.wp_draws.specs.Draws.{next_state, state_after}
 use Rattle.wp_make.specs.Lines.{after_orders, line_count, line_from, made_slots, order_lines}
 use Rattle.wp_make.specs.Records.{aisle_records, desks_records, line_record, order_name, order_records, orders_records, stock_record, stock_records, wave_records}
 use Rattle.wp_make.specs.Sizes.{IsSize, orders_of_wave, wave_count}

@@ -13,7 +13,7 @@ use Rattle.wp_model.specs.declared.line.OrderLine.{OrderLine}
 use Rattle.wp_model.proofs.OrderLists.{added_length}
 use Rattle.wp_tables.specs.OrderFile.{order_line_of, order_with_room, orders_after}
 use Rattle.wp_tables.specs.declared.fault.Why.TheVariants as why
-use Rattle.wp_make.specs.Draws.{draw_at, state_after}
+use Rattle.wp_draws.specs.Draws.{draw_at, state_after}
 use Rattle.wp_make.specs.Lines.{after_orders, line_count, line_from, made_slots}
 use Rattle.wp_make.specs.Records.{article_name, line_record, order_name, order_records, orders_records}
 use Rattle.wp_make.specs.declared.generator.MadeLine.{MadeLine}

@@ -1,4 +1,3 @@
-pub mod Draws
 pub mod Lines
 pub mod Sizes
 pub mod Records

@@ -1,7 +1,7 @@
 -- The lines of made orders.
 use Rattle.std.specs.Prelude.{ℕ, zero, suc, ◌+◌, ◌*◌, List, map}
 use Rattle.std.specs.List.{range_with_len}
-use Rattle.wp_make.specs.Draws.{draw_at, next_state, state_after}
+use Rattle.wp_draws.specs.Draws.{draw_at, next_state, state_after}
 use Rattle.wp_make.specs.declared.generator.MadeLine.{MadeLine}
 
 -- how many slots a made aisle has

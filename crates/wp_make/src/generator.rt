@@ -1,10 +1,11 @@
 //! The generator of made numbers, and the lines of orders that are drawn from it.
 ghost use Rattle.std.specs.Prelude.{◌≡◌, ◌<◌};
-ghost use Rattle.wp_make.specs.Draws.{draw_at, next_state, state_after};
+ghost use Rattle.wp_draws.specs.Draws.{draw_at, next_state, state_after};
 ghost use Rattle.wp_make.specs.Lines.{line_count, line_from};
 ghost use Rattle.wp_model.specs.Warehouse.{IsUpTo};
 
 use std::marker::Model;
+use wp_draws::Draws;
 
 /// How many slots a made aisle has.
 pub(crate) const SLOTS: u32 = 40;
@@ -15,11 +16,10 @@ const MOST_LINES: u32 = 3;
 /// How many units a line may want.
 const MOST_UNITS: u32 = 5;
 
-/// A generator of numbers that follow from its first state alone: the linear congruential one of 64 bits with the
-/// factor and the increment of MMIX (Knuth, The Art of Computer Programming, volume 2). Contracts see its state.
+/// A generator of lines of orders, which follow from its first state alone. Contracts see its state.
 #[derive(Drop)]
 pub struct Generator {
-    state: u64,
+    draws: Draws,
 }
 
 impl Model for Generator {
@@ -27,7 +27,7 @@ impl Model for Generator {
 
     ghost Value = { ℕ };
 
-    ghost view = { λ g. g.state };
+    ghost view = { λ g. g.draws };
 }
 
 /// A line of a made order: the aisle and the slot where its article lies, counted from 1, and 1 to 5 units of it.
@@ -43,14 +43,16 @@ impl Generator {
     pub fn new(number: u64) -> Generator
         ensures { result ≡ number }
     {
-        Generator { state: number }
+        Generator {
+            draws: Draws::from_state(number),
+        }
     }
 
     /// The state, which says all numbers that are to come.
     pub fn state(&self) -> u64
         ensures { result ≡ self.now }
     {
-        self.state
+        self.draws.state()
     }
 
     /// The next number, below this one.
@@ -60,11 +62,7 @@ impl Generator {
         ensures state { self.new ≡ next_state self.old }
         ensures value { result ≡ draw_at self.new below }
     {
-        self.state = self
-            .state
-            .wrapping_mul(6364136223846793005)
-            .wrapping_add(1442695040888963407);
-        ((self.state >> 33) % u64::from(below)) as u32
+        self.draws.below(u64::from(below)) as u32
     }
 
     /// How many lines the next order has, 1 to 3.

@@ -1,6 +1,6 @@
 -- The picks of orders grow hold by hold.
 use Rattle.std.proofs.Common.{◌≡◌, ◌≢◌, ◌∙◌, refl, sym, ap, subst, ℕ, ◌+◌, ◌<◌, ◌↔◌, ◌⊎◌, inl, inr, ⊎_elim, List, [], ◌∷◌, ◌++◌, Some, All, Contains, length}
-use Rattle.std.proofs.Common.{Err, IfOk, Ok, Option, Result}
+use Rattle.std.proofs.Common.{Option}
 use Rattle.std.proofs.Common.{add-one, arith, take, get_or, get_or-set_other, get_or-set_same, length-append, length-set, slice_get, slice_set}
 use Rattle.std.proofs.lemmas.Bool.{cases_eq}
 use Rattle.std.proofs.lemmas.List.Elements.{All-contains, All-nil, All-push, All-set}
@@ -8,7 +8,7 @@ use Rattle.std.proofs.lemmas.List.{get_or_append_left, get_or_push}
 use Rattle.std.proofs.Math.Seq.{take-suc}
 use Rattle.std.proofs.lemmas.Option.{same_Some, slice_get-get_or}
 use Rattle.wp_graph.proofs.Members.{Contains-from_among, among-append, among-append_left, among-append_right, among_from_Contains}
-use Rattle.wp_lengths.specs.Waves.{HaveSamePicks, WavePicks}
+use Rattle.wp_lengths.specs.Waves.{WavePicks}
 use Rattle.wp_graph.specs.PickSets.{PickSet}
 use Rattle.wp_model.proofs.Elements.{All-at, within_some}
 use Rattle.wp_model.specs.HoldLists.{IsHoldWithin}
@@ -18,7 +18,6 @@ use Rattle.wp_model.specs.declared.point.Point.{Point}
 use Rattle.wp_model.specs.declared.row.Hold.{Hold}
 use Rattle.wp_model.specs.declared.row.StockRow.{StockRow}
 use Rattle.wp_machine.specs.declared.outcome.WaveHolds.{WaveHolds}
-use Rattle.wp_pairs.specs.Carts.{LoadedCart}
 use Rattle.wp_planner.specs.Loads.{IsCartOf}
 use Rattle.wp_planner.specs.Released.{IsWaveOf, LiesIn}
 use Rattle.wp_planner.specs.Slots.{ArePicksOf, HoldsAt, slot_at}
@@ -173,46 +172,25 @@ picks_filled layout rows holds orders picks within filled are k d low =
     }) in
     omega (arith, picked.1)
 
--- what follows from two things of what an `Ok` has
-both_ok : {T E : Type 0} (result : Result T E) (P Q R : T → Type 0) → ((v : T) → P v → Q v → R v) → IfOk result P → IfOk result Q → IfOk result R
-both_ok (Ok v) P Q R then' p q = then' v p q
-both_ok (Err e) P Q R then' p q = tt
-
 -- an order that holds units in a row of a stock that lies in a layout picks at a slot of it
 slot_held : (layout : Layout) (stock : Stock) (holds : List Hold) (order : ℕ) (point : Point) → LiesIn layout stock → HoldsAt stock.rows holds order point
     → IsSlot layout point
 slot_held layout stock holds order point lies at =
     subst (IsSlot layout) (sym at.lies) (All-at (λ (row : StockRow). IsSlot layout (slot_at row.location)) stock.rows at.hold.row at.row lies at.in_row)
 
--- a wave with the same picks and with their cart is the wave of those holds
-wave_with : (layout : Layout) (opening : Opening) (released : WaveHolds) (picks : List PickSet) (wave : WavePicks) → IsLayout layout
-    → LiesIn layout opening.stock → wave.layout ≡ layout → ArePicksOf layout opening.stock.rows released.holds (length released.orders) picks → HaveSamePicks wave.orders picks
+-- a wave with these picks and with their cart is the wave of those holds
+pub wave_with : (layout : Layout) (opening : Opening) (released : WaveHolds) (picks : List PickSet) (wave : WavePicks) → IsLayout layout
+    → LiesIn layout opening.stock → wave.layout ≡ layout → ArePicksOf layout opening.stock.rows released.holds (length released.orders) picks → wave.orders ≡ picks
     → IsCartOf opening.units released wave.cart → IsWaveOf layout opening released wave
-wave_with layout opening released picks wave valid lies of_layout are same cart = record {
-  layout_is = of_layout;
-  orders = same.count ∙ are.count;
-  picks = λ order point below.
-      let d : PickSet = record { layout = wave.layout; points = [] } in
-      let to = same.each order d (omega (arith, below, same.count, are.count)) point in
-      let on = are.each order d point below in
-      (λ has. on.0 (to.0 has), λ holds. to.1 (on.1 holds));
-  slots = λ order below. record {
-    ranges = valid;
-    slots = λ point has.
-        let d : PickSet = record { layout = wave.layout; points = [] } in
-        let to = same.each order d (omega (arith, below, same.count, are.count)) point in
-        slot_held layout opening.stock released.holds order point lies ((are.each order d point below).0 (to.0 has));
-  };
-  cart = cart;
-}
-
--- so is one that is made, where memory lasts
-pub wave_made : {E : Type 0} (layout : Layout) (opening : Opening) (released : WaveHolds) (picks : List PickSet) (cart : Option LoadedCart)
-    (made : Result WavePicks E) → IsLayout layout → LiesIn layout opening.stock → ArePicksOf layout opening.stock.rows released.holds (length released.orders) picks
-    → IsCartOf opening.units released cart → IfOk made (λ wave. wave.layout ≡ layout)
-    → IfOk made (λ wave. HaveSamePicks wave.orders picks) → IfOk made (λ wave. wave.cart ≡ cart) → IfOk made (IsWaveOf layout opening released)
-wave_made layout opening released picks cart made valid lies are loaded of_layout same carts =
-    both_ok made (λ wave. (wave.layout ≡ layout) × HaveSamePicks wave.orders picks) (λ wave. wave.cart ≡ cart) (IsWaveOf layout opening released)
-    (λ wave both is. wave_with layout opening released picks wave valid lies both.0 are both.1 (subst (IsCartOf opening.units released) (sym is) loaded))
-    (both_ok made (λ wave. wave.layout ≡ layout) (λ wave. HaveSamePicks wave.orders picks)
-    (λ wave. (wave.layout ≡ layout) × HaveSamePicks wave.orders picks) (λ wave l h. (l, h)) of_layout same) carts
+wave_with layout opening released picks wave valid lies of_layout of_picks picked cart =
+    let are = subst (ArePicksOf layout opening.stock.rows released.holds (length released.orders)) (sym picked) of_picks in
+    let d : PickSet = record { layout = wave.layout; points = [] } in record {
+      layout_is = of_layout;
+      orders = are.count;
+      picks = λ order point below. are.each order d point below;
+      slots = λ order below. record {
+        ranges = valid;
+        slots = λ point has. slot_held layout opening.stock released.holds order point lies ((are.each order d point below).0 has);
+      };
+      cart = cart;
+    }

@@ -27,7 +27,7 @@ pub fn wave_of(
     let holds = released.holds.as_slice();
     let picks = order_picks(alloc, layout, rows, holds, released.orders.len())?;
     match cart_of(opening, released) {
-        Some(cart) => Wave::with_cart(alloc, *layout, &picks, cart),
-        None => Wave::of(alloc, *layout, &picks),
+        Some(cart) => Ok(Wave::taking_with_cart(alloc, *layout, picks, cart)),
+        None => Ok(Wave::taking(alloc, *layout, picks)),
     }
 }

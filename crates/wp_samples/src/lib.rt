@@ -2,7 +2,6 @@
 #![tactic(auto)]
 
 mod batches;
-mod draws;
 mod layouts;
 mod meeting;
 mod pairing;
@@ -10,7 +9,6 @@ mod picking;
 mod waves;
 
 pub use batches::{are_exactly, batch_below, batch_of, has_exactly};
-pub use draws::{Draws, next_state};
 pub use layouts::{Numbers, crossed_layout, layout_of, small_layout};
 pub use meeting::{MOST_LOOKS, Meeting};
 pub use pairing::{PairRow, pairs_for, pairs_of};

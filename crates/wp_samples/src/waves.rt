@@ -1,9 +1,9 @@
 ghost use Rattle.std.specs.Prelude.{◌≡◌, ◌<◌, All, IfSome, length};
 
-use crate::draws::Draws;
 use crate::layouts::{layout_of, small_layout};
-use crate::picking::{picked, slot_of};
+use crate::picking::{At, picked, slot_of};
 use std::alloc::Global;
+use wp_draws::Draws;
 use wp_graph::{Layout, Picks};
 use wp_lengths::Wave;
 use wp_pairs::Cart;
@@ -77,6 +77,14 @@ pub fn wave_with(alloc: Global, layout: Layout, orders: &Vec<Picks>, cart: Cart)
     Wave::with_cart(alloc, layout, orders, cart).ok()
 }
 
+// The aisle and slot of a line in 60 aisles of 40 slots, behind which its quantity is drawn.
+fn drawn_line(draws: &mut Draws) -> At {
+    let aisle = 1 + draws.below(60) as u32;
+    let slot = 1 + draws.below(40) as u32;
+    let _ = draws.below(5);
+    (aisle, slot)
+}
+
 // The next order: one to three lines.
 fn made_order(layout: &Layout, draws: &mut Draws) -> Option<Picks>
     ensures layout { IfSome result (λ picks. picks.layout ≡ layout.now) }
@@ -85,7 +93,7 @@ fn made_order(layout: &Layout, draws: &mut Draws) -> Option<Picks>
     let lines = 1 + draws.below(3) as usize;
     let mut slots = [(0, 0); 3];
     for line in 0..lines {
-        slots[line] = draws.line();
+        slots[line] = drawn_line(draws);
     }
     order_of(layout, slots.get(..lines)?)
 }

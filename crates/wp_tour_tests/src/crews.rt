@@ -3,7 +3,7 @@ ghost use Rattle.std.specs.List.{All};
 
 use std::alloc::Global;
 use wp_crew::{Crew, assign};
-use wp_samples::Draws;
+use wp_draws::Draws;
 
 /// The greatest length that may be dealt.
 const GREATEST: u64 = 1 << 40;

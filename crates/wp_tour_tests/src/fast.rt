@@ -5,9 +5,10 @@ ghost use Rattle.wp_fast.specs.Runs.{PastAisle};
 
 use crate::worked::WORKED;
 use wp_classes::tour_length;
+use wp_draws::next_state;
 use wp_fast::{Runs, Summary};
 use wp_graph::{AisleWays, Layout, Picks, aisle_ways};
-use wp_samples::{At, Numbers, add_slot, layout_of, next_state, picked, small_layout};
+use wp_samples::{At, Numbers, add_slot, layout_of, picked, small_layout};
 
 /// The length after the slots were joined one by one.
 fn length_one_by_one(layout: &Layout, slots: &[At]) -> u64 {

@@ -1,9 +1,10 @@
 ghost use Rattle.std.specs.Prelude.{◌≡◌};
 
 use crate::worked::WORKED;
+use wp_draws::next_state;
 use wp_fast::tour_length;
 use wp_graph::{Layout, Picks};
-use wp_samples::{At, Numbers, add_slot, layout_of, next_state, picked, small_layout};
+use wp_samples::{At, Numbers, add_slot, layout_of, picked, small_layout};
 
 /// Layouts of which tours are made: few and many aisles, short and long ones, near to each other and far.
 const LAYOUTS: &[Numbers] = &[

@@ -1,12 +1,11 @@
 ghost use Rattle.std.specs.Prelude.{◌≡◌};
 
 use std::alloc::Global;
+use wp_draws::Draws;
 use wp_fast::tour_length;
 use wp_graph::{Layout, Picks, Point, walk_length};
 use wp_rules::{Rule, rule_length, rule_walk};
-use wp_samples::{
-    At, Draws, add_slot, all_picked, crossed_layout, layout_of, picked, small_layout,
-};
+use wp_samples::{At, add_slot, all_picked, crossed_layout, layout_of, picked, small_layout};
 
 /// The three rules, in the order of the rows.
 const RULES: &[Rule] = &[Rule::SShape, Rule::Return, Rule::LargestGap];

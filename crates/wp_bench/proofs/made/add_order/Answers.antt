@@ -1,6 +1,6 @@
 use Rattle.std.proofs.Common.{◌≡◌, ℕ, ◌↔◌, ◌⊎◌, ◌∙◌, Contains, ap, arith, subst}
 use Rattle.wp_model.specs.declared.point.Point.{Point}
-use Rattle.wp_make.specs.Draws.{next_state, state_after}
+use Rattle.wp_draws.specs.Draws.{next_state, state_after}
 use Rattle.wp_make.specs.Lines.{line_count, line_from}
 use Rattle.wp_bench.specs.Made.{IsOfLines, aisles_of_batches, slot_of}
 use Rattle.wp_bench.proofs.Lines.{line_more, three_draws}

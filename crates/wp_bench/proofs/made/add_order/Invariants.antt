@@ -1,6 +1,6 @@
 use Rattle.std.proofs.Common.{◌≡◌, ◌*◌, ◌↔◌, ◌⊎◌, Contains}
 use Rattle.wp_model.specs.declared.point.Point.{Point}
-use Rattle.wp_make.specs.Draws.{next_state, state_after}
+use Rattle.wp_draws.specs.Draws.{next_state, state_after}
 use Rattle.wp_bench.specs.Made.{IsOfLines}
 use Rattle.wp_bench.proofs.made.add_order.Given as goal
 

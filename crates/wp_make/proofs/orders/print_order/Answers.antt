@@ -1,6 +1,6 @@
 use Rattle.std.proofs.Common.{◌≡◌, ◌∙◌, ◌*◌, ◌+◌, ◌++◌, ap, ℕ, suc, arith, refl, string_bytes}
 use Rattle.std.specs.List.{flat_map, range_with_len}
-use Rattle.wp_make.specs.Draws.{state_after}
+use Rattle.wp_draws.specs.Draws.{state_after}
 use Rattle.wp_make.specs.Lines.{line_count, line_from}
 use Rattle.wp_make.specs.Records.{line_record}
 use Rattle.wp_make.specs.Texts.{record_line}

@@ -1,24 +1,24 @@
-use Rattle.std.proofs.Common.{None, Some}
-use Rattle.wp_planner.proofs.OrderPicks.{picks_filled, wave_made}
+use Rattle.wp_planner.proofs.OrderPicks.{picks_filled, wave_with}
 use Rattle.wp_planner.proofs.waves.wave_of.Goals as goal
 
-pub with_cart-requires-clause-filled : goal.with_cart-requires-clause-filled
-with_cart-requires-clause-filled c =
+pub taking_with_cart-requires-clause-filled : goal.taking_with_cart-requires-clause-filled
+taking_with_cart-requires-clause-filled c =
     let are = rw (c.as_rows-rows.ensures.rows, c.stock.ensures.stock, c.as_slice-holds.ensures, c.len.ensures) at c.in_ok-picks.ensures in
     picks_filled _ _ _ _ _ c.requires.released.within c.requires.released.filled are
 
-pub of-requires-clause-filled : goal.of-requires-clause-filled
-of-requires-clause-filled c =
+pub taking-requires-clause-filled : goal.taking-requires-clause-filled
+taking-requires-clause-filled c =
     let are = rw (c.as_rows-rows.ensures.rows, c.stock.ensures.stock, c.as_slice-holds.ensures, c.len.ensures) at c.in_ok-picks.ensures in
     picks_filled _ _ _ _ _ c.requires.released.within c.requires.released.filled are
 
 pub returns-in-Some : goal.returns-in-Some
 returns-in-Some c =
     let are = rw (c.as_rows-rows.ensures.rows, c.stock.ensures.stock, c.as_slice-holds.ensures, c.len.ensures) at c.in_ok-picks.ensures in
-    wave_made _ _ _ _ (Some c.in-Some.cart) c.with_cart.result c.aisles-aisles.ensures.valid c.requires.lies are c.in-Some.ensures c.with_cart.ensures.layout c.with_cart.ensures.orders
-    c.with_cart.ensures.cart
+    wave_with _ _ _ _ c.taking_with_cart.result c.aisles-aisles.ensures.valid c.requires.lies c.taking_with_cart.ensures.layout are c.taking_with_cart.ensures.orders
+    (rw c.taking_with_cart.ensures.cart c.in-Some.ensures)
 
-pub returns : goal.returns
-returns c =
+pub returns-in-None : goal.returns-in-None
+returns-in-None c =
     let are = rw (c.as_rows-rows.ensures.rows, c.stock.ensures.stock, c.as_slice-holds.ensures, c.len.ensures) at c.in_ok-picks.ensures in
-    wave_made _ _ _ _ None c.of.result c.aisles-aisles.ensures.valid c.requires.lies are c.in-None.ensures c.of.ensures.layout c.of.ensures.orders c.of.ensures.cart
+    wave_with _ _ _ _ c.taking.result c.aisles-aisles.ensures.valid c.requires.lies c.taking.ensures.layout are c.taking.ensures.orders
+    (rw c.taking.ensures.cart c.in-None.ensures)

@@ -1,4 +1,4 @@
--- The generator of made numbers.
+-- Numbers that are drawn one after the other.
 use Rattle.std.specs.Prelude.{ℕ, zero, suc, ◌+◌, ◌*◌, ◌/◌, ◌%◌, ◌^◌}
 
 -- the state after a state
