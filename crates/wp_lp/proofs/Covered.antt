@@ -1,5 +1,5 @@
 -- The pools of a search have each order in some batch.
-use Rattle.std.proofs.Common.{◌≡◌, sym, subst, ℕ, ◌<◌, List, [], ◌∷◌, ◌++◌, Contains, length, map, arith}
+use Rattle.std.proofs.Common.{◌≡◌, sym, subst, ℕ, ◌<◌, List, [], ◌∷◌, Contains, length, arith}
 use Rattle.std.proofs.lemmas.List.Elements.{Contains-append_left, Contains-get_or}
 use Rattle.wp_graph.proofs.Members.{Contains-from_among, among_from_Contains, map_source}
 use Rattle.wp_pairs.specs.Permitted.{Pairing}

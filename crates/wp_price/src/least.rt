@@ -66,7 +66,6 @@ impl SlackSearch<'_> {
         let Some(child) = self.child_of(place, order) else {
             return best;
         };
-        let _orders = self.orders();
         let raised = self.raised_of(&child);
         let batch = child.batch;
         let next = better_of(best, LeastBatch { batch, raised });

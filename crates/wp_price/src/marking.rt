@@ -50,7 +50,6 @@ impl SlackSearch<'_> {
         let Some(child) = self.child_of(&self.root(), order) else {
             return Ok(None);
         };
-        let _orders = self.orders();
         let reach = self.reach_after(order, &child);
         let mut marks = Marks::new(alloc);
         self.push_marks(&child, order + 1, reach, &mut marks)?;

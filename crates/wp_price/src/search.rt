@@ -83,6 +83,7 @@ impl SlackSearch<'_> {
         ensures item { IfSome result (λ child. IsItem self.now.pairing order) }
         ensures adds { IfSome result (λ child. AddsItem self.now.pairing place.now.batch order child.batch) }
         ensures permitted { IfSome result (λ child. IsPermitted self.now.pairing child.batch) }
+        ensures few { IfSome result (λ child. self.now.pairing.orders ≤ 64) }
         ensures none { IfNone result (IsNoChild self.now.pairing place.now.batch order) }
     {
         let item = &self.items[order as usize];

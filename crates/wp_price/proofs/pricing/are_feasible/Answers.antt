@@ -1,4 +1,4 @@
-use Rattle.std.proofs.Common.{subst, sym, to_z-of_z, SFits, w64, rules, arith, ℤ, pos, ◌+ℤ◌, ◌≤ℤ◌}
+use Rattle.std.proofs.Common.{subst, sym, to_z-of_z, SFits, w64, rules, arith, pos, ◌≤ℤ◌}
 use Rattle.std.specs.Prelude.{None}
 use Rattle.std.proofs.lemmas.Int.{ints}
 use Rattle.wp_lengths.specs.Duals.{AreFeasible}

@@ -114,3 +114,6 @@ returns-clause-at c =
     (λ b. both_ways c.has-2.result c.if-has-2.false (c.has-2.ensures.exact.1 ((c.requires.place.blocked c.args.order).1 b))) in
     child_at c.args.self.now c.args.place.now _ c.args.order c.index-item.result.now c.requires.place is used new adds permitted refl refl refl
     (omega (arith, c.if-capacity-size.false, c.capacity-capacity.ensures.value, same)) c.union.ensures.orders
+
+pub returns-clause-few : goal.returns-clause-few
+returns-clause-few c = let same = ap (λ (t : Task). t.pairing.orders) c.self.view_is in omega (arith, same, c.capacity-capacity.ensures.valid.most_orders)
