@@ -92,14 +92,15 @@ class Documents(unittest.TestCase):
                                      'of IsLegal there are '),
                                     ('docs/PROMISES.md', '`IsSound` of `wp_model` | ', '`IsSound` of `wp_model` | 1',
                                      'lines more'),
-                                    ('docs/MAP.md', '| `wp_parts` |', '| `wp_nothing` |',
+                                    ('docs/MAP.md', '| `wp_crew` |', '| `wp_nothing` |',
                                      'the table of the crates has others'),
-                                    ('docs/MAP.md', '`wp_model`, `wp_outside` |', '`wp_model` |',
-                                     'wp_parts stands on wp_model, wp_outside')):
+                                    ('docs/MAP.md', '`wp_model`, `wp_graph` |', '`wp_model` |',
+                                     'wp_classes stands on wp_graph, wp_model')):
             self.assertIn(due, ' '.join(self.counted(self.changed(name, old, new))))
         lines = self.texts['docs/MAP.md'].split('\n')
-        place = next(at for at, line in enumerate(lines) if line.startswith('| `wp_model` |'))
-        lines[place], lines[place + 1] = lines[place + 1], lines[place]
+        low, high = (next(at for at, line in enumerate(lines) if line.startswith('| `%s` |' % name))
+                     for name in ('wp_model', 'wp_outside'))
+        lines[low], lines[high] = lines[high], lines[low]
         self.assertIn('wp_outside stands on wp_model, which comes later',
                       self.counted(Page('docs/MAP.md', '\n'.join(lines))))
 
