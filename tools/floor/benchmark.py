@@ -6,8 +6,9 @@ usage: tools/wave benchmark --class NAME,.. [options] [--table | --json | --html
        tools/wave benchmark --class NAME,.. | --read FILE .. [options] --write FOLDER
 
 The first form draws instances from seeds, the second reads plain files, of which - is standard input. Each is a day
-that the program plans, with each budget. The table has a row for each kind of instances, with mean and spread over the
-seeds. The third form runs nothing: it writes each instance as a plain file, and as the four files of this program.
+that the program plans, with each budget and each number of nodes. The table has a row for each kind of instances,
+with mean and spread over the seeds. The third form runs nothing: it writes each instance as a plain file, and as the
+four files of this program.
 
   --class NAME,..     henn-waescher and gademann-velde, as told below
   --seeds N           so many seeds, 5 where it isn't given
@@ -18,7 +19,7 @@ seeds. The third form runs nothing: it writes each instance as a plain file, and
   --capacity LIST     how many orders a cart takes, 1 to 8
   --budget LIST       what may be spent on the bound of each wave, 2000000 where it isn't given
   --sharp             plans each also with --sharp 1 of the program
-  --nodes LIST        plans each also with --nodes of the program, of each of these numbers
+  --nodes LIST        plans each also with --nodes of the program in the place of a budget, 1 to 1000000000
   --table             the table in Markdown, with the date, the program and the command
   --json              all figures as one object
   --html              a page for a browser and for paper
@@ -77,14 +78,14 @@ from . import benchmark_pages, benchmark_runs, benchmark_tables, planning
 from .benchmark_rows import failures
 from .benchmark_tables import Made
 from .instance_classes import CLASSES, DEMANDS, SEEDS
-from .instances import BUDGETS, CAPACITIES, MOST_ORDERS, UNITS
+from .instances import BUDGETS, CAPACITIES, MOST_ORDERS, NODES, UNITS
 from .plain_instances import NO_UNITS
 from .word_lists import listed, named
 
 __doc__ = __doc__.replace('%(classes)s', '\n\n'.join(
     textwrap.fill('%s: %s' % (each.name, each.told), 120) for each in CLASSES.values()))
 
-MOST_SEEDS, MOST_NODES = 1000, 10 ** 18
+MOST_SEEDS = 1000
 FORMS = {'table': benchmark_tables.markdown_of, 'json': benchmark_tables.object_of, 'html': benchmark_pages.page_of}
 
 
@@ -104,7 +105,7 @@ def asked_words(words):
     known = Words('benchmark')
     add_instances(known)
     known.add_argument('--budget', type=listed(*BUDGETS), default=[command_line.GIVEN['budget']])
-    known.add_argument('--nodes', type=listed(0, MOST_NODES), default=[])
+    known.add_argument('--nodes', type=listed(*NODES), default=[])
     known.add_argument('--sharp', action='store_true')
     known.add_argument('--write')
     form = known.add_mutually_exclusive_group()

@@ -7,7 +7,8 @@ from .measures import MEASURES, Result, gap, spread_of
 
 # Instances that make one row: what they are called, how many orders they have, and the cart.
 Group = namedtuple('Group', 'title orders capacity units instances')
-# How they are planned: the budget, whether with --sharp, and the number behind --nodes, None where there is none.
+# How they are planned: the budget, whether with --sharp, and the number behind --nodes. One of budget and nodes is None:
+# nodes stand in the budget's place.
 Way = namedtuple('Way', 'budget sharp nodes')
 # A row has what came of each instance in their order: a result, or why there is none.
 Row = namedtuple('Row', 'group way ends')
@@ -43,8 +44,8 @@ def failures(rows):
 
 def told_way(way):
     """A way to plan in words."""
-    nodes = [] if way.nodes is None else ['--nodes %d' % way.nodes]
-    return ', '.join(['budget %s' % grouped(way.budget), *(['--sharp'] if way.sharp else []), *nodes])
+    told = 'budget %s' % grouped(way.budget) if way.nodes is None else '--nodes %d' % way.nodes
+    return ', '.join([told, *(['--sharp'] if way.sharp else [])])
 
 
 def grouped(value, digits=0):
@@ -65,7 +66,8 @@ def way_cells(row):
     """The cells of the instances and of the way in which they are planned."""
     group, way = row.group, row.way
     return {'instances': group.title, 'orders': grouped(group.orders), 'capacity': str(group.capacity),
-            'units': 'none' if group.units is None else grouped(group.units), 'budget': grouped(way.budget),
+            'units': 'none' if group.units is None else grouped(group.units),
+            'budget': '-' if way.budget is None else grouped(way.budget),
             '--sharp': 'yes' if way.sharp else 'no', '--nodes': '-' if way.nodes is None else grouped(way.nodes)}
 
 

@@ -59,14 +59,16 @@ def groups_of(asked):
 
 def ways_of(asked):
     """Each way to plan an instance."""
-    sharp, nodes = [False, True] if asked.sharp else [False], [None, *asked.nodes]
-    return [Way(*each) for each in itertools.product(asked.budget, sharp, nodes)]
+    efforts = [*((budget, None) for budget in asked.budget), *((None, nodes) for nodes in asked.nodes)]
+    sharp = [False, True] if asked.sharp else [False]
+    return [Way(budget, each, nodes) for (budget, nodes), each in itertools.product(efforts, sharp)]
 
 
 def run_of(files, instance, way):
     """The run of an instance in one way."""
-    sharp, nodes = ['--sharp', '1'] if way.sharp else [], [] if way.nodes is None else ['--nodes', str(way.nodes)]
-    return planning.Run(['plan', *cart_words(instance), '--budget', str(way.budget), *sharp, *nodes], files)
+    sharp = ['--sharp', '1'] if way.sharp else []
+    effort = ['--budget', str(way.budget)] if way.nodes is None else ['--nodes', str(way.nodes)]
+    return planning.Run(['plan', *cart_words(instance), *effort, *sharp], files)
 
 
 def bytes_of(instance):

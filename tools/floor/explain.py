@@ -25,7 +25,7 @@ import sys
 from endings import REFUSED, RIGHT, WRONG, Words, tell_usage
 from opinion import answers, json_text, stores, tables
 from opinion.refusals import MOST_BYTES
-from opinion.words import FILES, NUMBERS, read_words
+from opinion.words import FILES, INSTEAD, NUMBERS, read_words
 
 from . import causes, refused_commands
 from .names import restored_line, taken_from, texts_of
@@ -132,6 +132,10 @@ class Explained:
         if name and str(self.why.text).startswith('--' + name):
             self.say('option', '--' + name)
             return self.cause('it stands twice', 'give it once')
+        if name in INSTEAD and self.why.text == INSTEAD[name]:
+            self.say('option', '--' + name)
+            return self.cause('--%s is given too, and --%s stands in its place' % (INSTEAD[name], name),
+                              'give one of the two')
         if name in NUMBERS[mode] and self.why.text is not None:
             self.say('option', '--%s %s' % (name, shown(self.why.text)))
             return self.cause('it is no whole number from %d to %d' % NUMBERS[mode][name],

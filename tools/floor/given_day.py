@@ -6,7 +6,7 @@ from collections import namedtuple
 
 from endings import Trouble, shortened
 from opinion.refusals import Refusal
-from opinion.words import GIVEN, NUMBERS, read_words
+from opinion.words import GIVEN, INSTEAD, NUMBERS, read_words
 
 from .planning import Run
 from .trouble import read_bytes
@@ -21,7 +21,9 @@ class Day(namedtuple('Day', 'files numbers')):
         return Run(['plan', *(word for name in told for word in ('--' + name, str(self.numbers[name])))], self.files)
 
     def with_numbers(self, **numbers):
-        return self._replace(numbers={**self.numbers, **numbers})
+        """The same day with other numbers. A budget stands in the place of nodes."""
+        unless = {name: None for name, other in INSTEAD.items() if other in numbers}
+        return self._replace(numbers={**self.numbers, **unless, **numbers})
 
     def with_files(self, **files):
         return self._replace(files={**self.files, **files})
@@ -61,6 +63,8 @@ def read_day(words):
 
 def _cause(why):
     """What is wrong with the words of a plan."""
+    if why.field in INSTEAD and why.text == INSTEAD[why.field]:
+        return '--%s stands in the place of --%s: give one of them' % (why.field, why.text)
     if why.field in NUMBERS['plan'] and why.text is not None:
         return number_fault(why.field, why.text)
     if why.field:

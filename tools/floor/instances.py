@@ -21,6 +21,7 @@ LAYOUT_RANGES = {**layouts.MOST, 'spacings': layouts.MOST['spacing']}
 CAPACITIES = words.PLAN_NUMBERS['capacity']
 UNITS = words.CART_NUMBERS['units']
 BUDGETS = words.PLAN_NUMBERS['budget']
+NODES = words.PLAN_NUMBERS['nodes']
 
 
 def units_of(order):

@@ -45,7 +45,7 @@ def state_of(wave):
     told = 'proven: no way to put its orders into carts is shorter'
     if wave.state != 'proven':
         budget = thousands(price(wave.size, wave.capacity))
-        told = 'open: a better one may be there. A budget of %s pays for a node of its tree' % budget
+        told = 'open: a better one may be there. A budget of %s, or --nodes 1, pays for a node of its tree' % budget
     return told + ('. <b>Cancelled later</b>' if wave.cancelled else '')
 
 

@@ -1,7 +1,7 @@
 """Judges an answer of waveplan by a program of its own, which shares no line with it.
 
 usage: tools/wave second-opinion [plan] --layout FILE --stock FILE --orders FILE --desks FILE [--capacity C] [--units N]
-                            [--budget N] [--workers K] [--rules 0-1] [--pickers K] [--root 0-1] [--store 0-1]
+                            [--budget N | --nodes N] [--workers K] [--rules 0-1] [--pickers K] [--root 0-1] [--store 0-1]
                             [--store-before FILE [--store-after FILE] | --stored] DAY
        tools/wave second-opinion [check] --layout FILE --certificate FILE ANSWER
        tools/wave second-opinion [audit] --layout FILE --stock FILE --orders FILE --journal FILE [--units N] ANSWER
@@ -17,8 +17,9 @@ holds the bound, which is found again for waves with at most 1,000 permitted bat
 an open one is that of the share duals and a first batching. None may stand there where it isn't asked for. Where a file
 is refused, the line that tells it is judged.
 
-With `plan` before the words, or with one of --budget, --workers and --store, the words are all those of the plan. Then
-each wave is worked as far as its budget pays, which is 2000000 where none is given, and so is each open bracket.
+With `plan` before the words, or with one of --budget, --nodes, --workers and --store, the words are all those of the
+plan. Then each wave is worked as far as its budget pays, which is 2000000 where neither --budget nor --nodes is given,
+and so is each open bracket.
 
 A day that was planned with --store 1 is judged with the store as it was before the run. In the folder of the last run
 this finds the copy that the launcher keeps, waveplan.store.before, by itself, or where --store 1 says so; else
@@ -79,7 +80,9 @@ def numbers_of(asked):
         low, high = NUMBERS['plan'][why.field]
         raise Trouble('--%s is a whole number from %d to %d, not %s'
                       % (why.field, low, high, shortened(why.text))) from None
-    is_whole = asked.mode or any(name in found for name in ('budget', 'workers', 'store'))
+    if 'budget' in found and 'nodes' in found:
+        raise Trouble('--nodes stands in the place of --budget: give one of them')
+    is_whole = asked.mode or any(name in found for name in ('budget', 'nodes', 'workers', 'store'))
     return {'capacity': None, **GIVEN, **({} if is_whole else {'budget': None}), **found}
 
 

@@ -48,7 +48,7 @@ def opening_of(files):
     stored = files.stored(stock, orders, scripts)
     return days.Opening(layout, stock, orders, scripts, numbers['capacity'], numbers.get('units'), **shown,
                         stored=stored,
-                        budget=numbers['budget'])
+                        budget=numbers['budget'], nodes=numbers.get('nodes'))
 
 
 def check_of(files):

@@ -4,7 +4,7 @@ import re
 from collections import namedtuple
 
 from . import json_text, tours
-from .budgets import nodes_for
+from .budgets import budget_for, nodes_for
 from .certificates import Wave as CertifiedWave, bound_of, read_certificate
 from .crews import judge_crew
 from .journals import read_entry
@@ -19,9 +19,9 @@ TOO_LONG = re.compile(b'[0-9]{60}')  # longer than any number or name
 
 # What the files of a day say, and what its words do: the units of a cart may be None, and rules, pickers and root are 0
 # where nothing is told of them. `stored` has the lines of the entries with which the day begins. A budget of None isn't
-# told.
-Opening = namedtuple('Opening', 'layout stock orders scripts capacity units rules pickers root stored budget',
-                     defaults=(0, 0, 0, (), None))
+# told, and nodes of None don't stand in its place.
+Opening = namedtuple('Opening', 'layout stock orders scripts capacity units rules pickers root stored budget '
+                     'nodes', defaults=(0, 0, 0, (), None, None))
 
 # A wave that went out: its name, the number of the entry, its orders, and what it holds then, as (row, order, units).
 Released = namedtuple('Released', 'name entry orders held')
@@ -152,8 +152,9 @@ class Judge:
         self.test_numbers(wave, batches, sum(lengths), (cost, bound, state))
         certified, nodes = self.certificate(wave, batches, capacity, bound)
         self.waves.append((wave, capacity, cost, bound, state))
-        paid = nodes_for(self.opening.budget, len(wave.orders), capacity)
-        self.test_worked(wave, nodes, paid, state)
+        budget = budget_for(self.opening.budget, self.opening.nodes, len(wave.orders), capacity)
+        paid = nodes_for(budget, len(wave.orders), capacity)
+        self.test_worked(wave, nodes, (budget, paid), state)
         if self.opening.root:
             duals = sum(nodes[0].get('duals', certified.shares()))
             judge_root(self.lines, wave.name, certified, cost, duals, paid)
@@ -255,12 +256,13 @@ class Judge:
         self.test_joins(wave, batches, certified)
         return certified, found.nodes
 
-    def test_worked(self, wave, nodes, paid, state):
+    def test_worked(self, wave, nodes, effort, state):
         """As many nodes have duals of their own as the budget pays for, or the plan is proven before."""
+        budget, paid = effort
         own = sum('duals' in node for node in nodes)
         told = '%d nodes of %s have duals of their own where the budget of %d pays for %d'
         right = paid is None or own <= paid and (own == paid or state == 'proven')
-        self.lines.test(right, told % (own, wave.name, self.opening.budget or 0, paid or 0))
+        self.lines.test(right, told % (own, wave.name, budget or 0, paid or 0))
 
     def is_compact(self, text):
         """Whether a text is JSON as it is printed: nothing between its parts, keys in order, slots of each order in

@@ -11,7 +11,8 @@ FILES = {
     'audit': ('layout', 'stock', 'orders', 'journal'),
     'make': (),
 }
-PLAN_NUMBERS = {'capacity': (1, 8), 'budget': (0, 10 ** 18), 'workers': (1, 16)}
+MOST_BUDGET = 10 ** 18
+PLAN_NUMBERS = {'capacity': (1, 8), 'budget': (0, MOST_BUDGET), 'nodes': (1, 10 ** 9), 'workers': (1, 16)}
 CART_NUMBERS = {'units': (1, 40000000)}
 SHOWN_NUMBERS = {'rules': (0, 1), 'pickers': (0, 100), 'root': (0, 1)}  # what a plan tells besides
 STORE_NUMBERS = {'store': (0, 1)}
@@ -22,10 +23,11 @@ NUMBERS = {
     'make': {'number': (0, 2 ** 64 - 1), 'aisles': (1, 64), 'orders': (1, 10000), 'desks': (1, 8), 'wave': (1, 64),
              **PLAN_NUMBERS},
 }
-GIVEN = {'budget': 2000000, 'workers': 1, 'units': None, 'rules': 0, 'pickers': 0, 'root': 0,
+GIVEN = {'budget': 2000000, 'nodes': None, 'workers': 1, 'units': None, 'rules': 0, 'pickers': 0, 'root': 0,
          'store': 0}  # where they are left out
 MOST_WAVES = 500
 NUMBER = re.compile(r'\+?[0-9]+|-0+')
+INSTEAD = {'nodes': 'budget'}  # what stands in the place of another, so that words have one of the two at most
 SIGNED = ('rules', 'pickers', 'root', 'store')  # whose 0 may have a minus
 
 # A mode with the names of its files and its numbers, by their options.
@@ -86,6 +88,9 @@ def read_words(words):
             _bad(name)
     numbers = {name: number(name, found[name], bounds) if name in found else GIVEN[name]
                for name, bounds in NUMBERS[mode].items()}
+    for name, other in INSTEAD.items():
+        if name in found and other in found:
+            _bad(name, other)
     waves = -(-numbers['orders'] // numbers['wave']) if mode == 'make' else 0
     if waves > MOST_WAVES:
         raise Refusal(1, 'refused words too-many-waves %d' % waves)

@@ -337,7 +337,7 @@ def rows_by_hand():
     group = Group('some', 1, 2, None, three)
     results = [Result(48, 48, True, 1, 0.5), Result(52, 39, False, 3, 1.0), Result(56, 28, False, 2, 3.0)]
     return [Row(group, Way(2000000, False, None), results),
-            Row(group, Way(2000000, True, 7), [benchmark_rows.BAD_WORDS] * 3),
+            Row(group, Way(None, True, 7), [benchmark_rows.BAD_WORDS] * 3),
             Row(group, Way(0, False, None), ['the program ended with status 5', results[0], benchmark_rows.BAD_WORDS])]
 
 
@@ -360,7 +360,7 @@ class Figures(unittest.TestCase):
         self.assertEqual([
             [*some, '2,000,000', 'no', '-', '52.0 \u00b14.0 (48 to 56)', '38.3 \u00b110.0 (28 to 48)',
              '25.00 \u00b125.00 (0.00 to 50.00)', '1 of 3', '2.0 (1 to 3)', '1.50 (0.50 to 3.00)'],
-            [*some, '2,000,000', 'yes', '7', 'not in this program', '', '', '', '', ''],
+            [*some, '-', 'yes', '7', 'not in this program', '', '', '', '', ''],
             [*some, '0', 'no', '-', '48', '48', '0.00', '1 of 1', '1', '0.50']], cells)
         self.assertEqual(['seed-1, budget 0: the program ended with status 5',
                           'seed-3, budget 0: refused words bad-words'], list(benchmark_rows.failures(rows_by_hand())))
@@ -414,10 +414,11 @@ class Runs(unittest.TestCase):
 
     def test_what_the_program_does_not_know_is_told_and_the_run_goes_on(self):
         lines = self.benchmark('--read', 'plain.txt', '--sharp', '--nodes', '3,4').splitlines()
-        self.assertEqual([('no', '-', '64'), *((sharp, nodes, 'not in this program') for sharp, nodes in (
-            ('no', '3'), ('no', '4'), ('yes', '-'), ('yes', '3'), ('yes', '4')))],
-                         [tuple(re.split('  +', line)[5:8]) for line in lines[1:7]])
-        self.assertTrue(any(call.endswith(' --sharp 1 --nodes 4') for call in self.calls()))
+        self.assertEqual([('2,000,000', 'no', '-', '64'), *((*way, 'not in this program') for way in (
+            ('2,000,000', 'yes', '-'), ('-', 'no', '3'), ('-', 'yes', '3'), ('-', 'no', '4'), ('-', 'yes', '4')))],
+                         [tuple(re.split('  +', line)[4:8]) for line in lines[1:7]])
+        self.assertTrue(any(call.endswith(' --nodes 4 --sharp 1') for call in self.calls()))
+        self.assertFalse(any('--budget' in call and '--nodes' in call for call in self.calls()))
 
     def test_runs_that_came_to_nothing_are_told(self):
         for pitch, why in (('9', 'the program ended with status 5'), ('8', 'release W1 -> refused short A 2 1')):

@@ -82,7 +82,7 @@ RIGHT = {
 }
 NUMBERS = {
     'import': ['--skip', '--skip-last'], 'continue': ['--desk'], 'confirm': ['--desk'], 'report': ['--per-metre'],
-    'second-opinion': ['--capacity', '--units', '--budget', '--workers', '--rules', '--pickers', '--root', '--store'],
+    'second-opinion': ['--capacity', '--units', '--budget', '--nodes', '--workers', '--rules', '--pickers', '--root', '--store'],
     'what-if': ['--capacity', '--units', '--pickers', '--budget', '--spacing', '--depot', '--wave', '--rules',
                 '--per-metre', '--jobs'],
     'slotting': ['--tries', '--move-cost', '--days', '--jobs'],
@@ -238,6 +238,7 @@ def odd_words(name):
             ['--csv', '-', '--page', '-'], ['--page'], ['day.txt'], ['--per-metre', '1.'], ['--per-metre', '0.0'],
             ['--json', '-', '--names', '/'])],
         'explain': [['plan', *PLAN, '--units', MOST_DIGITS], ['plan', *PLAN, '--budget', '+' + MOST_DIGITS],
+                    ['plan', *PLAN, '--nodes', '0'], ['plan', *PLAN, '--nodes', '1', '--budget', '5'],
                     ['make', '--number', MOST_DIGITS],
                     ['plan', *PLAN, '--store', '1'], ['check', '--layout', '/root/none/x'], ['\udcff'],
                     ['plan', '\udcff'], ['plan', *PLAN[:-1], '\udcff'], ['journal'], ['journal', 'nowhere'],
@@ -247,7 +248,8 @@ def odd_words(name):
                                                          ['--store-after', 'day.txt', 'day.txt'],
                                                          ['--store-before', '/', 'day.txt'],
                                                          ['--store-before', 'stock.csv', 'day.txt'],
-                                                         ['day.txt', 'day.txt'], ['--certificate', 'x', 'day.txt'])],
+                                                         ['day.txt', 'day.txt'], ['--certificate', 'x', 'day.txt'],
+                                                         ['--nodes', '1', 'day.txt'])],
         'what-if': [[*TRIED, *more, 'plan', *PLAN] for more in (
             [], ['--capacity', '6..2'], ['--capacity', '1..' + MOST_DIGITS], ['--depot', '@'],
             ['--depot', '1@back@back'], ['--units', 'none..3'], ['--capacity', '1..500', '--budget', '1..500'],

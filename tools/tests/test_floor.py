@@ -98,7 +98,7 @@ class Sheets(unittest.TestCase):
 
     def test_an_open_wave_tells_the_budget_of_a_node(self):
         day = runs.day_of('one-day', '--capacity', '3', '--budget', '0')
-        self.assertRegex(sheets(day).output, 'A budget of 2\u202f048 pays for a node')
+        self.assertRegex(sheets(day).output, 'A budget of 2\u202f048, or --nodes 1, pays for a node')
 
     def test_later_kinds_of_lines_are_shown_or_passed_over(self):
         folder = runs.put(Path(runs.shelf().name) / 'later', {'day.txt': LATER, 'layout.json': SMALL})

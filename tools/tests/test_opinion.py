@@ -208,7 +208,7 @@ class Files(unittest.TestCase):
 
     def test_words_are_read_as_documented(self):
         job = words.read_words('plan --layout=l --stock s --orders o --desks d --capacity +03'.split())
-        self.assertEqual(({'capacity': 3, 'budget': 2000000, 'workers': 1, 'units': None, 'rules': 0, 'pickers': 0,
+        self.assertEqual(({'capacity': 3, 'budget': 2000000, 'nodes': None, 'workers': 1, 'units': None, 'rules': 0, 'pickers': 0,
                            'root': 0, 'store': 0}, 'l'), (job.numbers, job.files['layout']))
         for units, due in (('1', 1), ('=40000000', 40000000), ('=+007', 7)):
             for mode in ('plan --desks d --capacity 3', 'audit --journal j'):
@@ -230,12 +230,21 @@ class Files(unittest.TestCase):
         for word in ('--rules 2', '--rules -0', '--rules=-1', '--rules', '--rules=', '--rules 1 --rules 1',
                      '--rules 1.0', '--pickers 101', '--pickers=-1', '--pickers',
                      '--pickers x', '--pickers 3 --pickers 3', '--pickers 1 --rules', '--budget=-0', '--root 2',
+                     '--nodes 0', '--nodes=0', '--nodes -1', '--nodes=-1', '--nodes 1000000001', '--nodes', '--nodes=',
+                     '--nodes 1 --nodes 1', '--nodes 1 --budget 112', '--budget=0 --nodes=5', '--nodes x',
                      '--root -0', '--root=-1', '--root', '--root=',
                      '--root 1 --root 1', '--root=0 --root=1', '--root yes', '--root --rules 1', '--roots 1',
                      '--store 2', '--store -0', '--store=-1', '--store', '--store=',
                      '--store 1 --store 1', '--store=0 --store=1', '--store waveplan.store', '--stor 1'):
             asked = ['plan', *'--layout l --stock s --orders o --desks d --capacity 3'.split(), *word.split()]
             self.assertEqual('refused words bad-words', refused(words.read_words, asked), word)
+        for mode in ('plan --layout l --stock s --orders o --desks d --capacity 3',
+                     'make --number 1 --aisles 2 --orders 5 --desks 1 --wave 1 --capacity 1'):
+            for nodes, due in ((' 1', 1), ('=1000000000', 10 ** 9), (' +016', 16)):
+                numbers = words.read_words(('%s --nodes%s' % (mode, nodes)).split()).numbers
+                self.assertEqual((due, 2000000), (numbers['nodes'], numbers['budget']), (mode, nodes))
+        for asked in ('check --layout l --certificate c', 'audit --layout l --stock s --orders o --journal j'):
+            self.assertEqual('refused words bad-words', refused(words.read_words, [*asked.split(), '--nodes', '1']))
         for asked in ('check --layout l --certificate c', 'audit --layout l --stock s --orders o --journal j',
                       'make --number 1 --aisles 2 --orders 5 --desks 1 --wave 1 --capacity 1'):
             for word in ('--rules 1', '--rules 0', '--pickers 2', '--pickers 0', '--root 1', '--root 0', '--store 1',
@@ -548,6 +557,10 @@ class Crews(unittest.TestCase):
                 (shown + ' --budget 0 --store 1', 0, right),
                 ('--rules 1 --pickers 2 --budget 0', 1, 'wrong: line 15: a line `root'),
                 (shown + ' --budget 112', 1, short + '112 pays for 1'),
+                (shown + ' --nodes 1', 1, short + '112 pays for 1'),
+                (shown + ' --nodes 16', 1, short + '1792 pays for 16'),
+                (shown + ' --nodes 1000000000', 1, short + '112000000000 pays for 1000000000'),
+                (shown + ' --nodes 1 --budget 0', 2, ''), (shown + ' --nodes 0', 2, ''),
                 (shown + ' --workers 1', 1, short + '2000000 pays for 17857'),
                 (shown, 0, right), (shown + ' --store 0', 1, short + '2000000 pays for 17857'),
                 (shown + ' --budget 0 --capacity 3', 1, 'wrong: line 5: the capacity'),

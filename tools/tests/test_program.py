@@ -219,6 +219,17 @@ class Days(unittest.TestCase):
         self.assertIn('cost %d bound' % sum(costs), made.output)
         self.floor(folder)
 
+    def test_each_wave_has_its_own_nodes(self):
+        """A day of waves of 40 and of 10 orders: each works for as many nodes of its own price."""
+        folder = runs.put(Path(runs.shelf().name) / 'nodes', making.files(2, 60, 50, 1, 40))
+        for nodes in ('1', '3'):
+            done = runs.planned(folder, '--capacity', '2', '--nodes', nodes)
+            self.assertEqual(0, done.status, done.output)
+            self.assertEqual(['40', '10'], re.findall(r'^wave \S+ entry \d+ orders (\d+)', done.output, re.MULTILINE))
+            judged = runs.script('second-opinion', *runs.options(folder), '--capacity', '2', '--nodes', nodes, '-',
+                                 given=done.bytes)
+            self.assertEqual(0, judged.status, judged.output)
+
     def floor(self, folder):
         """The scripts for the floor over the great day."""
         page = runs.script('sheets', '--layout', folder / 'layout.json', folder / 'day.txt')

@@ -1,5 +1,5 @@
 -- Plans of waves that went out.
-use Rattle.std.specs.Prelude.{◌↔◌, Option, IfSome, IsSome}
+use Rattle.std.specs.Prelude.{◌↔◌, Option, IfSome, IsSome, length}
 use Rattle.wp_model.specs.Opening.{Opening}
 use Rattle.wp_model.specs.Warehouse.{Layout}
 use Rattle.wp_machine.specs.declared.outcome.WaveHolds.{WaveHolds}
@@ -10,7 +10,7 @@ use Rattle.wp_search.specs.Plans.{IsGoodPlan}
 use Rattle.wp_search.specs.declared.plan.Planned.{Planned}
 use Rattle.wp_planner.specs.Released.{IsReleased, IsWaveOf}
 use Rattle.wp_planner.specs.Roots.{IsRootFor}
-use Rattle.wp_planner.specs.Terms.{Terms}
+use Rattle.wp_planner.specs.Terms.{Terms, budget_of}
 use Rattle.wp_planner.specs.declared.planner.WavePlan.{WavePlan}
 
 -- the text of the certificate of a wave's plan tells the plan's bound, by the words that a check goes by
@@ -22,7 +22,7 @@ IsCertified layout terms wave planned =
 -- certificate that tells its bound
 pub record IsPlanOf (layout : Layout) (opening : Opening) (released : WaveHolds) (terms : Terms) (plan : WavePlan) : Type 0 where
   pub wave : IsWaveOf layout opening released plan.wave
-  pub good : IsGoodPlan plan.wave terms.capacity terms.budget plan.planned
+  pub good : IsGoodPlan plan.wave terms.capacity (budget_of (length plan.wave.orders) terms) plan.planned
   pub root : IsRootFor terms plan.wave plan.root
   pub certified : IsCertified layout terms plan.wave plan.planned
 

@@ -9,11 +9,11 @@ use Rattle.wp_lp.specs.declared.root.RootState.{RootState}
 use Rattle.wp_lp.specs.declared.root.RootState.TheVariants as state
 use Rattle.wp_node.specs.Prices.{price}
 use Rattle.wp_sheets.specs.Roots.{root_line}
-use Rattle.wp_planner.specs.Terms.{Terms}
+use Rattle.wp_planner.specs.Terms.{Terms, budget_of}
 
 -- how many rounds the budget of a plan pays for: one for each node with duals of its own for which it would
 abbrev pub rounds_of : WavePicks → Terms → ℕ
-rounds_of wave terms = terms.budget / price (length wave.orders) terms.capacity
+rounds_of wave terms = budget_of (length wave.orders) terms / price (length wave.orders) terms.capacity
 
 -- What a bracket of a wave's linear bound shows: a fractional cover and feasible duals over one denominator, of which no fractional cover costs less than the low
 -- side, and the linear bound isn't above the high one. Its state has its cause, and rounds are wanting only where there are more permitted batches.

@@ -1,4 +1,4 @@
-ghost use Rattle.std.specs.Prelude.{◌≡◌, ◌≤◌, IfOk};
+ghost use Rattle.std.specs.Prelude.{◌≡◌, ◌≤◌, IfOk, length};
 ghost use Rattle.wp_search.specs.Plans.{IsGoodPlan};
 ghost use Rattle.wp_machine.specs.declared.outcome.WaveHolds.{WaveHolds as Holds};
 ghost use Rattle.wp_model.specs.Opening.{Opening as OpeningData};
@@ -6,6 +6,7 @@ ghost use Rattle.wp_model.specs.Warehouse.{Layout as Block};
 ghost use Rattle.wp_planner.specs.Plans.{IsCertified, IsPlanFor, IsPlanOf};
 ghost use Rattle.wp_planner.specs.Released.{IsReleased, IsWaveOf, LiesIn};
 ghost use Rattle.wp_planner.specs.Roots.{IsRootFor, rounds_of};
+ghost use Rattle.wp_planner.specs.Terms.{budget_of};
 
 use crate::released::is_released;
 use crate::terms::Terms;
@@ -85,7 +86,7 @@ fn rounds_for(wave: &Wave, terms: &Terms) -> u64
     ensures { result ≡ rounds_of wave.now terms.now }
 {
     let price = price_of(wave.orders(), terms.capacity());
-    (u128::from(terms.budget()) / price) as u64
+    (u128::from(terms.budget_for(wave.orders())) / price) as u64
 }
 
 // The bracket of a wave's linear bound, where the terms ask for one.
@@ -113,14 +114,13 @@ fn searched<R: Threads + Sync, G: Gate>(
     alloc: Global,
     wave: &Wave,
 ) -> Result<Found, Memory>
-    ensures plan { IfOk result (λ found. IsGoodPlan wave.now planning.now.terms.now.capacity planning.now.terms.now.budget found.planned) }
+    ensures plan { IfOk result (λ found. IsGoodPlan wave.now planning.now.terms.now.capacity (budget_of (length wave.now.orders) planning.now.terms.now) found.planned) }
     ensures root { IfOk result (λ found. IsRootFor planning.now.terms.now wave.now found.root) }
     ensures certified { (layout : Block) (opening : OpeningData) (released : Holds) → IsWaveOf layout opening released wave.now
         → IfOk result (λ found. IsCertified layout planning.now.terms.now wave.now found.planned) }
 {
-    let _orders = wave.orders();
     let capacity = planning.terms.capacity();
-    let budget = planning.terms.budget();
+    let budget = planning.terms.budget_for(wave.orders());
     let workers = planning.terms.workers();
     let planned = plan_wave(
         planning.rt,
@@ -135,7 +135,7 @@ fn searched<R: Threads + Sync, G: Gate>(
     Ok(Found { planned, root })
 }
 
-/// The plan of a wave that went out: a good plan, for the terms' capacity and budget, of the wave whose orders pick at the slots
+/// The plan of a wave that went out: a good plan, for the terms' capacity and what they spend on it, of the wave whose orders pick at the slots
 /// of the layout at which they hold units, and whose batches fit a cart of the opening's units, if it has them; and a bracket of its
 /// linear bound, where the terms ask for one. The text of its certificate tells its bound. The workers that price it pass the gate.
 pub fn plan_of<R: Threads + Sync, G: Gate>(
@@ -147,7 +147,8 @@ pub fn plan_of<R: Threads + Sync, G: Gate>(
     ensures { IfOk result (IsPlanOf planning.now.layout.now planning.now.opening.now released.now planning.now.terms.now) }
 {
     let mut wave = wave_of(alloc, planning.layout, planning.opening, released)?;
-    let kept = kept_orders(&wave, planning.terms.capacity(), planning.terms.budget());
+    let budget = planning.terms.budget_for(wave.orders());
+    let kept = kept_orders(&wave, planning.terms.capacity(), budget);
     wave.keep_lengths_by(planning.rt, alloc, kept, planning.terms.workers())?;
     let Found { planned, root } = searched(planning, alloc, &wave)?;
     wave.keep_lengths(alloc, 0)?;

@@ -19,6 +19,14 @@ fn with_units(alloc: Global, text: String, units: Option<u32>) -> Result<String,
     }
 }
 
+/// A text, and behind it for how many nodes a search may work, where that is given.
+fn with_nodes(alloc: Global, text: String, nodes: Option<u64>) -> Result<String, AllocError> {
+    match nodes {
+        None => Ok(text),
+        Some(nodes) => format!(in alloc; "{text}, {nodes} nodes"),
+    }
+}
+
 /// A text, and behind it the number of a switch, where it isn't 0.
 fn with_switch(alloc: Global, text: String, name: &str, number: u32) -> Result<String, AllocError> {
     match number {
@@ -36,6 +44,7 @@ fn plan_text(alloc: Global, words: &PlanWords) -> Result<String, AllocError> {
         capacity,
         units,
         budget,
+        nodes,
         workers,
         rules,
         pickers,
@@ -45,6 +54,7 @@ fn plan_text(alloc: Global, words: &PlanWords) -> Result<String, AllocError> {
     let text = format!(in alloc;
         "plan {layout}, {stock}, {orders}, {desks}, {capacity}, {budget}, {workers}"
     )?;
+    let text = with_nodes(alloc, text, *nodes)?;
     let text = with_units(alloc, text, *units)?;
     let text = with_switch(alloc, text, "rules", *rules)?;
     let text = with_switch(alloc, text, "pickers", *pickers)?;
@@ -81,11 +91,13 @@ fn make_text(alloc: Global, words: &MakeWords) -> Result<String, AllocError> {
         wave,
         capacity,
         budget,
+        nodes,
         workers,
     } = words;
-    format!(in alloc;
+    let text = format!(in alloc;
         "make {number}, {aisles}, {orders}, {desks}, {wave}, {capacity}, {budget}, {workers}"
-    )
+    )?;
+    with_nodes(alloc, text, *nodes)
 }
 
 /// The mode of a job and the names and numbers that it gives, or what the fault is told as.
@@ -205,6 +217,10 @@ const JOBS: &[(&str, &str)] = &[
         "make 1, 60, 200, 4, 20, 3, 120000, 16",
     ),
     (
+        "make --number 1 --aisles 60 --orders 200 --desks 4 --nodes 16 --wave 20 --capacity 3",
+        "make 1, 60, 200, 4, 20, 3, 2000000, 1, 16 nodes",
+    ),
+    (
         "make --number=18446744073709551615 --aisles=64 --orders=10000 --desks=8 --wave=64 --capacity=8",
         "make 18446744073709551615, 64, 10000, 8, 64, 8, 2000000, 1",
     ),
@@ -258,6 +274,15 @@ const NUMBERS: &[(&str, &str)] = &[
     (
         " --capacity 2 --budget 1000000000000000000",
         "2, 1000000000000000000, 1",
+    ),
+    (" --capacity 2 --nodes 1", "2, 2000000, 1, 1 nodes"),
+    (
+        " --nodes=1000000000 --capacity 2",
+        "2, 2000000, 1, 1000000000 nodes",
+    ),
+    (
+        " --capacity 2 --workers 4 --units 7 --nodes=+0000000000000000000000016",
+        "2, 2000000, 4, 16 nodes, 7 units",
     ),
     (" --capacity 2 --workers 1", "2, 2000000, 1"),
     (" --workers 16 --capacity 2", "2, 2000000, 16"),
@@ -389,6 +414,15 @@ const REFUSED_SWITCHES: &[(&str, &[&str])] = &[
         "make --number 1 --aisles 1 --orders 1 --desks 1 --wave 1 --capacity 1",
         GOOD_SWITCHES,
     ),
+    (
+        "make --number 1 --aisles 1 --orders 1 --desks 1 --wave 1 --capacity 1",
+        BAD_SWITCHES,
+    ),
+    ("check --layout l --certificate c", GOOD_NODES),
+    (
+        "audit --layout l --stock s --orders o --journal j",
+        GOOD_NODES,
+    ),
 ];
 
 /// Switches whose numbers are out of their ranges or aren't whole, or that aren't given at most once and with a number.
@@ -417,6 +451,23 @@ const BAD_SWITCHES: &[&str] = &[
     "--rules 1 --rules 1",
     "--rules=0 --rules 1",
     "--pickers 5 --pickers 5",
+    "--nodes 0",
+    "--nodes=0",
+    "--nodes -1",
+    "--nodes=-1",
+    "--nodes 1000000001",
+    "--nodes 18446744073709551617",
+    "--nodes 1.5",
+    "--nodes x",
+    "--nodes=",
+    "--nodes",
+    "--nodes --root 1",
+    "--nodes 1 --nodes 1",
+    "--nodes=1 --nodes 2",
+    "--nodes 1 --budget 112",
+    "--budget=2000000 --nodes=1",
+    "--node 1",
+    "-nodes 1",
     "--pickers=0 --pickers 6",
     "--rules 1 --pickers 5 --rules 1",
     "--rule 1",
@@ -464,6 +515,9 @@ const GOOD_SWITCHES: &[&str] = &[
     "--store 0",
     "--store=1",
 ];
+
+/// Nodes that a plan and a make take.
+const GOOD_NODES: &[&str] = &["--nodes 1", "--nodes=1000000000"];
 
 /// The first of some words that a command takes.
 fn taken_among(

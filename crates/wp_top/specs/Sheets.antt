@@ -13,6 +13,7 @@ abbrev pub terms_of : PlanNames → Terms
 terms_of names = record {
   capacity = names.capacity;
   budget = names.budget;
+  nodes = names.nodes;
   workers = names.workers;
   rules = names.rules == 1;
   pickers = names.pickers;

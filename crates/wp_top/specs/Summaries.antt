@@ -27,7 +27,7 @@ size_of numbers = record { aisles = numbers.aisles; orders = numbers.orders; des
 
 -- and how its waves are to be planned
 abbrev pub made_terms : MakeNumbers → Terms
-made_terms numbers = record { capacity = numbers.capacity; budget = numbers.budget; workers = numbers.workers; rules = false; pickers = 0; root = false }
+made_terms numbers = record { capacity = numbers.capacity; budget = numbers.budget; nodes = numbers.nodes; workers = numbers.workers; rules = false; pickers = 0; root = false }
 
 -- a file of a made day: which it is, the name by which it is read, and its text
 abbrev pub made_file : Input → List ℕ → List ℕ → ReadFile

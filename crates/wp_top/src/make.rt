@@ -42,7 +42,7 @@ fn terms_of(words: &MakeWords) -> Terms
     requires { IsMakeable (make_numbers words.now) }
     ensures { result ≡ made_terms (make_numbers words.now) }
 {
-    Terms::of(words.capacity, words.budget, words.workers)
+    Terms::of(words.capacity, words.budget, words.workers).working_for(words.nodes)
 }
 
 fn add_name(alloc: Global, names: &mut Vec<String>, name: &str) -> Result<(), Memory>

@@ -38,11 +38,9 @@ fn terms_of(words: &PlanWords) -> Terms
     requires { HasRanges (plan_names words.now) }
     ensures { result ≡ terms_of (plan_names words.now) }
 {
-    Terms::of(words.capacity, words.budget, words.workers).telling(
-        words.rules == 1,
-        words.pickers,
-        words.root == 1,
-    )
+    Terms::of(words.capacity, words.budget, words.workers)
+        .working_for(words.nodes)
+        .telling(words.rules == 1, words.pickers, words.root == 1)
 }
 
 // Reads the four files of a plan, one after the other. The first that isn't read stops it.

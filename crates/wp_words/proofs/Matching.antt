@@ -4,6 +4,7 @@ use Rattle.clap.specs.Words.{App, HasKind, Kinds, ReadsOne, Row, Text, TriesOne,
 use Rattle.clap.specs.declared.error.Error.{Error}
 use Rattle.clap.specs.declared.error.kind.ErrorKind.TheVariants as kind
 use Rattle.clap.proofs.OnLiterals.{clap_on_literals}
+use Rattle.wp_model.specs.Outcomes.{and_then}
 use Rattle.wp_words.specs.Options.{audit_command, check_command, make_command, plan_command}
 use Rattle.wp_words.specs.Reading.{IsFaultOf}
 use Rattle.wp_words.specs.Words.{made_into, number_said, unless_faulty}
@@ -52,6 +53,16 @@ rows_matched (k ∷ kinds) rows got is = cc
 -- the fault of what was found is that of what is made of it
 pub fault_after : {A B : Type 0} (make : A → B) (said : Result A WordsFault) (why : WordsFault) → IsFaultOf said why → IsFaultOf (made_into make said) why
 fault_after make said why is told = ap (made_into make) (is told)
+
+-- and so it is the fault of a test of what was found
+pub fault_before : {A B : Type 0} (test : A → Result B WordsFault) (said : Result A WordsFault) (why : WordsFault) → IsFaultOf said why
+    → IsFaultOf (and_then said test) why
+fault_before test said why told is = ap (λ r. and_then r test) (told is)
+
+-- whose own fault is that of both
+pub fault_of_test : {A B : Type 0} (test : A → Result B WordsFault) (said : Result A WordsFault) (found : A) (why : WordsFault) → said ≡ Ok found
+    → IsFaultOf (test found) why → IsFaultOf (and_then said test) why
+fault_of_test test said found why is told memory = ap (λ r. and_then r test) is ∙ told memory
 
 -- a number that was got of an option was read of a text that the option has
 pub text_got : {T E : Type 0} (gives : Text → Result T E → Type 0) (text : Option Text) (number : T) (got : Option T) → got ≡ Some number

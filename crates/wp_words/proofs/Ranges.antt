@@ -15,9 +15,9 @@ use Rattle.clap.specs.Walk.{Text, rows_of}
 use Rattle.clap.specs.declared.builder.value_parser.ValueParser.TheVariants as vp
 use Rattle.clap.specs.declared.parser.matches.ArgMatches.{ArgMatches}
 use Rattle.wp_model.specs.Limits.{greatest_desk, most_aisles, most_cart_units, most_file_orders, most_wave_orders}
-use Rattle.wp_words.specs.Limits.{AreUnits, most_budget, most_capacity, most_pickers, most_root, most_rules, most_store, most_workers}
+use Rattle.wp_words.specs.Limits.{AreNodes, AreUnits, most_budget, most_capacity, most_nodes, most_pickers, most_root, most_rules, most_store, most_workers, usual_budget}
 use Rattle.wp_words.specs.Options.{IsMatchOf, audit_command, make_command, plan_command}
-use Rattle.wp_words.specs.Words.{AreMakeValues, ArePlanValues, HasMakeRanges, HasRanges, MakeNumbers, PlanNames, number_read, number_said}
+use Rattle.wp_words.specs.Words.{AreMakeValues, ArePlanValues, HasMakeRanges, HasRanges, MakeNumbers, PlanNames, budget_of, number_read, number_said}
 use Rattle.wp_words.proofs.Passing.{HasOption, passed}
 
 -- a text with no first hyphen stays as it is
@@ -85,14 +85,28 @@ number_if_within : (app : App) (m : ArgMatches) (name : Text) (least most : ℕ)
     → HasOption name (vp.Signed (pos least) (pos most)) app → number_read name (rows_of (found_of m)) ≡ number → ForSome number (λ n. (least ≤ n) × (n ≤ most))
 number_if_within app m name least most number match own is = λ n some. number_within app m name least most n match own (is ∙ some)
 
--- and of one whose parser takes 0 to this many
-unsigned_read : (app : App) (m : ArgMatches) (name : Text) (most number : ℕ) → IsMatchOf app m → HasOption name (vp.Unsigned 0 most) app
-    → number_read name (rows_of (found_of m)) ≡ Some number → number ≤ most
-unsigned_read app m name most number match own is =
+-- and of one whose parser takes numbers without a sign
+unsigned_read : (app : App) (m : ArgMatches) (name : Text) (least most number : ℕ) → IsMatchOf app m → HasOption name (vp.Unsigned least most) app
+    → number_read name (rows_of (found_of m)) ≡ Some number → (least ≤ number) × (number ≤ most)
+unsigned_read app m name least most number match own is =
     let text = text_read _ number is in
-    let by = passed app m name text.0 (vp.Unsigned 0 most) match own text.1 in
+    let by = passed app m name text.0 (vp.Unsigned least most) match own text.1 in
     let said : number_said by.0 ≡ number = ap number_said (sym by.1) ∙ text.2 in
-    subst (λ n. n ≤ most) said by.2.3
+    subst (λ n. (least ≤ n) × (n ≤ most)) said (by.2.2, by.2.3)
+
+-- so the budget of a command that takes one lies in its range, also where it isn't given
+budget_within : (app : App) (m : ArgMatches) (budget : ℕ) → IsMatchOf app m → HasOption (codes "budget") (vp.Unsigned 0 most_budget) app
+    → budget_of (rows_of (found_of m)) ≡ budget → budget ≤ most_budget
+budget_within app m budget match own is = subst (λ n. n ≤ most_budget) is (go (number_read (codes "budget") (rows_of (found_of m))) refl)
+  where
+    go : (o : Option ℕ) → number_read (codes "budget") (rows_of (found_of m)) ≡ o → unwrap_or o usual_budget ≤ most_budget
+    go None none = omega arith
+    go (Some n) some = (unsigned_read app m (codes "budget") 0 most_budget n match own some).1
+
+-- and the nodes of one that takes them
+nodes_within : (app : App) (m : ArgMatches) (nodes : Option ℕ) → IsMatchOf app m → HasOption (codes "nodes") (vp.Unsigned 1 most_nodes) app
+    → number_read (codes "nodes") (rows_of (found_of m)) ≡ nodes → AreNodes nodes
+nodes_within app m nodes match own is = λ n some. unsigned_read app m (codes "nodes") 1 most_nodes n match own (is ∙ some)
 
 -- the numbers that were matched for `plan` lie in their ranges
 pub in_ranges : (m : ArgMatches) (names : PlanNames) → IsMatchOf plan_command m → ArePlanValues (rows_of (found_of m)) names → HasRanges names
@@ -104,7 +118,8 @@ in_ranges m names match values =
       some_capacity = capacity.0;
       capacity = capacity.1;
       cart = number_if_within plan_command m (codes "units") 1 most_cart_units names.units match refl values.units;
-      budget = unsigned_read plan_command m (codes "budget") most_budget names.budget match refl values.budget;
+      budget = budget_within plan_command m names.budget match refl values.effort.budget;
+      nodes = nodes_within plan_command m names.nodes match refl values.effort.nodes;
       some_workers = workers.0;
       workers = workers.1;
       rules = (number_within plan_command m (codes "rules") 0 most_rules names.rules match refl values.rules).1;
@@ -140,7 +155,8 @@ in_make_ranges m numbers match values =
       wave = wave.1;
       some_capacity = capacity.0;
       capacity = capacity.1;
-      budget = unsigned_read make_command m (codes "budget") most_budget numbers.budget match refl values.budget;
+      budget = budget_within make_command m numbers.budget match refl values.effort.budget;
+      nodes = nodes_within make_command m numbers.nodes match refl values.effort.nodes;
       some_workers = workers.0;
       workers = workers.1;
     }

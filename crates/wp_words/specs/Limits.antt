@@ -1,5 +1,5 @@
 -- The ranges of the numbers that the options give which limit no file, and what stands for those that aren't given.
-use Rattle.std.specs.Prelude.{ℕ, Option, codes}
+use Rattle.std.specs.Prelude.{ℕ, ◌≤◌, Option, codes}
 use Rattle.std.specs.Option.{ForSome}
 use Rattle.clap.specs.Walk.{Text}
 use Rattle.wp_model.specs.Tables.{IsCart}
@@ -15,6 +15,14 @@ AreUnits units = ForSome units IsCart
 -- the greatest budget, the work that the search for better batches may do
 abbrev pub most_budget : ℕ
 most_budget = 1000000000000000000
+
+-- the most nodes for which each wave's search may work
+abbrev pub most_nodes : ℕ
+most_nodes = 1000000000
+
+-- where nodes are given, they are so many as a search may work for
+abbrev pub AreNodes : Option ℕ → Type 0
+AreNodes nodes = ForSome nodes (λ count. (1 ≤ count) × (count ≤ most_nodes))
 
 -- the most threads that may search at once
 abbrev pub most_workers : ℕ
@@ -41,8 +49,8 @@ abbrev pub most_number : ℕ
 most_number = 18446744073709551615
 
 -- the budget where none is given
-abbrev pub usual_budget : Text
-usual_budget = codes "2000000"
+abbrev pub usual_budget : ℕ
+usual_budget = 2000000
 
 -- the number of threads where none is given
 abbrev pub usual_workers : Text

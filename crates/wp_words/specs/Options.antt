@@ -9,7 +9,7 @@ use Rattle.clap.specs.declared.builder.value_parser.ValueParser.{ValueParser}
 use Rattle.clap.specs.declared.builder.value_parser.ValueParser.TheVariants as vp
 use Rattle.clap.specs.declared.parser.matches.ArgMatches.{ArgMatches}
 use Rattle.wp_model.specs.Limits.{greatest_desk, most_aisles, most_cart_units, most_file_orders, most_wave_orders}
-use Rattle.wp_words.specs.Limits.{most_budget, most_capacity, most_number, most_pickers, most_root, most_rules, most_store, most_workers, usual_budget, usual_switch, usual_workers}
+use Rattle.wp_words.specs.Limits.{most_budget, most_capacity, most_nodes, most_number, most_pickers, most_root, most_rules, most_store, most_workers, usual_switch, usual_workers}
 
 -- an option `--name VALUE` or `--name=VALUE` that may be given, and at most once
 abbrev pub named_rule : Text → Rule
@@ -33,7 +33,11 @@ units_rule = record (named_rule (codes "units")) { parser = Some (count_up_to mo
 
 -- `--budget` may be given, a number from 0 to the greatest budget
 abbrev pub budget_rule : Rule
-budget_rule = record (named_rule (codes "budget")) { parser = Some (vp.Unsigned 0 most_budget); defaults = usual_budget ∷ [] }
+budget_rule = record (named_rule (codes "budget")) { parser = Some (vp.Unsigned 0 most_budget) }
+
+-- `--nodes` may be given, a number from 1 to the most nodes
+abbrev pub nodes_rule : Rule
+nodes_rule = record (named_rule (codes "nodes")) { parser = Some (vp.Unsigned 1 most_nodes) }
 
 -- `--workers` may be given, a number from 1 to the most workers
 abbrev pub workers_rule : Rule
@@ -56,7 +60,7 @@ number_rule = record (required_rule (codes "number")) { parser = Some (vp.Unsign
 abbrev pub count_rule : Text → ℕ → Rule
 count_rule name most = record (required_rule name) { parser = Some (count_up_to most) }
 
--- `plan` takes the names of a layout, a stock file, an order file and a desk file, and eight numbers
+-- `plan` takes the names of a layout, a stock file, an order file and a desk file, and nine numbers
 unfoldable pub plan_command : App
 plan_command =
     let files = map required_rule (codes "layout" ∷ codes "stock" ∷ codes "orders" ∷ codes "desks" ∷ []) in
@@ -65,7 +69,7 @@ plan_command =
     ∷ switch_rule (codes "root") most_root
     ∷ switch_rule (codes "store") most_store
     ∷ [] in
-    command_with (codes "plan") (files ++ capacity_rule ∷ units_rule ∷ budget_rule ∷ workers_rule ∷ switches)
+    command_with (codes "plan") (files ++ capacity_rule ∷ units_rule ∷ budget_rule ∷ nodes_rule ∷ workers_rule ∷ switches)
 
 -- `check` takes the names of a layout and a certificate
 unfoldable pub check_command : App
@@ -77,13 +81,13 @@ audit_command =
     let files = map required_rule (codes "layout" ∷ codes "stock" ∷ codes "orders" ∷ codes "journal" ∷ []) in
     command_with (codes "audit") (files ++ units_rule ∷ [])
 
--- `make` takes a number to draw from, the numbers of aisles, orders, desks and orders of a wave, and the capacity, the budget
--- and the workers of a plan
+-- `make` takes a number to draw from, the numbers of aisles, orders, desks and orders of a wave, and the capacity, the budget,
+-- the nodes and the workers of a plan
 unfoldable pub make_command : App
 make_command =
     let size = count_rule (codes "aisles") most_aisles ∷ count_rule (codes "orders") most_file_orders ∷ count_rule (codes "desks") greatest_desk
     ∷ count_rule (codes "wave") most_wave_orders ∷ [] in
-    command_with (codes "make") (number_rule ∷ (size ++ capacity_rule ∷ budget_rule ∷ workers_rule ∷ []))
+    command_with (codes "make") (number_rule ∷ (size ++ capacity_rule ∷ budget_rule ∷ nodes_rule ∷ workers_rule ∷ []))
 
 -- matches came of words that were read with a command of these options, a simple one
 pub record IsMatchOf (app : App) (matches : ArgMatches) : Type 0 where

@@ -27,6 +27,7 @@ plan_names words = record {
   capacity = words.capacity;
   units = words.units;
   budget = words.budget;
+  nodes = words.nodes;
   workers = words.workers;
   rules = words.rules;
   pickers = words.pickers;
@@ -58,6 +59,7 @@ make_numbers words = record {
   wave = words.wave;
   capacity = words.capacity;
   budget = words.budget;
+  nodes = words.nodes;
   workers = words.workers;
 }
 

@@ -1,12 +1,12 @@
 -- What the words of a command line say.
-use Rattle.std.specs.Prelude.{◌≡◌, ◌≤◌, nat_le, ℕ, ⊤, List, [], ◌∷◌, codes, Option, Some, unwrap_or, option_map, if◌then◌else◌, Result, Ok, Err}
+use Rattle.std.specs.Prelude.{◌≡◌, ◌≤◌, nat_le, ℕ, ⊤, Bool, true, false, None, List, [], ◌∷◌, codes, Option, Some, unwrap_or, option_map, if◌then◌else◌, Result, Ok, Err}
 use Rattle.std.specs.Int.{div_ceil}
 use Rattle.std.specs.Str.{bytes_eq}
 use Rattle.std.specs.Str.Parse.{digits_value, without_leading_plus}
 use Rattle.clap.specs.Words.{App, Kinds, Row, Text, fault_of, first_of, matches_of, one_of}
 use Rattle.wp_model.specs.Limits.{greatest_desk, most_aisles, most_file_orders, most_submissions, most_wave_orders}
 use Rattle.wp_model.specs.Outcomes.{and_then}
-use Rattle.wp_words.specs.Limits.{AreUnits, most_budget, most_capacity, most_pickers, most_root, most_rules, most_store, most_workers}
+use Rattle.wp_words.specs.Limits.{AreNodes, AreUnits, most_budget, most_capacity, most_pickers, most_root, most_rules, most_store, most_workers, usual_budget}
 use Rattle.wp_words.specs.Options.{audit_command, check_command, make_command, plan_command}
 use Rattle.wp_words.specs.declared.fault.WordsFault.{WordsFault}
 use Rattle.wp_words.specs.declared.fault.WordsFault.TheVariants as fault
@@ -22,6 +22,7 @@ pub record PlanNames : Type 0 where
   pub capacity : ℕ
   pub units : Option ℕ
   pub budget : ℕ
+  pub nodes : Option ℕ
   pub workers : ℕ
   pub rules : ℕ
   pub pickers : ℕ
@@ -34,6 +35,7 @@ pub record HasRanges (names : PlanNames) : Type 0 where
   pub capacity : names.capacity ≤ most_capacity
   pub cart : AreUnits names.units
   pub budget : names.budget ≤ most_budget
+  pub nodes : AreNodes names.nodes
   pub some_workers : 1 ≤ names.workers
   pub workers : names.workers ≤ most_workers
   pub rules : names.rules ≤ most_rules
@@ -67,6 +69,7 @@ pub record MakeNumbers : Type 0 where
   pub wave : ℕ
   pub capacity : ℕ
   pub budget : ℕ
+  pub nodes : Option ℕ
   pub workers : ℕ
 
 -- how many waves the orders are cut into
@@ -86,6 +89,7 @@ pub record HasMakeRanges (numbers : MakeNumbers) : Type 0 where
   pub some_capacity : 1 ≤ numbers.capacity
   pub capacity : numbers.capacity ≤ most_capacity
   pub budget : numbers.budget ≤ most_budget
+  pub nodes : AreNodes numbers.nodes
   pub some_workers : 1 ≤ numbers.workers
   pub workers : numbers.workers ≤ most_workers
 
@@ -134,6 +138,26 @@ number_read name rows = option_map number_said (one_of name rows)
 abbrev pub number_of : List Row → Text → ℕ
 number_of rows name = unwrap_or (number_read name rows) 0
 
+-- what a search may do is said once: by a budget, or by nodes in its place
+abbrev pub are_both : Option ℕ → Option ℕ → Bool
+are_both (Some budget) (Some nodes) = true
+are_both None nodes = false
+are_both (Some budget) None = false
+
+-- words that say it twice aren't accepted
+abbrev pub said_once : List Row → Result (List Row) WordsFault
+said_once rows = if are_both (number_read (codes "budget") rows) (number_read (codes "nodes") rows) then Err fault.BadWords else Ok rows
+
+-- the budget that was matched, or the usual one
+abbrev pub budget_of : List Row → ℕ
+budget_of rows = unwrap_or (number_read (codes "budget") rows) usual_budget
+
+-- the budget and the nodes that were matched, of which not both were given
+pub record IsEffort (rows : List Row) (spent : ℕ) (count : Option ℕ) : Type 0 where
+  pub budget : budget_of rows ≡ spent
+  pub nodes : number_read (codes "nodes") rows ≡ count
+  pub once : said_once rows ≡ Ok rows
+
 -- the names and the numbers that were matched for `plan`
 abbrev pub plan_names_of : List Row → PlanNames
 plan_names_of rows = record {
@@ -143,7 +167,8 @@ plan_names_of rows = record {
   desks = value_of rows (codes "desks");
   capacity = number_of rows (codes "capacity");
   units = number_read (codes "units") rows;
-  budget = number_of rows (codes "budget");
+  budget = budget_of rows;
+  nodes = number_read (codes "nodes") rows;
   workers = number_of rows (codes "workers");
   rules = number_of rows (codes "rules");
   pickers = number_of rows (codes "pickers");
@@ -174,7 +199,8 @@ make_numbers_of rows = record {
   desks = number_of rows (codes "desks");
   wave = number_of rows (codes "wave");
   capacity = number_of rows (codes "capacity");
-  budget = number_of rows (codes "budget");
+  budget = budget_of rows;
+  nodes = number_read (codes "nodes") rows;
   workers = number_of rows (codes "workers");
 }
 
@@ -185,7 +211,7 @@ made_into change (Err why) = Err why
 
 -- what words say after `plan`
 abbrev pub plan_said : List Text → Result PlanNames WordsFault
-plan_said words = made_into plan_names_of (matched plan_command words)
+plan_said words = made_into plan_names_of (and_then (matched plan_command words) said_once)
 
 -- what words say after `check`
 abbrev pub check_said : List Text → Result CheckNames WordsFault
@@ -197,7 +223,7 @@ audit_said words = made_into audit_names_of (matched audit_command words)
 
 -- what the options of `make` give
 abbrev pub make_given : List Text → Result MakeNumbers WordsFault
-make_given words = made_into make_numbers_of (matched make_command words)
+make_given words = made_into make_numbers_of (and_then (matched make_command words) said_once)
 
 -- numbers whose waves aren't too many
 abbrev pub few_waves : MakeNumbers → Result MakeNumbers WordsFault
@@ -225,7 +251,7 @@ pub record ArePlanValues (rows : List Row) (names : PlanNames) : Type 0 where
   pub desks : first_of (codes "desks") rows ≡ Some names.desks
   pub capacity : number_read (codes "capacity") rows ≡ Some names.capacity
   pub units : number_read (codes "units") rows ≡ names.units
-  pub budget : number_read (codes "budget") rows ≡ Some names.budget
+  pub effort : IsEffort rows names.budget names.nodes
   pub workers : number_read (codes "workers") rows ≡ Some names.workers
   pub rules : number_read (codes "rules") rows ≡ Some names.rules
   pub pickers : number_read (codes "pickers") rows ≡ Some names.pickers
@@ -253,7 +279,7 @@ pub record AreMakeValues (rows : List Row) (numbers : MakeNumbers) : Type 0 wher
   pub desks : number_read (codes "desks") rows ≡ Some numbers.desks
   pub wave : number_read (codes "wave") rows ≡ Some numbers.wave
   pub capacity : number_read (codes "capacity") rows ≡ Some numbers.capacity
-  pub budget : number_read (codes "budget") rows ≡ Some numbers.budget
+  pub effort : IsEffort rows numbers.budget numbers.nodes
   pub workers : number_read (codes "workers") rows ≡ Some numbers.workers
 
 -- clap states the values of a job for the words after its mode

@@ -26,6 +26,8 @@ pub struct PlanWords {
     pub units: Option<u32>,
     /// The work that the search for better batches may do, 0 to 1,000,000,000,000,000,000.
     pub budget: u64,
+    /// For how many nodes each wave's search may work, 1 to 1,000,000,000; none where the budget says what it may do.
+    pub nodes: Option<u64>,
     /// The most threads that may search at once, 1 to 16.
     pub workers: u32,
     /// Whether the sheets tell what three usual rules would walk: 1 where they do, and 0 where they don't.
@@ -74,6 +76,8 @@ pub struct MakeWords {
     pub capacity: u32,
     /// The work that the search for better batches may do, 0 to 1,000,000,000,000,000,000.
     pub budget: u64,
+    /// For how many nodes each wave's search may work, 1 to 1,000,000,000; none where the budget says what it may do.
+    pub nodes: Option<u64>,
     /// The most threads that may search at once, 1 to 16.
     pub workers: u32,
 }

@@ -1,7 +1,7 @@
 ghost use Rattle.std.specs.Prelude.{◌≡◌, List, ℕ, [], IfOk, IfErr, Some, Ok, string_bytes, true, false};
 ghost use Rattle.clap.specs.Words.{app_of, rule_of, first_of, found_of, is_simple_and_free, one_of, rows_of};
 ghost use Rattle.wp_words.specs.Options.{IsMatchOf, audit_command, budget_rule, capacity_rule, check_command, command_with, count_rule, make_command, named_rule};
-ghost use Rattle.wp_words.specs.Options.{number_rule, plan_command, required_rule, switch_rule, units_rule, workers_rule};
+ghost use Rattle.wp_words.specs.Options.{nodes_rule, number_rule, plan_command, required_rule, switch_rule, units_rule, workers_rule};
 ghost use Rattle.wp_words.specs.Reading.{IsFaultOf, texts_of};
 ghost use Rattle.wp_words.specs.Words.{matched, number_read};
 
@@ -19,6 +19,9 @@ const MOST_CAPACITY: i64 = 8;
 
 /// The greatest budget.
 const MOST_BUDGET: i64 = 1_000_000_000_000_000_000;
+
+/// The most nodes.
+const MOST_NODES: i64 = 1_000_000_000;
 
 /// The most workers.
 const MOST_WORKERS: i64 = 16;
@@ -73,9 +76,15 @@ fn budget_option<'a>(alloc: Global) -> Arg<'a>
     ensures rule { rule_of result ≡ budget_rule }
     ensures local { result.global ≡ false }
 {
-    named_option(alloc, "budget")
-        .value_parser(value_parser!(u64).range(0..=MOST_BUDGET))
-        .default_value("2000000")
+    named_option(alloc, "budget").value_parser(value_parser!(u64).range(0..=MOST_BUDGET))
+}
+
+/// The option of the nodes, which stand in the budget's place.
+fn nodes_option<'a>(alloc: Global) -> Arg<'a>
+    ensures rule { rule_of result ≡ nodes_rule }
+    ensures local { result.global ≡ false }
+{
+    named_option(alloc, "nodes").value_parser(value_parser!(u64).range(1..=MOST_NODES))
 }
 
 /// The option of the number of workers.
@@ -135,6 +144,7 @@ pub fn plan_command<'a>(alloc: Global) -> Result<Command<'a>, AllocError>
         .arg(capacity_option(alloc))?
         .arg(units_option(alloc))?
         .arg(budget_option(alloc))?
+        .arg(nodes_option(alloc))?
         .arg(workers_option(alloc))?
         .arg(switch_option(alloc, "rules", MOST_RULES))?
         .arg(switch_option(alloc, "pickers", MOST_PICKERS))?
@@ -178,6 +188,7 @@ pub fn make_command<'a>(alloc: Global) -> Result<Command<'a>, AllocError>
         .arg(count_option(alloc, "wave", MOST_WAVE_ORDERS))?
         .arg(capacity_option(alloc))?
         .arg(budget_option(alloc))?
+        .arg(nodes_option(alloc))?
         .arg(workers_option(alloc))?;
     Ok(command)
 }
@@ -227,6 +238,16 @@ pub fn number_if_given(matches: &ArgMatches<'_>, name: &str) -> Result<Option<u3
 {
     match matches.try_get_one::<u32>(name) {
         Ok(number) => Ok(number),
+        Err(_) => Err(Memory),
+    }
+}
+
+/// The long number that an option got, if it was given.
+pub fn long_if_given(matches: &ArgMatches<'_>, name: &str) -> Result<Option<u64>, Memory>
+    ensures { IfOk result (λ number. number_read name.now (rows_of (found_of matches.now)) ≡ number) }
+{
+    match matches.try_get_one::<u64>(name) {
+        Ok(long) => Ok(long),
         Err(_) => Err(Memory),
     }
 }

@@ -3,8 +3,9 @@ ghost use Rattle.clap.specs.Words.{found_of, matches_of, rows_of};
 ghost use Rattle.wp_words.specs.Options.{IsMatchOf, audit_command, check_command, make_command, plan_command};
 ghost use Rattle.wp_words.specs.Reading.{IsFaultOf, audit_names, check_names, job_names, make_numbers, plan_names, texts_of};
 ghost use Rattle.wp_words.specs.Words.{AreAuditValues, AreCheckValues, AreInRange, AreMakeValues, ArePlanValues, AreStated, HasAuditRange, HasMakeRanges, HasRanges};
-ghost use Rattle.wp_words.specs.Words.{IsMakeable, audit_said, check_said, job_said, make_given, make_said, plan_said};
+ghost use Rattle.wp_words.specs.Words.{IsMakeable, audit_said, check_said, job_said, make_given, make_said, plan_said, said_once};
 
+use crate::effort::effort_of;
 use crate::fault::WordsFault;
 use crate::job::{AuditWords, CheckWords, Job, MakeWords, PlanWords};
 use crate::options::{
@@ -15,12 +16,13 @@ use clap::ArgMatches;
 use std::alloc::Global;
 use wp_model::{MOST_SUBMISSIONS, Memory};
 
-fn plan_words(alloc: Global, matches: &ArgMatches<'_>) -> Result<PlanWords, Memory>
-    ensures { IfOk result (λ words. ArePlanValues (rows_of (found_of matches.now)) (plan_names words)) }
+fn plan_words(alloc: Global, matches: &ArgMatches<'_>) -> Result<PlanWords, WordsFault>
+    ensures values { IfOk result (λ words. ArePlanValues (rows_of (found_of matches.now)) (plan_names words)) }
+    ensures fault { IfErr result (IsFaultOf (said_once (rows_of (found_of matches.now)))) }
 {
+    let effort = effort_of(matches)?;
     let capacity = number_of::<u32>(matches, "capacity")?;
     let units = number_if_given(matches, "units")?;
-    let budget = number_of::<u64>(matches, "budget")?;
     let workers = number_of::<u32>(matches, "workers")?;
     let rules = number_of::<u32>(matches, "rules")?;
     let pickers = number_of::<u32>(matches, "pickers")?;
@@ -37,7 +39,8 @@ fn plan_words(alloc: Global, matches: &ArgMatches<'_>) -> Result<PlanWords, Memo
         desks,
         capacity,
         units,
-        budget,
+        budget: effort.budget,
+        nodes: effort.nodes,
         workers,
         rules,
         pickers,
@@ -75,9 +78,11 @@ fn audit_words(alloc: Global, matches: &ArgMatches<'_>) -> Result<AuditWords, Me
     })
 }
 
-fn make_words(matches: &ArgMatches<'_>) -> Result<MakeWords, Memory>
-    ensures { IfOk result (λ words. AreMakeValues (rows_of (found_of matches.now)) (make_numbers words)) }
+fn make_words(matches: &ArgMatches<'_>) -> Result<MakeWords, WordsFault>
+    ensures values { IfOk result (λ words. AreMakeValues (rows_of (found_of matches.now)) (make_numbers words)) }
+    ensures fault { IfErr result (IsFaultOf (said_once (rows_of (found_of matches.now)))) }
 {
+    let effort = effort_of(matches)?;
     Ok(MakeWords {
         number: number_of(matches, "number")?,
         aisles: number_of(matches, "aisles")?,
@@ -85,7 +90,8 @@ fn make_words(matches: &ArgMatches<'_>) -> Result<MakeWords, Memory>
         desks: number_of(matches, "desks")?,
         wave: number_of(matches, "wave")?,
         capacity: number_of(matches, "capacity")?,
-        budget: number_of(matches, "budget")?,
+        budget: effort.budget,
+        nodes: effort.nodes,
         workers: number_of(matches, "workers")?,
     })
 }
@@ -161,7 +167,8 @@ fn read_make(alloc: Global, words: &[String]) -> Result<MakeWords, WordsFault>
 /// options. NoMode comes exactly where there is no word, UnknownMode exactly where the first word is no mode, BadWords
 /// exactly where the words after it aren't accepted for the mode's command, and TooManyWaves exactly where they are a good
 /// `make` whose orders are cut into more than 500 waves, with their number. Of a plan and of a made day the capacity is 1
-/// to 8, the budget 0 to 1,000,000,000,000,000,000 and the workers 1 to 16. Of a plan and of an audit the units, where they are
+/// to 8, the budget 0 to 1,000,000,000,000,000,000 and the workers 1 to 16; the nodes, where they are given, are 1 to
+/// 1,000,000,000, and words that give a budget too aren't accepted. Of a plan and of an audit the units, where they are
 /// given, are 1 to 40,000,000. Of a plan the rules are 0 or 1, the pickers 0 to 100, and the root and the
 /// store 0 or 1.
 #[tactic(auto, unfolding(crate::specs::Words::job_said))]

@@ -10,5 +10,5 @@ returns-clause-certified g c layout opening released of =
     let planned = c.in_ok-planned.planned in
     let capacity = c.capacity-capacity.result in
     subst (λ (most : ℕ). TellsBound layout (certificate_text (wave_places wave) wave.cart most planned.tree.nodes) planned.bound) c.capacity-capacity.ensures
-    (tells_its_bound layout opening released capacity.most c.budget-budget.result wave planned c.orders-orders.ensures.valid of capacity.some capacity.few
+    (tells_its_bound layout opening released capacity.most c.budget_for-budget.result wave planned c.orders.ensures.valid of capacity.some capacity.few
     c.in_ok-planned.ensures)

@@ -12,4 +12,5 @@ returns c =
     let five = one_more _ _ _ _ _ c.in_ok-arg-5.ensures four c.count_option-4.ensures.rule c.count_option-4.ensures.local in
     let six = one_more _ _ _ _ _ c.in_ok-arg-6.ensures five c.capacity_option.ensures.rule c.capacity_option.ensures.local in
     let seven = one_more _ _ _ _ _ c.in_ok-arg-7.ensures six c.budget_option.ensures.rule c.budget_option.ensures.local in
-    one_more _ _ _ _ _ c.in_ok-command.ensures seven c.workers_option.ensures.rule c.workers_option.ensures.local
+    let eight = one_more _ _ _ _ _ c.in_ok-arg-8.ensures seven c.nodes_option.ensures.rule c.nodes_option.ensures.local in
+    one_more _ _ _ _ _ c.in_ok-command.ensures eight c.workers_option.ensures.rule c.workers_option.ensures.local

@@ -12,8 +12,9 @@ returns c =
     let five = one_more _ _ _ _ _ c.in_ok-arg-5.ensures four c.capacity_option.ensures.rule c.capacity_option.ensures.local in
     let six = one_more _ _ _ _ _ c.in_ok-arg-6.ensures five c.units_option.ensures.rule c.units_option.ensures.local in
     let seven = one_more _ _ _ _ _ c.in_ok-arg-7.ensures six c.budget_option.ensures.rule c.budget_option.ensures.local in
-    let eight = one_more _ _ _ _ _ c.in_ok-arg-8.ensures seven c.workers_option.ensures.rule c.workers_option.ensures.local in
-    let nine = one_more _ _ _ _ _ c.in_ok-arg-9.ensures eight c.switch_option.ensures.rule c.switch_option.ensures.local in
-    let ten = one_more _ _ _ _ _ c.in_ok-arg-10.ensures nine c.switch_option-2.ensures.rule c.switch_option-2.ensures.local in
-    let eleven = one_more _ _ _ _ _ c.in_ok-arg-11.ensures ten c.switch_option-3.ensures.rule c.switch_option-3.ensures.local in
-    one_more _ _ _ _ _ c.in_ok-command.ensures eleven c.switch_option-4.ensures.rule c.switch_option-4.ensures.local
+    let eight = one_more _ _ _ _ _ c.in_ok-arg-8.ensures seven c.nodes_option.ensures.rule c.nodes_option.ensures.local in
+    let nine = one_more _ _ _ _ _ c.in_ok-arg-9.ensures eight c.workers_option.ensures.rule c.workers_option.ensures.local in
+    let ten = one_more _ _ _ _ _ c.in_ok-arg-10.ensures nine c.switch_option.ensures.rule c.switch_option.ensures.local in
+    let eleven = one_more _ _ _ _ _ c.in_ok-arg-11.ensures ten c.switch_option-2.ensures.rule c.switch_option-2.ensures.local in
+    let twelve = one_more _ _ _ _ _ c.in_ok-arg-12.ensures eleven c.switch_option-3.ensures.rule c.switch_option-3.ensures.local in
+    one_more _ _ _ _ _ c.in_ok-command.ensures twelve c.switch_option-4.ensures.rule c.switch_option-4.ensures.local
