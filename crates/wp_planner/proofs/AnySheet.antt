@@ -9,9 +9,7 @@ use Rattle.wp_machine.specs.declared.outcome.WaveHolds.{WaveHolds}
 use Rattle.wp_model.specs.Opening.{Opening, Stock}
 use Rattle.wp_model.specs.Warehouse.{Layout}
 use Rattle.wp_sheets.proofs.AnyPicks.{any_picks}
-use Rattle.wp_sheets.proofs.PicksByRow.{single_from_rises}
 use Rattle.wp_rules.specs.declared.rule.Rule.TheVariants as rule
-use Rattle.wp_sheets.specs.Picks.{AreSingle}
 use Rattle.wp_sheets.specs.Rules.{rules_line}
 use Rattle.wp_sheets.specs.Sheets.{batch_text}
 use Rattle.wp_planner.specs.Plans.{IsPlanOf}
@@ -37,12 +35,11 @@ any_after true wave batch total slots =
 
 -- batches that pick at slots and cost something together have parts
 any_parts : (stock : Stock) (released : WaveHolds) (wave : WavePicks) (rules : Bool) (number : ℕ) (batches : List (List ℕ)) (total : ℕ)
-    → AreSingle released.holds → All (λ batch. AreSlots wave.layout (batch_picks wave batch)) batches
-    → IsCost wave batches total → (parts : List ℕ) × AreParts stock released wave rules number batches parts
-any_parts stock released wave rules number [] total single slots cost = ([], refl)
-any_parts stock released wave rules number (batch ∷ batches) total single slots (first, rest, shortest, others, sum) =
+    → All (λ batch. AreSlots wave.layout (batch_picks wave batch)) batches → IsCost wave batches total → (parts : List ℕ) × AreParts stock released wave rules number batches parts
+any_parts stock released wave rules number [] total slots cost = ([], refl)
+any_parts stock released wave rules number (batch ∷ batches) total slots (first, rest, shortest, others, sum) =
     let P : List ℕ → Type 0 = λ batch. AreSlots wave.layout (batch_picks wave batch) in
-    let picks = any_picks released.holds batch single in
+    let picks = any_picks released.holds batch in
     let walk = shortest.some.0 in
     let lines = batch_text number released stock batch first walk picks.0 in
     let after = any_after rules wave batch first (All-head P batch batches slots) in
@@ -56,7 +53,7 @@ any_parts stock released wave rules number (batch ∷ batches) total single slot
       follows = after.1;
       is = refl;
     } in
-    let more = any_parts stock released wave rules (number + 1) batches rest single (All-tail P batch batches slots) others in
+    let more = any_parts stock released wave rules (number + 1) batches rest (All-tail P batch batches slots) others in
     ((lines ++ after.0) ++ more.0, (lines ++ after.0, more.0, part, more.1, refl))
 
 -- so there is a sheet
@@ -64,6 +61,5 @@ pub sheet_of_plan : (layout : Layout) (opening : Opening) (released : WaveHolds)
     → IsReleased opening released → IsPlanOf layout opening released terms plan → (sheet : List ℕ) × IsSheet opening released terms plan cancelled_later sheet
 sheet_of_plan layout opening released terms plan cancelled_later out good =
     let slots = batches_slots layout opening released terms plan out good in
-    let parts = any_parts opening.stock released plan.wave terms.rules 1 plan.planned.batching plan.planned.cost (single_from_rises released.holds out.rise) slots
-    good.good.sound.cost in
+    let parts = any_parts opening.stock released plan.wave terms.rules 1 plan.planned.batching plan.planned.cost slots good.good.sound.cost in
     (_, record { parts = parts.0; are = parts.1; is = refl; certified = sheet_tells layout opening released terms plan good })

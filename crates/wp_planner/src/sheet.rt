@@ -2,7 +2,6 @@ ghost use Rattle.std.specs.Prelude.{◌≡◌, ◌<◌, ◌++◌, All, IfOk, len
 ghost use Rattle.wp_model.specs.Warehouse.{Layout as Block};
 ghost use Rattle.wp_lengths.specs.Lengths.{IsLengthOf};
 ghost use Rattle.wp_cert.specs.TextData.{HaveDualsWithin};
-ghost use Rattle.wp_sheets.specs.Picks.{AreSingle};
 ghost use Rattle.wp_planner.specs.Plans.{IsPlanOf};
 ghost use Rattle.wp_planner.specs.Released.{IsReleased};
 ghost use Rattle.wp_outside.specs.Sections.{GrowsBy};
@@ -99,7 +98,6 @@ fn print_part(
     requires orders { length sent.now.plan.now.wave.orders ≡ length sent.now.released.now.orders }
     requires places { All (λ order. order < length sent.now.released.now.orders) batch }
     requires rows { All (λ hold. hold.row < length sent.now.opening.now.stock.rows) sent.now.released.now.holds }
-    requires single { AreSingle sent.now.released.now.holds }
     ensures { IfOk result (λ _. GrowsBy
         (IsPart sent.now.opening.now.stock sent.now.released.now sent.now.plan.now.wave sent.now.terms.now.rules number batch) text.old.items text.new.items) }
 {
@@ -114,7 +112,6 @@ fn print_parts(alloc: Global, text: &mut Vec<u8>, sent: &SentWave<'_>) -> Result
     requires orders { length sent.now.plan.now.wave.orders ≡ length sent.now.released.now.orders }
     requires places { All (All (λ order. order < length sent.now.released.now.orders)) sent.now.plan.now.planned.batching }
     requires rows { All (λ hold. hold.row < length sent.now.opening.now.stock.rows) sent.now.released.now.holds }
-    requires single { AreSingle sent.now.released.now.holds }
     ensures { IfOk result (λ _. GrowsBy
         (AreParts sent.now.opening.now.stock sent.now.released.now sent.now.plan.now.wave sent.now.terms.now.rules 1 sent.now.plan.now.planned.batching)
         text.old.items text.new.items) }

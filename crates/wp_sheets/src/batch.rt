@@ -2,7 +2,6 @@
 ghost use Rattle.std.specs.Prelude.{◌≡◌, ◌<◌, ◌++◌, length, slice_get, Some, IfOk, string_bytes};
 ghost use Rattle.std.specs.List.{All, flat_map};
 ghost use Rattle.wp_model.specs.Opening.{IsStockRow};
-ghost use Rattle.wp_sheets.specs.Picks.{AreSingle};
 ghost use Rattle.wp_sheets.specs.Sheets.{IsBatchText, batch_line, name_of_order, order_after_space, pick_line, point_after_space, tour_line};
 
 use crate::picks::picks_of;
@@ -119,9 +118,9 @@ fn print_picks(
 }
 
 /// The part of a batch on its wave's sheet, each line with its line feed: its number, the length of its tour and its
-/// orders in the order of the wave; the tour point by point; and a line for each hold of its orders, by row and then by
-/// order: the location, the article, the units and the order. Contracts see the sheet's batch as the ascending list
-/// of its places. An `Err` comes from a want of memory alone.
+/// orders in the order of the wave; the tour point by point; and a line for each hold of its orders, by row, then by
+/// order, and then by units: the location, the article, the units and the order. Contracts see the sheet's batch as
+/// the ascending list of its places. An `Err` comes from a want of memory alone.
 pub fn print_batch(
     alloc: Global,
     number: u32,
@@ -131,7 +130,6 @@ pub fn print_batch(
 ) -> Result<Vec<u8>, Memory>
     requires places { All (λ order. order < length wave.now.orders) sheet.now.batch }
     requires rows { All (λ hold. hold.row < length stock.now.rows) wave.now.holds }
-    requires single { AreSingle wave.now.holds }
     ensures { IfOk result (λ text. IsBatchText number wave.now stock.now sheet.now.batch sheet.now.length sheet.now.walk.items text.items) }
 {
     let picks = picks_of(alloc, wave.holds.as_slice(), sheet.batch)?;

@@ -1,13 +1,13 @@
 //! The picks of a batch.
-ghost use Rattle.std.specs.Prelude.{◌≡◌, IfOk};
-ghost use Rattle.wp_sheets.specs.Picks.{AreByRow, AreHeldFor, AreSingle};
+ghost use Rattle.std.specs.Prelude.{◌≡◌, IfOk, filter};
+ghost use Rattle.wp_sheets.specs.Picks.{AreByRow, is_of};
 
 use std::alloc::Global;
 use wp_model::{Hold, Memory};
 use wp_pairs::Batch;
 
 fn held_for(alloc: Global, holds: &[Hold], batch: Batch) -> Result<Vec<Hold>, Memory>
-    ensures { IfOk result (λ picks. AreHeldFor holds.now batch picks.items) }
+    ensures { IfOk result (λ picks. picks.items ≡ filter (is_of batch) holds.now) }
 {
     let mut picks = Vec::new(alloc);
     for hold in holds {
@@ -18,12 +18,11 @@ fn held_for(alloc: Global, holds: &[Hold], batch: Batch) -> Result<Vec<Hold>, Me
     Ok(picks)
 }
 
-/// The holds of a batch's orders, by row and then by order.
+/// The holds of a batch's orders, by row, then by order, and then by units.
 pub fn picks_of(alloc: Global, holds: &[Hold], batch: Batch) -> Result<Vec<Hold>, Memory>
-    requires { AreSingle holds.now }
     ensures { IfOk result (λ picks. AreByRow holds.now batch picks.items) }
 {
     let mut picks = held_for(alloc, holds, batch)?;
-    picks.sort_unstable_by_key(|pick| (pick.row, pick.order));
+    picks.sort_unstable_by_key(|pick| (pick.row, pick.order, pick.quantity));
     Ok(picks)
 }

@@ -1,11 +1,7 @@
-use Rattle.wp_sheets.proofs.PicksByRow.{single_from_rises}
 use Rattle.wp_planner.proofs.Certified.{sheet_tells}
 use Rattle.wp_planner.proofs.SheetParts.{sheet_grown}
 use Rattle.wp_planner.proofs.sheet.print_sheet.Goals as goal
 use Rattle.std.proofs.Common.{refl}
-
-pub print_parts-requires-clause-single : goal.print_parts-requires-clause-single
-print_parts-requires-clause-single c = single_from_rises c.args.sent.now.released.now.holds c.requires.released.rise
 
 pub returns : goal.returns
 returns c =

@@ -2,13 +2,10 @@ use Rattle.std.proofs.Common.{◌≡◌, ◌∙◌, sym, ap, subst, ℕ, ◌<◌
 use Rattle.std.specs.List.{flat_map}
 use Rattle.wp_model.specs.declared.point.Point.{Point}
 use Rattle.wp_model.specs.declared.row.Hold.{Hold}
-use Rattle.wp_sheets.specs.Picks.{AreByRow, AreSingle}
+use Rattle.wp_sheets.specs.Picks.{AreByRow}
 use Rattle.wp_sheets.specs.Sheets.{batch_line, pick_line, tour_line}
 use Rattle.wp_sheets.proofs.PicksByRow.{all_orders, all_picks}
 use Rattle.wp_sheets.proofs.batch.print_batch.Goals as goal
-
-pub picks_of-requires : goal.picks_of-requires
-picks_of-requires c = subst AreSingle (sym c.as_slice.ensures) c.requires.single
 
 pub print_picks-requires-clause-rows : goal.print_picks-requires-clause-rows
 print_picks-requires-clause-rows c =
