@@ -91,7 +91,7 @@ stop_at_fault disk old mid new names layout text (stop.Complaint (complaint.Refu
 stop_at_fault disk old mid new names layout text (stop.Complaint (complaint.Fault f)) first said was read wrong = absurd wrong
 stop_at_fault disk old mid new names layout text (stop.Complaint (complaint.Wrong found)) first said was read (fault, is, refused) =
     has_read old new (check names) (with_certificate layout text) _ (check_files old mid new names layout text first said was read)
-    (subst (IsWrong disk (check names) (with_certificate layout text)) (sym is) refused)
+    (subst (IsWrong disk.old.holds (check names) (with_certificate layout text)) (sym is) refused)
 stop_at_fault disk old mid new names layout text (stop.Complaint complaint.Store) first said was read wrong = absurd wrong
 stop_at_fault disk old mid new names layout text stop.Memory first said was read wrong = tt
 

@@ -18,10 +18,10 @@ use Rattle.wp_planner.specs.declared.planner.WavePlan.{WavePlan}
 use Rattle.wp_top.proofs.DayTexts.{any_text, text_is}
 use Rattle.wp_top.proofs.SectionTexts.{lines_fail, lines_then, lines_then_fail, sheets_are}
 use Rattle.wp_planner.specs.Sent.{Sent, plans_of, waves_of}
-use Rattle.wp_top.specs.Planned.{HasCrew, IsSheetAt, IsToldOf}
+use Rattle.wp_top.specs.Planned.{HasCrew, IsSheetAt, IsToldOf, day_told}
 use Rattle.wp_top.specs.Sections.{IsTextAt, refills_and_end}
 use Rattle.wp_top.specs.Sheets.{AreSheets}
-use Rattle.wp_top.specs.Stops.{IsTextOf}
+use Rattle.wp_top.specs.Runs.{IsTextOf}
 
 -- sheets fail, with more behind them
 pub sheets_fail : (history : History) (terms : Terms) (listed sent : List Sent) (count : ℕ) (more waited : List ℕ) (fault : SinkFault) (old new : SinkTold)
@@ -66,7 +66,7 @@ Lines entries count text = IsSection (line (codes "journal")) count (IsTextAt en
 pub day_fails : (layout : Layout) (terms : Terms) (start : History) (day : DayRun (Option WavePlan)) (crew : Option DayCrew) (entries : List Entry) (count : ℕ) (waited : List ℕ) (fault : SinkFault)
     (old new : SinkTold) → IsToldOf layout terms start day → HasCrew terms day crew → entries ≡ day.machine.entries → count ≡ length entries → waited ≡ []
     → (text : List ℕ) × Lines entries count text × Fails fault old new (waited ++ text)
-    → (text : List ℕ) × IsTextOf layout terms start day.machine text × Fails fault old new text
+    → (text : List ℕ) × IsTextOf terms (day_told start day) text × Fails fault old new text
 day_fails layout terms start day crew entries count waited fault old new told dealt all count_is none section =
     let whole = any_text layout terms start day crew told dealt in
     let fails = lines_fail entry_line entries count (line (codes "journal")) (line (codes "end journal")) (journal entries) whole.0 waited fault old new
@@ -83,7 +83,7 @@ pub day_then : (layout : Layout) (terms : Terms) (start : History) (day : DayRun
     → (text : List ℕ) × Lines entries count text × Writes old mid waited between text
     → (sheets : List ℕ) × AreSheets day.machine terms (waves_of day.plans.items) (plans_of day.plans.items) sheets
     × Writes mid new between [] (sheets ++ refills_and_end day.machine day.refills.items (crew_text crew))
-    → (text : List ℕ) × IsTextOf layout terms start day.machine text × Writes old new [] [] text
+    → (text : List ℕ) × IsTextOf terms (day_told start day) text × Writes old new [] [] text
 day_then layout terms start day crew entries count waited between old mid new told dealt all count_is none section (sheets, are, rest) =
     let more = sheets ++ refills_and_end day.machine day.refills.items (crew_text crew) in
     let writes = lines_then entry_line entries count (line (codes "journal")) (line (codes "end journal")) (journal entries) more waited between [] old mid new
@@ -100,7 +100,7 @@ pub day_then_fails : (layout : Layout) (terms : Terms) (start : History) (day : 
     → (text : List ℕ) × Lines entries count text × Writes old mid waited between text
     → (sheets : List ℕ) × AreSheets day.machine terms (waves_of day.plans.items) (plans_of day.plans.items) sheets
     × Fails fault mid new (between ++ (sheets ++ refills_and_end day.machine day.refills.items (crew_text crew)))
-    → (text : List ℕ) × IsTextOf layout terms start day.machine text × Fails fault old new text
+    → (text : List ℕ) × IsTextOf terms (day_told start day) text × Fails fault old new text
 day_then_fails layout terms start day crew entries count waited between fault old mid new told dealt all count_is none section (sheets, are, rest) =
     let more = sheets ++ refills_and_end day.machine day.refills.items (crew_text crew) in
     let fails = lines_then_fail entry_line entries count (line (codes "journal")) (line (codes "end journal")) (journal entries) more waited between fault
@@ -113,6 +113,6 @@ day_then_fails layout terms start day crew entries count waited between fault ol
 
 -- where nothing is written some text of the day isn't
 pub day_unwritten : (layout : Layout) (terms : Terms) (start : History) (day : DayRun (Option WavePlan)) (crew : Option DayCrew) (fault : SinkFault) (told : SinkTold) → IsToldOf layout terms start day → HasCrew terms day crew
-    → ((text : List ℕ) → Fails fault told told text) → (text : List ℕ) × IsTextOf layout terms start day.machine text × Fails fault told told text
+    → ((text : List ℕ) → Fails fault told told text) → (text : List ℕ) × IsTextOf terms (day_told start day) text × Fails fault told told text
 day_unwritten layout terms start day crew fault told is dealt none =
     let whole = any_text layout terms start day crew is dealt in (journal day.machine.entries ++ whole.0, whole.1, none (journal day.machine.entries ++ whole.0))

@@ -23,7 +23,7 @@ use Rattle.wp_top.proofs.PlanJournals.{day_is}
 use Rattle.wp_top.specs.Planned.{HasCrew, IsDayOver, IsToldOf}
 use Rattle.wp_top.specs.Runs.{AreNewOf, IsHistoryOf, command_count}
 use Rattle.wp_top.specs.Stops.{StopsFor, of_appends, of_records, of_store, stop_at_open}
-use Rattle.wp_top.specs.Stores.{AreAllKept, AreRecordsOn, DiskCourse, GoesOnFromStore, HasFailed, disk_course}
+use Rattle.wp_top.specs.Stores.{AreAllKept, AreRecordsIn, DiskCourse, GoesOnFromStore, HasFailed, Held, disk_course}
 use Rattle.wp_top.specs.declared.complaint.Complaint.TheVariants as complaint
 use Rattle.wp_top.specs.declared.complaint.Stop.{Stop}
 use Rattle.wp_top.specs.declared.complaint.Stop.TheVariants as stop
@@ -36,25 +36,26 @@ pub fresh_over : (disk : DiskCourse) (store : ℕ) (layout : Layout) (opening : 
     → HasCrew terms day.run day.crew → IsDayOver disk store layout opening terms scripts day
 fresh_over disk store layout opening terms scripts day other answers told dealt = record {
   start = opened opening;
-  begun = record { stored = λ uses. absurd (other uses); without = λ fresh. refl };
+  stored = record {
+    begun = record { stored = λ uses. absurd (other uses); without = λ fresh. refl };
+    kept = λ uses. absurd (other uses);
+  };
   answers = answers;
   told = told;
   dealt = dealt;
-  kept = λ uses. absurd (other uses);
 }
 
 -- one that began with the history of a store
 pub stored_over : (disk : DiskCourse) (store : ℕ) (layout : Layout) (opening : Opening) (terms : Terms) (scripts : List Script) (start : History)
-    (day : DayPlans) → store ≡ 1 → GoesOnFromStore disk opening (command_count scripts) start → IsHistoryOf opening scripts start day.run.machine
+    (day : DayPlans) → store ≡ 1 → GoesOnFromStore disk.old.holds opening (command_count scripts) start → IsHistoryOf opening scripts start day.run.machine
     → IsToldOf layout terms start day.run → HasCrew terms day.run day.crew → AreAllKept disk (new_entries start day.run.machine)
     → IsDayOver disk store layout opening terms scripts day
 stored_over disk store layout opening terms scripts start day uses from answers told dealt kept = record {
   start = start;
-  begun = record { stored = λ same. from; without = λ other. absurd (other uses) };
+  stored = record { begun = record { stored = λ same. from; without = λ other. absurd (other uses) }; kept = λ same. kept };
   answers = answers;
   told = told;
   dealt = dealt;
-  kept = λ same. kept;
 }
 
 -- as many new entries as the history has after those of the records
@@ -82,18 +83,18 @@ open_stops disk opening commands open_fault.TooLong failed long = (store_finding
 open_stops disk opening commands open_fault.Memory failed long = tt
 
 -- a day goes on from what was recovered
-pub from_store : (disk : DiskCourse) (opening : Opening) (commands : ℕ) (bodies : List (List ℕ)) (start : History) → AreRecordsOn disk bodies
+pub from_store : (held : Held) (opening : Opening) (commands : ℕ) (bodies : List (List ℕ)) (start : History) → AreRecordsIn held bodies
     → LinesBegin opening bodies start [] → length bodies + commands ≤ 10000
-    → WhereTold disk.old.holds (λ told. IsTooLong told → ⊥) → GoesOnFromStore disk opening commands start
-from_store disk opening commands bodies start records begins few short =
+    → WhereTold held (λ told. IsTooLong told → ⊥) → GoesOnFromStore held opening commands start
+from_store held opening commands bodies start records begins few short =
     record { bodies = bodies; records = records; begins = begins; few = few; short = short }
 
 -- a day goes on from what was recovered, by the list of it that was replayed
-pub from_recovered : (disk : DiskCourse) (opening : Opening) (commands : ℕ) (recovered bodies : List (List ℕ)) (start : History) → bodies ≡ recovered
-    → AreRecordsOn disk recovered → LinesBegin opening bodies start [] → length bodies + commands ≤ 10000
-    → WhereTold disk.old.holds (λ told. IsTooLong told → ⊥) → GoesOnFromStore disk opening commands start
-from_recovered disk opening commands recovered bodies start same records begins few short =
-    from_store disk opening commands bodies start (λ bytes told. same ∙ records bytes told) begins few short
+pub from_recovered : (held : Held) (opening : Opening) (commands : ℕ) (recovered bodies : List (List ℕ)) (start : History) → bodies ≡ recovered
+    → AreRecordsIn held recovered → LinesBegin opening bodies start [] → length bodies + commands ≤ 10000
+    → WhereTold held (λ told. IsTooLong told → ⊥) → GoesOnFromStore held opening commands start
+from_recovered held opening commands recovered bodies start same records begins few short =
+    from_store held opening commands bodies start (λ bytes told. same ∙ records bytes told) begins few short
 
 -- the entries that a machine has after those that were recovered are the new ones
 pub after_recovered : (opening : Opening) (recovered bodies : List (List ℕ)) (start history : History) → bodies ≡ recovered → LinesBegin opening bodies start []
@@ -102,13 +103,13 @@ after_recovered opening recovered bodies start history same begins =
     ap (λ (all : List (List ℕ)). drop (length all) history.entries) (sym same) ∙ new_are_after opening bodies start history begins
 
 -- and those of a day that answers its scripts
-pub are_new_of : (disk : DiskCourse) (opening : Opening) (scripts : List Script) (recovered bodies : List (List ℕ)) (start history : History) → bodies ≡ recovered
-    → AreRecordsOn disk recovered → LinesBegin opening bodies start [] → length bodies + command_count scripts ≤ 10000
-    → WhereTold disk.old.holds (λ told. IsTooLong told → ⊥) → IsHistoryOf opening scripts start history
-    → AreNewOf disk opening scripts (drop (length recovered) history.entries)
-are_new_of disk opening scripts recovered bodies start history same records begins few short answers = record {
+pub are_new_of : (held : Held) (opening : Opening) (scripts : List Script) (recovered bodies : List (List ℕ)) (start history : History) → bodies ≡ recovered
+    → AreRecordsIn held recovered → LinesBegin opening bodies start [] → length bodies + command_count scripts ≤ 10000
+    → WhereTold held (λ told. IsTooLong told → ⊥) → IsHistoryOf opening scripts start history
+    → AreNewOf held opening scripts (drop (length recovered) history.entries)
+are_new_of held opening scripts recovered bodies start history same records begins few short answers = record {
   start = start;
-  from = from_recovered disk opening (command_count scripts) recovered bodies start same records begins few short;
+  from = from_recovered held opening (command_count scripts) recovered bodies start same records begins few short;
   history = history;
   answers = answers;
   new = after_recovered opening recovered bodies start history same begins;
@@ -143,7 +144,7 @@ disk_failed (Err append_fault.Disk) failed sound = refl
 disk_failed (Err append_fault.Broken) failed sound = absurd (sound refl)
 
 -- what stops a run at its records stops it at its store
-pub records_stop : (disk : DiskCourse) (opening : Opening) (bodies : List (List ℕ)) (commands : ℕ) (s : Stop) → AreRecordsOn disk bodies
+pub records_stop : (disk : DiskCourse) (opening : Opening) (bodies : List (List ℕ)) (commands : ℕ) (s : Stop) → AreRecordsIn disk.old.holds bodies
     → StopsFor (of_records opening bodies commands) s → StopsFor (of_store disk opening commands) s
 records_stop disk opening bodies commands (stop.Complaint (complaint.Words why)) are stops = absurd stops
 records_stop disk opening bodies commands (stop.Complaint (complaint.Refused f why)) are stops = absurd stops

@@ -1,26 +1,27 @@
 -- What the jobs come to.
 use Rattle.std.proofs.Common.{◌≡◌, ◌∙◌, refl, sym, ap, subst, ℕ, ⊎_elim, inl, inr, List, [], ◌∷◌, ◌++◌, None, Option, Result, Ok, Err, arith}
 use Rattle.std.specs.Prelude.{⊤, IfOk, OnOk}
-use Rattle.wp_desk.specs.GoingOn.{new_entries}
 use Rattle.wp_desk.specs.declared.day_run.DayRun.{DayRun}
 use Rattle.wp_journal.specs.Journals.{IsJournalOf, Shows}
 use Rattle.wp_machine.specs.declared.outcome.WaveHolds.{WaveHolds}
-use Rattle.wp_model.specs.History.{History, Script, opened}
+use Rattle.wp_model.specs.History.{Script, opened}
 use Rattle.wp_model.specs.Opening.{Opening}
 use Rattle.wp_model.specs.Warehouse.{Layout}
 use Rattle.wp_model.specs.declared.entry.Entry.{Entry}
 use Rattle.wp_outside.specs.Outside.{FilesTold, NoneFalls, SameBytes}
 use Rattle.wp_planner.specs.declared.planner.WavePlan.{WavePlan}
 use Rattle.wp_top.proofs.FilesRead.{HaveRead, WasRead, nothing_said_yet, read_next, say_next, stops_among_more, stops_there}
-use Rattle.wp_top.proofs.MadeDays.{good_plans}
+use Rattle.wp_top.proofs.MadeDays.{whole_plans}
+use Rattle.wp_top.proofs.WavesOut.{waves_are}
 use Rattle.wp_top.specs.Ends.{AreNewIn, Asked, HasRead, IsOutput, among, of_run}
 use Rattle.wp_top.specs.Planned.{IsToldOf}
-use Rattle.wp_top.specs.Runs.{AreNewOf, ComesTo, IsHistoryOf, IsSummary, IsWrong, UsesStore, audit_line, command_count}
+use Rattle.wp_top.specs.Runs.{AreBracketed, AreNewOf, ComesTo, Day, IsHistoryOf, IsSummary, IsTextOf, IsWrong, UsesStore, audit_line, command_count}
+use Rattle.wp_top.specs.Sections.{waves_out}
 use Rattle.wp_top.specs.Sheets.{terms_of}
-use Rattle.wp_top.specs.Stops.{HasRightText, IsMadeDay, IsRead, IsReadDay, IsSaid, IsTextOf, StopsAt, StopsFor, day_said, of_file, of_journal, of_store, opening_files, stop_at_words, tables_said}
-use Rattle.wp_top.specs.Stores.{AreAllKept, AreSomeKept, DiskCourse, IsBegun, IsRefusedStore, no_disk}
+use Rattle.wp_top.specs.Stops.{HasRightText, IsMadeDay, IsRead, IsReadDay, IsSaid, StopsAt, StopsFor, day_said, of_file, of_journal, of_store, opening_files, stop_at_words, tables_said}
+use Rattle.wp_top.specs.Stores.{AreSomeKept, DiskCourse, Held, IsRefusedStore, IsStored, no_disk}
 use Rattle.wp_planner.specs.Sent.{plans_of}
-use Rattle.wp_top.specs.Summaries.{AreGoodPlans, made_terms, summary_of}
+use Rattle.wp_top.specs.Summaries.{AreGoodPlans, AreWholePlans, made_terms, summary_of}
 use Rattle.wp_top.specs.Texts.{File, Said, file_of, files_of, nothing_said, opening_with, said_with, scripts_in, text_in}
 use Rattle.wp_top.specs.declared.complaint.Complaint.TheVariants as complaint
 use Rattle.wp_top.specs.declared.complaint.Finding.{Finding}
@@ -97,7 +98,7 @@ stop_at_fault disk old mid new names layout opening text (stop.Complaint (compla
 stop_at_fault disk old mid new names layout opening text (stop.Complaint (complaint.Fault f)) units so_far was read wrong = absurd wrong
 stop_at_fault disk old mid new names layout opening text (stop.Complaint (complaint.Wrong found)) units so_far was read (fault, is, shows) =
     has_read old new (audit names) (with_journal layout opening text) _ (audit_files old mid new names layout opening text so_far was read)
-    (subst (IsWrong disk (audit names) (with_journal layout opening text)) (sym is)
+    (subst (IsWrong disk.old.holds (audit names) (with_journal layout opening text)) (sym is)
     (subst (λ (o : Opening). Shows o text (Err fault)) (sym (with_units opening names.units units)) shows))
 stop_at_fault disk old mid new names layout opening text (stop.Complaint complaint.Store) units so_far was read wrong = absurd wrong
 stop_at_fault disk old mid new names layout opening text stop.Memory units so_far was read wrong = tt
@@ -127,31 +128,25 @@ plan_files old mid new names layout opening scripts so_far was is =
     (day_said layout (opening_with opening None) scripts) input.Desks names.desks scripts (λ text said. rw said refl) so_far was is
 
 -- the output of a plan
-pub plan_is : (disk : DiskCourse) (old new : FilesTold) (names : PlanNames) (layout : Layout) (opening : Opening) (scripts : List Script) (start history : History)
-    (output : List ℕ) → IsReadDay names layout opening scripts old new → IsBegun disk names.store opening (command_count scripts) start
-    → IsHistoryOf opening scripts start history → (names.store ≡ 1 → AreAllKept disk (new_entries start history)) → IsTextOf layout (terms_of names) start history output
-    → IsOutput (Ok (plan names)) disk old new output
-plan_is disk old new names layout opening scripts start history output day begun answers kept text =
-    let own = sym (with_units opening names.units day.units) in
+pub plan_is : (disk : DiskCourse) (old new : FilesTold) (names : PlanNames) (layout : Layout) (opening : Opening) (scripts : List Script) (day : Day)
+    (output : List ℕ) → IsReadDay names layout opening scripts old new → IsStored disk names.store opening (command_count scripts) day.start day.history
+    → IsHistoryOf opening scripts day.start day.history
+    → AreGoodPlans layout day.history.opening (terms_of names) (waves_out day.start day.history) day.plans → IsTextOf (terms_of names) day output
+    → AreBracketed (terms_of names) day → IsOutput (Ok (plan names)) disk old new output
+plan_is disk old new names layout opening scripts day output read stored answers planned text brackets =
+    let own = sym (with_units opening names.units read.units) in
     record {
       job = plan names;
       asked_for = refl;
       said = day_said layout (opening_with opening None) scripts;
-      accepted = day.said;
-      reads = day.all;
+      accepted = read.said;
+      reads = read.all;
       comes = record {
-        start = start;
-        begun = subst (λ (o : Opening). IsBegun disk names.store o (command_count scripts) start) own begun;
-        history = history;
-        answers = subst (λ (o : Opening). IsHistoryOf o scripts start history) own answers;
-        plans = text.plans;
-        planned = text.planned;
-        sheets = text.sheets;
-        printed = text.printed;
-        crew = text.crew;
-        dealt = text.dealt;
-        kept = kept;
-        is = text.is;
+        day = day;
+        promised = record { answers = subst (λ (o : Opening). IsHistoryOf o scripts day.start day.history) own answers; planned = planned };
+        text = text;
+        brackets = brackets;
+        stored = subst (λ (o : Opening). IsStored disk names.store o (command_count scripts) day.start day.history) own stored;
       };
     }
 
@@ -168,9 +163,9 @@ stop_at_store disk old new names layout opening scripts (stop.Complaint (complai
   said = day_said layout (opening_with opening None) scripts;
   accepted = day.said;
   reads = day.all;
-  comes = subst (IsWrong disk (plan names) (day_said layout (opening_with opening None) scripts)) (sym is) (
+  comes = subst (IsWrong disk.old.holds (plan names) (day_said layout (opening_with opening None) scripts)) (sym is) (
     uses,
-    subst (λ (o : Opening). IsRefusedStore disk o (command_count scripts) refused) (sym (with_units opening names.units day.units)) why,
+    subst (λ (o : Opening). IsRefusedStore disk.old.holds o (command_count scripts) refused) (sym (with_units opening names.units day.units)) why,
   );
 }
 stop_at_store disk old new names layout opening scripts (stop.Complaint complaint.Store) uses day failed = record {
@@ -196,15 +191,15 @@ comes_with disk (audit names) said output other comes = comes
 comes_with disk (make numbers) said output other comes = comes
 
 -- nor does what is found wrong of it
-wrong_with : (disk : DiskCourse) (job : JobNames) (said : Said) (found : Finding) → IsNoPlan job → IsWrong no_disk job said found → IsWrong disk job said found
-wrong_with disk (plan names) said found other wrong = absurd other
-wrong_with disk (check names) said (finding.Certificate fault) other wrong = wrong
-wrong_with disk (check names) said (finding.Journal fault) other wrong = absurd wrong
-wrong_with disk (check names) said (finding.Store refused) other wrong = absurd wrong
-wrong_with disk (audit names) said (finding.Certificate fault) other wrong = absurd wrong
-wrong_with disk (audit names) said (finding.Journal fault) other wrong = wrong
-wrong_with disk (audit names) said (finding.Store refused) other wrong = absurd wrong
-wrong_with disk (make numbers) said found other wrong = absurd wrong
+wrong_with : (held : Held) (job : JobNames) (said : Said) (found : Finding) → IsNoPlan job → IsWrong no_disk.old.holds job said found → IsWrong held job said found
+wrong_with held (plan names) said found other wrong = absurd other
+wrong_with held (check names) said (finding.Certificate fault) other wrong = wrong
+wrong_with held (check names) said (finding.Journal fault) other wrong = absurd wrong
+wrong_with held (check names) said (finding.Store refused) other wrong = absurd wrong
+wrong_with held (audit names) said (finding.Certificate fault) other wrong = absurd wrong
+wrong_with held (audit names) said (finding.Journal fault) other wrong = wrong
+wrong_with held (audit names) said (finding.Store refused) other wrong = absurd wrong
+wrong_with held (make numbers) said found other wrong = absurd wrong
 
 -- nor does it use a store
 no_store : (job : JobNames) → IsNoPlan job → UsesStore job → ⊥
@@ -244,23 +239,23 @@ stops_with disk old new job (stop.Complaint (complaint.Wrong found)) other stops
   said = stops.said;
   accepted = stops.accepted;
   reads = stops.reads;
-  comes = wrong_with disk stops.job stops.said found (no_plan_read (Ok job) job stops.job other refl stops.asked_for) stops.comes;
+  comes = wrong_with disk.old.holds stops.job stops.said found (no_plan_read (Ok job) job stops.job other refl stops.asked_for) stops.comes;
 }
 stops_with disk old new job (stop.Complaint complaint.Store) other stops =
     absurd (no_store stops.job (no_plan_read (Ok job) job stops.job other refl stops.asked_for) stops.comes.0)
 stops_with disk old new job stop.Memory other stops = tt
 
 -- new entries of a day are new ones of its plan
-pub new_in_plan : (disk : DiskCourse) (old new : FilesTold) (names : PlanNames) (layout : Layout) (opening : Opening) (scripts : List Script)
-    (entries : List Entry) → IsReadDay names layout opening scripts old new → AreNewOf disk opening scripts entries
-    → AreNewIn (Ok (plan names)) disk old new entries
-new_in_plan disk old new names layout opening scripts entries day are = record {
+pub new_in_plan : (held : Held) (old new : FilesTold) (names : PlanNames) (layout : Layout) (opening : Opening) (scripts : List Script)
+    (entries : List Entry) → IsReadDay names layout opening scripts old new → AreNewOf held opening scripts entries
+    → AreNewIn (Ok (plan names)) held old new entries
+new_in_plan held old new names layout opening scripts entries day are = record {
   job = plan names;
   asked_for = refl;
   said = day_said layout (opening_with opening None) scripts;
   accepted = day.said;
   reads = day.all;
-  comes = subst (λ (o : Opening). AreNewOf disk o scripts entries) (sym (with_units opening names.units day.units)) are;
+  comes = subst (λ (o : Opening). AreNewOf held o scripts entries) (sym (with_units opening names.units day.units)) are;
 }
 
 -- what is kept of new entries of one kind is kept of those of another
@@ -296,8 +291,9 @@ summary_is numbers day run output says answers told is =
       history = history;
       answers = answers;
       plans = plans_of run.plans.items;
-      planned = subst (λ (sent : List WaveHolds). AreGoodPlans day.layout history.opening (made_terms numbers) sent (plans_of run.plans.items)) told.waves
-          (good_plans day.layout history.opening (made_terms numbers) run.plans.items told.planned);
+      planned = subst (λ (sent : List WaveHolds). AreWholePlans day.layout history.opening (made_terms numbers) sent (plans_of run.plans.items))
+          (told.waves ∙ waves_are (opened day.opening) history)
+          (whole_plans day.layout history.opening (made_terms numbers) run.plans.items told.planned);
       is = is;
     }
 

@@ -14,7 +14,7 @@ use Rattle.wp_top.specs.Ends.{AreNewIn, Asked, EndsAt, HasRisen, IsRefused, Read
 use Rattle.wp_top.specs.Promise.{AreGoodFiles, AsksForStore, Course, IsBadFile, Keeps, StoreStands}
 use Rattle.wp_top.specs.Runs.{ComesTo, IsRight, IsWrong, UsesStore, command_count}
 use Rattle.wp_top.specs.Stops.{End, Finishes, HasEnded, IsEnding, IsOfInput, complains, gives, number_of, status_of, text_of}
-use Rattle.wp_top.specs.Stores.{AreSomeKept, DiskCourse, GoesOnFromStore, HasFailed, IsRefusedStore, IsToldOn}
+use Rattle.wp_top.specs.Stores.{AreSomeKept, DiskCourse, GoesOnFromStore, HasFailed, Held, IsRefusedStore}
 use Rattle.wp_top.specs.Texts.{HaveSaid, IsHeld, Said, files_of, opening_with}
 use Rattle.wp_top.specs.declared.complaint.Complaint.TheVariants as complaint
 use Rattle.wp_top.specs.declared.complaint.StoreFinding.{StoreFinding}
@@ -71,28 +71,28 @@ ok_no_err : (a : Audit) (fault : AuditFault) → ◌≡◌ {A = Result Audit Aud
 ok_no_err a fault e = cc e
 
 -- where a disk tells its bytes and its count stands, what the store has isn't both what a day goes on from and refused
-store_no_refusal : (disk : DiskCourse) (opening : Opening) (commands : ℕ) (start : History) (told : List ℕ) (found : StoreFinding) → IsToldOn disk told
-    → GoesOnFromStore disk opening commands start → IsRefusedStore disk opening commands found → ⊥
-store_no_refusal disk opening commands start told store_finding.TooLong tells from refused = from.short told tells (refused told tells)
-store_no_refusal disk opening commands start told (store_finding.Record number) tells from (bodies, records, bad) =
+store_no_refusal : (held : Held) (opening : Opening) (commands : ℕ) (start : History) (told : List ℕ) (found : StoreFinding) → held ≡ Some told
+    → GoesOnFromStore held opening commands start → IsRefusedStore held opening commands found → ⊥
+store_no_refusal held opening commands start told store_finding.TooLong tells from refused = from.short told tells (refused told tells)
+store_no_refusal held opening commands start told (store_finding.Record number) tells from (bodies, records, bad) =
     let same = from.records told tells ∙ sym (records told tells) in
     whole_has_next opening bodies start bad.history bad.next bad.others (subst (λ (l : List (List ℕ)). LinesBegin opening l start []) same from.begins)
     bad.begins bad.bad
-store_no_refusal disk opening commands start told (store_finding.Entry number printed right) tells from (bodies, records, wrong) =
+store_no_refusal held opening commands start told (store_finding.Entry number printed right) tells from (bodies, records, wrong) =
     let same = from.records told tells ∙ sym (records told tells) in
     whole_is_answered opening bodies start wrong.history wrong.next wrong.others number printed right
     (subst (λ (l : List (List ℕ)). LinesBegin opening l start []) same from.begins) wrong.begins wrong.misanswered
-store_no_refusal disk opening commands start told (store_finding.Entries number) tells from (bodies, records, many) =
+store_no_refusal held opening commands start told (store_finding.Entries number) tells from (bodies, records, many) =
     let same = from.records told tells ∙ sym (records told tells) in
     absurd (omega (arith, ap length same, from.few, many.counted, many.many))
 
 -- what a job holds against its files, and what its store has, isn't both right and wrong
-right_no_wrong : (run : Course) (job : JobNames) (said : Said) (found : Finding) → StoreStands run job → IsRight run.disk job said
-    → IsWrong run.disk job said found → ⊥
+right_no_wrong : (run : Course) (job : JobNames) (said : Said) (found : Finding) → StoreStands run job → IsRight run.disk.old.holds job said
+    → IsWrong run.disk.old.holds job said found → ⊥
 right_no_wrong run (plan names) said (finding.Store found) stands right (uses, refused) =
     let store = stands uses in
     let from = right uses in
-    store_no_refusal run.disk (opening_with said.opening names.units) (command_count said.scripts) from.0 store.0.0 found store.0.1 from.1 refused
+    store_no_refusal run.disk.old.holds (opening_with said.opening names.units) (command_count said.scripts) from.0 store.0.0 found store.0.1 from.1 refused
 right_no_wrong run (plan names) said (finding.Certificate fault) stands right wrong = wrong
 right_no_wrong run (plan names) said (finding.Journal fault) stands right wrong = wrong
 right_no_wrong run (check names) said (finding.Journal fault) stands right wrong = wrong
@@ -108,8 +108,8 @@ right_no_wrong run (audit names) said (finding.Journal fault) stands (entries, r
     ok_no_err (record { entries = entries }) fault (shows_one (opening_with said.opening names.units) said.journal (Ok (record { entries = entries })) (Err fault) right wrong)
 
 -- an output is what right files come to
-right_output : (disk : DiskCourse) (job : JobNames) (said : Said) (output : List ℕ) → ComesTo disk job said output → IsRight disk job said
-right_output disk (plan names) said output comes = λ uses. (comes.start, comes.begun.stored uses)
+right_output : (disk : DiskCourse) (job : JobNames) (said : Said) (output : List ℕ) → ComesTo disk job said output → IsRight disk.old.holds job said
+right_output disk (plan names) said output comes = λ uses. (comes.day.start, comes.stored.begun.stored uses)
 right_output disk (check names) said output comes = (comes.bound, comes.shows.tree)
 right_output disk (audit names) said output comes = (comes.entries, comes.shows)
 right_output disk (make numbers) said output comes = tt
@@ -127,7 +127,7 @@ said_is asked run job other said more good asked_for have =
     (same, one_said run.files.holds (files_of job) more said (subst (λ (j : JobNames). HaveSaid (IsHeld run.files.holds) (files_of j) more) same have) good.accepted)
 
 ends_for_wrong : (asked : Asked) (run : Course) (e : End) (job : JobNames) (said : Said) (found : Finding)
-    → IsEnding asked run.disk run.files run.files' e → AreGoodFiles asked run job said → StoreStands run job → IsWrong run.disk job said found
+    → IsEnding asked run.disk run.files run.files' e → AreGoodFiles asked run job said → StoreStands run job → IsWrong run.disk.old.holds job said found
     → number_of (status_of e) ≡ 6
 ends_for_wrong asked run (gives text) job said found is good store wrong =
     let same = said_is asked run job is.job said is.said good is.asked_for is.accepted in
@@ -146,7 +146,7 @@ ends_for_wrong asked run (complains complaint.Store) job said found is good stor
     absurd (no_store_fault run job is.job store (job_is asked is.job job is.asked_for good.asked_for) is.comes)
 
 ends_for_good : (asked : Asked) (run : Course) (e : End) (job : JobNames) (said : Said) → IsEnding asked run.disk run.files run.files' e
-    → AreGoodFiles asked run job said → StoreStands run job → IsRight run.disk job said → number_of (status_of e) ≡ 0
+    → AreGoodFiles asked run job said → StoreStands run job → IsRight run.disk.old.holds job said → number_of (status_of e) ≡ 0
 ends_for_good asked run (gives text) job said is good store right = refl
 ends_for_good asked run (complains (complaint.Words why)) job said is good store right = absurd (not_both asked job why good.asked_for is.0)
 ends_for_good asked run (complains (complaint.Refused f why)) job said is good store right =
@@ -157,8 +157,8 @@ ends_for_good asked run (complains (complaint.Fault f)) job said is good store r
     (subst (λ (j : JobNames). EndsAt run.files run.files' (files_of j) f (HasRisen run.files run.files')) (job_is asked is.0 job is.1 good.asked_for) is.2))
 ends_for_good asked run (complains (complaint.Wrong found)) job said is good store right =
     let same = said_is asked run job is.job said is.said good is.asked_for is.accepted in
-    absurd (right_no_wrong run job said found store right (subst (λ (s : Said). IsWrong run.disk job s found) same.1
-    (subst (λ (j : JobNames). IsWrong run.disk j is.said found) same.0 is.comes)))
+    absurd (right_no_wrong run job said found store right (subst (λ (s : Said). IsWrong run.disk.old.holds job s found) same.1
+    (subst (λ (j : JobNames). IsWrong run.disk.old.holds j is.said found) same.0 is.comes)))
 ends_for_good asked run (complains complaint.Store) job said is good store right =
     absurd (no_store_fault run job is.job store (job_is asked is.job job is.asked_for good.asked_for) is.comes)
 
@@ -168,7 +168,7 @@ pub record IsFrame (asked : Asked) (run : Course) : Type 0 where
   pub counts : NoneFalls run.files.faults run.files'.faults
   pub reads : ReadsWithin run.files run.files' (most_reads asked)
   pub no_more : run.sink.stopped ≡ false → run.sink'.late ≡ run.sink.late
-  pub stored : AsksForStore asked → AreSomeKept run.disk (AreNewIn asked run.disk run.files run.files')
+  pub stored : AsksForStore asked → AreSomeKept run.disk (AreNewIn asked run.disk.old.holds run.files run.files')
 
 -- what is asked for is a job that goes on from the store
 asks_for_store : (asked : Asked) (job : JobNames) → asked ≡ Ok job → UsesStore job → AsksForStore asked

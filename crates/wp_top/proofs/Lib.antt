@@ -4,6 +4,7 @@ pub mod RowsKept
 pub mod Taken
 pub mod Writing
 pub mod Waves
+pub mod WavesOut
 pub mod SheetsGrow
 pub mod SectionTexts
 pub mod DayTexts

@@ -25,10 +25,11 @@ use Rattle.wp_model.specs.Tables.{AreReadScripts, IsReadOpening}
 use Rattle.wp_model.specs.declared.command.Command.{Command}
 use Rattle.wp_model.specs.declared.entry.Entry.{Entry}
 use Rattle.wp_planner.specs.Crews.{crew_text}
-use Rattle.wp_top.specs.Runs.{IsHistoryOf, IsPlan, command_count}
+use Rattle.wp_top.specs.Runs.{Day, IsHistoryOf, IsPlan, IsTextOf, command_count}
 use Rattle.wp_words.specs.Words.{PlanNames}
 use Rattle.wp_top.specs.Sections.{output_of, refills_section, refills_told, stock_section}
-use Rattle.wp_top.specs.Stores.{DiskCourse, IsBegun}
+use Rattle.wp_top.specs.Sheets.{terms_of}
+use Rattle.wp_top.specs.Stores.{Held, IsBegun}
 use Rattle.wp_top.specs.Texts.{Said, opening_with}
 use Rattle.wp_top.proofs.Writing.{take_more}
 
@@ -312,9 +313,9 @@ record BeginsWell (commands : ℕ) (start : History) : Type 0 where
   within : All (λ entry. IsTrue (is_line_entry entry)) start.entries
   few : length start.entries + commands ≤ 10000
 
-begun_well : (disk : DiskCourse) (store : ℕ) (opening : Opening) (commands : ℕ) (start : History) → commands ≤ 10000
-    → IsBegun disk store opening commands start → BeginsWell commands start
-begun_well disk store opening commands start few begun = elim (cases_eq store 1) [
+begun_well : (held : Held) (store : ℕ) (opening : Opening) (commands : ℕ) (start : History) → commands ≤ 10000
+    → IsBegun held store opening commands start → BeginsWell commands start
+begun_well held store opening commands start few begun = elim (cases_eq store 1) [
   | inl uses ↦
       let from = begun.stored uses in
       record { within = from.begins.within; few = omega (arith, lines_count opening from.bodies start [] from.begins, from.few) }
@@ -324,26 +325,30 @@ begun_well disk store opening commands start few begun = elim (cases_eq store 1)
 ]
 
 -- the history of a plan is that of a day, with an entry for each of the history with which it began and for each command
-plan_is_day : (disk : DiskCourse) (names : PlanNames) (said : Said) (output : List ℕ) → IsReadOpening said.opening → AreReadScripts said.scripts
-    → (plan : IsPlan disk names said output) → IsDay plan.history × (length plan.history.entries ≡ length plan.start.entries + command_count said.scripts)
-plan_is_day disk names said output read are plan =
+plan_is_day : (held : Held) (names : PlanNames) (said : Said) (day : Day) → IsReadOpening said.opening → AreReadScripts said.scripts
+    → IsBegun held names.store (opening_with said.opening names.units) (command_count said.scripts) day.start
+    → IsPlan said.layout (opening_with said.opening names.units) said.scripts (terms_of names) day
+    → IsDay day.history × (length day.history.entries ≡ length day.start.entries + command_count said.scripts)
+plan_is_day held names said day read are begun plan =
     let opening = opening_with said.opening names.units in
-    let well = begun_well disk names.store opening (command_count said.scripts) plan.start are.most plan.begun in
-    day_is opening said.scripts plan.start plan.history (same_opening said.opening names.units (is_opening said.opening read)) read.stock.named are
+    let well = begun_well held names.store opening (command_count said.scripts) day.start are.most begun in
+    day_is opening said.scripts day.start day.history (same_opening said.opening names.units (is_opening said.opening read)) read.stock.named are
     well.within well.few plan.answers
 
 -- the output of a plan is a right journal
-pub plan_journal : (disk : DiskCourse) (names : PlanNames) (said : Said) (output : List ℕ) → IsReadOpening said.opening → AreReadScripts said.scripts
-    → (plan : IsPlan disk names said output)
-    → IsJournalOf (opening_with said.opening names.units) output (length plan.start.entries + command_count said.scripts)
-plan_journal disk names said output read are plan =
-    let day = plan_is_day disk names said output read are plan in
-    let history = plan.history in
-    let entries = length plan.start.entries + command_count said.scripts in
+pub plan_journal : (held : Held) (names : PlanNames) (said : Said) (day : Day) (output : List ℕ) → IsReadOpening said.opening → AreReadScripts said.scripts
+    → IsBegun held names.store (opening_with said.opening names.units) (command_count said.scripts) day.start
+    → IsPlan said.layout (opening_with said.opening names.units) said.scripts (terms_of names) day
+    → IsTextOf (terms_of names) day output
+    → IsJournalOf (opening_with said.opening names.units) output (length day.start.entries + command_count said.scripts)
+plan_journal held names said day output read are begun plan text =
+    let whole = plan_is_day held names said day read are begun plan in
+    let history = day.history in
+    let entries = length day.start.entries + command_count said.scripts in
     let first = journal history.entries in
-    let sheets = plan.sheets in
-    let crew = crew_text plan.crew in
-    let told = refills_told plan.start history in
+    let sheets = text.sheets in
+    let crew = crew_text text.crew in
+    let told = refills_told day.start history in
     let refills = refills_section history.opening.stock told ++ crew in
     let stock = stock_section history.opening.stock (state_after history).rows in
     let last = line (codes "end") in
@@ -352,8 +357,8 @@ plan_journal disk names said output read are plan =
     ap (λ text. text ++ last) (ap (λ text. text ++ stock) (append_assoc (first ++ sheets) _ crew ∙ append_assoc first sheets refills)
     ∙ append_assoc first (sheets ++ refills) stock)
     ∙ append_assoc first (sheets ++ refills ++ stock) last in
-    let right : IsJournalOf history.opening (first ++ more) (length history.entries) = day_journal history more day.0 in
-    let counted : IsJournalOf history.opening (first ++ more) entries = subst (λ n. IsJournalOf history.opening (first ++ more) n) day.1 right in
+    let right : IsJournalOf history.opening (first ++ more) (length history.entries) = day_journal history more whole.0 in
+    let counted : IsJournalOf history.opening (first ++ more) entries = subst (λ n. IsJournalOf history.opening (first ++ more) n) whole.1 right in
     let opened : IsJournalOf (opening_with said.opening names.units) (first ++ more) entries =
     subst (λ (o : Opening). IsJournalOf o (first ++ more) entries) plan.answers.starts counted in
-    subst (λ text. IsJournalOf (opening_with said.opening names.units) text entries) (sym (plan.is ∙ parts)) opened
+    subst (λ text. IsJournalOf (opening_with said.opening names.units) text entries) (sym (text.is ∙ parts)) opened

@@ -5,7 +5,7 @@ use Rattle.std.proofs.lemmas.List.Elements.{All-append, All-cons, All-contains_i
 use Rattle.std.specs.List.{All, flat_map}
 use Rattle.std.specs.Prelude.{IfOk}
 use Rattle.wp_desk.proofs.GoingOn.{told_apart}
-use Rattle.wp_desk.specs.GoingOn.{GoesOnFrom, new_entries, told_after}
+use Rattle.wp_desk.specs.GoingOn.{GoesOnFrom, new_entries, released_after, told_after}
 use Rattle.wp_desk.specs.declared.day_run.DayRun.{DayRun}
 use Rattle.wp_floor.proofs.Floors.{is_opening}
 use Rattle.wp_machine.specs.Outcome.{released_in}
@@ -27,7 +27,7 @@ use Rattle.wp_planner.specs.declared.planner.WavePlan.{WavePlan}
 use Rattle.wp_planner.specs.Sent.{ArePlanned, IsPlanned, Sent, waves_of}
 use Rattle.wp_top.specs.Planned.{AreMadeBy, IsToldOf}
 use Rattle.wp_top.specs.Runs.{IsHistoryOf}
-use Rattle.wp_top.specs.Sections.{refills_told, told_of, waves_out}
+use Rattle.wp_top.specs.Sections.{refills_told}
 
 -- one more
 pub one_wave_more : (sent : List Sent) (one : Sent) → waves_of (sent ++ one ∷ []) ≡ waves_of sent ++ one.wave ∷ []
@@ -58,7 +58,7 @@ each_later P (x ∷ xs) ys all = each_later P xs ys (All-tail P x (xs ++ ys) all
 
 -- each wave that a new entry sends out goes out filled, where a history goes on from another
 pub released_each : (start history : History) → IsReadOpening history.opening → GoesOnFrom start history
-    → All (IsReleased history.opening) (waves_out start history)
+    → All (IsReleased history.opening) (released_after start (new_entries start history))
 released_each start history read goes_on =
     let P : Outcome → Type 0 = λ told. All (IsReleased history.opening) (released_in told) in
     let outcomes = told_after (opened history.opening) history.entries in
@@ -67,7 +67,7 @@ released_each start history read goes_on =
     sent_filled history.opening told (λ out is. (each_wave_out_is_filled history out read (subst (Contains outcomes) is among)).released))
     outcomes (All-contains_itself outcomes) in
     let apart = subst (All P) (told_apart start new) (subst (λ (h : History). All P (told_after (opened h.opening) h.entries)) goes_on all) in
-    each_filled history.opening (told_of start history) (each_later P (told_after (opened start.opening) start.entries) (told_of start history) apart)
+    each_filled history.opening (told_after start new) (each_later P (told_after (opened start.opening) start.entries) (told_after start new) apart)
 
 -- a wave that went out filled has a plan
 one_planned : (layout : Layout) (opening : Opening) (terms : Terms) (sent : Sent) (plan : Option WavePlan) → sent.plan ≡ plan
@@ -104,7 +104,7 @@ history_of opening scripts start (Ok day) starts goes_on legal parts sound read 
 -- a day of an opening that was read tells what the steps of its history tell, where whatever may be made of a wave is a plan for it
 pub told_as : (layout : Layout) (terms : Terms) (opening : Opening) (scripts : List Script) (start : History) (makes : WaveHolds → Option WavePlan → Type 0)
     (result : Result (DayRun (Option WavePlan)) Memory) → IsReadOpening opening → IfOk result (λ day. IsHistoryOf opening scripts start day.machine)
-    → IfOk result (λ day. waves_of day.plans.items ≡ waves_out start day.machine) → IfOk result (λ day. day.refills.items ≡ refills_told start day.machine)
+    → IfOk result (λ day. waves_of day.plans.items ≡ released_after start (new_entries start day.machine)) → IfOk result (λ day. day.refills.items ≡ refills_told start day.machine)
     → IfOk result (λ day. AreMadeBy makes day.plans.items)
     → ((wave : WaveHolds) (plan : Option WavePlan) → makes wave plan → IsPlanFor layout opening terms wave plan)
     → IfOk result (IsToldOf layout terms start)

@@ -7,7 +7,7 @@ use Rattle.wp_model.specs.Journal.{after_space, line, number_after_space}
 use Rattle.wp_model.specs.declared.entry.Entry.{Entry}
 use Rattle.wp_outside.specs.Outside.{FilesTold}
 use Rattle.wp_top.specs.Runs.{AreNewFor, ComesTo, IsWrong, UsesStore}
-use Rattle.wp_top.specs.Stores.{DiskCourse, HasFailed}
+use Rattle.wp_top.specs.Stores.{DiskCourse, HasFailed, Held}
 use Rattle.wp_top.specs.Texts.{File, HaveSaid, IsHeld, Said, file_of, files_of, input_text, refusal_text, said_with}
 use Rattle.wp_top.specs.declared.complaint.Complaint.{Complaint}
 use Rattle.wp_top.specs.declared.complaint.Complaint.TheVariants as complaint
@@ -136,8 +136,8 @@ abbrev pub IsOutput : Asked → DiskCourse → FilesTold → FilesTold → List 
 IsOutput asked disk old new output = HasRead asked old new (λ job said. ComesTo disk job said output)
 
 -- entries are new ones of the job that is asked for, once all its files were read
-abbrev pub AreNewIn : Asked → DiskCourse → FilesTold → FilesTold → List Entry → Type 0
-AreNewIn asked disk old new entries = HasRead asked old new (λ job said. AreNewFor disk job said entries)
+abbrev pub AreNewIn : Asked → Held → FilesTold → FilesTold → List Entry → Type 0
+AreNewIn asked held old new entries = HasRead asked old new (λ job said. AreNewFor held job said entries)
 
 -- why a run complains: of its words, and then nothing was read; of a file of the job; of what is found when all were read; or of its disk, when all were
 -- read and the words have a store
@@ -146,7 +146,7 @@ of_run asked disk old new = record {
   words = λ why. (asked ≡ Err why) × (new.reads ≡ old.reads);
   refused = λ kind why. (job : JobNames) × (asked ≡ Ok job) × (among old new (files_of job)).refused kind why;
   fault = λ kind. (job : JobNames) × (asked ≡ Ok job) × (among old new (files_of job)).fault kind;
-  wrong = λ found. HasRead asked old new (λ job said. IsWrong disk job said found);
+  wrong = λ found. HasRead asked old new (λ job said. IsWrong disk.old.holds job said found);
   store = HasRead asked old new (λ job said. UsesStore job × HasFailed disk);
 }
 

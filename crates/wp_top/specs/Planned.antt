@@ -1,11 +1,11 @@
 -- What a day tells, the plans of its waves, and its crew.
 use Rattle.std.specs.Prelude.{◌≡◌, ℕ, List, Option, Some, slice_get}
 use Rattle.std.specs.List.{All}
-use Rattle.wp_desk.specs.GoingOn.{GoesOnFrom, new_entries}
+use Rattle.wp_desk.specs.GoingOn.{GoesOnFrom, new_entries, released_after}
 use Rattle.wp_desk.specs.declared.day_run.DayRun.{DayRun}
-use Rattle.wp_top.specs.Runs.{IsHistoryOf, command_count}
-use Rattle.wp_top.specs.Sections.{refills_told, waves_out}
-use Rattle.wp_top.specs.Stores.{AreAllKept, DiskCourse, IsBegun}
+use Rattle.wp_top.specs.Runs.{Day, IsHistoryOf, command_count}
+use Rattle.wp_top.specs.Sections.{refills_told}
+use Rattle.wp_top.specs.Stores.{DiskCourse, IsStored}
 use Rattle.wp_top.specs.declared.day.DayPlans.{DayPlans}
 use Rattle.wp_top.specs.Sheets.{IsSheetOf}
 use Rattle.wp_machine.specs.declared.outcome.WaveHolds.{WaveHolds}
@@ -33,9 +33,13 @@ pub record AreMadeBy (makes : WaveHolds → Option WavePlan → Type 0) (sent : 
 -- what a day tells is what the steps of its new entries tell, after the history with which it began, and each wave that went out has a good plan
 pub record IsToldOf (layout : Layout) (terms : Terms) (start : History) (day : DayRun (Option WavePlan)) : Type 0 where
   pub goes_on : GoesOnFrom start day.machine
-  pub waves : waves_of day.plans.items ≡ waves_out start day.machine
+  pub waves : waves_of day.plans.items ≡ released_after start (new_entries start day.machine)
   pub planned : ArePlanned layout day.machine.opening terms day.plans.items
   pub refills : day.refills.items ≡ refills_told start day.machine
+
+-- the day that began with a history and tells this
+abbrev pub day_told : History → DayRun (Option WavePlan) → Day
+day_told start day = record { start = start; history = day.machine; plans = plans_of day.plans.items }
 
 -- and where the terms have pickers, all batches of a day are dealt to them
 abbrev pub HasCrew : Terms → DayRun (Option WavePlan) → Option DayCrew → Type 0
@@ -45,8 +49,7 @@ HasCrew terms day crew = IsCrewFor terms.pickers (day_batches (waves_of day.plan
 -- and where the words have a store all its new entries are there
 pub record IsDayOver (disk : DiskCourse) (store : ℕ) (layout : Layout) (opening : Opening) (terms : Terms) (scripts : List Script) (day : DayPlans) : Type 0 where
   pub start : History
-  pub begun : IsBegun disk store opening (command_count scripts) start
+  pub stored : IsStored disk store opening (command_count scripts) start day.run.machine
   pub answers : IsHistoryOf opening scripts start day.run.machine
   pub told : IsToldOf layout terms start day.run
   pub dealt : HasCrew terms day.run day.crew
-  pub kept : store ≡ 1 → AreAllKept disk (new_entries start day.run.machine)

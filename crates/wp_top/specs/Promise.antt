@@ -111,13 +111,13 @@ pub record Keeps {D : Type 0} (asked : Asked) (run : Course) (disk disk' : D) (s
   pub bad_file : IsBadFile asked run → SinkStands run → EndsWith 2 status
   -- a certificate, a journal or a store that isn't right ends with 6
   pub bad_content : (job : JobNames) (said : Said) (found : Finding) → AreGoodFiles asked run job said → StoreStands run job
-      → IsWrong run.disk job said found → SinkStands run → EndsWith 6 status
+      → IsWrong run.disk.old.holds job said found → SinkStands run → EndsWith 6 status
   -- and else the run ends with 0
-  pub complete : (job : JobNames) (said : Said) → AreGoodFiles asked run job said → StoreStands run job → IsRight run.disk job said → SinkStands run
+  pub complete : (job : JobNames) (said : Said) → AreGoodFiles asked run job said → StoreStands run job → IsRight run.disk.old.holds job said → SinkStands run
       → EndsWith 0 status
   -- however the run ends, each image of the store that a crash leaves at some moment of it has the records that there were, then a beginning of the new
   -- entries of a history that answers the desks, and all that were acknowledged
-  pub stored : (job : JobNames) → asked ≡ Ok job → UsesStore job → AreSomeKept run.disk (AreNewIn asked run.disk run.files run.files')
+  pub stored : (job : JobNames) → asked ≡ Ok job → UsesStore job → AreSomeKept run.disk (AreNewIn asked run.disk.old.holds run.files run.files')
   -- without a store the disk is what it was, and where the words or a file are complained of
   pub untouched : (AsksForStore asked → ⊥) → disk' ≡ disk
   pub unopened : 1 ≤ status → status ≤ 3 → disk' ≡ disk

@@ -1,6 +1,6 @@
 -- What a job comes to.
 use Rattle.std.specs.Prelude.{◌≡◌, ◌⊎◌, ◌++◌, ℕ, ⊤, List, Option, Err, codes, length}
-use Rattle.std.specs.List.{sum_by}
+use Rattle.std.specs.List.{All, sum_by}
 use Rattle.wp_lengths.specs.Waves.{WavePicks}
 use Rattle.wp_cert.specs.Bounds.{TellsBound}
 use Rattle.wp_cert.specs.Refusals.{IsFirstBroken}
@@ -20,12 +20,14 @@ use Rattle.wp_model.specs.Warehouse.{Layout}
 use Rattle.wp_model.specs.declared.entry.Entry.{Entry}
 use Rattle.wp_top.specs.Sections.{output_of, refills_told, waves_out}
 use Rattle.wp_top.specs.Sheets.{AreSheets, terms_of}
-use Rattle.wp_top.specs.Stores.{AreAllKept, DiskCourse, GoesOnFromStore, IsBegun, IsRefusedStore}
-use Rattle.wp_top.specs.Summaries.{AreGoodPlans, made_files, made_terms, size_of, summary_of}
+use Rattle.wp_top.specs.Stores.{DiskCourse, GoesOnFromStore, Held, IsRefusedStore, IsStored}
+use Rattle.wp_top.specs.Summaries.{AreGoodPlans, AreWholePlans, made_files, made_terms, size_of, summary_of}
 use Rattle.wp_top.specs.Texts.{Said, Say, opening_with}
 use Rattle.wp_top.specs.declared.complaint.Finding.{Finding}
 use Rattle.wp_top.specs.declared.complaint.Finding.TheVariants as finding
 use Rattle.wp_planner.specs.Crews.{IsCrewFor, crew_text, day_batches}
+use Rattle.wp_planner.specs.Roots.{IsRootFor}
+use Rattle.wp_planner.specs.Terms.{Terms}
 use Rattle.wp_planner.specs.declared.crew.DayCrew.{DayCrew}
 use Rattle.wp_planner.specs.declared.planner.WavePlan.{WavePlan}
 use Rattle.wp_words.specs.Words.{AuditNames, JobNames, MakeNumbers, PlanNames, audit, check, make, plan}
@@ -47,35 +49,49 @@ pub record IsHistoryOf (opening : Opening) (scripts : List Script) (start histor
   pub stock : StockGoesWhereItCovers history
 
 -- entries are the new ones of a history that goes on from the store with the commands of these scripts
-pub record AreNewOf (disk : DiskCourse) (opening : Opening) (scripts : List Script) (entries : List Entry) : Type 0 where
+pub record AreNewOf (held : Held) (opening : Opening) (scripts : List Script) (entries : List Entry) : Type 0 where
   pub start : History
-  pub from : GoesOnFromStore disk opening (command_count scripts) start
+  pub from : GoesOnFromStore held opening (command_count scripts) start
   pub history : History
   pub answers : IsHistoryOf opening scripts start history
   pub new : entries ≡ new_entries start history
 
--- What a plan promises where it ends with status 0, in the words in which it is promised.
-pub record IsPlan (disk : DiskCourse) (names : PlanNames) (said : Said) (output : List ℕ) : Type 0 where
-  -- the day begins with the history of the store, where the words say so, and else with nothing;
+-- a day that was run: the history with which it began, the whole history, and the plans of the waves that its new entries release
+pub record Day : Type 0 where
   pub start : History
-  pub begun : IsBegun disk names.store (opening_with said.opening names.units) (command_count said.scripts) start
-  -- its output is the text of one history of the opening and of the scripts that the files say, for carts of the units that the words say;
   pub history : History
-  pub answers : IsHistoryOf (opening_with said.opening names.units) said.scripts start history
-  -- each wave that a new entry releases has a good plan: every released order lies in one batch within capacity; no batching costs less than the bound; and
-  -- where the words say so a bracket of its linear bound;
   pub plans : List WavePlan
-  pub planned : AreGoodPlans said.layout history.opening (terms_of names) (waves_out start history) plans
-  -- and its sheet, on which every tour is a shortest closed walk, with what three usual rules would walk and the bracket where the words say so;
+
+-- What a plan promises of its day where it ends with status 0, in the words in which it is promised:
+pub record IsPlan (layout : Layout) (opening : Opening) (scripts : List Script) (terms : Terms) (day : Day) : Type 0 where
+  -- it is one history of this opening and of these scripts;
+  pub answers : IsHistoryOf opening scripts day.start day.history
+  -- each wave that a new entry releases has a good plan: every released order lies in one batch within capacity; no batching costs less than the bound
+  pub planned : AreGoodPlans layout day.history.opening terms (waves_out day.start day.history) day.plans
+
+-- each plan of a day has a bracket of its linear bound where the terms ask for one
+abbrev pub AreBracketed : Terms → Day → Type 0
+AreBracketed terms day = All (λ (plan : WavePlan). IsRootFor terms plan.wave plan.root) day.plans
+
+-- the text of a day:
+pub record IsTextOf (terms : Terms) (day : Day) (output : List ℕ) : Type 0 where
+  -- each wave has its sheet, on which every tour is a shortest closed walk, with what three usual rules would walk where the terms say so;
   pub sheets : List ℕ
-  pub printed : AreSheets history (terms_of names) (waves_out start history) plans sheets
-  -- where the words have pickers, all batches of the sheets are dealt to them, and the longest load is near the least that it can be
+  pub printed : AreSheets day.history terms (waves_out day.start day.history) day.plans sheets
+  -- where the terms have pickers, all batches of the sheets are dealt to them, and the longest load is near the least that it can be;
   pub crew : Option DayCrew
-  pub dealt : IsCrewFor names.pickers (day_batches (waves_out start history) plans) crew
-  -- where the words have a store, all new entries are acknowledged, and whatever a crash leaves of it has them;
-  pub kept : names.store ≡ 1 → AreAllKept disk (new_entries start history)
+  pub dealt : IsCrewFor terms.pickers (day_batches (waves_out day.start day.history) day.plans) crew
   -- this is the text: the whole journal, the sheets, the refills of new entries, the crew, the stock after it
-  pub is : output ≡ output_of history sheets (refills_told start history) (crew_text crew)
+  pub is : output ≡ output_of day.history sheets (refills_told day.start day.history) (crew_text crew)
+
+-- the output of a plan: the text of a day of what the files say, for carts of the units that the words say, which is as promised; where the words say so each
+-- plan has a bracket of its linear bound, and the day goes on from the store and is kept there
+pub record IsPlanOutput (disk : DiskCourse) (names : PlanNames) (said : Said) (output : List ℕ) : Type 0 where
+  pub day : Day
+  pub promised : IsPlan said.layout (opening_with said.opening names.units) said.scripts (terms_of names) day
+  pub text : IsTextOf (terms_of names) day output
+  pub brackets : AreBracketed (terms_of names) day
+  pub stored : IsStored disk names.store (opening_with said.opening names.units) (command_count said.scripts) day.start day.history
 
 -- What a make promises where it ends with status 0, in the words in which it is promised.
 pub record IsSummary (numbers : MakeNumbers) (output : List ℕ) : Type 0 where
@@ -86,7 +102,7 @@ pub record IsSummary (numbers : MakeNumbers) (output : List ℕ) : Type 0 where
   pub answers : IsHistoryOf day.opening day.scripts (opened day.opening) history
   -- each released wave has a good plan
   pub plans : List WavePlan
-  pub planned : AreGoodPlans day.layout history.opening (made_terms numbers) (waves_out (opened day.opening) history) plans
+  pub planned : AreWholePlans day.layout history.opening (made_terms numbers) (waves_out (opened day.opening) history) plans
   -- the output is the summary of this history and of these plans
   pub is : output ≡ summary_of numbers history plans
 
@@ -139,29 +155,29 @@ UsesStore (plan names) = names.store ≡ 1
 UsesStore other = ⊥
 
 -- entries are new ones of such a job, by what its files say
-abbrev pub AreNewFor : DiskCourse → JobNames → Said → List Entry → Type 0
-AreNewFor disk (plan names) said entries = AreNewOf disk (opening_with said.opening names.units) said.scripts entries
-AreNewFor disk other said entries = ⊥
+abbrev pub AreNewFor : Held → JobNames → Said → List Entry → Type 0
+AreNewFor held (plan names) said entries = AreNewOf held (opening_with said.opening names.units) said.scripts entries
+AreNewFor held other said entries = ⊥
 
 -- the output of a job, by what its files say and the disk tells
 abbrev pub ComesTo : DiskCourse → JobNames → Said → List ℕ → Type 0
-ComesTo disk (plan names) said output = IsPlan disk names said output
+ComesTo disk (plan names) said output = IsPlanOutput disk names said output
 ComesTo disk (check names) said output = IsBound said output
 ComesTo disk (audit names) said output = IsAudit names said output
 ComesTo disk (make numbers) said output = IsSummary numbers output
 
 -- what a job holds against its files isn't right, and this is found
-abbrev pub IsWrong : DiskCourse → JobNames → Said → Finding → Type 0
-IsWrong disk (plan names) said (finding.Store found) = (names.store ≡ 1)
-    × IsRefusedStore disk (opening_with said.opening names.units) (command_count said.scripts) found
-IsWrong disk (check names) said (finding.Certificate fault) = IsRefusedCertificate said.layout said.certificate fault
-IsWrong disk (audit names) said (finding.Journal fault) = Shows (opening_with said.opening names.units) said.journal (Err fault)
-IsWrong disk other said found = ⊥
+abbrev pub IsWrong : Held → JobNames → Said → Finding → Type 0
+IsWrong held (plan names) said (finding.Store found) = (names.store ≡ 1)
+    × IsRefusedStore held (opening_with said.opening names.units) (command_count said.scripts) found
+IsWrong held (check names) said (finding.Certificate fault) = IsRefusedCertificate said.layout said.certificate fault
+IsWrong held (audit names) said (finding.Journal fault) = Shows (opening_with said.opening names.units) said.journal (Err fault)
+IsWrong held other said found = ⊥
 
 -- it is right
-abbrev pub IsRight : DiskCourse → JobNames → Said → Type 0
-IsRight disk (plan names) said = names.store ≡ 1 → (start : History)
-    × GoesOnFromStore disk (opening_with said.opening names.units) (command_count said.scripts) start
-IsRight disk (check names) said = (bound : ℕ) × TellsBound said.layout said.certificate bound
-IsRight disk (audit names) said = (entries : ℕ) × IsJournalOf (opening_with said.opening names.units) said.journal entries
-IsRight disk (make numbers) said = ⊤
+abbrev pub IsRight : Held → JobNames → Said → Type 0
+IsRight held (plan names) said = names.store ≡ 1 → (start : History)
+    × GoesOnFromStore held (opening_with said.opening names.units) (command_count said.scripts) start
+IsRight held (check names) said = (bound : ℕ) × TellsBound said.layout said.certificate bound
+IsRight held (audit names) said = (entries : ℕ) × IsJournalOf (opening_with said.opening names.units) said.journal entries
+IsRight held (make numbers) said = ⊤

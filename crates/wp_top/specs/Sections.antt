@@ -1,28 +1,41 @@
 -- The output of a run, section by section.
-use Rattle.std.specs.Prelude.{◌≡◌, ℕ, List, [], ◌++◌, codes, slice_get}
+use Rattle.std.specs.Prelude.{◌≡◌, ℕ, ◌+◌, List, [], ◌∷◌, ◌++◌, codes, length, slice_get}
 use Rattle.std.specs.List.{flat_map}
 use Rattle.std.specs.Option.{option_map_or}
 use Rattle.wp_desk.specs.GoingOn.{new_entries, told_after}
 use Rattle.wp_model.specs.History.{History, state_after}
 use Rattle.wp_model.specs.Journal.{journal, line}
-use Rattle.wp_model.specs.Opening.{Stock}
+use Rattle.wp_model.specs.Opening.{Opening, Stock}
+use Rattle.wp_model.specs.State.{State}
+use Rattle.wp_model.specs.Step.{Stepped, step}
+use Rattle.wp_model.specs.declared.command.Command.{Command}
+use Rattle.wp_model.specs.declared.command.Command.TheVariants as command
+use Rattle.wp_model.specs.declared.entry.Entry.{Entry}
 use Rattle.wp_model.specs.declared.row.Row.{Row}
 use Rattle.wp_machine.specs.declared.outcome.Refill.{Refill}
-use Rattle.wp_machine.specs.Outcome.{refill_in, released_in}
-use Rattle.wp_machine.specs.declared.outcome.Outcome.{Outcome}
+use Rattle.wp_machine.specs.Outcome.{refill_in, release_outcome, released_in}
 use Rattle.wp_machine.specs.declared.outcome.WaveHolds.{WaveHolds}
 use Rattle.wp_sheets.specs.StockLines.{refill_lines, row_line}
 
--- what the steps of a history tell of which the output has sheets and refills: those of its new entries, after the history with which the day began
-abbrev pub told_of : History → History → List Outcome
-told_of start history = told_after start (new_entries start history)
+-- the wave that a command sends out, as the entry with this number: a release that is done sends out all that its wave holds
+abbrev pub sent_by : ℕ → Command → Stepped → List WaveHolds
+sent_by number (command.Release name) stepped = released_in (release_outcome number stepped.state name stepped.reply)
+sent_by number other stepped = []
 
--- the waves that they send out, and their refills
+-- the waves that entries send out, one after the other, from a state on, where the first entry has this number
+abbrev pub waves_from : Opening → ℕ → State → List Entry → List WaveHolds
+waves_from opening number state [] = []
+waves_from opening number state (entry ∷ entries) =
+    sent_by number entry.command (step opening state entry.command)
+    ++ waves_from opening (number + 1) (step opening state entry.command).state entries
+
+-- the waves of which the output has sheets: those that the new entries send out, after the history with which the day began
 abbrev pub waves_out : History → History → List WaveHolds
-waves_out start history = flat_map released_in (told_of start history)
+waves_out start history = waves_from start.opening (length start.entries) (state_after start) (new_entries start history)
 
+-- and the refills that it has: those of the new entries
 abbrev pub refills_told : History → History → List Refill
-refills_told start history = flat_map refill_in (told_of start history)
+refills_told start history = flat_map refill_in (told_after start (new_entries start history))
 
 -- the refills, one after the other
 abbrev pub refills_section : Stock → List Refill → List ℕ

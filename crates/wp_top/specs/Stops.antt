@@ -9,7 +9,7 @@ use Rattle.wp_journal.specs.declared.verdict.AuditFault.{AuditFault}
 use Rattle.wp_layout.specs.declared.fault.LayoutFault.{LayoutFault}
 use Rattle.wp_layout.specs.declared.fault.LayoutFault.TheVariants as layout_fault
 use Rattle.wp_make.specs.Texts.{made_texts}
-use Rattle.wp_model.specs.History.{History, Script}
+use Rattle.wp_model.specs.History.{Script}
 use Rattle.wp_model.specs.Opening.{Opening}
 use Rattle.wp_model.specs.Warehouse.{Layout}
 use Rattle.wp_outside.specs.Outside.{FilesTold, Grows, SinkTold, TookPart, TookPrefix}
@@ -19,14 +19,8 @@ use Rattle.wp_top.specs.Ends.{Asked, Causes, HasCause, IsOutput, complaint_line,
 use Rattle.wp_store.specs.declared.faults.OpenFault.{OpenFault}
 use Rattle.wp_store.specs.declared.faults.OpenFault.TheVariants as open_fault
 use Rattle.wp_top.specs.Runs.{IsRefusedCertificate}
-use Rattle.wp_planner.specs.Crews.{IsCrewFor, crew_text, day_batches}
-use Rattle.wp_planner.specs.Terms.{Terms}
-use Rattle.wp_planner.specs.declared.crew.DayCrew.{DayCrew}
-use Rattle.wp_planner.specs.declared.planner.WavePlan.{WavePlan}
-use Rattle.wp_top.specs.Sections.{output_of, refills_told, waves_out}
-use Rattle.wp_top.specs.Sheets.{AreSheets}
 use Rattle.wp_top.specs.Stores.{AreRefused, DiskCourse, HasFailed, IsRefusedStore}
-use Rattle.wp_top.specs.Summaries.{AreGoodPlans, made_files, size_of}
+use Rattle.wp_top.specs.Summaries.{made_files, size_of}
 use Rattle.wp_top.specs.Texts.{File, HaveSaid, IsHeld, IsTold, ReadFile, Said, Say, file_of, files_of, nothing_said, opening_with, text_in}
 use Rattle.wp_top.specs.declared.complaint.Complaint.{Complaint}
 use Rattle.wp_top.specs.declared.complaint.Complaint.TheVariants as complaint
@@ -74,7 +68,7 @@ of_journal opening text = record no_cause { wrong = λ found. (fault : AuditFaul
 -- why a store does, before desks that have so many commands: the disk failed, or what the store has is refused
 abbrev pub of_store : DiskCourse → Opening → ℕ → Causes
 of_store disk opening commands = record no_cause {
-  wrong = λ found. (refused : StoreFinding) × (found ≡ finding.Store refused) × IsRefusedStore disk opening commands refused;
+  wrong = λ found. (refused : StoreFinding) × (found ≡ finding.Store refused) × IsRefusedStore disk.old.holds opening commands refused;
   store = HasFailed disk;
 }
 
@@ -157,16 +151,6 @@ pub record HoldMadeDay (holds : List ℕ → Option (List ℕ)) (numbers : MakeN
   pub day : Said
   pub made : IsMadeDay numbers day
   pub told : HaveSaid (IsTold holds) day_files day
-
--- the output of a history that goes on from one, of good plans of the waves that its new entries sent out, of their sheets, and of the crew of their batches
-pub record IsTextOf (layout : Layout) (terms : Terms) (start history : History) (output : List ℕ) : Type 0 where
-  pub plans : List WavePlan
-  pub planned : AreGoodPlans layout history.opening terms (waves_out start history) plans
-  pub sheets : List ℕ
-  pub printed : AreSheets history terms (waves_out start history) plans sheets
-  pub crew : Option DayCrew
-  pub dealt : IsCrewFor terms.pickers (day_batches (waves_out start history) plans) crew
-  pub is : output ≡ output_of history sheets (refills_told start history) (crew_text crew)
 
 -- the four files of a plan were read once each, between these two states of files, none is refused, and together they say this
 pub record IsReadDay (names : PlanNames) (layout : Layout) (opening : Opening) (scripts : List Script) (old new : FilesTold) : Type 0 where

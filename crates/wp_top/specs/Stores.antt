@@ -1,5 +1,5 @@
 -- The store of a run: what its records say, the history with which a day begins, and what a crash leaves of the store at each moment.
-use Rattle.std.specs.Prelude.{◌≡◌, ◌⊎◌, ℕ, ◌+◌, ◌*◌, ◌<◌, ◌≤◌, List, [], ◌∷◌, ◌++◌, length, map, take, Some}
+use Rattle.std.specs.Prelude.{◌≡◌, ◌⊎◌, ℕ, ◌+◌, ◌*◌, ◌<◌, ◌≤◌, List, [], ◌∷◌, ◌++◌, length, map, take, Option, Some}
 use Rattle.wp_desk.specs.GoingOn.{new_entries}
 use Rattle.wp_journal.specs.Journals.{IsMisanswered, IsNotNext}
 use Rattle.wp_journal.specs.Replays.{LinesBegin}
@@ -46,10 +46,14 @@ IsToldOn disk told = disk.old.holds ≡ Some told
 
 -- What the records of a store say.
 
--- these are the records of the store, where its disk tells its bytes. A sync that succeeds doesn't change what a read gives, so they are those of
--- what a read gives right after the first sync of the run
-abbrev pub AreRecordsOn : DiskCourse → List (List ℕ) → Type 0
-AreRecordsOn disk bodies = WhereTold disk.old.holds (λ told. bodies ≡ records_of told)
+-- what a store holds as a run begins, where its disk tells that: a day asks no more of the disk to go on from it, nor a refusal
+abbrev pub Held : Type 0
+Held = Option (List ℕ)
+
+-- these are the records of a store that holds this. A sync that succeeds doesn't change what a read gives, so they are those of what a read gives right
+-- after the first sync of the run
+abbrev pub AreRecordsIn : Held → List (List ℕ) → Type 0
+AreRecordsIn held bodies = WhereTold held (λ told. bodies ≡ records_of told)
 
 -- the record of this number is the first that isn't the line of the next entry: those before it are the lines of a legal history
 pub record IsBadRecord (opening : Opening) (bodies : List (List ℕ)) (number : ℕ) : Type 0 where
@@ -83,24 +87,24 @@ AreRefused opening bodies commands (finding.Entry number printed right) = IsWron
 AreRefused opening bodies commands (finding.Entries number) = AreTooMany opening bodies commands number
 
 -- a store is refused with this, before desks that have so many commands: its file is too long, or its records are refused
-abbrev pub IsRefusedStore : DiskCourse → Opening → ℕ → StoreFinding → Type 0
-IsRefusedStore disk opening commands finding.TooLong = WhereTold disk.old.holds IsTooLong
-IsRefusedStore disk opening commands other = (bodies : List (List ℕ)) × AreRecordsOn disk bodies × AreRefused opening bodies commands other
+abbrev pub IsRefusedStore : Held → Opening → ℕ → StoreFinding → Type 0
+IsRefusedStore held opening commands finding.TooLong = WhereTold held IsTooLong
+IsRefusedStore held opening commands other = (bodies : List (List ℕ)) × AreRecordsIn held bodies × AreRefused opening bodies commands other
 
 -- The history with which a day begins.
 
 -- a day goes on from a store with this history, before desks that have so many commands: its records are the lines of the history's entries, which is a
 -- legal one of the opening, and with the commands they are no more than a journal may have. Nor is its file too long
-pub record GoesOnFromStore (disk : DiskCourse) (opening : Opening) (commands : ℕ) (start : History) : Type 0 where
+pub record GoesOnFromStore (held : Held) (opening : Opening) (commands : ℕ) (start : History) : Type 0 where
   pub bodies : List (List ℕ)
-  pub records : AreRecordsOn disk bodies
+  pub records : AreRecordsIn held bodies
   pub begins : LinesBegin opening bodies start []
   pub few : length bodies + commands ≤ most_entries
-  pub short : WhereTold disk.old.holds (λ told. IsTooLong told → ⊥)
+  pub short : WhereTold held (λ told. IsTooLong told → ⊥)
 
 -- a day begins with this history: that of the store where the words say so, and else nothing was answered before
-pub record IsBegun (disk : DiskCourse) (store : ℕ) (opening : Opening) (commands : ℕ) (start : History) : Type 0 where
-  pub stored : store ≡ 1 → GoesOnFromStore disk opening commands start
+pub record IsBegun (held : Held) (store : ℕ) (opening : Opening) (commands : ℕ) (start : History) : Type 0 where
+  pub stored : store ≡ 1 → GoesOnFromStore held opening commands start
   pub without : (store ≡ 1 → ⊥) → start ≡ opened opening
 
 -- What a crash leaves of a store to which entries are added.
@@ -174,3 +178,9 @@ pub record AreAllKept (disk : DiskCourse) (entries : List Entry) : Type 0 where
   pub now : WhereTold disk.old.holds (λ told. (image : List ℕ) → disk.new.images image → StandsFor (records_of told ++ map entry_line entries) image)
   pub calls : HasFewCalls disk entries
   pub sound : DiskStands disk
+
+-- a day that began with this history goes on from the store where the words say so; and then its new entries are all acknowledged, and whatever a crash
+-- leaves of the store has them
+pub record IsStored (disk : DiskCourse) (store : ℕ) (opening : Opening) (commands : ℕ) (start history : History) : Type 0 where
+  pub begun : IsBegun disk.old.holds store opening commands start
+  pub kept : store ≡ 1 → AreAllKept disk (new_entries start history)

@@ -1,6 +1,6 @@
 -- A made day, and its summary.
-use Rattle.std.specs.Prelude.{ℕ, ⊤, Bool, true, false, List, [], ◌∷◌, ◌++◌, codes, count_by, length}
-use Rattle.std.specs.List.{sum_by}
+use Rattle.std.specs.Prelude.{ℕ, Bool, true, false, List, [], ◌∷◌, ◌++◌, codes, count_by, length}
+use Rattle.std.specs.List.{AllZip, sum_by}
 use Rattle.wp_machine.specs.declared.outcome.WaveHolds.{WaveHolds}
 use Rattle.wp_make.specs.Texts.{Texts}
 use Rattle.wp_make.specs.declared.input.Size.{Size}
@@ -12,8 +12,10 @@ use Rattle.wp_model.specs.Warehouse.{Layout}
 use Rattle.wp_model.specs.declared.entry.Entry.{Entry}
 use Rattle.wp_model.specs.declared.row.Row.{Row}
 use Rattle.wp_planner.specs.Plans.{IsPlanOf}
-use Rattle.wp_planner.specs.Terms.{Terms}
+use Rattle.wp_planner.specs.Released.{IsWaveOf}
+use Rattle.wp_planner.specs.Terms.{Terms, budget_of}
 use Rattle.wp_planner.specs.declared.planner.WavePlan.{WavePlan}
+use Rattle.wp_search.specs.Plans.{IsGoodPlan}
 use Rattle.wp_search.specs.declared.plan.State.{State}
 use Rattle.wp_search.specs.declared.plan.State.TheVariants as states
 use Rattle.wp_top.specs.Texts.{ReadFile, file_of}
@@ -39,11 +41,15 @@ made_files texts =
     made_file input.Layout (codes "layout") texts.layout ∷ made_file input.Stock (codes "stock") texts.stock
     ∷ made_file input.Orders (codes "orders") texts.orders ∷ made_file input.Desks (codes "desks") texts.desks ∷ []
 
--- good plans of waves that went out, one by one
+-- good plans of waves that went out, one by one: each is one of the wave that picks where the one that went out holds units
 abbrev pub AreGoodPlans : Layout → Opening → Terms → List WaveHolds → List WavePlan → Type 0
-AreGoodPlans layout opening terms [] [] = ⊤
-AreGoodPlans layout opening terms (released ∷ more) (plan ∷ plans) = IsPlanOf layout opening released terms plan × AreGoodPlans layout opening terms more plans
-AreGoodPlans layout opening terms other others = ⊥
+AreGoodPlans layout opening terms waves plans = AllZip
+    (λ (released : WaveHolds) (plan : WavePlan).
+    IsWaveOf layout opening released plan.wave × IsGoodPlan plan.wave terms.capacity (budget_of (length plan.wave.orders) terms) plan.planned) waves plans
+
+-- such plans, each with a certificate that tells its bound, and with a bracket where the terms ask for one
+abbrev pub AreWholePlans : Layout → Opening → Terms → List WaveHolds → List WavePlan → Type 0
+AreWholePlans layout opening terms waves plans = AllZip (λ (released : WaveHolds) (plan : WavePlan). IsPlanOf layout opening released terms plan) waves plans
 
 -- how many entries have the reply that a wave is released
 abbrev pub releases : List Entry → ℕ

@@ -57,8 +57,7 @@ fn run_job<R: Threads + Wait + Sync, F: Files, K: Sink, G: Gate, D: Disk>(
     ensures ended { HasEnded (asked_by words.now.items) (disk_course (D.told disk.old) (D.told disk.new))
         (F.told files.old) (F.told files.new) (K.told out.old) (K.told out.new) result }
     ensures stored { AsksForStore (asked_by words.now.items) → AreSomeKept (disk_course (D.told disk.old) (D.told disk.new))
-        (AreNewIn (asked_by words.now.items) (disk_course (D.told disk.old) (D.told disk.new))
-        (F.told files.old) (F.told files.new)) }
+        (AreNewIn (asked_by words.now.items) (D.told disk.old).holds (F.told files.old) (F.told files.new)) }
     ensures untouched { ¬ AsksForStore (asked_by words.now.items) → disk.new ≡ disk.old }
     ensures unopened { IsOfInput result → disk.new ≡ disk.old }
     ensures same { SameBytes (F.told files.old).holds (F.told files.new).holds }

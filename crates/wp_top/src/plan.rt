@@ -6,10 +6,10 @@ ghost use Rattle.wp_model.specs.Warehouse.{Layout as Block};
 ghost use Rattle.wp_outside.specs.Outside.{FilesTold, NoneFalls, SameBytes};
 ghost use Rattle.wp_outside.specs.Writing.{Fails, Writes};
 ghost use Rattle.wp_top.specs.Ends.{AreNewIn, ReadsWithin, among, plan_job};
-ghost use Rattle.wp_top.specs.Planned.{HasCrew, IsDayOver, IsToldOf};
-ghost use Rattle.wp_top.specs.Runs.{AreNewOf, IsHistoryOf, command_count};
+ghost use Rattle.wp_top.specs.Planned.{HasCrew, IsDayOver, IsToldOf, day_told};
+ghost use Rattle.wp_top.specs.Runs.{AreNewOf, IsHistoryOf, IsTextOf, command_count};
 ghost use Rattle.wp_top.specs.Sheets.{terms_of};
-ghost use Rattle.wp_top.specs.Stops.{HasEnded, IsOfInput, IsReadDay, IsTextOf, StopsFor, day_said, of_store};
+ghost use Rattle.wp_top.specs.Stops.{HasEnded, IsOfInput, IsReadDay, StopsFor, day_said, of_store};
 ghost use Rattle.wp_top.specs.Stores.{AreSomeKept, disk_course};
 ghost use Rattle.wp_top.specs.Texts.{HaveSaid, IsHeld, files_of, opening_with};
 ghost use Rattle.wp_top.specs.declared.complaint.Stop.TheVariants as stop;
@@ -98,7 +98,7 @@ fn day_of<'a, R: Threads + Wait + Sync, G: Gate, D: Disk>(
         (disk_course (D.told disk.old) (D.told disk.new)) files.now.warehouse.opening (command_count files.now.scripts))) }
     ensures memory { words.now.store ≢ 1 → IfErr result (λ why. why ≡ stop.Memory) }
     ensures kept { words.now.store ≡ 1 → AreSomeKept (disk_course (D.told disk.old) (D.told disk.new))
-        (AreNewOf (disk_course (D.told disk.old) (D.told disk.new)) files.now.warehouse.opening files.now.scripts) }
+        (AreNewOf (D.told disk.old).holds files.now.warehouse.opening files.now.scripts) }
     ensures untouched { words.now.store ≢ 1 → disk.new ≡ disk.old }
 {
     if words.store == 1 {
@@ -120,9 +120,9 @@ fn write_plans<K: Sink>(
     requires told { (layout : Block) × (start : History) × IsToldOf layout terms.now start day.now.run }
     requires dealt { HasCrew terms.now day.now.run day.now.crew }
     ensures writes { (layout : Block) (start : History) → IsToldOf layout terms.now start day.now.run → OnOk result ((text : List ℕ)
-        × IsTextOf layout terms.now start day.now.run.machine text × Writes (K.told out.old) (K.told out.new) [] [] text) }
+        × IsTextOf terms.now (day_told start day.now.run) text × Writes (K.told out.old) (K.told out.new) [] [] text) }
     ensures fails { (layout : Block) (start : History) → IsToldOf layout terms.now start day.now.run → IfErr result (λ fault. (text : List ℕ)
-        × IsTextOf layout terms.now start day.now.run.machine text × Fails fault (K.told out.old) (K.told out.new) text) }
+        × IsTextOf terms.now (day_told start day.now.run) text × Fails fault (K.told out.old) (K.told out.new) text) }
 {
     let planned = PlannedDay {
         opening: &files.warehouse.opening,
@@ -147,7 +147,7 @@ fn end_day<R: Threads + Wait + Sync, K: Sink, G: Gate, D: Disk>(
         → HasEnded (Ok (plan_job words.now)) (disk_course (D.told disk.old) (D.told disk.new)) old new
         (K.told out.old) (K.told out.new) result }
     ensures kept { words.now.store ≡ 1 → AreSomeKept (disk_course (D.told disk.old) (D.told disk.new))
-        (AreNewOf (disk_course (D.told disk.old) (D.told disk.new)) files.now.warehouse.opening files.now.scripts) }
+        (AreNewOf (D.told disk.old).holds files.now.warehouse.opening files.now.scripts) }
     ensures untouched { words.now.store ≢ 1 → disk.new ≡ disk.old }
     ensures read_all { ¬ IsOfInput result }
     ensures early { (K.told out.old).stopped ≡ false → (K.told out.new).late ≡ (K.told out.old).late }
@@ -172,8 +172,7 @@ pub fn run_plan<R: Threads + Wait + Sync, F: Files, K: Sink, G: Gate, D: Disk>(
     ensures ended { HasEnded (Ok (plan_job words.now)) (disk_course (D.told disk.old) (D.told disk.new))
         (F.told files.old) (F.told files.new) (K.told out.old) (K.told out.new) result }
     ensures kept { words.now.store ≡ 1 → AreSomeKept (disk_course (D.told disk.old) (D.told disk.new))
-        (AreNewIn (Ok (plan_job words.now)) (disk_course (D.told disk.old) (D.told disk.new))
-        (F.told files.old) (F.told files.new)) }
+        (AreNewIn (Ok (plan_job words.now)) (D.told disk.old).holds (F.told files.old) (F.told files.new)) }
     ensures untouched { words.now.store ≢ 1 → disk.new ≡ disk.old }
     ensures unopened { IsOfInput result → disk.new ≡ disk.old }
     ensures same { SameBytes (F.told files.old).holds (F.told files.new).holds }

@@ -209,7 +209,7 @@ pub fn stored_day<'a, R: Threads + Wait + Sync, G: Gate, D: Disk>(
     ensures stops { IfErr result (StopsFor (of_store (disk_course (D.told disk.old) (D.told disk.new))
         files.now.warehouse.opening (command_count files.now.scripts))) }
     ensures kept { AreSomeKept (disk_course (D.told disk.old) (D.told disk.new))
-        (AreNewOf (disk_course (D.told disk.old) (D.told disk.new)) files.now.warehouse.opening files.now.scripts) }
+        (AreNewOf (D.told disk.old).holds files.now.warehouse.opening files.now.scripts) }
     ensures sound { (IsErrOf result store_stop → ⊥) → DiskStands (disk_course (D.told disk.old) (D.told disk.new)) }
 {
     let recovered = recover(resources.alloc, disk)?;

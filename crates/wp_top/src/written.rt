@@ -6,10 +6,10 @@ ghost use Rattle.wp_model.specs.Warehouse.{Layout as Block};
 ghost use Rattle.wp_outside.specs.Writing.{Fails, Writes};
 ghost use Rattle.wp_planner.specs.Crews.{crew_text};
 ghost use Rattle.wp_planner.specs.Sent.{plans_of, waves_of};
-ghost use Rattle.wp_top.specs.Planned.{HasCrew, IsToldOf};
+ghost use Rattle.wp_top.specs.Planned.{HasCrew, IsToldOf, day_told};
 ghost use Rattle.wp_top.specs.Sections.{crew_and_end, refills_and_end, stock_and_end};
 ghost use Rattle.wp_top.specs.Sheets.{AreSheets};
-ghost use Rattle.wp_top.specs.Stops.{IsTextOf};
+ghost use Rattle.wp_top.specs.Runs.{IsTextOf};
 
 use crate::sections::{CrewLines, DaySheets, JournalLines, RefillLines, StockRows};
 use std::alloc::Global;
@@ -149,9 +149,9 @@ fn write_entries<K: Sink>(
     requires all { map (λ entry. entry.now) entries.now ≡ day.now.run.now.machine.entries }
     requires dealt { HasCrew day.now.terms.now day.now.run.now day.now.crew.now }
     ensures writes { (layout : Block) (start : History) → IsToldOf layout day.now.terms.now start day.now.run.now → OnOk result ((text : List ℕ)
-        × IsTextOf layout day.now.terms.now start day.now.run.now.machine text × Writes (K.told out.old) (K.told out.new) [] [] text) }
+        × IsTextOf day.now.terms.now (day_told start day.now.run.now) text × Writes (K.told out.old) (K.told out.new) [] [] text) }
     ensures fails { (layout : Block) (start : History) → IsToldOf layout day.now.terms.now start day.now.run.now → IfErr result (λ fault. (text : List ℕ)
-        × IsTextOf layout day.now.terms.now start day.now.run.now.machine text × Fails fault (K.told out.old) (K.told out.new) text) }
+        × IsTextOf day.now.terms.now (day_told start day.now.run.now) text × Fails fault (K.told out.old) (K.told out.new) text) }
 {
     let lines = JournalLines { entries };
     let section = Section {
@@ -174,9 +174,9 @@ pub fn write_day<K: Sink>(
     requires told { (layout : Block) × (start : History) × IsToldOf layout day.now.terms.now start day.now.run.now }
     requires dealt { HasCrew day.now.terms.now day.now.run.now day.now.crew.now }
     ensures writes { (layout : Block) (start : History) → IsToldOf layout day.now.terms.now start day.now.run.now → OnOk result ((text : List ℕ)
-        × IsTextOf layout day.now.terms.now start day.now.run.now.machine text × Writes (K.told out.old) (K.told out.new) [] [] text) }
+        × IsTextOf day.now.terms.now (day_told start day.now.run.now) text × Writes (K.told out.old) (K.told out.new) [] [] text) }
     ensures fails { (layout : Block) (start : History) → IsToldOf layout day.now.terms.now start day.now.run.now → IfErr result (λ fault. (text : List ℕ)
-        × IsTextOf layout day.now.terms.now start day.now.run.now.machine text × Fails fault (K.told out.old) (K.told out.new) text) }
+        × IsTextOf day.now.terms.now (day_told start day.now.run.now) text × Fails fault (K.told out.old) (K.told out.new) text) }
 {
     let mut waiting = room(alloc)?;
     let entries = day.run.machine.journal(alloc)?;

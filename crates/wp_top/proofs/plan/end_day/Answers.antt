@@ -3,10 +3,12 @@ use Rattle.std.proofs.lemmas.Bool.{cases_eq}
 use Rattle.std.proofs.lemmas.Result.{IfErr-weaker}
 use Rattle.wp_top.proofs.Endings.{stopped_ended, stopped_not_of_input, written_early, written_ended, written_not_of_input}
 use Rattle.wp_top.proofs.Jobs.{plan_is, stop_at_store}
+use Rattle.wp_top.proofs.MadeDays.{any_brackets, good_plans}
 use Rattle.wp_top.proofs.plan.end_day.Goals as goal
 use Rattle.wp_top.specs.Ends.{of_run, plan_job}
-use Rattle.wp_top.specs.Runs.{command_count}
-use Rattle.wp_top.specs.Stops.{IsTextOf, StopsFor, of_store}
+use Rattle.wp_top.specs.Planned.{day_told}
+use Rattle.wp_top.specs.Runs.{IsTextOf, command_count}
+use Rattle.wp_top.specs.Stops.{StopsFor, of_store}
 use Rattle.wp_top.specs.Stores.{disk_course}
 use Rattle.wp_words.specs.Reading.{plan_names}
 
@@ -26,11 +28,14 @@ returns-in-Ok-clause-ended g c = λ old new read.
     let files = c.args.files.now in
     let names = plan_names c.args.words.now in
     let over = c.in-Ok.ensures.day in
-    let history = c.in-Ok.day.run.machine in
+    let day = day_told over.start c.in-Ok.day.run in
     written_ended _ disk old new _ _ c.write_plans.result c.status_of.result
-    (IsTextOf files.warehouse.layout c.terms_of-terms.result over.start history)
-    (λ text is. plan_is disk old new names files.warehouse.layout files.warehouse.opening files.scripts over.start history text read over.begun over.answers
-    over.kept (rw c.terms_of-terms.ensures at is))
+    (IsTextOf c.terms_of-terms.result day)
+    (λ text is. plan_is disk old new names files.warehouse.layout files.warehouse.opening files.scripts day text read over.stored over.answers
+    (rw c.terms_of-terms.ensures at (good_plans files.warehouse.layout c.terms_of-terms.result over.start c.in-Ok.day.run over.told))
+    (rw c.terms_of-terms.ensures at is)
+    (rw c.terms_of-terms.ensures at (any_brackets files.warehouse.layout c.in-Ok.day.run.machine.opening c.terms_of-terms.result c.in-Ok.day.run.plans.items
+    over.told.planned)))
     c.status_of.ensures (c.write_plans.ensures.writes files.warehouse.layout over.start over.told)
     (IfErr-weaker c.write_plans.result _ _ (λ fault fails. inl fails) (c.write_plans.ensures.fails files.warehouse.layout over.start over.told))
 

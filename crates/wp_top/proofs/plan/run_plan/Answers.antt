@@ -1,4 +1,4 @@
-use Rattle.std.proofs.Common.{Ok, refl}
+use Rattle.std.proofs.Common.{Ok}
 use Rattle.wp_top.proofs.Endings.{stopped_ended}
 use Rattle.wp_top.proofs.Jobs.{new_in_plan, some_kept_as, stop_of}
 use Rattle.wp_top.proofs.Storing.{untouched_kept}
@@ -32,12 +32,13 @@ pub returns-in-Ok-clause-kept : goal.returns-in-Ok-clause-kept
 returns-in-Ok-clause-kept g c = λ uses.
     let D = g.D.Disk in
     let disk = disk_course (D.told c.args.disk.now) (D.told c.end_day.new.disk) in
+    let held = disk.old.holds in
     let told = g.F.Files.told in
     let names = plan_names c.args.words.now in
     let day = c.in-Ok.day in
     let read = c.in-Ok.ensures in
-    some_kept_as disk (AreNewOf disk day.warehouse.opening day.scripts) (AreNewIn (Ok (plan names)) disk (told c.args.files.now) (told c.read_day.new.files))
-    (λ entries are. new_in_plan disk (told c.args.files.now) (told c.read_day.new.files) names day.warehouse.layout day.warehouse.opening day.scripts entries
+    some_kept_as disk (AreNewOf held day.warehouse.opening day.scripts) (AreNewIn (Ok (plan names)) held (told c.args.files.now) (told c.read_day.new.files))
+    (λ entries are. new_in_plan held (told c.args.files.now) (told c.read_day.new.files) names day.warehouse.layout day.warehouse.opening day.scripts entries
     (record { said = read.said; units = read.units; all = read.all }) are)
     (c.end_day.ensures.kept uses)
 

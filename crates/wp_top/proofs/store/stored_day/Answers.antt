@@ -1,12 +1,10 @@
-use Rattle.std.proofs.Common.{◌∙◌, [], Err, List, ℕ, ap, arith, drop, inl, length, length-append, refl, subst, sym}
+use Rattle.std.proofs.Common.{◌∙◌, [], Err, ap, arith, drop, length, length-append, subst}
 use Rattle.std.proofs.lemmas.Result.{err_from_is_err_and}
 use Rattle.std.specs.Result.{result_from_control_flow}
 use Rattle.wp_desk.specs.GoingOn.{new_entries}
 use Rattle.wp_journal.proofs.DayEntries.{day_entries}
 use Rattle.wp_journal.proofs.Replayed.{lines_count}
 use Rattle.wp_model.specs.History.{History}
-use Rattle.wp_model.specs.declared.entry.Entry.{Entry}
-use Rattle.wp_store.specs.Records.{records_of}
 use Rattle.wp_store.specs.declared.faults.OpenFault.{OpenFault}
 use Rattle.wp_top.proofs.DaysOver.{after_recovered, appends_stop, are_new_of, from_recovered, open_stops, records_stop, stored_is_day, stored_over}
 use Rattle.wp_top.proofs.Storing.{all_added, is_recovered, none_added, some_added}
@@ -104,7 +102,7 @@ returns-in_err-add_new-clause-kept g c =
     let files = c.args.files.now in
     let ok = c.in_ok-recovered.ensures in
     some_added (told c.args.disk.now) (told c.recover.new.disk) (told c.add_new.new.disk) (drop (length c.in_ok-recovered.recovered.bodies) c.in_ok-day.day.run.machine.entries)
-    (AreNewOf (disk_course (told c.args.disk.now) (told c.add_new.new.disk)) files.warehouse.opening files.scripts) (g.met.D.Disk.is_disk _) (g.met.D.Disk.is_disk _)
+    (AreNewOf (told c.args.disk.now).holds files.warehouse.opening files.scripts) (g.met.D.Disk.is_disk _) (g.met.D.Disk.is_disk _)
     (is_recovered _ _ c.recover.ensures.any_moment c.recover.ensures.since_syncs c.recover.ensures.course ok.synced ok.same) c.add_new.ensures.course
     c.add_new.ensures.some
     (are_new_of _ files.warehouse.opening files.scripts c.in_ok-recovered.recovered.bodies c.bodies.result.now c.in_ok-machine.machine c.in_ok-day.day.run.machine
@@ -117,7 +115,7 @@ returns-clause-kept g c =
     let files = c.args.files.now in
     let ok = c.in_ok-recovered.ensures in
     some_added (told c.args.disk.now) (told c.recover.new.disk) (told c.add_new.new.disk) (drop (length c.in_ok-recovered.recovered.bodies) c.in_ok-day.day.run.machine.entries)
-    (AreNewOf (disk_course (told c.args.disk.now) (told c.add_new.new.disk)) files.warehouse.opening files.scripts) (g.met.D.Disk.is_disk _) (g.met.D.Disk.is_disk _)
+    (AreNewOf (told c.args.disk.now).holds files.warehouse.opening files.scripts) (g.met.D.Disk.is_disk _) (g.met.D.Disk.is_disk _)
     (is_recovered _ _ c.recover.ensures.any_moment c.recover.ensures.since_syncs c.recover.ensures.course ok.synced ok.same) c.add_new.ensures.course
     c.add_new.ensures.some
     (are_new_of _ files.warehouse.opening files.scripts c.in_ok-recovered.recovered.bodies c.bodies.result.now c.in_ok-machine.machine c.in_ok-day.day.run.machine
@@ -131,7 +129,7 @@ returns-clause-day g c = λ store uses.
     let opening = files.warehouse.opening in
     let ok = c.in_ok-recovered.ensures in
     stored_over disk store files.warehouse.layout opening c.args.terms.now files.scripts c.in_ok-machine.machine c.in_ok-day.day uses
-    (from_recovered disk opening (command_count files.scripts) c.in_ok-recovered.recovered.bodies c.bodies.result.now c.in_ok-machine.machine c.bodies.ensures
+    (from_recovered disk.old.holds opening (command_count files.scripts) c.in_ok-recovered.recovered.bodies c.bodies.result.now c.in_ok-machine.machine c.bodies.ensures
     ok.records c.in_ok-machine.ensures.replayed c.in_ok-machine.ensures.few ok.short)
     c.in_ok-day.ensures.history c.in_ok-day.ensures.told c.in_ok-day.ensures.dealt
     (subst (AreAllKept disk)
