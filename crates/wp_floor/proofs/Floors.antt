@@ -120,6 +120,7 @@ pub kept_same : (opening : Opening) (old new : Book) (number : ℕ) (kept : Kept
     → ((order row : ℕ) → held_for new number order row ≡ held_for old number order row) → IsKeptWave opening old number kept
     → IsKeptWave opening new number kept
 kept_same opening old new number kept rows held keeps = record {
+  numbered = keeps.numbered;
   papers = papers_same opening old new number kept kept.stage rows (fun_ext (λ order. fun_ext (λ row. held order row))) keeps.papers;
 }
 

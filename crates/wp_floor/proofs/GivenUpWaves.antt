@@ -99,7 +99,7 @@ given_up opening old new waves number kept at back =
     record {
       is = ap (λ (s : State). let t : Stepped = record { reply = reply.Cancelled; state = s } in t)
           (sym (state_is (slice_set waves number w) new.rows _ (held_for new) _ rows (with_held_is old new waves number (λ o r. 0) back.others back.held)));
-      keeps = record { papers = tt };
+      keeps = record { numbered = at.keeps.numbered; papers = tt };
       others = back.others;
       rows = ap length back.rows ∙ length-change_rows _ old.rows;
       name = refl;

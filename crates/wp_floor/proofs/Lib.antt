@@ -8,6 +8,7 @@ pub mod ClaimedUnits
 pub mod SameRows
 pub mod Floors
 pub mod OrderNames
+pub mod OrderNumbers
 pub mod ReceivedUnits
 pub mod CartFaults
 pub mod OrderFaults

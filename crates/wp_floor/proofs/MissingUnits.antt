@@ -94,7 +94,7 @@ refilled opening old middle new waves number was left lost quantity room taking 
     let rest = state_at middle waves in
     let again = hold (one_demand lost.order lost.article quantity) (Some lost.row) number orders rest in
     let bounded = bounded_after old new waves number was taking.at.there (refill_moves opening old middle new waves number was lost quantity room taking is) in
-    let settles = settled opening new waves number was left taking.released bounded leaves in
+    let settles = settled opening new waves number was left taking.at.keeps.numbered taking.released bounded leaves in
     let covered : nat_le quantity (free_units middle.rows lost.article (Some lost.row)) ≡ true = let e = is.covered in grind (arith, nat_tests) in
     let refilled_step : Stepped = record { reply = reply.Refilled quantity; state = settle number w again } in
     let lost_step : Stepped = record { reply = reply.Lost (article_name opening lost.article) quantity; state = settle number w rest } in
@@ -131,7 +131,7 @@ lost opening old middle new waves number was left units quantity article takes f
     let again = hold (one_demand units.order units.article quantity) (Some units.row) number (length was.orders) rest in
     let bounded = bounded_after old new waves number was taking.at.there
     (taking_moves opening old new waves number was units.order units.row quantity taking) in
-    let settles = settled opening new waves number was left taking.released bounded leaves in
+    let settles = settled opening new waves number was left taking.at.keeps.numbered taking.released bounded leaves in
     let less : free_units new.rows units.article (Some units.row) < quantity =
     subst (λ (book : Book). free_units book.rows units.article (Some units.row) < quantity) (sym same) few in
     let uncovered : nat_le quantity (free_units new.rows units.article (Some units.row)) ≡ false = grind (arith, nat_tests) in

@@ -30,7 +30,7 @@ known_at (o ∷ orders) name (suc i) order there named =
     or_right false b e = e
 
 -- a name that no order has isn't
-unknown : (orders : List Order) (name : List ℕ) → ((i : ℕ) (order : Order) → slice_get orders i ≡ Some order → order.name ≢ name)
+pub unknown : (orders : List Order) (name : List ℕ) → ((i : ℕ) (order : Order) → slice_get orders i ≡ Some order → order.name ≢ name)
     → is_known_order orders name ≡ false
 unknown [] name none = refl
 unknown (o ∷ orders) name none =

@@ -186,4 +186,4 @@ submitted opening old new kept floor is none first book chains waves put =
     }
   where
     new_kept : (n : ℕ) → IsKeptWave opening old.book n kept
-    new_kept n = record { papers = subst (λ (s : Stage). HasPapers opening s old.book n kept) (sym is.submitted) is.has }
+    new_kept n = record { numbered = is.numbered; papers = subst (λ (s : Stage). HasPapers opening s old.book n kept) (sym is.submitted) is.has }

@@ -17,7 +17,7 @@ use Rattle.wp_model.specs.State.{State, Wave, wave_held, wave_held_at}
 use Rattle.wp_model.specs.Step.{Stepped, pick}
 use Rattle.wp_model.specs.declared.reply.Reply.TheVariants as reply
 use Rattle.wp_model.specs.declared.reply.WaveState.TheVariants as wave
-use Rattle.wp_floor.specs.Floor.{HasAnswered, HasPapers, IsAt, IsKeptWave, state_at, state_in, wave_of}
+use Rattle.wp_floor.specs.Floor.{HasAnswered, HasPapers, IsAt, IsKeptWave, IsNumbered, state_at, state_in, wave_of}
 use Rattle.wp_floor.specs.HeldUnits.{held_of}
 use Rattle.wp_floor.specs.declared.held.HeldUnits.{HeldUnits}
 use Rattle.wp_floor.specs.declared.waves.KeptWave.{KeptWave}
@@ -65,15 +65,15 @@ pub record IsSettled (opening : Opening) (book : Book) (waves : List Wave) (numb
   pub name : left.name ≡ was.name
   pub orders : left.orders ≡ was.orders
 
-settled_done : (opening : Opening) (book : Book) (waves : List Wave) (number : ℕ) (was : KeptWave)
+settled_done : (opening : Opening) (book : Book) (waves : List Wave) (number : ℕ) (was : KeptWave) → IsNumbered opening was
     → state_in was.stage ≡ wave.Released → wave_held (state_at book waves) number (length was.orders) ≡ 0
     → IsSettled opening book waves number was (record was { stage = stage.Done })
-settled_done opening book waves number was released none =
+settled_done opening book waves number was numbered released none =
     let held = wave_held (state_at book waves) number (length was.orders) in
     record {
       is = ap (λ (w : Wave). put_wave number w (state_at book waves))
           (cond-true (held == 0) (record (wave_of was) { state = wave.Done }) (wave_of was) (eq-eqb held 0 none));
-      keeps = record { papers = tt };
+      keeps = record { numbered = numbered; papers = tt };
       name = refl;
       orders = refl;
     }
@@ -87,26 +87,26 @@ no_papers opening book number kept stage.Released is = tt
 no_papers opening book number kept stage.Cancelled is = tt
 no_papers opening book number kept stage.Done is = tt
 
-settled_same : (opening : Opening) (book : Book) (waves : List Wave) (number : ℕ) (was : KeptWave)
+settled_same : (opening : Opening) (book : Book) (waves : List Wave) (number : ℕ) (was : KeptWave) → IsNumbered opening was
     → state_in was.stage ≡ wave.Released → wave_held (state_at book waves) number (length was.orders) ≢ 0
     → IsSettled opening book waves number was was
-settled_same opening book waves number was released some =
+settled_same opening book waves number was numbered released some =
     let held = wave_held (state_at book waves) number (length was.orders) in
     record {
       is = ap (λ (w : Wave). put_wave number w (state_at book waves))
           (cond-false (held == 0) (record (wave_of was) { state = wave.Done }) (wave_of was) (ne_eqb held 0 some));
-      keeps = record { papers = no_papers opening book number was was.stage released };
+      keeps = record { numbered = numbered; papers = no_papers opening book number was was.stage released };
       name = refl;
       orders = refl;
     }
 
 -- a released wave that is done where it holds nothing, and else as it was, is settled
-pub settled : (opening : Opening) (book : Book) (waves : List Wave) (number : ℕ) (was left : KeptWave)
+pub settled : (opening : Opening) (book : Book) (waves : List Wave) (number : ℕ) (was left : KeptWave) → IsNumbered opening was
     → state_in was.stage ≡ wave.Released → IsBounded book number (length was.orders) → IsLeft book number was left
     → IsSettled opening book waves number was left
-settled opening book waves number was left released bounded is = elim (left_cases book waves number was left bounded is) [
-  | inl done ↦ subst (IsSettled opening book waves number was) (sym done.1) (settled_done opening book waves number was released done.0)
-  | inr same ↦ subst (IsSettled opening book waves number was) (sym same.1) (settled_same opening book waves number was released same.0)
+settled opening book waves number was left numbered released bounded is = elim (left_cases book waves number was left bounded is) [
+  | inl done ↦ subst (IsSettled opening book waves number was) (sym done.1) (settled_done opening book waves number was numbered released done.0)
+  | inr same ↦ subst (IsSettled opening book waves number was) (sym same.1) (settled_same opening book waves number was numbered released same.0)
 ]
 
 -- units that a released wave holds for one of its orders at a row were taken
@@ -149,7 +149,7 @@ pub picked : (opening : Opening) (old new : Book) (waves : List Wave) (number : 
 picked opening old new waves number kept left held units is leaves =
     let was : KeptWave = record kept { picked = true } in
     let bounded = bounded_after old new waves number kept is.at.there (taking_moves opening old new waves number kept held.order held.row units is) in
-    let settles = settled opening new waves number was left is.released bounded leaves in
+    let settles = settled opening new waves number was left is.at.keeps.numbered is.released bounded leaves in
     record {
       is = ap (λ (s : State). let t : Stepped = record { reply = reply.Picked; state = settle number (wave_of was) s } in t)
           (taken_state opening old new waves number kept held.order held.row units is)

@@ -108,6 +108,7 @@ allotted opening old new waves number kept needs sheet at has =
       is = ap (allot opening (state_at old waves) number (wave_of kept)) submitted
           ∙ hold_for_done opening old new waves number kept needs.wants.items wave.Allotted reply.Allotted needs.rooms.sheet sheet.room are.wants has.held;
       keeps = record {
+        numbered = at.keeps.numbered;
         papers = (
           has.orders ∙ are.copied,
           is_listed opening old new waves number kept needs.wants.items needs.rooms.sheet sheet.room at submitted are.wants has.held,
@@ -166,7 +167,7 @@ submitted_out opening old new waves number kept needs sheet at has =
       answers = record {
         is = ap (release opening (state_at old waves) number (wave_of kept)) submitted
             ∙ hold_for_done opening old new waves number kept needs.wants.items wave.Released reply.Released needs.rooms.sheet sheet.room are.wants has.held;
-        keeps = record { papers = tt };
+        keeps = record { numbered = at.keeps.numbered; papers = tt };
         others = has.held.allotted.others;
         rows = ap length (has.held.allotted.rows (length kept.orders) below) ∙ length-change_rows _ old.rows;
         name = refl;

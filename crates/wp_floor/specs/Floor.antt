@@ -13,6 +13,7 @@ use Rattle.wp_model.specs.Sound.{IsSound}
 use Rattle.wp_model.specs.State.{State, Wave}
 use Rattle.wp_model.specs.Step.{Stepped, step, taker_of}
 use Rattle.wp_model.specs.declared.command.Command.{Command}
+use Rattle.wp_model.specs.TableLines.{article_in}
 use Rattle.wp_model.specs.Tables.{IsReadOpening}
 use Rattle.wp_model.specs.declared.reply.Reply.{Reply}
 use Rattle.wp_model.specs.declared.location.Location.{Location}
@@ -20,6 +21,7 @@ use Rattle.wp_model.specs.declared.reply.WaveState.{WaveState}
 use Rattle.wp_model.specs.declared.reply.WaveState.TheVariants as wave
 use Rattle.wp_model.specs.declared.row.Row.{Row}
 use Rattle.wp_model.specs.declared.row.StockRow.{StockRow}
+use Rattle.wp_tables.specs.Orders.{name_of}
 use Rattle.wp_floor.specs.declared.floor.Floor.{Floor}
 use Rattle.wp_floor.specs.declared.holding.Rooms.{Rooms}
 use Rattle.wp_floor.specs.declared.waves.KeptWave.{KeptWave}
@@ -64,7 +66,7 @@ pub record HaveSpace (size : ℕ) (rooms : Rooms) : Type 0 where
   pub room : IsFreshRoom size rooms.room
   pub sheet : IsFreshRoom size rooms.sheet
 
--- what a wave of these orders needs to go out: a copy of them, what they want, and room for as many holds as that takes
+-- what a wave of these orders needs to go out: their names, what they want, and room for as many holds as that takes
 -- at most
 pub record AreNeedsOf (opening : Opening) (orders : List (List ℕ)) (needs : Needs) : Type 0 where
   pub copied : needs.orders ≡ orders
@@ -81,8 +83,17 @@ HasPapers opening stage.Released book number kept = ⊤
 HasPapers opening stage.Cancelled book number kept = ⊤
 HasPapers opening stage.Done book number kept = ⊤
 
+-- the number of the order with a name, None where the opening has none
+abbrev pub number_of : Opening → List ℕ → Option ℕ
+number_of opening name = article_in (map name_of opening.orders) name
+
+-- a wave has the numbers of its orders
+abbrev pub IsNumbered : Opening → KeptWave → Type 0
+IsNumbered opening kept = kept.numbers.items ≡ map (number_of opening) kept.orders
+
 -- a wave is kept as it should be
 pub record IsKeptWave (opening : Opening) (book : Book) (number : ℕ) (kept : KeptWave) : Type 0 where
+  pub numbered : IsNumbered opening kept
   pub papers : HasPapers opening kept.stage book number kept
 
 -- a wave has its place among waves that make a sound state with a book

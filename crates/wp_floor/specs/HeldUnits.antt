@@ -1,6 +1,9 @@
 -- Where units are held for an order of a wave.
-use Rattle.std.specs.Prelude.{◌≡◌, ℕ, ◌<◌, ◌≤◌, List, [], Option, Some, None, Result, Ok, Err, option_map, slice_get}
+use Rattle.std.specs.Prelude.{◌≡◌, ℕ, ◌<◌, ◌≤◌, IsTrue, List, length, [], Option, Some, None, Result, Ok, Err, option_map, slice_get}
+use Rattle.std.specs.List.{All}
 use Rattle.wp_model.specs.Book.{Book, held_for}
+use Rattle.wp_model.specs.Limits.{most_wave_orders}
+use Rattle.wp_model.specs.Opening.{Opening, is_known_order}
 use Rattle.wp_model.specs.Step as step
 use Rattle.wp_model.specs.State.{Wave}
 use Rattle.wp_model.specs.declared.location.Location.{Location}
@@ -9,7 +12,8 @@ use Rattle.wp_model.specs.declared.reply.Reply.TheVariants as reply
 use Rattle.wp_model.specs.declared.reply.WaveState.{WaveState}
 use Rattle.wp_model.specs.declared.reply.WaveState.TheVariants as wave
 use Rattle.wp_model.specs.declared.row.Row.{Row}
-use Rattle.wp_floor.specs.Floor.{state_at, state_in, wave_of}
+use Rattle.wp_floor.specs.Floor.{IsNumbered, number_of, state_at, state_in, wave_of}
+use Rattle.wp_floor.specs.declared.held.Claim.{Claim}
 use Rattle.wp_floor.specs.declared.held.HeldUnits.{HeldUnits}
 use Rattle.wp_floor.specs.declared.waves.KeptWave.{KeptWave}
 
@@ -20,6 +24,13 @@ held_of found = record { order = found.order; row = found.row; article = found.a
 -- the number of the row at a location, None where there is none
 abbrev pub IsRowAt : List Row → Location → Option ℕ → Type 0
 IsRowAt rows location row = option_map (λ (found : ℕ × Row). found.0) (step.row_from 0 rows location) ≡ row
+
+-- a wave has the numbers of its orders, all of which are orders of the opening, and a claim has that of its order
+pub record KnowsOrder (opening : Opening) (kept : KeptWave) (claim : Claim) : Type 0 where
+  pub numbered : IsNumbered opening kept
+  pub known : All (λ order. IsTrue (is_known_order opening.orders order)) kept.orders
+  pub most : length kept.orders ≤ most_wave_orders
+  pub number : claim.number ≡ number_of opening claim.order
 
 -- what a wave holds for an order at a location
 abbrev pub held_there : Book → ℕ → KeptWave → List ℕ → Location → Option step.Held

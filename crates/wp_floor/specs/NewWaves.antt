@@ -6,7 +6,7 @@ use Rattle.wp_model.specs.declared.command.Command.{Command}
 use Rattle.wp_model.specs.declared.command.Command.TheVariants as command
 use Rattle.wp_model.specs.declared.reply.Reply.{Reply}
 use Rattle.wp_model.specs.declared.reply.Reply.TheVariants as reply
-use Rattle.wp_floor.specs.Floor.{AreNeedsOf}
+use Rattle.wp_floor.specs.Floor.{AreNeedsOf, IsNumbered}
 use Rattle.wp_floor.specs.declared.submitting.NewWave.{NewWave}
 use Rattle.wp_floor.specs.declared.waves.KeptWave.{KeptWave}
 use Rattle.wp_floor.specs.declared.waves.Needs.{Needs}
@@ -26,12 +26,23 @@ pub record IsNewWave (opening : Opening) (kept : KeptWave) : Type 0 where
   pub unpicked : kept.picked ≡ false
   pub some : 0 < length kept.orders
   pub most : length kept.orders ≤ most_wave_orders
+  pub numbered : IsNumbered opening kept
   pub has : AreNeedsOf opening kept.orders needs
 
 -- the command that a wave was prepared for
 abbrev pub submit_of : NewWave → Command
-submit_of new = command.Submit new.wave.name new.wave.orders
+submit_of new = command.Submit new.name new.needs.orders
+
+-- the wave that was prepared, once it is submitted
+abbrev pub wave_of_new : NewWave → KeptWave
+wave_of_new new = record {
+  name = new.name;
+  orders = new.needs.orders;
+  numbers = new.numbers;
+  stage = stage.Submitted new.needs;
+  picked = false;
+}
 
 -- a wave was prepared with what it needs
 abbrev pub IsPrepared : Opening → NewWave → Type 0
-IsPrepared opening new = IsNewWave opening new.wave
+IsPrepared opening new = IsNewWave opening (wave_of_new new)

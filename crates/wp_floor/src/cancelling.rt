@@ -1,11 +1,10 @@
 //! Cancel: waves that are given up.
-ghost use Rattle.std.specs.Prelude.{◌≡◌, true, false, List, length};
+ghost use Rattle.std.specs.Prelude.{◌≡◌, true, false, List};
 ghost use Rattle.wp_floor.specs.Floor.{HasAnswered, HasStepped, IsAt, IsFloor, state_at, state_in, wave_of};
-ghost use Rattle.wp_floor.specs.Takers.{HasPut, frees};
+ghost use Rattle.wp_floor.specs.Takers.{HasPut, HaveTakers, frees};
 ghost use Rattle.wp_model.specs.Opening.{Opening as OpeningData};
 ghost use Rattle.wp_model.specs.State.{Wave};
 ghost use Rattle.wp_model.specs.Step.{cancel, give_up, is_live};
-ghost use Rattle.wp_model.specs.Tables.{IsReadOpening};
 ghost use Rattle.wp_model.specs.declared.command.Command.TheVariants as command;
 
 use crate::floor::{Floor, put_takers};
@@ -49,14 +48,14 @@ pub fn cancel_wave(book: &mut StockBook, number: u32, wave: &mut KeptWave) -> Re
 }
 
 // The orders of a wave that was given up are free.
-fn free_orders(takers: &mut [Option<Name>], opening: &Opening, wave: &KeptWave, reply: &Reply)
-    requires read { IsReadOpening opening.now }
-    requires count { length takers.old ≡ length opening.now.orders }
-    ensures freed { frees reply.now ≡ true → HasPut opening.now wave.now.orders None takers.old takers.new }
+fn free_orders(takers: &mut [Option<Name>], wave: &KeptWave, reply: &Reply)
+    requires { (opening : OpeningData) × HaveTakers opening wave.now takers.old }
+    ensures freed { (opening : OpeningData) → HaveTakers opening wave.now takers.old → frees reply.now ≡ true
+        → HasPut opening wave.now.orders None takers.old takers.new }
     ensures same { frees reply.now ≡ false → takers.new ≡ takers.old }
 {
     if let Reply::Cancelled = reply {
-        put_takers(takers, opening, wave.orders.as_slice(), &None);
+        put_takers(takers, wave, &None);
     }
 }
 
@@ -70,7 +69,7 @@ impl Floor {
             return Reply::UnknownWave;
         };
         let reply = cancel_wave(&mut self.book, found.number, &mut found.wave);
-        free_orders(&mut self.takers, opening, &found.wave, &reply);
+        free_orders(&mut self.takers, &found.wave, &reply);
         self.waves.put_back(found);
         reply
     }

@@ -1,12 +1,12 @@
 //! How the state is kept.
-ghost use Rattle.std.specs.Prelude.{◌≡◌, ◌<◌, length, replicate, Some, None, IfOk};
+ghost use Rattle.std.specs.Prelude.{◌≡◌, ◌<◌, length, replicate, None, IfOk, IfSome};
+ghost use Rattle.wp_model.specs.Opening.{Opening as OpeningData};
 ghost use Rattle.wp_model.specs.State.{opening_state};
-ghost use Rattle.wp_model.specs.Tables.{IsReadOpening};
 ghost use Rattle.wp_floor.specs.Floor.{IsFloor, state_of, wave_count};
-ghost use Rattle.wp_floor.specs.Takers.{HasPut, IsPutAt};
+ghost use Rattle.wp_floor.specs.Takers.{HasPut, HaveTakers, IsPutAt};
 
 use crate::opening::Opening;
-use crate::waves::Waves;
+use crate::waves::{KeptWave, Waves};
 use std::alloc::Global;
 use wp_book::StockBook;
 use wp_model::{Memory, Name};
@@ -19,29 +19,23 @@ pub struct Floor {
     pub(crate) takers: Vec<Option<Name>>,
 }
 
-// The order of a name now has this taker, or none.
-fn put_taker(takers: &mut [Option<Name>], opening: &Opening, order: &Name, taker: &Option<Name>)
-    requires { length takers.old ≡ length opening.now.orders }
-    ensures { IsPutAt opening.now order.now taker.now takers.old takers.new }
+// The order with a number, where there is one, now has this taker, or none.
+fn put_taker(takers: &mut [Option<Name>], number: Option<u32>, taker: &Option<Name>)
+    requires { IfSome number (λ number. number < length takers.old) }
+    ensures { IsPutAt number taker.now takers.old takers.new }
 {
-    if let Some(number) = opening.orders().find(order) {
+    if let Some(number) = number {
         takers[number as usize] = *taker;
     }
 }
 
-/// The orders now have this taker, or none.
-pub fn put_takers(
-    takers: &mut [Option<Name>],
-    opening: &Opening,
-    orders: &[Name],
-    taker: &Option<Name>,
-)
-    requires read { IsReadOpening opening.now }
-    requires count { length takers.old ≡ length opening.now.orders }
-    ensures { HasPut opening.now orders.now taker.now takers.old takers.new }
+/// The orders of a wave now have this taker, or none.
+pub fn put_takers(takers: &mut [Option<Name>], wave: &KeptWave, taker: &Option<Name>)
+    requires { (opening : OpeningData) × HaveTakers opening wave.now takers.old }
+    ensures { (opening : OpeningData) → HaveTakers opening wave.now takers.old → HasPut opening wave.now.orders taker.now takers.old takers.new }
 {
-    for order in orders {
-        put_taker(takers, opening, order, taker);
+    for number in wave.numbers.as_slice() {
+        put_taker(takers, *number, taker);
     }
 }
 

@@ -1,11 +1,12 @@
 //! What is held for an order of a wave at a row.
 ghost use Rattle.std.specs.Prelude.{◌≡◌, ◌<◌, ◌≤◌, ◌^◌, length, option_map, IfOk, IfErr};
+ghost use Rattle.wp_model.specs.Opening.{Opening as OpeningData};
 ghost use Rattle.wp_model.specs.Step.{place_from};
-ghost use Rattle.wp_floor.specs.HeldUnits.{IsClaimRefused, IsClaimed, IsEnoughHeld, IsHeldAt, IsRowAt, held_of, held_there, unless_released};
+ghost use Rattle.wp_floor.specs.HeldUnits.{IsClaimRefused, IsClaimed, IsEnoughHeld, IsHeldAt, IsRowAt, KnowsOrder, held_of, held_there, unless_released};
 
 use crate::waves::KeptWave;
 use wp_book::StockBook;
-use wp_model::{Location, Name, Names, Reply, WaveState};
+use wp_model::{Location, Name, Reply, WaveState};
 
 /// Units that are held: for the order at a place of a wave, at a row of an article.
 #[derive(Clone, Copy, PartialEq, Eq)]
@@ -16,13 +17,15 @@ pub struct HeldUnits {
     pub units: u32,
 }
 
-// The place of a name among names.
-fn place_of(names: &Names, name: &Name) -> Option<u32>
-    ensures { result ≡ place_from 0 names.now name.now }
+// The place of a claim's order among the orders of a wave.
+fn place_of(wave: &KeptWave, claim: &Claim) -> Option<u32>
+    requires { (opening : OpeningData) × KnowsOrder opening wave.now claim.now }
+    ensures { result ≡ place_from 0 wave.now.orders claim.now.order }
 {
-    for place in 0..names.len() {
-        if names.at(place) == name {
-            return Some(place);
+    let numbers = wave.numbers.as_slice();
+    for place in 0..numbers.len() {
+        if numbers[place] == claim.number {
+            return Some(place as u32);
         }
     }
     None
@@ -46,10 +49,12 @@ fn held_at_row(book: &StockBook, number: u32, order: u32, row: u32) -> Option<He
     })
 }
 
-/// What a desk says of units that are held: for an order at a location, whose row in the opening this is.
+/// What a desk says of units that are held: for an order at a location, with the order's number and the row in the
+/// opening.
 #[derive(Clone, Copy, PartialEq, Eq)]
 pub struct Claim {
     pub order: Name,
+    pub number: Option<u32>,
     pub location: Location,
     pub row: Option<u32>,
     pub quantity: u32,
@@ -57,10 +62,11 @@ pub struct Claim {
 
 // What a wave holds where a claim says.
 fn find_held(book: &StockBook, number: u32, wave: &KeptWave, claim: &Claim) -> Option<HeldUnits>
-    requires { IsRowAt book.now.rows claim.now.location claim.now.row }
+    requires row { IsRowAt book.now.rows claim.now.location claim.now.row }
+    requires order { (opening : OpeningData) × KnowsOrder opening wave.now claim.now }
     ensures { option_map held_of result ≡ held_there book.now number wave.now claim.now.order claim.now.location }
 {
-    let place = place_of(&wave.orders, &claim.order)?;
+    let place = place_of(wave, claim)?;
     let row = claim.row?;
     held_at_row(book, number, place, row)
 }
@@ -72,7 +78,8 @@ pub fn enough_held(
     wave: &KeptWave,
     claim: &Claim,
 ) -> Result<HeldUnits, Reply>
-    requires { IsRowAt book.now.rows claim.now.location claim.now.row }
+    requires row { IsRowAt book.now.rows claim.now.location claim.now.row }
+    requires order { (opening : OpeningData) × KnowsOrder opening wave.now claim.now }
     ensures { IsEnoughHeld (held_there book.now number wave.now claim.now.order claim.now.location) claim.now.location claim.now.quantity result }
 {
     match find_held(book, number, wave, claim) {
@@ -99,7 +106,8 @@ pub fn claimed(
     wave: &KeptWave,
     claim: &Claim,
 ) -> Result<HeldUnits, Reply>
-    requires { IsRowAt book.now.rows claim.now.location claim.now.row }
+    requires row { IsRowAt book.now.rows claim.now.location claim.now.row }
+    requires order { (opening : OpeningData) × KnowsOrder opening wave.now claim.now }
     ensures found { IfOk result (IsClaimed book.now number wave.now claim.now.order claim.now.location claim.now.quantity) }
     ensures refused { IfErr result (IsClaimRefused book.now number wave.now claim.now.order claim.now.location claim.now.quantity) }
 {

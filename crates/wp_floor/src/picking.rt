@@ -1,8 +1,8 @@
 //! Pick: units that are gone, and waves of which nothing is left.
 ghost use Rattle.std.specs.Prelude.{◌≡◌, ◌≤◌, ◌<◌, true, List, length};
 ghost use Rattle.wp_book.specs.Calls.{HoldsNone};
-ghost use Rattle.wp_floor.specs.Floor.{HasAnswered, HasStepped, IsAt, IsFloor, state_at, state_in, state_of, wave_of};
-ghost use Rattle.wp_floor.specs.HeldUnits.{IsRowAt, held_of};
+ghost use Rattle.wp_floor.specs.Floor.{HasAnswered, HasStepped, IsAt, IsFloor, number_of, state_at, state_in, state_of, wave_of};
+ghost use Rattle.wp_floor.specs.HeldUnits.{IsRowAt, KnowsOrder, held_of};
 ghost use Rattle.wp_model.specs.Book.{held_for};
 ghost use Rattle.wp_model.specs.Opening.{Opening as OpeningData};
 ghost use Rattle.wp_model.specs.State.{Wave};
@@ -51,7 +51,8 @@ fn take_picked(
 
 /// Pick: units that are held are gone.
 pub fn pick_wave(book: &mut StockBook, number: u32, wave: &mut KeptWave, claim: &Claim) -> Reply
-    requires { IsRowAt book.old.rows claim.now.location claim.now.row }
+    requires row { IsRowAt book.old.rows claim.now.location claim.now.row }
+    requires order { (opening : OpeningData) × KnowsOrder opening wave.old claim.now }
     ensures live { is_live (state_in wave.new.stage) ≡ is_live (state_in wave.old.stage) }
     ensures answered { (opening : OpeningData) (waves : List Wave) → IsAt opening book.old waves number wave.old
         → HasAnswered opening (at_released (state_at book.old waves) number (wave_of wave.old) claim.now.order claim.now.location claim.now.quantity
@@ -69,6 +70,7 @@ impl Floor {
     pub fn pick(&mut self, opening: &Opening, name: &Name, claim: &Claim) -> Reply
         requires floor { IsFloor opening.now self.old }
         requires row { IsRowAt (state_of self.old).rows claim.now.location claim.now.row }
+        requires order { claim.now.number ≡ number_of opening.now claim.now.order }
         ensures { HasStepped opening.now (command.Pick name.now claim.now.order claim.now.location claim.now.quantity) self.old self.new result }
     {
         let Some(mut found) = self.waves.take_out(name) else {

@@ -7,8 +7,8 @@ ghost use Rattle.wp_model.specs.Step.{at_released, is_live, says_refilled, write
 ghost use Rattle.wp_model.specs.declared.command.Command.TheVariants as command;
 ghost use Rattle.wp_model.specs.declared.reply.Reply.TheVariants as replies;
 ghost use Rattle.wp_model.specs.declared.reply.WaveState.TheVariants as states;
-ghost use Rattle.wp_floor.specs.Floor.{HasAnswered, HasStepped, IsAt, IsFloor, state_at, state_in, state_of, wave_of};
-ghost use Rattle.wp_floor.specs.HeldUnits.{IsRowAt, held_of};
+ghost use Rattle.wp_floor.specs.Floor.{HasAnswered, HasStepped, IsAt, IsFloor, number_of, state_at, state_in, state_of, wave_of};
+ghost use Rattle.wp_floor.specs.HeldUnits.{IsRowAt, KnowsOrder, held_of};
 ghost use Rattle.wp_floor.specs.ReceivedUnits.{AllHaveArticles};
 ghost use Rattle.wp_floor.specs.MissingUnits.{HasRefilled, HaveRefillSpace, HaveRoomsAt, IfAnswered, IfRefilled, IsHeldElsewhere, TellsRefill};
 
@@ -107,6 +107,7 @@ pub fn missing_wave(
     rooms: Rooms,
 ) -> Missed
     requires row { IsRowAt book.old.rows claim.now.location claim.now.row }
+    requires order { KnowsOrder opening.now wave.old claim.now }
     requires quantity { 0 < claim.now.quantity }
     requires articles { AllHaveArticles opening.now book.old.rows }
     requires rooms { HaveRoomsAt book.old.rows claim.now.row claim.now.quantity rooms }
@@ -133,6 +134,7 @@ impl Floor {
     pub fn missing(&mut self, opening: &Opening, name: &Name, claim: &Claim, rooms: Rooms) -> Missed
         requires floor { IsFloor opening.now self.old }
         requires row { IsRowAt (state_of self.old).rows claim.now.location claim.now.row }
+        requires order { claim.now.number ≡ number_of opening.now claim.now.order }
         requires quantity { 0 < claim.now.quantity }
         requires rooms { HaveRoomsAt (state_of self.old).rows claim.now.row claim.now.quantity rooms }
         ensures out { IfRefilled result (λ room. HasStepped opening.now

@@ -7,21 +7,24 @@ ghost use Rattle.wp_model.specs.TableLines.{article_in};
 ghost use Rattle.wp_model.specs.Tables.{IsReadOpening};
 ghost use Rattle.wp_model.specs.declared.command.Command.TheVariants as command;
 ghost use Rattle.wp_tables.specs.Orders.{name_of};
-ghost use Rattle.wp_floor.specs.Floor.{AreNeedsOf, AreTakers, HasStepped, IsFloor, wave_count};
-ghost use Rattle.wp_floor.specs.NewWaves.{IsNewWave, IsPrepared, size_fault, submit_of};
+ghost use Rattle.wp_floor.specs.Floor.{AreNeedsOf, AreTakers, HasStepped, IsFloor, number_of, wave_count};
+ghost use Rattle.wp_floor.specs.NewWaves.{IsPrepared, size_fault, submit_of, wave_of_new};
 
 use crate::floor::{Floor, put_takers};
 use crate::holding::Rooms;
 use crate::opening::Opening;
 use crate::wanting::wants_of_orders;
-use crate::waves::{KeptWave, Needs, NumberedWave, Stage};
+use crate::waves::{CalledOrders, KeptWave, Needs, NumberedWave, Stage};
 use std::alloc::Global;
 use wp_model::{Cell, Line, MOST_WAVE_ORDERS, Memory, Name, Names, Reply};
 
-/// A wave that a desk wants to submit, and room for it.
+/// A wave that a desk wants to submit: its name, the numbers of its orders, none for one that the opening hasn't, what it
+/// needs to go out, and room for it.
 #[derive(Drop)]
 pub struct NewWave {
-    pub(crate) wave: KeptWave,
+    pub(crate) name: Name,
+    pub(crate) numbers: Vec<Option<u32>>,
+    pub(crate) needs: Needs,
     pub(crate) cell: Cell<NumberedWave>,
 }
 
@@ -53,26 +56,15 @@ fn needs_of(alloc: Global, opening: &Opening, orders: &Names) -> Result<Needs, M
     })
 }
 
-// A wave of these orders, of which nothing was done.
-fn new_wave(
-    alloc: Global,
-    opening: &Opening,
-    name: &Name,
-    orders: &Names,
-) -> Result<KeptWave, Memory>
-    requires read { IsReadOpening opening.now }
-    requires size { size_fault orders.now ≡ None }
-    ensures name { IfOk result (λ wave. wave.name ≡ name.now) }
-    ensures orders { IfOk result (λ wave. wave.orders ≡ orders.now) }
-    ensures new { IfOk result (IsNewWave opening.now) }
+// The numbers of orders in the opening, none for one that isn't there.
+fn numbers_of(alloc: Global, opening: &Opening, orders: &[Name]) -> Result<Vec<Option<u32>>, Memory>
+    ensures { IfOk result (λ numbers. numbers.items ≡ map (number_of opening.now) orders.now) }
 {
-    let needs = needs_of(alloc, opening, orders)?;
-    Ok(KeptWave {
-        name: *name,
-        orders: orders.copy(alloc)?,
-        stage: Stage::Submitted(needs),
-        picked: false,
-    })
+    let mut numbers = Vec::with_capacity(alloc, orders.len())?;
+    for order in orders {
+        numbers.push(opening.orders().find(order))?;
+    }
+    Ok(numbers)
 }
 
 impl NewWave {
@@ -88,9 +80,36 @@ impl NewWave {
         ensures submits { IfOk result (λ new. submit_of new ≡ command.Submit name.now orders.now) }
         ensures prepared { IfOk result (IsPrepared opening.now) }
     {
-        let wave = new_wave(alloc, opening, name, orders)?;
+        let numbers = numbers_of(alloc, opening, orders.as_slice())?;
+        let needs = needs_of(alloc, opening, orders)?;
         let cell = Cell::new(alloc)?;
-        Ok(NewWave { wave, cell })
+        Ok(NewWave {
+            name: *name,
+            numbers,
+            needs,
+            cell,
+        })
+    }
+
+    // The wave, of which nothing was done, and room for it.
+    fn into_wave(self) -> (KeptWave, Cell<NumberedWave>)
+        ensures { result.0 ≡ wave_of_new self }
+    {
+        let orders = CalledOrders::of(&self.needs.orders);
+        let NewWave {
+            name,
+            numbers,
+            needs,
+            cell,
+        } = self;
+        let wave = KeptWave {
+            name,
+            orders,
+            numbers,
+            stage: Stage::Submitted(needs),
+            picked: false,
+        };
+        (wave, cell)
     }
 }
 
@@ -177,15 +196,15 @@ impl Floor {
         requires few { wave_count self.old + 1 < 2 ^ 32 }
         ensures { HasStepped opening.now (submit_of new) self.old self.new result }
     {
-        let NewWave { wave, cell } = new;
-        if self.waves.has(&wave.name) {
+        if self.waves.has(&new.name) {
             return Reply::KnownWave;
         }
-        let orders = wave.orders.as_slice();
+        let orders = new.needs.orders.as_slice();
         if let Some(fault) = first_order_fault(self.takers.as_slice(), opening, orders) {
             return fault;
         }
-        put_takers(&mut self.takers, opening, orders, &Some(wave.name));
+        let (wave, cell) = new.into_wave();
+        put_takers(&mut self.takers, &wave, &Some(wave.name));
         self.waves.push(wave, cell);
         Reply::Submitted
     }

@@ -6,6 +6,8 @@ ghost use Rattle.wp_floor.specs.Waves.{AreSameWaves, AreWaves, IsFound, IsReturn
 
 use crate::holding::Rooms;
 use std::alloc::Global;
+use std::marker::Model;
+use std::snapshot::Snapshot;
 use wp_allot::Want;
 use wp_book::Room;
 use wp_model::{Cell, Chain, Memory, Name, Names, WaveState};
@@ -17,8 +19,8 @@ pub struct HeldOrders {
     pub room: Room,
 }
 
-/// What a submitted wave needs to go out: a copy of its orders, what they want, article by article, and room for what
-/// is held for it.
+/// What a submitted wave needs to go out: the names of its orders, which its sheet takes over, what they want, article by
+/// article, and room for what is held for it.
 #[derive(Drop)]
 pub struct Needs {
     pub orders: Names,
@@ -52,11 +54,38 @@ impl Stage {
     }
 }
 
-/// A wave, with what it needs at its stage.
+/// The names of a wave's orders, which clauses alone see.
+#[derive(Drop)]
+pub struct CalledOrders {
+    names: Snapshot<Names>,
+}
+
+impl Model for CalledOrders {
+    ghost use Rattle.std.specs.Prelude.{ℕ, List};
+
+    ghost Value = { List (List ℕ) };
+
+    ghost view = { λ called. called.names.value };
+}
+
+impl CalledOrders {
+    /// These names.
+    pub fn of(names: &Names) -> CalledOrders
+        ensures { result ≡ names.now }
+    {
+        CalledOrders {
+            names: Snapshot::of(names),
+        }
+    }
+}
+
+/// A wave, with the numbers of its orders in the opening, none for one that isn't there, and with what it needs at its
+/// stage. What its orders are called only clauses see.
 #[derive(Drop)]
 pub struct KeptWave {
     pub name: Name,
-    pub orders: Names,
+    pub orders: CalledOrders,
+    pub numbers: Vec<Option<u32>>,
     pub stage: Stage,
     pub picked: bool,
 }

@@ -26,6 +26,8 @@ use Rattle.wp_floor.specs.contracts.waves.HeldOrders as sheet
 use Rattle.wp_floor.specs.contracts.waves.Stage as stage
 use Rattle.wp_floor.specs.contracts.waves.KeptWave as wave
 use Rattle.wp_floor.specs.contracts.waves.NumberedWave as numbered
+use Rattle.wp_floor.specs.contracts.waves.CalledOrders as called
+use Rattle.wp_floor.specs.contracts.waves.CalledOrders.TheInside as called_inside
 use Rattle.wp_book.specs.contracts.room.Room as room
 use Rattle.wp_floor.specs.contracts.holding.Rooms as rooms
 use Rattle.wp_model.specs.contracts.entry.Entry as entry
@@ -61,8 +63,15 @@ sheet_sent = struct_send (shape sheet.the_type) (names_sent, (room_sent, tt))
 stage_sent : IsSend (stage.the_field).row
 stage_sent = enum_send (enum.shape stage.the_type) ((needs_sent, tt), ((sheet_sent, tt), (tt, (tt, (tt, tt)))))
 
+called_inside_sent : IsSend called_inside.the_row
+called_inside_sent = recorded_send (called_inside.the_field).row _ _ (called_inside.the_type).to_one
+    (struct_send (shape called_inside.the_type) (search crosses depth 60, tt))
+
+called_sent : IsSend called.the_row
+called_sent = view_send _ _ _ _ _ called_inside_sent
+
 wave_sent : IsSend (wave.the_field).row
-wave_sent = struct_send (shape wave.the_type) (name_sends.the_send, (names_sent, (stage_sent, (search sendable, tt))))
+wave_sent = struct_send (shape wave.the_type) (name_sends.the_send, (called_sent, (search (crosses, sendable) depth 60, (stage_sent, (search sendable, tt)))))
 
 numbered_sent : IsSend numbered.the_row
 numbered_sent = recorded_send (numbered.the_field).row _ _ (numbered.the_type).to_one (struct_send (shape numbered.the_type) (search sendable, (wave_sent, tt)))

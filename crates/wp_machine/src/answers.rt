@@ -3,7 +3,7 @@ ghost use Rattle.std.specs.Prelude.{◌≡◌, ◌+◌, ◌<◌, ◌^◌, length
 ghost use Rattle.wp_model.specs.declared.command.Command.{Command as CommandData};
 ghost use Rattle.wp_model.specs.declared.command.Command.TheVariants as command;
 ghost use Rattle.wp_machine.specs.Answering.{IsAnswer};
-ghost use Rattle.wp_floor.specs.Floor.{IsFloor, state_of, wave_count};
+ghost use Rattle.wp_floor.specs.Floor.{IsFloor, number_of, state_of, wave_count};
 ghost use Rattle.wp_floor.specs.HeldUnits.{IsRowAt};
 ghost use Rattle.wp_machine.specs.Prepared.{IsPreparedFor};
 ghost use Rattle.wp_floor.specs.MissingUnits.{HaveRoomsAt};
@@ -88,6 +88,7 @@ fn answer_missing(
 ) -> Answer
     requires floor { IsFloor opening.now floor.old }
     requires row { IsRowAt (state_of floor.old).rows claim.now.location claim.now.row }
+    requires order { claim.now.number ≡ number_of opening.now claim.now.order }
     requires quantity { 0 < claim.now.quantity }
     requires rooms { HaveRoomsAt (state_of floor.old).rows claim.now.row claim.now.quantity rooms }
     ensures { IsAnswer opening.now number (command.Missing name claim.now.order claim.now.location claim.now.quantity) floor.old floor.new result }

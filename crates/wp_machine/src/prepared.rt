@@ -3,6 +3,7 @@ ghost use Rattle.std.specs.Prelude.{◌≡◌, IfOk, IsTrue};
 ghost use Rattle.wp_model.specs.Plain.{is_plain};
 ghost use Rattle.wp_model.specs.Tables.{IsReadOpening, row_number_from};
 ghost use Rattle.wp_model.specs.declared.command.Command.TheVariants as command;
+ghost use Rattle.wp_floor.specs.Floor.{number_of};
 ghost use Rattle.wp_machine.specs.Prepared.{IsPreparedFor};
 
 use std::alloc::Global;
@@ -44,12 +45,19 @@ fn prepared_submit(
     }
 }
 
-// What a desk says of units that are held, with the row at the location.
+// What a desk says of units that are held, with the order's number and the row at the location.
 fn claim_of(opening: &Opening, order: &Name, location: &Location, quantity: u32) -> Claim
-    ensures { result ≡ record { order = order.now; location = location.now; row = row_number_from 0 opening.now.stock.rows location.now; quantity = quantity } }
+    ensures { result ≡ record {
+      order = order.now;
+      number = number_of opening.now order.now;
+      location = location.now;
+      row = row_number_from 0 opening.now.stock.rows location.now;
+      quantity = quantity;
+    } }
 {
     Claim {
         order: *order,
+        number: opening.orders().find(order),
         location: *location,
         row: opening.stock().row_at(*location),
         quantity,

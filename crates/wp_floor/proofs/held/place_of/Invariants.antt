@@ -3,4 +3,4 @@ use Rattle.wp_model.specs.Step.{place_from}
 use Rattle.wp_floor.proofs.held.place_of.Given as goal
 
 abbrev pub invariant-loop-place : goal.invariant-loop-place
-invariant-loop-place l = place_from l.place (drop l.place l.names) l.name ≡ place_from 0 l.names l.name
+invariant-loop-place l = place_from l.place (drop l.place l.wave.orders) l.claim.order ≡ place_from 0 l.wave.orders l.claim.order

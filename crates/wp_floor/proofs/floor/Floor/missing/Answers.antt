@@ -1,9 +1,10 @@
 use Rattle.std.proofs.Common.{refl}
 use Rattle.wp_model.specs.declared.command.Command.TheVariants as command
 use Rattle.wp_floor.specs.Floor.{state_of}
-use Rattle.wp_floor.proofs.Floors.{unknown_wave}
+use Rattle.wp_floor.proofs.Floors.{found_at, unknown_wave}
 use Rattle.wp_floor.proofs.MissingUnits.{missing_answered, missing_at}
 use Rattle.wp_floor.proofs.ReceivedUnits.{all_have_articles}
+use Rattle.wp_floor.proofs.OrderNumbers.{knows_order}
 use Rattle.wp_floor.proofs.floor.Floor.missing.Goals as goal
 
 pub returns-in_default-clause-refused : goal.returns-in_default-clause-refused
@@ -26,3 +27,9 @@ returns c =
     (record { floor = c.requires.floor; is_found = c.in-Some.ensures.some; waves_are = c.put_back.ensures; live = done.ensures.live }) done.ensures.refilled
     done.ensures.answered in
     record { out = is.out; told = is.told; stays = done.ensures.stays; refused = is.refused }
+
+pub missing_wave-done-requires-clause-order : goal.missing_wave-done-requires-clause-order
+missing_wave-done-requires-clause-order c =
+    let old = c.args.self.now in
+    let at = found_at c.args.opening.now c.args.name.now old c.take_out.new.self c.in-Some.found c.requires.floor c.in-Some.ensures.some in
+    knows_order c.args.opening.now old.book _ c.in-Some.found.number c.in-Some.found.wave c.args.claim.now at c.requires.order

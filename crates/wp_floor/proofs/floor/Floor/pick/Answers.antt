@@ -3,6 +3,7 @@ use Rattle.wp_model.specs.Step.{at_released, pick}
 use Rattle.wp_model.specs.declared.command.Command.TheVariants as command
 use Rattle.wp_floor.specs.Floor.{state_of}
 use Rattle.wp_floor.proofs.Floors.{answered, found_at, takers_same, unknown_wave}
+use Rattle.wp_floor.proofs.OrderNumbers.{knows_order}
 use Rattle.wp_floor.proofs.floor.Floor.pick.Goals as goal
 
 pub returns-in_default : goal.returns-in_default
@@ -35,3 +36,9 @@ returns c =
       takers = takers_same c.args.opening.now c.args.name.now old c.put_back.new.self c.take_out.new.self found left c.requires.floor is c.put_back.ensures
           answers.name answers.orders c.pick_wave-reply.ensures.live;
     })
+
+pub pick_wave-reply-requires-clause-order : goal.pick_wave-reply-requires-clause-order
+pick_wave-reply-requires-clause-order c =
+    let old = c.args.self.now in
+    let at = found_at c.args.opening.now c.args.name.now old c.take_out.new.self c.in-Some.found c.requires.floor c.in-Some.ensures.some in
+    (c.args.opening.now, knows_order c.args.opening.now old.book _ c.in-Some.found.number c.in-Some.found.wave c.args.claim.now at c.requires.order)

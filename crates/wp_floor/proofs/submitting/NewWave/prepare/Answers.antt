@@ -1,11 +1,11 @@
-use Rattle.std.proofs.Common.{◌≡◌, ◌∙◌, ◌<◌, ◌≤◌, ◌==◌, nat_lt, ℕ, refl, sym, ap, subst, inl, inr, List, length, None, Some, arith}
+use Rattle.std.proofs.Common.{◌≡◌, ◌∙◌, ◌<◌, ◌≤◌, ◌==◌, nat_lt, ℕ, refl, sym, ap, subst, inl, inr, List, length, map, None, Some, arith}
 use Rattle.std.proofs.Common.{eq-eqb, ne_eqb}
 use Rattle.std.proofs.lemmas.Bool.{cases_eq, cases_lt, cond-false, cond-true, lt-ltb}
 use Rattle.wp_model.specs.Limits.{most_wave_orders}
 use Rattle.wp_model.specs.declared.reply.Reply.TheVariants as reply
-use Rattle.wp_floor.specs.Floor.{AreNeedsOf}
+use Rattle.wp_floor.specs.Floor.{AreNeedsOf, number_of}
 use Rattle.wp_floor.specs.NewWaves.{size_fault}
-use Rattle.wp_floor.proofs.submitting.new_wave.Goals as goal
+use Rattle.wp_floor.proofs.submitting.NewWave.prepare.Goals as goal
 
 -- orders that make a wave are at least one
 some_orders : (orders : List (List ℕ)) → size_fault orders ≡ None → 0 < length orders
@@ -30,14 +30,16 @@ few_orders orders is = elim (cases_lt most_wave_orders (length orders)) [
   | inr few ↦ omega (arith, few)
 ]
 
-pub returns-clause-new : goal.returns-clause-new
-returns-clause-new c =
-    let orders = c.in_ok-copy.ensures in
+pub returns-clause-prepared : goal.returns-clause-prepared
+returns-clause-prepared c =
+    let copied = c.in_ok-needs.ensures.copied in
+    let numbers = map (number_of c.args.opening.now) in
     record {
       needs = c.in_ok-needs.needs;
       submitted = refl;
       unpicked = refl;
-      some = omega (arith, ap length orders, some_orders c.args.orders.now c.requires.size);
-      most = omega (arith, ap length orders, few_orders c.args.orders.now c.requires.size);
-      has = subst (λ (os : List (List ℕ)). AreNeedsOf c.args.opening.now os c.in_ok-needs.needs) (sym orders) c.in_ok-needs.ensures;
+      some = omega (arith, ap length copied, some_orders c.args.orders.now c.requires.size);
+      most = omega (arith, ap length copied, few_orders c.args.orders.now c.requires.size);
+      numbered = c.in_ok-numbers.ensures ∙ (ap numbers c.as_slice.ensures ∙ ap numbers (sym copied));
+      has = subst (λ (os : List (List ℕ)). AreNeedsOf c.args.opening.now os c.in_ok-needs.needs) (sym copied) c.in_ok-needs.ensures;
     }
