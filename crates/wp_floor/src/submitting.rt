@@ -18,8 +18,8 @@ use crate::waves::{CalledOrders, KeptWave, Needs, NumberedWave, Stage};
 use std::alloc::Global;
 use wp_model::{Cell, Line, MOST_WAVE_ORDERS, Memory, Name, Names, Reply};
 
-/// A wave that a desk wants to submit: its name, the numbers of its orders, none for one that the opening hasn't, what it
-/// needs to go out, and room for it.
+/// A wave that a desk wants to submit: its name, the numbers of its orders, none for one that the opening hasn't, what
+/// it needs to go out, and room for it.
 #[derive(Drop)]
 pub struct NewWave {
     pub(crate) name: Name,
@@ -142,18 +142,21 @@ fn cart_fault(opening: &Opening, order: &Name, number: u32) -> Option<Reply>
     None
 }
 
-// Why an order can't join a wave, after the orders that were named before it.
+// Why an order, which has this number where the opening has it, can't join a wave, after the orders that were named
+// before it.
 fn order_fault(
     takers: &[Option<Name>],
     opening: &Opening,
     before: &[Name],
     order: &Name,
+    number: Option<u32>,
 ) -> Option<Reply>
     requires read { IsReadOpening opening.now }
+    requires numbered { number ≡ number_of opening.now order.now }
     requires count { length takers.now ≡ length opening.now.orders }
     ensures { (waves : List Wave) → AreTakers opening.now waves takers.now → result ≡ order_fault opening.now waves before.now order.now }
 {
-    let Some(number) = opening.orders().find(order) else {
+    let Some(number) = number else {
         return Some(Reply::UnknownOrder(*order));
     };
     if before.contains(order) {
@@ -169,18 +172,22 @@ fn order_fault(
     }
 }
 
-/// Why orders can't make a wave, by the first of them that can't join it. None comes exactly where each can.
+/// Why orders, which have these numbers, can't make a wave, by the first of them that can't join it. None comes exactly
+/// where each can.
 pub fn first_order_fault(
     takers: &[Option<Name>],
     opening: &Opening,
     orders: &[Name],
+    numbers: &[Option<u32>],
 ) -> Option<Reply>
     requires read { IsReadOpening opening.now }
+    requires numbered { numbers.now ≡ map (number_of opening.now) orders.now }
     requires count { length takers.now ≡ length opening.now.orders }
     ensures { (waves : List Wave) → AreTakers opening.now waves takers.now → result ≡ first_order_fault opening.now waves [] orders.now }
 {
     for place in 0..orders.len() {
-        let fault = order_fault(takers, opening, &orders[..place], &orders[place]);
+        let number = numbers[place];
+        let fault = order_fault(takers, opening, &orders[..place], &orders[place], number);
         if fault.is_some() {
             return fault;
         }
@@ -200,7 +207,8 @@ impl Floor {
             return Reply::KnownWave;
         }
         let orders = new.needs.orders.as_slice();
-        if let Some(fault) = first_order_fault(self.takers.as_slice(), opening, orders) {
+        let numbers = new.numbers.as_slice();
+        if let Some(fault) = first_order_fault(self.takers.as_slice(), opening, orders, numbers) {
             return fault;
         }
         let (wave, cell) = new.into_wave();

@@ -19,8 +19,8 @@ pub struct HeldOrders {
     pub room: Room,
 }
 
-/// What a submitted wave needs to go out: the names of its orders, which its sheet takes over, what they want, article by
-/// article, and room for what is held for it.
+/// What a submitted wave needs to go out: the names of its orders, which its sheet takes over, what they want, article
+/// by article, and room for what is held for it.
 #[derive(Drop)]
 pub struct Needs {
     pub orders: Names,
