@@ -13,8 +13,8 @@ from .recut import recut
 from .warehouse import Layout
 
 MOST = 1000  # combinations
-NAMES = ('capacity', 'units', 'pickers', 'budget', 'spacing', 'depot', 'wave', 'rules')
-OF_PLAN = ('capacity', 'units', 'pickers', 'budget')
+NAMES = ('capacity', 'units', 'pickers', 'budget', 'nodes', 'spacing', 'depot', 'wave', 'rules')
+OF_PLAN = ('capacity', 'units', 'pickers', 'budget', 'nodes')
 RULES = ('tour', 's-shape', 'return', 'largest-gap')
 DEPOT = re.compile(r'([^@]*)(?:@(front|back))?')
 
@@ -88,7 +88,7 @@ def told(name, value):
         return 'depot %d@%s' % value
     if name == 'spacing':
         return 'spacing %s' % (value or 'of its own')
-    return '%s %s' % (name, 'none' if value in (None, 0) and name in ('units', 'pickers') else value)
+    return '%s %s' % (name, 'none' if value in (None, 0) and name in ('units', 'pickers', 'nodes') else value)
 
 
 def as_it_is(day, layout, names):

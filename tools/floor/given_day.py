@@ -21,8 +21,9 @@ class Day(namedtuple('Day', 'files numbers')):
         return Run(['plan', *(word for name in told for word in ('--' + name, str(self.numbers[name])))], self.files)
 
     def with_numbers(self, **numbers):
-        """The same day with other numbers. A budget stands in the place of nodes."""
+        """The same day with other numbers. A budget stands in the place of nodes, and nodes in that of a budget."""
         unless = {name: None for name, other in INSTEAD.items() if other in numbers}
+        unless.update({other: GIVEN[other] for name, other in INSTEAD.items() if numbers.get(name) is not None})
         return self._replace(numbers={**self.numbers, **unless, **numbers})
 
     def with_files(self, **files):

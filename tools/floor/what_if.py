@@ -10,6 +10,7 @@ first, as "today".
   --units LIST     so many units on a cart; `none` is a cart that holds any number
   --pickers LIST   so many pickers
   --budget LIST    so much that may be spent on the bound of each wave
+  --nodes LIST     so many nodes of each wave's search, in the place of a budget
   --spacing LIST   this length from each aisle to the next, between all of them
   --depot LIST     the depot at the front of an aisle, as 10, or at its back, as 10@back; 1..5@back are five of them
   --wave LIST      waves of so many orders
@@ -124,6 +125,8 @@ def lists_of(asked):
     given = {name: getattr(asked, name) for name in choices.NAMES if getattr(asked, name) is not None}
     if not given:
         raise Trouble('nothing is chosen: before `plan` stands what is tried, as --capacity 2..6; --help says what')
+    if 'budget' in given and 'nodes' in given:
+        raise Trouble('--nodes stands in the place of --budget: choose one of them')
     return {name: choices.values_of(name, text) for name, text in given.items()}
 
 

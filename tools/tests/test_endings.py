@@ -83,7 +83,7 @@ RIGHT = {
 NUMBERS = {
     'import': ['--skip', '--skip-last'], 'continue': ['--desk'], 'confirm': ['--desk'], 'report': ['--per-metre'],
     'second-opinion': ['--capacity', '--units', '--budget', '--nodes', '--workers', '--rules', '--pickers', '--root', '--store'],
-    'what-if': ['--capacity', '--units', '--pickers', '--budget', '--spacing', '--depot', '--wave', '--rules',
+    'what-if': ['--capacity', '--units', '--pickers', '--budget', '--nodes', '--spacing', '--depot', '--wave', '--rules',
                 '--per-metre', '--jobs'],
     'slotting': ['--tries', '--move-cost', '--days', '--jobs'],
     'benchmark': ['--seeds', '--seed', '--orders', '--units', '--capacity', '--budget', '--nodes', '--jobs'],

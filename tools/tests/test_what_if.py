@@ -22,7 +22,9 @@ from pathlib import Path
 import by_hand
 import runs
 from floor import choices, entry, recut, warehouse
+from floor.given_day import Day
 from floor.output import day_of
+from opinion.words import GIVEN
 from test_planning import may_be_interrupted, until
 
 ROUND = 'tour 1-0 1-1 1-2 1-3 1-4 1-5 2-5 2-4 2-3 2-2 2-1 2-0 3-0 3-1 3-0 2-0 1-0'
@@ -174,6 +176,7 @@ class WhatIf(unittest.TestCase):
                            (['--budget', '1..600', '--spacing', '1,2'], '1200 combinations, and at most 1000'),
                            (['--depot', '1@side'], 'an aisle, as 10'), (['--rules', 's'], 'the rules are'),
                            ([], 'nothing is chosen'), (['--units', '9' * 19], 'a whole number'),
+                           (['--budget', '1', '--nodes', '1'], 'in the place of --budget'),
                            (['--per-metre', '0', '--capacity', '2'], 'from 1 to 1000000'),
                            (['--capacity', '2', 'x'], 'x is no option')):
             done = self.ask(*words)
@@ -210,6 +213,15 @@ class Lists(unittest.TestCase):
                                 ('depot', '1..2@back', [(1, 'back'), (2, 'back')]),
                                 ('rules', 'return,all', ['return', 'tour', 's-shape', 'largest-gap'])):
             self.assertEqual(due, choices.values_of(name, text))
+
+    def test_nodes_and_a_budget_stand_in_the_place_of_each_other(self):
+        numbers = {**GIVEN, 'capacity': 3}
+        for had, other, due in (({'budget': 5}, {'nodes': 2}, ['--nodes', '2']),
+                                ({'nodes': 2}, {'budget': 5}, ['--budget', '5']),
+                                ({'nodes': 2}, {'nodes': 3}, ['--nodes', '3']),
+                                ({'budget': 5}, {'units': 9}, ['--budget', '5', '--units', '9'])):
+            words = Day({}, {**numbers, **had}).with_numbers(**other).run().words
+            self.assertEqual(['plan', '--capacity', '3', *due], words)
 
     def test_all_combinations(self):
         lists = {'depot': [(1, 'front')], 'capacity': [2, 3], 'pickers': [4, 5]}
