@@ -17,7 +17,7 @@ REASONS = {
     'order-twice': ('{order} is named twice', 'name it once'),
     'order-taken': ('{order} lies in wave {wave}, which is not cancelled', 'leave it out, or cancel that wave first'),
     'over-cart': ('{order} has {units} units, all its lines together, and a cart holds fewer',
-                  'divide the order, or leave it out and submit the others'),
+                  'divide the order, as tools/wave split does, or leave it out and submit the others'),
     'unknown-wave': ('no wave {wave} was submitted', 'submit it first, or correct its name'),
     'wrong-state': ('wave {wave} is {state}', ''),
     'short': ('the orders of {wave} want {wanted} of {article} together, and {free} are free',

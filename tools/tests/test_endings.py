@@ -52,6 +52,8 @@ PLANNING = ('what-if', 'slotting')  # they run a program, here one that prints t
 # Of each script: words that are right, and the files that they name.
 RIGHT = {
     'import': [(['stock', 'stock.csv'], ('stock.csv',)), (['desks', 'desks.csv'], ('desks.csv',))],
+    'split': [(PLAN[:6], ('layout.json', 'stock.csv', 'orders.csv')),
+              ([*PLAN[:6], '--units', '1', '--no-back-orders'], ('orders.csv',))],
     'explain': [(['plan', *PLAN], ('layout.json', 'desks.csv')), (['check', *CHECK], ('certificate.json',)),
                 (['audit', *AUDIT], ('journal.txt',)),
                 (['journal', 'day.txt', '--orders', 'orders.csv'], ('day.txt', 'orders.csv'))],
@@ -81,7 +83,7 @@ RIGHT = {
                    ('plain.txt',))],
 }
 NUMBERS = {
-    'import': ['--skip', '--skip-last'], 'continue': ['--desk'], 'confirm': ['--desk'], 'report': ['--per-metre'],
+    'import': ['--skip', '--skip-last'], 'split': ['--units'], 'continue': ['--desk'], 'confirm': ['--desk'], 'report': ['--per-metre'],
     'second-opinion': ['--capacity', '--units', '--budget', '--nodes', '--workers', '--rules', '--pickers', '--root', '--store'],
     'what-if': ['--capacity', '--units', '--pickers', '--budget', '--nodes', '--spacing', '--depot', '--wave', '--rules',
                 '--per-metre', '--jobs'],

@@ -338,10 +338,27 @@ class GoingOn(unittest.TestCase):
             self.assertEqual(0, runs.planned(folder, '--capacity', '3').status)
 
 
+class Dividing(unittest.TestCase):
+    LINES = 'order,article,quantity\nO1,A,7\nO1,B,5\nO2,A,2\n'
+    COMMANDS = 'desk,command,arguments\n1,submit,W1,O1,O2\n1,submit,W2,O1.1,O1.2,O2\n1,release,W2\n'
+
+    def test_what_is_divided_goes_out(self):
+        files = {'layout.json': SMALL, 'stock.csv': 'location,article,on_hand\n1-1-L,A,9\n1-2-L,B,4\n',
+                 'orders.csv': self.LINES, 'desks.csv': self.COMMANDS}
+        folder = runs.put(Path(runs.shelf().name) / 'divided', files)
+        done = runs.script('split', *runs.options(folder, runs.FILES[:3]), '--units', '5')
+        self.assertEqual('O1: 5 B to the back order O1.b\nO1: 7 units, in 2 orders, O1.1 to O1.2\n4 orders, of 2\n',
+                         done.errors)
+        runs.put(folder, {'orders.csv': done.output + 'O1,A,7\n'})
+        replies = runs.planned(folder, '--capacity', '3', '--units', '5').output.splitlines()[1:4]
+        self.assertEqual(['0 1 submit W1 O1 O2 -> refused over-cart O1 7', '1 1 submit W2 O1.1 O1.2 O2 -> submitted',
+                          '2 1 release W2 -> released'], replies)
+
+
 class Helping(unittest.TestCase):
     def test_each_script_says_how_it_is_used(self):
-        for name in ('sheets', 'to-csv', 'to-json', 'from-json', 'compare', 'import', 'explain', 'continue', 'confirm',
-                     'closing-stock', 'report', 'second-opinion', 'what-if', 'slotting'):
+        for name in ('sheets', 'to-csv', 'to-json', 'from-json', 'compare', 'import', 'split', 'explain', 'continue',
+                     'confirm', 'closing-stock', 'report', 'second-opinion', 'what-if', 'slotting'):
             done = runs.script(name, '--help')
             self.assertEqual((0, ''), (done.status, done.errors), name)
             self.assertRegex(done.output, '(?s)usage: tools/%s.*(?:not|[Nn]othing).*proved' % name)
