@@ -15,9 +15,11 @@ mod stock;
 mod word;
 
 pub use fault::{RowFault, Why};
+pub use fields::{read_name, read_number_in, three_texts};
 pub use hashing::FileKey;
 pub use laws::first_faults_are_told;
 pub use orders::{Orders, read_orders};
+pub use records::Records;
 pub use scripts::{Scripts, read_desks};
 pub use stock::{Stock, read_stock};
 pub use wp_model::{Command, Line, Location, Memory, Name, Names, Side, StockRow};
