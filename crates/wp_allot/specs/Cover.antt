@@ -19,7 +19,9 @@ IsShortage rows wants except article (Some short) = (short.article ≡ article) 
 
 -- of the articles of the first wants, the first of which there isn't enough
 abbrev pub IsFirstAmong : List Row → List Want → Option ℕ → ℕ → Option Short → Type 0
-IsFirstAmong rows wants except count None = (k : ℕ) (w : Want) → k < count → slice_get wants k ≡ Some w → IsEnough rows wants except w.article
+IsFirstAmong rows wants except count None
+    = (k : ℕ) (w : Want) → k < count → slice_get wants k ≡ Some w → IsEnough rows wants except w.article
 IsFirstAmong rows wants except count (Some short) =
-    IsLess rows wants except short × ((k : ℕ) (w : Want) → k < count → slice_get wants k ≡ Some w → w.article < short.article
+    IsLess rows wants except short × ((k : ℕ) (w : Want) → k < count → slice_get wants k ≡ Some w → w.article
+    < short.article
     → IsEnough rows wants except w.article)

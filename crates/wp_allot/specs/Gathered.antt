@@ -6,7 +6,8 @@ use Rattle.wp_allot.specs.declared.want.Want.{Want}
 
 -- the wants before a place are of earlier articles than those from it on
 abbrev pub IsBorder : List Want → ℕ → Type 0
-IsBorder wants place = (i j : ℕ) (v w : Want) → i < place → place ≤ j → slice_get wants i ≡ Some v → slice_get wants j ≡ Some w → v.article < w.article
+IsBorder wants place = (i j : ℕ) (v w : Want) → i < place → place ≤ j → slice_get wants i ≡ Some v
+    → slice_get wants j ≡ Some w → v.article < w.article
 
 -- all wants of an article stand from a start to an end, and these are its units
 pub record AreOfArticle (wants : List Want) (start : ℕ) (of : ArticleWants) : Type 0 where

@@ -8,7 +8,8 @@ use Rattle.wp_allot.specs.declared.want.Want.{Want}
 
 -- each row of an article of which no unit is wanted is the same, at its place
 abbrev pub KeepsOtherArticles : List Want → List Row → List Row → Type 0
-KeepsOtherArticles wants old new = (place : ℕ) (row : Row) → slice_get old place ≡ Some row → wanted_of wants row.article ≡ 0 → slice_get new place ≡ Some row
+KeepsOtherArticles wants old new = (place : ℕ) (row : Row) → slice_get old place ≡ Some row
+    → wanted_of wants row.article ≡ 0 → slice_get new place ≡ Some row
 
 -- the excepted row, where there is one, is the same
 abbrev pub KeepsExcepted : Option ℕ → List Row → List Row → Type 0
@@ -17,4 +18,5 @@ KeepsExcepted except old new = (place : ℕ) → except ≡ Some place → slice
 -- a wave holds for each order at each row what it held there before, and the units that the order takes from the row
 abbrev pub KeepsEarlier : ℕ → List Want → Option ℕ → Book → Book → Type 0
 KeepsEarlier wave wants except old new =
-    (order row : ℕ) → held_for new wave order row ≡ held_for old wave order row + share (wanted_for wants) old.rows except order row
+    (order row : ℕ) → held_for new wave order row
+    ≡ held_for old wave order row + share (wanted_for wants) old.rows except order row

@@ -1,5 +1,6 @@
 -- What a wave wants, whether free stock covers it, and how stock is held for it.
-use Rattle.std.specs.Prelude.{◌≡◌, ℕ, ◌+◌, ◌<◌, ◌≤◌, ◌^◌, ◌&&◌, ◌==◌, nat_lt, min, Bool, List, [], length, Option, Some, None, if◌then◌else◌, slice_get}
+use Rattle.std.specs.Prelude.{◌≡◌, ℕ, ◌+◌, ◌<◌, ◌≤◌, ◌^◌, ◌&&◌, ◌==◌, nat_lt, min, Bool, List, [], length, Option, Some}
+use Rattle.std.specs.Prelude.{None, if◌then◌else◌, slice_get}
 use Rattle.std.specs.List.{All, count_by, sum_by}
 use Rattle.wp_model.specs.Book.{Book, held_for, held_list}
 use Rattle.wp_model.specs.Change.{change_rows, hold_units, share}
@@ -35,21 +36,25 @@ units_in wants = sum_by (λ (want : Want). want.quantity) wants
 -- wants go by their orders, no order has two of one article, each is of at least one unit, and all together are few
 -- enough to be counted
 pub record AreRegular (wants : List Want) : Type 0 where
-  pub ordered : (i j : ℕ) (v w : Want) → i < j → slice_get wants i ≡ Some v → slice_get wants j ≡ Some w → v.order ≤ w.order
-  pub once : (i j : ℕ) (v w : Want) → slice_get wants i ≡ Some v → slice_get wants j ≡ Some w → v.order ≡ w.order → v.article ≡ w.article → i ≡ j
+  pub ordered : (i j : ℕ) (v w : Want) → i < j → slice_get wants i ≡ Some v → slice_get wants j ≡ Some w
+      → v.order ≤ w.order
+  pub once : (i j : ℕ) (v w : Want) → slice_get wants i ≡ Some v → slice_get wants j ≡ Some w → v.order ≡ w.order
+      → v.article ≡ w.article → i ≡ j
   pub some : All (λ (want : Want). 0 < want.quantity) wants
   pub small : units_in wants < 2 ^ 40
 
 -- of the wants of an article each is for a later order than those before it; each is of at least one unit, and all
 -- together are few enough to be counted
 pub record AreInTurn (wants : List Want) : Type 0 where
-  pub later : (i j : ℕ) (v w : Want) → i < j → slice_get wants i ≡ Some v → slice_get wants j ≡ Some w → v.article ≡ w.article → v.order < w.order
+  pub later : (i j : ℕ) (v w : Want) → i < j → slice_get wants i ≡ Some v → slice_get wants j ≡ Some w
+      → v.article ≡ w.article → v.order < w.order
   pub some : All (λ (want : Want). 0 < want.quantity) wants
   pub small : units_in wants < 2 ^ 40
 
 -- wants are gathered: they go by their articles, and those of one article by their orders
 pub record AreGathered (wants : List Want) : Type 0 where
-  pub articles : (i j : ℕ) (v w : Want) → i < j → slice_get wants i ≡ Some v → slice_get wants j ≡ Some w → v.article ≤ w.article
+  pub articles : (i j : ℕ) (v w : Want) → i < j → slice_get wants i ≡ Some v → slice_get wants j ≡ Some w
+      → v.article ≤ w.article
   pub turn : AreInTurn wants
 
 -- free stock covers what is wanted of an article
@@ -103,11 +108,13 @@ WantsBelow wants orders = (article order : ℕ) → orders ≤ order → wanted_
 pub record HasOverlaps (rows : List Row) (wants : List Want) (except : Option ℕ) (old new : Content) : Type 0 where
   pub size : new.size ≡ old.size
   pub few : length new.holds ≤ most_holds rows wants
-  pub holds : (orders : ℕ) → WantsBelow wants orders → new.holds ≡ held_list orders (length rows) (share (wanted_for wants) rows except)
+  pub holds : (orders : ℕ) → WantsBelow wants orders
+      → new.holds ≡ held_list orders (length rows) (share (wanted_for wants) rows except)
 
 -- what the orders take from the rows by overlap went from free to held, for a wave
 pub record IsAllotted (wave : ℕ) (wants : List Want) (except : Option ℕ) (old new : Book) : Type 0 where
   pub rows : (orders : ℕ) → WantsBelow wants orders → new.rows ≡ change_rows
       (λ row. hold_units (sum_below orders (λ order. share (wanted_for wants) old.rows except order row))) 0 old.rows
-  pub held : (order row : ℕ) → held_for new wave order row ≡ held_for old wave order row + share (wanted_for wants) old.rows except order row
+  pub held : (order row : ℕ) → held_for new wave order row ≡ held_for old wave order row
+      + share (wanted_for wants) old.rows except order row
   pub others : KeepsOthers wave old new

@@ -25,7 +25,8 @@ pub fn wanted_units(wants: &[Want], article: u32) -> u64
 
 /// The numbers of an article of which so much is wanted, where less is free.
 pub fn shortage(book: &StockBook, article: u32, wanted: u64, except: Option<u32>) -> Option<Short>
-    ensures { (wants : List WantData) → wanted ≡ wanted_of wants article → IsShortage book.now.rows wants except article result }
+    ensures { (wants : List WantData) → wanted ≡ wanted_of wants article
+        → IsShortage book.now.rows wants except article result }
 {
     let free = book.free_of(article, except);
     if free < wanted {
@@ -41,8 +42,10 @@ pub fn shortage(book: &StockBook, article: u32, wanted: u64, except: Option<u32>
 
 // The one with the smaller article.
 fn earlier(first: Option<Short>, other: Option<Short>) -> Option<Short>
-    ensures { (rows : List RowData) (wants : List WantData) (except : Option ℕ) (count : ℕ) (want : WantData) → slice_get wants count ≡ Some want
-        → IsFirstAmong rows wants except count first → IsShortage rows wants except want.article other → IsFirstAmong rows wants except (count + 1) result }
+    ensures { (rows : List RowData) (wants : List WantData) (except : Option ℕ) (count : ℕ)
+        (want : WantData) → slice_get wants count ≡ Some want
+        → IsFirstAmong rows wants except count first → IsShortage rows wants except want.article other
+        → IsFirstAmong rows wants except (count + 1) result }
 {
     match (first, other) {
         (Some(one), Some(two)) if one.article <= two.article => Some(one),

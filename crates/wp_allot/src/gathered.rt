@@ -8,7 +8,8 @@ ghost use Rattle.wp_book.specs.Calls.{KeepsOthers};
 ghost use Rattle.wp_allot.specs.DealtUnits.{AreDealt, CanDeal, IsDealt};
 ghost use Rattle.wp_allot.specs.Gathered.{AreOfArticle, IsBorder};
 ghost use Rattle.wp_allot.specs.UntouchedStock.{KeepsEarlier, KeepsExcepted, KeepsOtherArticles};
-ghost use Rattle.wp_allot.specs.Wants.{AreGathered, AreRegular, HasOverlaps, IsAllotted, IsRoomFor, IsShort, holds_at_most, units_in, wanted_places};
+ghost use Rattle.wp_allot.specs.Wants.{AreGathered, AreRegular, HasOverlaps, IsAllotted, IsRoomFor, IsShort};
+ghost use Rattle.wp_allot.specs.Wants.{holds_at_most, units_in, wanted_places};
 ghost use Rattle.wp_allot.specs.declared.want.Want.{Want as WantData};
 
 use crate::cover::shortage;
@@ -176,7 +177,8 @@ fn units_wanted(wants: &[Want]) -> u64
 fn rows_wanted(stock: &Stock, wants: &[Want]) -> u64
     requires read { IsReadStock stock.now }
     requires gathered { AreGathered wants.now }
-    requires within { All (λ (want : WantData). want.article < length stock.now.articles) wants.now }
+    requires within { All (λ (want : WantData). want.article < length stock.now.articles)
+        wants.now }
     ensures exact { result ≡ wanted_places stock.now.rows wants.now }
     ensures few { result < 2 ^ 32 }
 {
@@ -195,7 +197,8 @@ fn rows_wanted(stock: &Stock, wants: &[Want]) -> u64
 pub fn most_holds(stock: &Stock, wants: &[Want]) -> u64
     requires read { IsReadStock stock.now }
     requires gathered { AreGathered wants.now }
-    requires within { All (λ (want : WantData). want.article < length stock.now.articles) wants.now }
+    requires within { All (λ (want : WantData). want.article < length stock.now.articles)
+        wants.now }
     requires few { length wants.now < 2 ^ 32 }
     ensures { result ≡ holds_at_most (wanted_places stock.now.rows wants.now) wants.now }
 {

@@ -21,7 +21,8 @@ impl Mark {
         requires place { self.old.place + 1 < 2 ^ 32 }
         requires taken { self.old.taken + left < 2 ^ 32 }
         requires units { units ≤ left }
-        ensures { self.new ≡ (if units == left then record { place = self.old.place + 1; taken = 0 } else record self.old { taken = self.old.taken + units }) }
+        ensures { self.new ≡ (if units == left then record { place = self.old.place + 1; taken = 0 }
+            else record self.old { taken = self.old.taken + units }) }
     {
         if units == left {
             self.place += 1;

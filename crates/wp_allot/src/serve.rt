@@ -22,7 +22,8 @@ fn offered(book: &StockBook, article: u32, except: Option<u32>, row: u32) -> u32
 // Puts a hold into the room, where it is of any unit.
 fn put_units(room: &mut Room, hold: Hold)
     requires { 0 < hold.quantity → length room.old.holds < room.old.size }
-    ensures { room.new ≡ (if hold.quantity == 0 then room.old else record room.old { holds = room.old.holds ++ hold ∷ [] }) }
+    ensures { room.new ≡ (if hold.quantity == 0 then room.old
+        else record room.old { holds = room.old.holds ++ hold ∷ [] }) }
 {
     if hold.quantity > 0 {
         room.put(hold);

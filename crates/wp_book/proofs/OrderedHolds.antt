@@ -89,7 +89,8 @@ found_between order row start end holds first last = record {
   where
     upto : start ≤ end
     upto = elim (cases_lt end start) [
-      | inl past ↦ absurd (not_both order row (get_or holds end none) (first.before end none past) (last.after end none (omega arith) (omega (arith, first.within))))
+      | inl past ↦ absurd (not_both order row (get_or holds end none) (first.before end none past)
+          (last.after end none (omega arith) (omega (arith, first.within))))
       | inr fits ↦ fits
     ]
 

@@ -1,5 +1,6 @@
 -- What the calls of a book ask for and do.
-use Rattle.std.specs.Prelude.{◌≡◌, ◌≢◌, ℕ, ◌+◌, ◌-◌, ◌<◌, ◌≤◌, ◌&&◌, ◌==◌, List, length, map, if◌then◌else◌, slice_get, IfSome, []}
+use Rattle.std.specs.Prelude.{◌≡◌, ◌≢◌, ℕ, ◌+◌, ◌-◌, ◌<◌, ◌≤◌, ◌&&◌, ◌==◌, List, length, map, if◌then◌else◌, slice_get}
+use Rattle.std.specs.Prelude.{IfSome, []}
 use Rattle.std.specs.List.{All}
 use Rattle.wp_model.specs.Book.{Book, held_for, held_for_wave, units_at, units_for}
 use Rattle.wp_model.specs.Change.{at_place, change_rows, free_held_units, hold_units, receive_units, take_units}
@@ -35,7 +36,8 @@ pub record HasGivenBack (wave : ℕ) (old new : Book) : Type 0 where
 -- units that were held for an order of a wave at a row are gone
 pub record HasTaken (wave order row units : ℕ) (old new : Book) : Type 0 where
   pub rows : new.rows ≡ change_rows (at_place row (take_units units)) 0 old.rows
-  pub held : (o r : ℕ) → held_for new wave o r ≡ (if (o == order) && (r == row) then held_for old wave o r - units else held_for old wave o r)
+  pub held : (o r : ℕ) → held_for new wave o r
+      ≡ (if (o == order) && (r == row) then held_for old wave o r - units else held_for old wave o r)
   pub others : KeepsOthers wave old new
 
 -- units came to a row

@@ -17,4 +17,5 @@ book_of rows chains = record { rows = rows; holdings = holdings_in chains }
 pub record IsKept (rows : List Row) (chains : List (List KeptHolds)) : Type 0 where
   pub book : IsBook (book_of rows chains)
   pub count : length chains ≡ chain_count
-  pub placed : (i wave : ℕ) → i < chain_count → wave % chain_count ≢ i → chain_units (is_of wave) (slice_index_or chains i []) ≡ 0
+  pub placed : (i wave : ℕ) → i < chain_count → wave % chain_count ≢ i
+      → chain_units (is_of wave) (slice_index_or chains i []) ≡ 0

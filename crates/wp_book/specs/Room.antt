@@ -1,5 +1,6 @@
 -- What room for holds has in it.
-use Rattle.std.specs.Prelude.{◌≡◌, ℕ, ◌≤◌, ◌<◌, ◌==◌, ◌&&◌, ◌||◌, Bool, true, false, nat_lt, List, Some, length, take, drop, slice_get, slice_index_or}
+use Rattle.std.specs.Prelude.{◌≡◌, ℕ, ◌≤◌, ◌<◌, ◌==◌, ◌&&◌, ◌||◌, Bool, true, false, nat_lt, List, Some, length, take}
+use Rattle.std.specs.Prelude.{drop, slice_get, slice_index_or}
 use Rattle.std.specs.List.Sorted.{IsPermutation}
 use Rattle.wp_model.specs.Book.{units_for}
 use Rattle.wp_model.specs.declared.row.Hold.{Hold}
@@ -16,7 +17,8 @@ pub record ComesFirst (g h : Hold) : Type 0 where
 
 -- holds go by order and then by row
 abbrev pub AreInOrder : List Hold → Type 0
-AreInOrder holds = (i j : ℕ) (g h : Hold) → i ≤ j → slice_get holds i ≡ Some g → slice_get holds j ≡ Some h → ComesFirst g h
+AreInOrder holds = (i j : ℕ) (g h : Hold) → i ≤ j → slice_get holds i ≡ Some g → slice_get holds j ≡ Some h
+    → ComesFirst g h
 
 -- the same holds, in order
 pub record IsInOrder (old new : Content) : Type 0 where

@@ -1,4 +1,5 @@
-ghost use Rattle.std.specs.Prelude.{◌≡◌, ◌≤◌, ◌<◌, ◌+◌, ◌^◌, ◌%◌, ◌↔◌, ℕ, IsTrue, IfOk, IfSome, Some, [], length, replicate, slice_get};
+ghost use Rattle.std.specs.Prelude.{◌≡◌, ◌≤◌, ◌<◌, ◌+◌, ◌^◌, ◌%◌, ◌↔◌, ℕ, IsTrue, IfOk, IfSome, Some, [], length};
+ghost use Rattle.std.specs.Prelude.{replicate, slice_get};
 ghost use Rattle.wp_model.specs.Book.{IsBook, held_for};
 ghost use Rattle.wp_model.specs.Demand.{free_units, offer_of};
 ghost use Rattle.wp_model.specs.Limits.{most_on_hand};
@@ -157,7 +158,8 @@ impl StockBook {
     /// Units come to a row: what is on hand and what is free go up.
     pub fn receive(&mut self, row: u32, quantity: u32)
         requires row { row < length self.old.rows }
-        requires room { IfSome (slice_get self.old.rows row) (λ r. r.on_hand + quantity ≤ most_on_hand) }
+        requires room { IfSome (slice_get self.old.rows row)
+            (λ r. r.on_hand + quantity ≤ most_on_hand) }
         ensures { HasReceived row quantity self.old self.new }
     {
         self.rows.receive(row, quantity);

@@ -81,7 +81,8 @@ impl Room {
         }
     }
 
-    /// Puts the holds into the order of their orders, and those of one order into that of their rows. It takes no memory.
+    /// Puts the holds into the order of their orders, and those of one order into that of their rows. It takes no
+    /// memory.
     pub fn sort(&mut self)
         ensures { IsInOrder self.old self.new }
     {

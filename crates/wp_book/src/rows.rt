@@ -1,5 +1,6 @@
 //! The rows, how many units of each article are free in them, and which rows each article has.
-ghost use Rattle.std.specs.Prelude.{◌≡◌, ◌≤◌, ◌<◌, ◌+◌, ◌^◌, suc, All, Some, None, length, map, IfOk, IfSome, slice_get, slice_index};
+ghost use Rattle.std.specs.Prelude.{◌≡◌, ◌≤◌, ◌<◌, ◌+◌, ◌^◌, suc, All, Some, None, length, map, IfOk, IfSome};
+ghost use Rattle.std.specs.Prelude.{slice_get, slice_index};
 ghost use Rattle.wp_model.specs.Change.{at_place, change_rows, free_held_units, hold_units, receive_units, take_units};
 ghost use Rattle.wp_model.specs.Demand.{free_units, offer_at};
 ghost use Rattle.wp_model.specs.Sound.{IsBalanced};
@@ -136,7 +137,8 @@ impl CountedRows {
     /// Units of a row go from free to held.
     pub fn hold(&mut self, row: u32, units: u32)
         requires row { row < length self.old }
-        requires free { IfSome (slice_get self.old row) (λ r. (units ≤ r.free) × (r.held + units < 2 ^ 32)) }
+        requires free { IfSome (slice_get self.old row)
+            (λ r. (units ≤ r.free) × (r.held + units < 2 ^ 32)) }
         ensures { self.new ≡ change_rows (at_place row (hold_units units)) 0 self.old }
     {
         let row = &mut self.rows[row as usize];
@@ -148,7 +150,8 @@ impl CountedRows {
     /// Units of a row go from held to free.
     pub fn unhold(&mut self, row: u32, units: u32)
         requires row { row < length self.old }
-        requires held { IfSome (slice_get self.old row) (λ r. (units ≤ r.held) × (r.free + units < 2 ^ 32)) }
+        requires held { IfSome (slice_get self.old row)
+            (λ r. (units ≤ r.held) × (r.free + units < 2 ^ 32)) }
         ensures { self.new ≡ change_rows (at_place row (free_held_units units)) 0 self.old }
     {
         let row = &mut self.rows[row as usize];
@@ -160,7 +163,8 @@ impl CountedRows {
     /// Held units of a row are gone.
     pub fn take(&mut self, row: u32, units: u32)
         requires row { row < length self.old }
-        requires held { IfSome (slice_get self.old row) (λ r. (units ≤ r.held) × (units ≤ r.on_hand)) }
+        requires held { IfSome (slice_get self.old row)
+            (λ r. (units ≤ r.held) × (units ≤ r.on_hand)) }
         ensures { self.new ≡ change_rows (at_place row (take_units units)) 0 self.old }
     {
         let row = &mut self.rows[row as usize];
@@ -171,7 +175,8 @@ impl CountedRows {
     /// Units come to a row.
     pub fn receive(&mut self, row: u32, units: u32)
         requires row { row < length self.old }
-        requires room { IfSome (slice_get self.old row) (λ r. (r.on_hand + units < 2 ^ 32) × (r.free + units < 2 ^ 32)) }
+        requires room { IfSome (slice_get self.old row)
+            (λ r. (r.on_hand + units < 2 ^ 32) × (r.free + units < 2 ^ 32)) }
         ensures { self.new ≡ change_rows (at_place row (receive_units units)) 0 self.old }
     {
         let row = &mut self.rows[row as usize];

@@ -66,7 +66,8 @@ fn first_from(holds: &[Hold], order: u32, row: u64) -> usize
     holds.partition_point(|hold| is_before(hold, order, row))
 }
 
-// Where the holds for the order at the row stand: from one place up to another. It looks at so many holds as a search does.
+// Where the holds for the order at the row stand: from one place up to another. It looks at so many holds as a search
+// does.
 fn places(holds: &[Hold], order: u32, row: u32) -> (usize, usize)
     requires { AreInOrder holds.now }
     ensures { StandBetween order row holds.now result.0 result.1 }
@@ -144,7 +145,8 @@ impl SortedHolds {
     /// Takes units off the holds for the order at the row, and gives how many are left to take.
     pub fn take(&mut self, order: u32, row: u32, units: u32) -> u32
         ensures left { result ≡ units - units_for self.old order row }
-        ensures taken { (passes : Where) (wave : ℕ) → sum_by (hold_units_where passes wave) self.new +
+        ensures taken { (passes : Where) (wave : ℕ)
+            → sum_by (hold_units_where passes wave) self.new +
             (if passes wave order row then units - result else 0) ≡ sum_by (hold_units_where passes wave) self.old }
     {
         take_found(&mut self.holds, order, row, units)

@@ -34,7 +34,8 @@ module _ {T : Type 0} where
         asked = asked_more (history_of start before) pass.caller before commands command
             (asked_later pass.caller pass.calls before pass.callers commands answered.follow among done.asked);
         waves = kept.waves
-            ∙ (ap (λ waves. waves ++ released_in outcome) (done.waves ∙ sym (waves_later start pass.caller pass.calls before pass.callers answered.follow among))
+            ∙ (ap (λ waves. waves ++ released_in outcome)
+            (done.waves ∙ sym (waves_later start pass.caller pass.calls before pass.callers answered.follow among))
             ∙ (ap (λ o. waves_by start before pass.caller ++ released_in o) answered.tells ∙ sym (waves_more start pass.caller before command)));
         refills = kept.refills
             ∙ (ap (λ refills. refills ++ refill_in outcome)

@@ -1,5 +1,6 @@
 -- Desks at the opening, and what a day has once they are back.
-use Rattle.std.proofs.Common.{◌≡◌, ◌≤◌, ℕ, zero, suc, List, length, All, Result, Ok, Err, IfOk, IsOk, ◌∙◌, map, refl, reverse, ap, subst, sym, true≢false, arith}
+use Rattle.std.proofs.Common.{◌≡◌, ◌≤◌, ℕ, zero, suc, List, length, All, Result, Ok, Err, IfOk, IsOk, ◌∙◌, map, refl, reverse, ap, subst, sym, true≢false}
+use Rattle.std.proofs.Common.{arith}
 use Rattle.wp_desk.specs.Work.{AreOfDesks, IsFresh, Seen, desks_of}
 use Rattle.wp_desk.specs.declared.day_run.DayRun.{DayRun}
 use Rattle.wp_desk.specs.declared.shared.Shared.{Shared}

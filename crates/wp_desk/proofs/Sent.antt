@@ -40,7 +40,10 @@ desk_sent ℓ = struct_send (shape (desk.the_type ℓ)) (search (crosses, sendab
 
 pub day_shared : (ℓ : NamedLft) → IsSync (day.the_row ℓ)
 day_shared ℓ = recorded_sync (day.the_field ℓ).row _ _ (day.the_type ℓ).to_one
-    (struct_sync (shape (day.the_type ℓ)) (shr_sync _ _ _ opening_sends.the_sync, (search (crosses, sendable, turn_sends.the_sync, shared_sent) depth 60 fits 20000, tt)))
+    (struct_sync (shape (day.the_type ℓ)) (
+      shr_sync _ _ _ opening_sends.the_sync,
+      (search (crosses, sendable, turn_sends.the_sync, shared_sent) depth 60 fits 20000, tt),
+    ))
 
 wave_sent : IsSend (wave.the_field).row
 wave_sent = search (crosses, sendable, name_sends.the_send, list_sends.the_send, hold_sends.the_send) depth 60 fits 20000
@@ -49,7 +52,8 @@ refill_sent : IsSend refill.the_row
 refill_sent = search (crosses, sendable, name_sends.the_send, list_sends.the_send, hold_sends.the_send) depth 60 fits 20000
 
 planned_sent : (T : RattleType) → IsSend T → IsSend (planned.the_row T)
-planned_sent T s = recorded_send (planned.the_field T).row _ _ (planned.the_type T).to_one (struct_send (shape (planned.the_type T)) (wave_sent, (search (sendable, s), tt)))
+planned_sent T s = recorded_send (planned.the_field T).row _ _ (planned.the_type T).to_one
+    (struct_send (shape (planned.the_type T)) (wave_sent, (search (sendable, s), tt)))
 
 pub told_sent : (T : RattleType) → IsSend T → IsSend (told.the_row T)
 told_sent T s = recorded_send (told.the_field T).row _ _ (told.the_type T).to_one

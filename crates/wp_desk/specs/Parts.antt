@@ -1,4 +1,5 @@
--- The part of one desk in what all desks did after a history to begin with. A call is the number of its desk with the entry that it added.
+-- The part of one desk in what all desks did after a history to begin with. A call is the number of its desk with the
+-- entry that it added.
 use Rattle.std.specs.Prelude.{◌≡◌, ℕ, ◌+◌, ◌==◌, List, [], ◌∷◌, if◌then◌else◌, length, map}
 use Rattle.std.specs.List.{All, flat_map}
 use Rattle.wp_desk.specs.GoingOn.{going_on}
@@ -23,7 +24,8 @@ abbrev pub told_from : ℕ → Opening → ℕ → State → List (ℕ × Entry)
 told_from desk opening number state [] = []
 told_from desk opening number state (call ∷ calls) =
     let told = outcome_of number state call.1.command (step opening state call.1.command) in
-    let others = told_from desk opening (number + 1) (step opening state call.1.command).state calls in if call.0 == desk then told ∷ others else others
+    let others = told_from desk opening (number + 1)
+    (step opening state call.1.command).state calls in if call.0 == desk then told ∷ others else others
 
 -- what the steps of one desk's calls tell after a history to begin with
 abbrev pub told_to : ℕ → History → List (ℕ × Entry) → List Outcome

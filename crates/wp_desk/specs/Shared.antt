@@ -22,7 +22,8 @@ abbrev pub answer_after : History → Command → Answer
 answer_after history command = record {
   number = length history.entries;
   reply = (step history.opening (state_after history) command).reply;
-  outcome = outcome_of (length history.entries) (state_after history) command (step history.opening (state_after history) command);
+  outcome = outcome_of (length history.entries) (state_after history) command
+      (step history.opening (state_after history) command);
 }
 
 -- what a call is answered after these entries

@@ -39,7 +39,8 @@ pub record IsOfDesk (turn : Begun Shared) (desk : ℕ) (pass : Seen) : Type 0 wh
 
 -- passes of these desks, one of each, in order
 abbrev pub AreOfDesks : Begun Shared → List ℕ → List Seen → Type 0
-AreOfDesks turn desks passes = (map (λ pass. pass.caller) passes ≡ desks) × All (λ pass. IsOfDesk turn pass.caller pass) passes
+AreOfDesks turn desks passes = (map (λ pass. pass.caller) passes ≡ desks)
+    × All (λ pass. IsOfDesk turn pass.caller pass) passes
 
 -- the desks of a turn, in the opposite order
 abbrev pub desks_of : Begun Shared → List ℕ
@@ -52,12 +53,15 @@ pub record IsFresh (turn : Begun Shared) (scripts : List Script) (pass : Seen) :
   pub first : 1 ≤ pass.caller
   pub last : pass.caller ≤ length scripts
 
--- a desk's command was answered: after the calls that it had seen, with no other of its own between, and this is what the step told
+-- a desk's command was answered: after the calls that it had seen, with no other of its own between, and this is what
+-- the step told
 pub record IsAnswered (start : History) (pass after : Seen) (command : Command) (told : Outcome) : Type 0 where
   pub before : List (ℕ × Entry)
   pub follow : Follow pass before
-  pub last : after ≡ seeing (before ++ (pass.caller, next_entry (history_of start before) pass.caller command) ∷ []) pass
-  pub tells : told ≡ outcome_of (length (history_of start before).entries) (state_after (history_of start before)) command
+  pub last : after ≡ seeing (before ++ (pass.caller, next_entry (history_of start before) pass.caller command) ∷ [])
+      pass
+  pub tells : told ≡ outcome_of (length (history_of start before).entries)
+      (state_after (history_of start before)) command
       (step start.opening (state_after (history_of start before)) command)
 
 module _ {T : Type 0} where
@@ -88,7 +92,8 @@ module _ {T : Type 0} where
     pub refills : told.refills.items ≡ flat_map (λ pass. refills_by start pass.calls pass.caller) passes
 
   -- what a desk comes back with: its pass and, where there was memory for it, all that it asked for and was told
-  pub record IsDeskWork (turn : Begun Shared) (scripts : List Script) (Plans : WaveHolds → T → Type 0) (desk : ℕ) (work : DeskWork T) :
+  pub record IsDeskWork (turn : Begun Shared) (scripts : List Script) (Plans : WaveHolds → T → Type 0) (desk : ℕ)
+      (work : DeskWork T) :
       Type 0 where
     pub own : IsOfDesk turn desk work.desk.pass
     pub done : IfOk work.told (HasDone (start_of turn) (script_of scripts desk) work.desk.pass)
@@ -101,7 +106,8 @@ module _ {T : Type 0} where
     pub done : IfOk work.told (HaveDone (start_of turn) scripts work.desks.passes.list)
     pub planned : IfOk work.told (λ told. ArePlanned Plans told.plans.items)
 
--- the turn has ended with this history: after the one to begin with it has all that each of these desks has done, and nothing else
+-- the turn has ended with this history: after the one to begin with it has all that each of these desks has done, and
+-- nothing else
 pub record EndsWith (start : History) (passes : List Seen) (history : History) : Type 0 where
   pub calls : List (ℕ × Entry)
   pub is : history ≡ history_of start calls

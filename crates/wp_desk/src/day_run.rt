@@ -7,8 +7,8 @@ pub struct Planned<T> {
     pub plan: T,
 }
 
-/// What a day of desks gives: the machine with all that was answered, the waves that went out, each with its plan, and the refills; both in
-/// the order of their entries.
+/// What a day of desks gives: the machine with all that was answered, the waves that went out, each with its plan, and
+/// the refills; both in the order of their entries.
 #[derive(Drop)]
 pub struct DayRun<'a, T> {
     pub machine: Machine<'a>,

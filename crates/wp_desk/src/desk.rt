@@ -1,9 +1,11 @@
 //! One desk: its commands, one after the other.
 //!
-//! A pass is never let go: where memory runs out, the desk hands it back with that answer, so that the turn can be ended.
+//! A pass is never let go: where memory runs out, the desk hands it back with that answer, so that the turn can be
+//! ended.
 ghost use Rattle.std.specs.Prelude.{◌≡◌, ◌≤◌, ◌<◌, [], length, IfOk, IsTrue};
 ghost use Rattle.std.specs.List.{All};
-ghost use Rattle.wp_desk.specs.Work.{ArePlanned, BeginsAt, HasDone, IsAnswered, IsDeskWork, IsFresh, IsKept, IsOfDesk, start_of};
+ghost use Rattle.wp_desk.specs.Work.{ArePlanned, BeginsAt, HasDone, IsAnswered, IsDeskWork, IsFresh, IsKept, IsOfDesk};
+ghost use Rattle.wp_desk.specs.Work.{start_of};
 ghost use Rattle.wp_machine.specs.declared.outcome.Outcome.{Outcome as OutcomeData};
 ghost use Rattle.wp_model.specs.Limits.{most_commands};
 ghost use Rattle.wp_model.specs.Plain.{is_plain};
@@ -29,8 +31,8 @@ pub(crate) struct Day<'a> {
     pub(crate) turn: Turn<Shared<'a>>,
 }
 
-/// What all desks of a day are run with: their threads, the allocator that gives the memory for what they make, their scripts, what
-/// plans the waves that they send out, and the gate that they pass.
+/// What all desks of a day are run with: their threads, the allocator that gives the memory for what they make, their
+/// scripts, what plans the waves that they send out, and the gate that they pass.
 #[derive(Drop)]
 pub(crate) struct DeskRun<'a, R, P, G> {
     pub(crate) rt: &'a R,
@@ -57,7 +59,10 @@ impl<'a> Day<'a> {
     // A desk's command with all that its step needs.
     fn prepare(&self, alloc: Global, command: &Command) -> Result<Ready<'a>, Memory>
         requires { IsTrue (is_plain command.now) }
-        ensures { IfOk result (λ ready. ready ≡ record { opening = self.now.opening.now; command = command.now }) }
+        ensures { IfOk result (λ ready. ready ≡ record {
+          opening = self.now.opening.now;
+          command = command.now;
+        }) }
     {
         prepare(alloc, self.opening, command.copy(alloc)?)
     }
@@ -68,7 +73,8 @@ impl<'a> Day<'a> {
         requires own { IsOfDesk self.now.turn desk.pass.caller desk.pass }
         requires same { ready.opening ≡ self.now.opening.now }
         requires few { length (own_calls desk.pass) < most_calls }
-        ensures { IsAnswered (start_of self.now.turn) desk.entry.pass result.0.pass ready.entry.command result.1 }
+        ensures { IsAnswered (start_of self.now.turn) desk.entry.pass result.0.pass
+            ready.entry.command result.1 }
     {
         let Desk { pass } = desk;
         let (pass, receipt) = self.turn.call(rt, pass, ready);
@@ -137,8 +143,10 @@ impl<'a> Day<'a> {
         requires plain { All (λ command. IsTrue (is_plain command)) script.now }
         requires few { length script.now ≤ most_commands }
         ensures own { IsOfDesk self.now.turn desk.entry.pass.caller result.desk.pass }
-        ensures done { IfOk result.told (HasDone (start_of self.now.turn) script.now result.desk.pass) }
-        ensures planned { IfOk result.told (λ told. ArePlanned (P.plans run.now.planner.now) told.plans.items) }
+        ensures done { IfOk result.told (HasDone
+            (start_of self.now.turn) script.now result.desk.pass) }
+        ensures planned { IfOk result.told (λ told. ArePlanned
+            (P.plans run.now.planner.now) told.plans.items) }
     {
         let mut told = nothing_told::<P>(run.alloc);
         for command in script {
@@ -166,7 +174,8 @@ impl<'a> Day<'a> {
         requires begins { BeginsAt self.now.opening.now self.now.turn }
         requires read { AreReadScripts run.now.scripts.now }
         requires fresh { IsFresh self.now.turn run.now.scripts.now desk.pass }
-        ensures { IsDeskWork self.now.turn run.now.scripts.now (P.plans run.now.planner.now) desk.entry.pass.caller result }
+        ensures { IsDeskWork self.now.turn run.now.scripts.now
+            (P.plans run.now.planner.now) desk.entry.pass.caller result }
     {
         let script = run.scripts.script(desk.pass.caller());
         self.run_desk(run, desk, script)

@@ -35,7 +35,8 @@ fn next_desk<'a>(day: &Day<'a>, desks: &mut Desks<'a>, scripts: &Scripts) -> Opt
     requires fresh { All (IsFresh day.now.turn scripts.now) desks.old.passes.list }
     ensures first { IfSome result (λ desk. IsFresh day.now.turn scripts.now desk.pass) }
     ensures fresh { All (IsFresh day.now.turn scripts.now) desks.new.passes.list }
-    ensures list { IfSome result (λ desk. desks.old.passes.list ≡ desk.pass ∷ desks.new.passes.list) }
+    ensures list { IfSome result (λ desk. desks.old.passes.list ≡ desk.pass
+        ∷ desks.new.passes.list) }
     ensures room { IfSome result (λ _. length desks.new.passes.list < desks.new.passes.room) }
     ensures none { IfNone result (desks.new.passes.list ≡ [] × (desks.old.passes.list ≡ [])) }
     ensures same_room { desks.new.passes.room ≡ desks.old.passes.room }
@@ -54,8 +55,10 @@ fn joined<'a, R, P: Planner, G>(
     one: DeskWork<'a, P::Plan>,
     others: DesksWork<'a, P::Plan>,
 ) -> DesksWork<'a, P::Plan>
-    requires one { IsDeskWork day.now.turn run.now.scripts.now (P.plans run.now.planner.now) one.desk.pass.caller one }
-    requires others { IsDesksWork day.now.turn run.now.scripts.now (P.plans run.now.planner.now) (map (λ pass. pass.caller) others.desks.passes.list) others }
+    requires one { IsDeskWork day.now.turn run.now.scripts.now
+        (P.plans run.now.planner.now) one.desk.pass.caller one }
+    requires others { IsDesksWork day.now.turn run.now.scripts.now (P.plans run.now.planner.now)
+        (map (λ pass. pass.caller) others.desks.passes.list) others }
     requires room { length others.desks.passes.list < others.desks.passes.room }
     ensures work { IsDesksWork day.now.turn run.now.scripts.now (P.plans run.now.planner.now)
         (map (λ pass. pass.caller) others.entry.desks.passes.list ++ one.entry.desk.pass.caller ∷ []) result }
@@ -74,7 +77,8 @@ fn joined<'a, R, P: Planner, G>(
     }
 }
 
-/// Runs the scripts of desks that have seen nothing yet, each in a thread of its own. The desks come back in the opposite order.
+/// Runs the scripts of desks that have seen nothing yet, each in a thread of its own. The desks come back in the
+/// opposite order.
 pub(crate) fn run_all<'a, R: Threads + Wait + Sync, P: Planner, G: Gate>(
     run: &DeskRun<'_, R, P, G>,
     day: &Day<'a>,
@@ -104,8 +108,10 @@ pub(crate) fn run_all<'a, R: Threads + Wait + Sync, P: Planner, G: Gate>(
     let (one, others) = join(
         rt,
         move ||
-            requires { BeginsAt day.now.opening.now day.now.turn × AreReadScripts scripts.now × IsFresh day.now.turn scripts.now desk.pass }
-            ensures { IsDeskWork day.entry.now.turn scripts.entry.now (P.plans planner.entry.now) desk.entry.pass.caller result }
+            requires { BeginsAt day.now.opening.now day.now.turn × AreReadScripts scripts.now
+                × IsFresh day.now.turn scripts.now desk.pass }
+            ensures { IsDeskWork day.entry.now.turn scripts.entry.now
+                (P.plans planner.entry.now) desk.entry.pass.caller result }
         {
             let run = DeskRun {
                 rt,
@@ -117,10 +123,12 @@ pub(crate) fn run_all<'a, R: Threads + Wait + Sync, P: Planner, G: Gate>(
             day.run_script(&run, desk)
         },
         move ||
-            requires { IsSync R.row × IsSync P.row × IsSync G.row × BeginsAt day.now.opening.now day.now.turn × AreReadScripts scripts.now
+            requires { IsSync R.row × IsSync P.row × IsSync G.row
+                × BeginsAt day.now.opening.now day.now.turn × AreReadScripts scripts.now
                 × All (IsFresh day.now.turn scripts.now) desks.passes.list }
             ensures { IsDesksWork day.entry.now.turn scripts.entry.now (P.plans planner.entry.now)
-                (reverse (map (λ pass. pass.caller) desks.entry.passes.list)) result × (result.desks.passes.room ≡ desks.entry.passes.room) }
+                (reverse (map (λ pass. pass.caller) desks.entry.passes.list)) result
+                × (result.desks.passes.room ≡ desks.entry.passes.room) }
         {
             let run = DeskRun {
                 rt,

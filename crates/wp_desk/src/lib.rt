@@ -1,5 +1,5 @@
-//! A day of up to eight desks, each in a thread of its own: they give their commands to the one machine in turn, and plan
-//! the waves that they send out beside each other.
+//! A day of up to eight desks, each in a thread of its own: they give their commands to the one machine in turn, and
+//! plan the waves that they send out beside each other.
 #![tactic(auto)]
 
 mod day_run;

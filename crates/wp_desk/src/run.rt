@@ -1,4 +1,5 @@
-//! A day: all desks run, and then the machine has what they asked for, after what it had answered before, in one history.
+//! A day: all desks run, and then the machine has what they asked for, after what it had answered before, in one
+//! history.
 ghost use Rattle.std.specs.Prelude.{◌≡◌, ◌<◌, ℕ, List, IfOk, IsOk, length, map};
 ghost use Rattle.std.specs.List.{All};
 ghost use Rattle.std.specs.List.Sorted.{IsPermutation};
@@ -42,7 +43,8 @@ impl<'a> Day<'a> {
 // Plans in the order of their waves' entries.
 fn sort_plans<P: Planner>(plans: &mut Vec<Planned<P::Plan>>, planner: &P)
     requires planned { ArePlanned (P.plans planner.now) plans.old.items }
-    ensures waves { (start : History) (entries : List EntryData) → IsPermutation (released_after start entries) (waves_of plans.old.items)
+    ensures waves { (start : History) (entries : List EntryData)
+        → IsPermutation (released_after start entries) (waves_of plans.old.items)
         → waves_of plans.new.items ≡ released_after start entries }
     ensures planned { ArePlanned (P.plans planner.now) plans.new.items }
 {
@@ -51,7 +53,8 @@ fn sort_plans<P: Planner>(plans: &mut Vec<Planned<P::Plan>>, planner: &P)
 
 // Refills in the order of their entries.
 fn sort_refills(refills: &mut Vec<Refill>)
-    ensures { (start : History) (entries : List EntryData) → IsPermutation (refills_after start entries) refills.old.items
+    ensures { (start : History) (entries : List EntryData)
+        → IsPermutation (refills_after start entries) refills.old.items
         → refills.new.items ≡ refills_after start entries }
 {
     refills.sort_unstable_by_key(|refill| refill.number);
@@ -68,10 +71,14 @@ fn day_of<'a, P: Planner>(
     ensures machine { IfOk result (λ day. day.machine ≡ machine.entry) }
     ensures legal { IfOk result (λ day. IsLegal day.machine) }
     ensures sound { IfOk result (λ day. EachStateIsSound day.machine) }
-    ensures waves { (start : History) → IfOk told (λ told. IsPermutation (released_after start (new_entries start machine.entry)) (waves_of told.plans.items))
+    ensures waves { (start : History) → IfOk told
+        (λ told. IsPermutation (released_after start (new_entries start machine.entry))
+        (waves_of told.plans.items))
         → IfOk result (λ day. waves_of day.plans.items ≡ released_after start (new_entries start day.machine)) }
     ensures planned { IfOk result (λ day. ArePlanned (P.plans planner.now) day.plans.items) }
-    ensures refills { (start : History) → IfOk told (λ told. IsPermutation (refills_after start (new_entries start machine.entry)) told.refills.items)
+    ensures refills { (start : History) → IfOk told
+        (λ told. IsPermutation (refills_after start (new_entries start machine.entry))
+        told.refills.items)
         → IfOk result (λ day. day.refills.items ≡ refills_after start (new_entries start day.machine)) }
 {
     let _legal = machine.count();
@@ -88,11 +95,13 @@ fn day_of<'a, P: Planner>(
     })
 }
 
-/// Runs the scripts of all desks, each in a thread of its own. The machine may have answered commands before, fewer than 2,147,483,648. The
-/// machine that comes back has one legal history, and each state of it is sound. It has the entries from before, and after them new ones: of these
-/// each desk's part is its script, and there is nothing else. Each wave that a new entry sent out has one plan, related to it as the planner says,
-/// and each refill of a new entry is told; both in the order of their entries. An `Err` comes from a want of memory alone, once all desks have
-/// ended, and the machine is then gone. A desk passes the gate before each of its commands, and before and after it plans a wave that it sent out.
+/// Runs the scripts of all desks, each in a thread of its own. The machine may have answered commands before, fewer
+/// than 2,147,483,648. The machine that comes back has one legal history, and each state of it is sound. It has the
+/// entries from before, and after them new ones: of these each desk's part is its script, and there is nothing else.
+/// Each wave that a new entry sent out has one plan, related to it as the planner says, and each refill of a new entry
+/// is told; both in the order of their entries. An `Err` comes from a want of memory alone, once all desks have ended,
+/// and the machine is then gone. A desk passes the gate before each of its commands, and before and after it plans a
+/// wave that it sent out.
 pub fn run_desks<'a, R: Threads + Wait + Sync, P: Planner, G: Gate>(
     rt: &R,
     alloc: Global,
@@ -107,11 +116,15 @@ pub fn run_desks<'a, R: Threads + Wait + Sync, P: Planner, G: Gate>(
     ensures opening { IfOk result (λ day. day.machine.opening ≡ opening.now) }
     ensures goes_on { IfOk result (λ day. GoesOnFrom machine.entry day.machine) }
     ensures legal { IfOk result (λ day. IsLegal day.machine) }
-    ensures parts { IfOk result (λ day. (desk : ℕ) → part_of desk (new_entries machine.entry day.machine) ≡ script_of scripts.now desk) }
+    ensures parts { IfOk result (λ day. (desk : ℕ)
+        → part_of desk (new_entries machine.entry day.machine) ≡ script_of scripts.now desk) }
     ensures sound { IfOk result (λ day. EachStateIsSound day.machine) }
-    ensures waves { IfOk result (λ day. map (λ planned. planned.wave) day.plans.items ≡ released_after machine.entry (new_entries machine.entry day.machine)) }
-    ensures plans { IfOk result (λ day. All (λ planned. P.plans planner.now planned.wave planned.plan) day.plans.items) }
-    ensures refills { IfOk result (λ day. day.refills.items ≡ refills_after machine.entry (new_entries machine.entry day.machine)) }
+    ensures waves { IfOk result (λ day. map (λ planned. planned.wave) day.plans.items
+        ≡ released_after machine.entry (new_entries machine.entry day.machine)) }
+    ensures plans { IfOk result (λ day. All (λ planned.
+        P.plans planner.now planned.wave planned.plan) day.plans.items) }
+    ensures refills { IfOk result (λ day. day.refills.items
+        ≡ refills_after machine.entry (new_entries machine.entry day.machine)) }
 {
     let (turn, passes) = Turn::open(alloc, Shared { machine }, scripts.desks())?;
     let day = Day { opening, turn };

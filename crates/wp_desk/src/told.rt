@@ -36,7 +36,8 @@ fn keep_plan<R, P: Planner, G: Gate>(
     wave: WaveHolds,
 ) -> Result<(), Memory>
     requires planned { ArePlanned (P.plans run.now.planner.now) plans.old.items }
-    ensures waves { IfOk result (λ _. waves_of plans.new.items ≡ waves_of plans.old.items ++ wave ∷ []) }
+    ensures waves { IfOk result (λ _. waves_of plans.new.items ≡ waves_of plans.old.items ++ wave
+        ∷ []) }
     ensures planned { IfOk result (λ _. ArePlanned (P.plans run.now.planner.now) plans.new.items) }
 {
     run.gate.pass(desk, Moment::BeforePlan);
@@ -54,9 +55,12 @@ pub(crate) fn keep_outcome<R, P: Planner, G: Gate>(
     outcome: Outcome,
 ) -> Result<(), Memory>
     requires planned { ArePlanned (P.plans run.now.planner.now) told.old.plans.items }
-    ensures waves { IfOk result (λ _. waves_of told.new.plans.items ≡ waves_of told.old.plans.items ++ released_in outcome) }
-    ensures planned { IfOk result (λ _. ArePlanned (P.plans run.now.planner.now) told.new.plans.items) }
-    ensures refills { IfOk result (λ _. told.new.refills.items ≡ told.old.refills.items ++ refill_in outcome) }
+    ensures waves { IfOk result (λ _. waves_of told.new.plans.items ≡ waves_of told.old.plans.items
+        ++ released_in outcome) }
+    ensures planned { IfOk result (λ _. ArePlanned
+        (P.plans run.now.planner.now) told.new.plans.items) }
+    ensures refills { IfOk result (λ _. told.new.refills.items ≡ told.old.refills.items
+        ++ refill_in outcome) }
 {
     match outcome {
         Outcome::Released(wave) => keep_plan(run, &mut told.plans, desk, wave),
@@ -74,7 +78,8 @@ pub(crate) fn both_told<P: Planner>(
     one: Result<Told<P::Plan>, Memory>,
 ) -> Result<Told<P::Plan>, Memory>
     ensures both { IfOk result (λ both. IfOk some (λ told. IfOk one (λ more.
-        (both.plans.items ≡ told.plans.items ++ more.plans.items) × (both.refills.items ≡ told.refills.items ++ more.refills.items)))) }
+        (both.plans.items ≡ told.plans.items ++ more.plans.items)
+        × (both.refills.items ≡ told.refills.items ++ more.refills.items)))) }
     ensures there { IfOk result (λ _. IsOk some × IsOk one) }
 {
     let mut told = some?;

@@ -1,5 +1,6 @@
 -- Orders that no cart holds.
-use Rattle.std.proofs.Common.{◌≡◌, ◌∙◌, sym, ap, ap₂, ℕ, ◌*◌, ◌<◌, ◌≤◌, ◌^◌, nat_lt, false, List, Option, Some, None, if◌then◌else◌, map, slice_get, arith, lit<}
+use Rattle.std.proofs.Common.{◌≡◌, ◌∙◌, sym, ap, ap₂, ℕ, ◌*◌, ◌<◌, ◌≤◌, ◌^◌, nat_lt, false, List, Option, Some, None, if◌then◌else◌, map, slice_get, arith}
+use Rattle.std.proofs.Common.{lit<}
 use Rattle.std.proofs.lemmas.Bool.{cond-false, cond-true, lt-ltb}
 use Rattle.std.proofs.lemmas.Bool.Decides.{nat_tests}
 use Rattle.wp_model.proofs.Demand.{few_order_units}

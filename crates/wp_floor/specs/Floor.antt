@@ -1,5 +1,6 @@
 -- How the state is kept.
-use Rattle.std.specs.Prelude.{◌≡◌, ℕ, ◌+◌, ◌*◌, ◌<◌, ◌≤◌, ⊤, List, [], length, map, Option, Some, slice_get, slice_set, IfSome}
+use Rattle.std.specs.Prelude.{◌≡◌, ℕ, ◌+◌, ◌*◌, ◌<◌, ◌≤◌, ⊤, List, [], length, map, Option, Some, slice_get, slice_set}
+use Rattle.std.specs.Prelude.{IfSome}
 use Rattle.std.specs.List.{All}
 use Rattle.wp_allot.specs.Wants.{AreGathered, holds_at_most, wanted_for, wanted_places}
 use Rattle.wp_allot.specs.declared.want.Want.{Want}
@@ -71,14 +72,16 @@ pub record HaveSpace (size : ℕ) (rooms : Rooms) : Type 0 where
 pub record AreNeedsOf (opening : Opening) (orders : List (List ℕ)) (needs : Needs) : Type 0 where
   pub copied : needs.orders ≡ orders
   pub wants : AreWantsOf opening orders needs.wants.items
-  pub space : HaveSpace (holds_at_most (wanted_places opening.stock.rows needs.wants.items) needs.wants.items) needs.rooms
+  pub space : HaveSpace (holds_at_most (wanted_places opening.stock.rows needs.wants.items) needs.wants.items)
+      needs.rooms
 
 -- the papers of a wave: once it is submitted what it needs to go out, and once it is allotted the sheet that lists what
 -- it holds
 abbrev pub HasPapers : Opening → Stage → Book → ℕ → KeptWave → Type 0
 HasPapers opening (stage.Submitted needs) book number kept = AreNeedsOf opening kept.orders needs
 HasPapers opening (stage.Allotted sheet) book number kept =
-    (sheet.orders ≡ kept.orders) × (sheet.room.holds ≡ held_list (length kept.orders) (length book.rows) (held_for book number))
+    (sheet.orders ≡ kept.orders) × (sheet.room.holds
+    ≡ held_list (length kept.orders) (length book.rows) (held_for book number))
 HasPapers opening stage.Released book number kept = ⊤
 HasPapers opening stage.Cancelled book number kept = ⊤
 HasPapers opening stage.Done book number kept = ⊤
@@ -117,7 +120,8 @@ AreSameRows opening rows = map row_place rows ≡ map stock_row_place opening.st
 
 -- a wave's command was answered: the step of the wave gives this reply, and the state of the book and of the wave as
 -- they are now; and all else is as it was
-pub record HasAnswered (opening : Opening) (stepped : Stepped) (old new : Book) (waves : List Wave) (number : ℕ) (was kept : KeptWave)
+pub record HasAnswered (opening : Opening) (stepped : Stepped) (old new : Book) (waves : List Wave) (number : ℕ)
+    (was kept : KeptWave)
     (answer : Reply) : Type 0 where
   pub is : stepped ≡ record { reply = answer; state = state_at new (slice_set waves number (wave_of kept)) }
   pub keeps : IsKeptWave opening new number kept
@@ -129,7 +133,8 @@ pub record HasAnswered (opening : Opening) (stepped : Stepped) (old new : Book) 
 -- who has the orders: for each order of the opening, the name of the first wave that isn't cancelled and has it
 pub record AreTakers (opening : Opening) (waves : List Wave) (takers : List (Option (List ℕ))) : Type 0 where
   pub count : length takers ≡ length opening.orders
-  pub each : (i : ℕ) (order : Order) → slice_get opening.orders i ≡ Some order → slice_get takers i ≡ Some (taker_of waves order.name)
+  pub each : (i : ℕ) (order : Order) → slice_get opening.orders i ≡ Some order
+      → slice_get takers i ≡ Some (taker_of waves order.name)
 
 -- the state that is kept
 abbrev pub state_of : Floor → State

@@ -1,5 +1,6 @@
 -- Where units are held for an order of a wave.
-use Rattle.std.specs.Prelude.{◌≡◌, ℕ, ◌<◌, ◌≤◌, IsTrue, List, length, [], Option, Some, None, Result, Ok, Err, option_map, slice_get}
+use Rattle.std.specs.Prelude.{◌≡◌, ℕ, ◌<◌, ◌≤◌, IsTrue, List, length, [], Option, Some, None, Result, Ok, Err}
+use Rattle.std.specs.Prelude.{option_map, slice_get}
 use Rattle.std.specs.List.{All}
 use Rattle.wp_model.specs.Book.{Book, held_for}
 use Rattle.wp_model.specs.Limits.{most_wave_orders}
@@ -45,7 +46,8 @@ IsEnoughHeld (Some held) location quantity (Err answer) = (answer ≡ reply.TooM
 -- what the row's number, its article and its units are, or that there are no units
 abbrev pub IsHeldAt : Book → ℕ → ℕ → ℕ → Option HeldUnits → Type 0
 IsHeldAt book number order row found = (r : Row) → slice_get book.rows row ≡ Some r
-    → option_map held_of found ≡ step.any_held (record { order = order; row = row; article = r.article; units = held_for book number order row })
+    → option_map held_of found ≡ step.any_held
+    (record { order = order; row = row; article = r.article; units = held_for book number order row })
 
 -- the refusal of a wave that isn't released
 abbrev pub unless_released : WaveState → Option Reply
@@ -56,7 +58,8 @@ unless_released wave.Cancelled = Some (reply.WrongState wave.Cancelled)
 unless_released wave.Done = Some (reply.WrongState wave.Done)
 
 -- units that a released wave holds for an order at a location, and that are enough
-pub record IsClaimed (book : Book) (number : ℕ) (kept : KeptWave) (order : List ℕ) (location : Location) (quantity : ℕ) (found : HeldUnits) : Type 0 where
+pub record IsClaimed (book : Book) (number : ℕ) (kept : KeptWave) (order : List ℕ) (location : Location) (quantity : ℕ)
+    (found : HeldUnits) : Type 0 where
   pub released : state_in kept.stage ≡ wave.Released
   pub held : held_there book number kept order location ≡ Some (held_of found)
   pub enough : quantity ≤ found.units

@@ -43,7 +43,8 @@ IsRefillSize rows number quantity size = (r : StockRow) → slice_get rows numbe
 -- empty room for what may be held in place of so many units of the article of a stock's row, where there is one
 abbrev pub HaveSpaceAt : List StockRow → Option ℕ → ℕ → Rooms → Type 0
 HaveSpaceAt rows row quantity rooms = (number : ℕ) (r : StockRow) → row ≡ Some number → slice_get rows number ≡ Some r
-    → HaveSpace (holds_at_most (wanted_places rows (want_of r.article quantity ∷ [])) (want_of r.article quantity ∷ [])) rooms
+    → HaveSpace (holds_at_most (wanted_places rows (want_of r.article quantity ∷ [])) (want_of r.article quantity ∷ []))
+    rooms
 
 -- what holds of the list where a loss is refilled
 abbrev pub IfRefilled : Missed → (Content → Type 0) → Type 0
@@ -62,13 +63,16 @@ share_elsewhere rows lost quantity = share (one_demand lost.order lost.article q
 
 -- other rows of the article cover the lost units, as many of theirs went from free to held for a wave, and room has
 -- the list of them
-pub record IsHeldElsewhere (number : ℕ) (lost : HeldUnits) (quantity : ℕ) (old new : Book) (room : Content) : Type 0 where
+pub record IsHeldElsewhere (number : ℕ) (lost : HeldUnits) (quantity : ℕ) (old new : Book)
+    (room : Content) : Type 0 where
   pub covered : quantity ≤ free_units old.rows lost.article (Some lost.row)
   pub rows : (orders : ℕ) → lost.order < orders → new.rows ≡ change_rows
       (λ row. hold_units (sum_below orders (λ order. share_elsewhere old.rows lost quantity order row))) 0 old.rows
-  pub held : (order row : ℕ) → held_for new number order row ≡ held_for old number order row + share_elsewhere old.rows lost quantity order row
+  pub held : (order row : ℕ) → held_for new number order row ≡ held_for old number order row
+      + share_elsewhere old.rows lost quantity order row
   pub others : KeepsOthers number old new
-  pub listed : (orders : ℕ) → lost.order < orders → room.holds ≡ held_list orders (length old.rows) (share_elsewhere old.rows lost quantity)
+  pub listed : (orders : ℕ) → lost.order < orders
+      → room.holds ≡ held_list orders (length old.rows) (share_elsewhere old.rows lost quantity)
 
 -- room has all that a wave of so many orders holds beyond what it held before
 abbrev pub ListsMore : Book → Book → ℕ → ℕ → Content → Type 0
@@ -77,7 +81,8 @@ ListsMore old new number orders room = room.holds ≡ held_list orders (length n
 
 -- the step of a wave writes so many units off and holds as many elsewhere, and room has the list of what is held in
 -- their place
-pub record HasRefilled (opening : Opening) (stepped : Stepped) (old new : Book) (waves : List Wave) (number : ℕ) (was kept : KeptWave) (quantity : ℕ)
+pub record HasRefilled (opening : Opening) (stepped : Stepped) (old new : Book) (waves : List Wave) (number : ℕ)
+    (was kept : KeptWave) (quantity : ℕ)
     (room : Content) : Type 0 where
   pub answers : HasAnswered opening stepped old new waves number was kept (reply.Refilled quantity)
   pub listed : ListsMore old new number (length was.orders) room

@@ -14,7 +14,11 @@ abbrev pub AllHaveArticles : Opening → List Row → Type 0
 AllHaveArticles opening rows = All (λ (row : Row). row.article < length opening.stock.articles) rows
 
 -- the row received the units, or refused them, as it does in a state of these rows
-pub record HasReceivedAt (opening : Opening) (article : List ℕ) (quantity row : ℕ) (r : Row) (old new : Book) (answer : Reply) : Type 0 where
-  pub is : (waves : List Wave) → receive_at opening (state_at old waves) article quantity row r ≡ record { reply = answer; state = state_at new waves }
+pub record HasReceivedAt (opening : Opening) (article : List ℕ) (quantity row : ℕ) (r : Row) (old new : Book)
+    (answer : Reply) : Type 0 where
+  pub is : (waves : List Wave) → receive_at opening (state_at old waves) article quantity row r ≡ record {
+    reply = answer;
+    state = state_at new waves;
+  }
   pub held : (wave order place : ℕ) → held_for new wave order place ≡ held_for old wave order place
   pub rows : length new.rows ≡ length old.rows

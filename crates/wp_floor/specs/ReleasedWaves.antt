@@ -28,8 +28,10 @@ IfRefused (released.Out sheet) holds = ⊤
 IfRefused (released.Refused answer) holds = holds answer
 
 -- a wave went out, with the sheet of all that it holds
-pub record HasReleased (opening : Opening) (old new : Book) (waves : List Wave) (number : ℕ) (was kept : KeptWave) (sheet : HeldOrders) : Type 0 where
-  pub answers : HasAnswered opening (release opening (state_at old waves) number (wave_of was) (state_in was.stage)) old new waves number was kept
+pub record HasReleased (opening : Opening) (old new : Book) (waves : List Wave) (number : ℕ) (was kept : KeptWave)
+    (sheet : HeldOrders) : Type 0 where
+  pub answers : HasAnswered opening (release opening (state_at old waves) number (wave_of was) (state_in was.stage)) old
+      new waves number was kept
       reply.Released
   pub copied : sheet.orders ≡ was.orders
   pub listed : ListsHolds new number (length was.orders) sheet.room
@@ -37,4 +39,5 @@ pub record HasReleased (opening : Opening) (old new : Book) (waves : List Wave) 
 -- a sheet has the orders of the wave of a name, and all that it holds
 abbrev pub TellsHolds : State → List ℕ → HeldOrders → Type 0
 TellsHolds state name sheet = (f : ℕ × Wave) × (wave_from 0 state.waves name ≡ Some f)
-    × (sheet.orders ≡ f.1.orders) × (sheet.room.holds ≡ held_list (length f.1.orders) (length state.rows) (state.held f.0))
+    × (sheet.orders ≡ f.1.orders) × (sheet.room.holds
+    ≡ held_list (length f.1.orders) (length state.rows) (state.held f.0))

@@ -1,5 +1,6 @@
 -- Who has the orders.
-use Rattle.std.specs.Prelude.{◌≡◌, ℕ, Bool, true, false, List, length, Option, Some, if◌then◌else◌, slice_get, slice_set}
+use Rattle.std.specs.Prelude.{◌≡◌, ℕ, Bool, true, false, List, length, Option, Some, if◌then◌else◌, slice_get}
+use Rattle.std.specs.Prelude.{slice_set}
 use Rattle.std.specs.Option.{MatchOption}
 use Rattle.wp_model.specs.Tables.{AreReadOrders}
 use Rattle.wp_floor.specs.Floor.{IsNumbered}
@@ -10,7 +11,8 @@ use Rattle.wp_model.specs.declared.reply.Reply.{Reply}
 use Rattle.wp_model.specs.declared.reply.Reply.TheVariants as reply
 
 -- some orders now have this taker, or none, and all others the one that they had
-pub record HasPut (opening : Opening) (orders : List (List ℕ)) (taker : Option (List ℕ)) (old new : List (Option (List ℕ))) : Type 0 where
+pub record HasPut (opening : Opening) (orders : List (List ℕ)) (taker : Option (List ℕ))
+    (old new : List (Option (List ℕ))) : Type 0 where
   pub count : length new ≡ length old
   pub each : (i : ℕ) (order : Order) → slice_get opening.orders i ≡ Some order
       → slice_get new i ≡ (if is_among orders order.name then Some taker else slice_get old i)

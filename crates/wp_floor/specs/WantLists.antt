@@ -15,8 +15,10 @@ AreSome lines = All (λ (line : Line). 0 < line.quantity) lines
 
 -- wants go by their orders, no order has two of one article, and each is of at least one unit
 pub record AreOrderly (wants : List Want) : Type 0 where
-  pub ordered : (i j : ℕ) (v w : Want) → i < j → slice_get wants i ≡ Some v → slice_get wants j ≡ Some w → v.order ≤ w.order
-  pub once : (i j : ℕ) (v w : Want) → slice_get wants i ≡ Some v → slice_get wants j ≡ Some w → v.order ≡ w.order → v.article ≡ w.article → i ≡ j
+  pub ordered : (i j : ℕ) (v w : Want) → i < j → slice_get wants i ≡ Some v → slice_get wants j ≡ Some w
+      → v.order ≤ w.order
+  pub once : (i j : ℕ) (v w : Want) → slice_get wants i ≡ Some v → slice_get wants j ≡ Some w → v.order ≡ w.order
+      → v.article ≡ w.article → i ≡ j
   pub some : All (λ (want : Want). 0 < want.quantity) wants
 
 -- the wants before a start are for the orders before a place, and those from the start on for the order at the place
@@ -40,13 +42,15 @@ pub record HaveAdded (place : ℕ) (lines : List Line) (old new : List Want) : T
 -- wants are of the articles that they and the lines were of
 abbrev pub KeepArticles : List Line → List Want → List Want → Type 0
 KeepArticles lines old new =
-    (articles : ℕ) → All (λ (line : Line). line.article < articles) lines → All (λ (want : Want). want.article < articles) old
+    (articles : ℕ) → All (λ (line : Line). line.article < articles) lines
+    → All (λ (want : Want). want.article < articles) old
     → All (λ (want : Want). want.article < articles) new
 
 -- wants are those of the orders before a place
 pub record AreWantsBefore (opening : Opening) (orders : List (List ℕ)) (place : ℕ) (wants : List Want) : Type 0 where
   pub before : AreBefore place wants
-  pub demand : (article order : ℕ) → order < place → wanted_for wants article order ≡ demand_at opening orders article order
+  pub demand : (article order : ℕ) → order < place
+      → wanted_for wants article order ≡ demand_at opening orders article order
   pub rest : (article order : ℕ) → place ≤ order → wanted_for wants article order ≡ 0
   pub within : All (λ (want : Want). want.article < length opening.stock.articles) wants
   pub units : units_in wants ≤ most_lines * most_quantity * place

@@ -1,5 +1,6 @@
 -- The waves, in chains by their names.
-use Rattle.std.specs.Prelude.{◌≡◌, ℕ, zero, suc, ◌+◌, ◌*◌, ◌%◌, ◌==◌, ◌++◌, ◌∷◌, Bool, List, [], length, Some, reverse, slice_get, slice_set, if◌then◌else◌}
+use Rattle.std.specs.Prelude.{◌≡◌, ℕ, zero, suc, ◌+◌, ◌*◌, ◌%◌, ◌==◌, ◌++◌, ◌∷◌, Bool, List, [], length, Some, reverse}
+use Rattle.std.specs.Prelude.{slice_get, slice_set, if◌then◌else◌}
 use Rattle.std.specs.Str.{bytes_eq}
 use Rattle.wp_floor.specs.declared.waves.Found.{Found}
 use Rattle.wp_floor.specs.declared.waves.KeptWave.{KeptWave}
@@ -58,7 +59,8 @@ waves_of waves = by_number waves.count 0 waves.chains.items
 pub record HaveWaves (list : List KeptWave) (many : ℕ) (table : List (List NumberedWave)) : Type 0 where
   pub count : many ≡ length list
   pub chains : length table ≡ chain_count
-  pub each : (place : ℕ) (chain : List NumberedWave) → slice_get table place ≡ Some chain → chain ≡ in_chain place 0 list
+  pub each : (place : ℕ) (chain : List NumberedWave) → slice_get table place ≡ Some chain
+      → chain ≡ in_chain place 0 list
 
 -- the waves stand in the chains of their names
 abbrev pub AreWaves : Waves → Type 0

@@ -1,6 +1,7 @@
 //! Allot: waves for which stock is held.
 ghost use Rattle.std.specs.Prelude.{◌≡◌, List};
-ghost use Rattle.wp_floor.specs.Floor.{AreSameRows, HasAnswered, HasPapers, HasStepped, IsAt, IsFloor, state_at, state_in, wave_of};
+ghost use Rattle.wp_floor.specs.Floor.{AreSameRows, HasAnswered, HasPapers, HasStepped, IsAt, IsFloor, state_at};
+ghost use Rattle.wp_floor.specs.Floor.{state_in, wave_of};
 ghost use Rattle.wp_model.specs.State.{Wave};
 ghost use Rattle.wp_model.specs.Step.{allot, is_live};
 ghost use Rattle.wp_model.specs.declared.command.Command.TheVariants as command;
@@ -24,7 +25,8 @@ pub fn allot_wave(
     requires rows { AreSameRows opening.now book.old.rows }
     ensures live { is_live (state_in wave.new.stage) ≡ is_live (state_in wave.old.stage) }
     ensures answered { (waves : List Wave) → IsAt opening.now book.old waves number wave.old
-        → HasAnswered opening.now (allot opening.now (state_at book.old waves) number (wave_of wave.old) (state_in wave.old.stage)) book.old book.new waves
+        → HasAnswered opening.now (allot opening.now (state_at book.old waves) number (wave_of wave.old)
+        (state_in wave.old.stage)) book.old book.new waves
         number wave.old wave.new result }
 {
     match mem::replace(&mut wave.stage, Stage::Done) {

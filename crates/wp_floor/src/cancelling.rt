@@ -16,8 +16,10 @@ use wp_model::{Name, Reply, WaveState};
 // A wave is given up, and all that it holds goes back to free.
 fn give_up(book: &mut StockBook, number: u32, wave: &mut KeptWave) -> Reply
     ensures cancelled { (frees result ≡ true) × (state_in wave.new.stage ≡ WaveState.Cancelled) }
-    ensures answered { (opening : OpeningData) (waves : List Wave) → IsAt opening book.old waves number wave.old
-        → HasAnswered opening (give_up (state_at book.old waves) number (wave_of wave.old)) book.old book.new waves number wave.old wave.new result }
+    ensures answered { (opening : OpeningData) (waves : List Wave)
+        → IsAt opening book.old waves number wave.old
+        → HasAnswered opening (give_up (state_at book.old waves) number (wave_of wave.old)) book.old book.new waves
+        number wave.old wave.new result }
 {
     book.unhold(number);
     wave.stage = Stage::Cancelled;
@@ -26,10 +28,13 @@ fn give_up(book: &mut StockBook, number: u32, wave: &mut KeptWave) -> Reply
 
 /// Cancel: a wave of which nothing was picked is given up.
 pub fn cancel_wave(book: &mut StockBook, number: u32, wave: &mut KeptWave) -> Reply
-    ensures cancelled { frees result ≡ true → (is_live (state_in wave.old.stage) ≡ true) × (state_in wave.new.stage ≡ WaveState.Cancelled) }
+    ensures cancelled { frees result ≡ true → (is_live (state_in wave.old.stage) ≡ true)
+        × (state_in wave.new.stage ≡ WaveState.Cancelled) }
     ensures same { frees result ≡ false → wave.new ≡ wave.old }
-    ensures answered { (opening : OpeningData) (waves : List Wave) → IsAt opening book.old waves number wave.old
-        → HasAnswered opening (cancel (state_at book.old waves) number (wave_of wave.old) (state_in wave.old.stage)) book.old book.new waves number
+    ensures answered { (opening : OpeningData) (waves : List Wave)
+        → IsAt opening book.old waves number wave.old
+        → HasAnswered opening (cancel (state_at book.old waves) number (wave_of wave.old) (state_in wave.old.stage))
+        book.old book.new waves number
         wave.old wave.new result }
 {
     match wave.stage.state() {
@@ -50,7 +55,8 @@ pub fn cancel_wave(book: &mut StockBook, number: u32, wave: &mut KeptWave) -> Re
 // The orders of a wave that was given up are free.
 fn free_orders(takers: &mut [Option<Name>], wave: &KeptWave, reply: &Reply)
     requires { (opening : OpeningData) × HaveTakers opening wave.now takers.old }
-    ensures freed { (opening : OpeningData) → HaveTakers opening wave.now takers.old → frees reply.now ≡ true
+    ensures freed { (opening : OpeningData) → HaveTakers opening wave.now takers.old
+        → frees reply.now ≡ true
         → HasPut opening wave.now.orders None takers.old takers.new }
     ensures same { frees reply.now ≡ false → takers.new ≡ takers.old }
 {

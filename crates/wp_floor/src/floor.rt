@@ -32,7 +32,8 @@ fn put_taker(takers: &mut [Option<Name>], number: Option<u32>, taker: &Option<Na
 /// The orders of a wave now have this taker, or none.
 pub fn put_takers(takers: &mut [Option<Name>], wave: &KeptWave, taker: &Option<Name>)
     requires { (opening : OpeningData) × HaveTakers opening wave.now takers.old }
-    ensures { (opening : OpeningData) → HaveTakers opening wave.now takers.old → HasPut opening wave.now.orders taker.now takers.old takers.new }
+    ensures { (opening : OpeningData) → HaveTakers opening wave.now takers.old
+        → HasPut opening wave.now.orders taker.now takers.old takers.new }
 {
     for number in wave.numbers.as_slice() {
         put_taker(takers, *number, taker);

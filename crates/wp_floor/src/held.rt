@@ -2,7 +2,8 @@
 ghost use Rattle.std.specs.Prelude.{◌≡◌, ◌<◌, ◌≤◌, ◌^◌, length, option_map, IfOk, IfErr};
 ghost use Rattle.wp_model.specs.Opening.{Opening as OpeningData};
 ghost use Rattle.wp_model.specs.Step.{place_from};
-ghost use Rattle.wp_floor.specs.HeldUnits.{IsClaimRefused, IsClaimed, IsEnoughHeld, IsHeldAt, IsRowAt, KnowsOrder, held_of, held_there, unless_released};
+ghost use Rattle.wp_floor.specs.HeldUnits.{IsClaimRefused, IsClaimed, IsEnoughHeld, IsHeldAt, IsRowAt, KnowsOrder};
+ghost use Rattle.wp_floor.specs.HeldUnits.{held_of, held_there, unless_released};
 
 use crate::waves::KeptWave;
 use wp_book::StockBook;
@@ -64,7 +65,8 @@ pub struct Claim {
 fn find_held(book: &StockBook, number: u32, wave: &KeptWave, claim: &Claim) -> Option<HeldUnits>
     requires row { IsRowAt book.now.rows claim.now.location claim.now.row }
     requires order { (opening : OpeningData) × KnowsOrder opening wave.now claim.now }
-    ensures { option_map held_of result ≡ held_there book.now number wave.now claim.now.order claim.now.location }
+    ensures { option_map held_of result ≡ held_there book.now number wave.now claim.now.order
+        claim.now.location }
 {
     let place = place_of(wave, claim)?;
     let row = claim.row?;
@@ -80,7 +82,8 @@ pub fn enough_held(
 ) -> Result<HeldUnits, Reply>
     requires row { IsRowAt book.now.rows claim.now.location claim.now.row }
     requires order { (opening : OpeningData) × KnowsOrder opening wave.now claim.now }
-    ensures { IsEnoughHeld (held_there book.now number wave.now claim.now.order claim.now.location) claim.now.location claim.now.quantity result }
+    ensures { IsEnoughHeld (held_there book.now number wave.now claim.now.order claim.now.location)
+        claim.now.location claim.now.quantity result }
 {
     match find_held(book, number, wave, claim) {
         None => Err(Reply::NotHeld(claim.location)),
@@ -108,8 +111,10 @@ pub fn claimed(
 ) -> Result<HeldUnits, Reply>
     requires row { IsRowAt book.now.rows claim.now.location claim.now.row }
     requires order { (opening : OpeningData) × KnowsOrder opening wave.now claim.now }
-    ensures found { IfOk result (IsClaimed book.now number wave.now claim.now.order claim.now.location claim.now.quantity) }
-    ensures refused { IfErr result (IsClaimRefused book.now number wave.now claim.now.order claim.now.location claim.now.quantity) }
+    ensures found { IfOk result (IsClaimed book.now number wave.now claim.now.order
+        claim.now.location claim.now.quantity) }
+    ensures refused { IfErr result (IsClaimRefused book.now number wave.now claim.now.order
+        claim.now.location claim.now.quantity) }
 {
     match wrong_state(wave.stage.state()) {
         Some(refusal) => Err(refusal),

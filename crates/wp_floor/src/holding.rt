@@ -53,9 +53,11 @@ impl Rooms {
     pub fn for_wants(alloc: Global, stock: &Stock, wants: &[Want]) -> Result<Rooms, Memory>
         requires read { IsReadStock stock.now }
         requires gathered { AreGathered wants.now }
-        requires within { All (λ (want : WantData). want.article < length stock.now.articles) wants.now }
+        requires within { All (λ (want : WantData). want.article < length stock.now.articles)
+            wants.now }
         requires few { length wants.now ≤ most_wants }
-        ensures { IfOk result (HaveSpace (holds_at_most (wanted_places stock.now.rows wants.now) wants.now)) }
+        ensures { IfOk result (HaveSpace (holds_at_most
+            (wanted_places stock.now.rows wants.now) wants.now)) }
     {
         Rooms::new(alloc, most_holds(stock, wants) as u32)
     }
@@ -65,7 +67,8 @@ impl Rooms {
         requires read { IsReadStock opening.now.stock }
         requires row { IfSome claim.now.row (λ row. row < length opening.now.stock.rows) }
         requires quantity { 0 < claim.now.quantity }
-        ensures { IfOk result (HaveSpaceAt opening.now.stock.rows claim.now.row claim.now.quantity) }
+        ensures { IfOk result (HaveSpaceAt opening.now.stock.rows claim.now.row
+            claim.now.quantity) }
     {
         let size = match claim.row {
             Some(row) => refill_size(opening.stock(), row, claim.quantity),
@@ -104,9 +107,11 @@ pub fn hold_stock(
 ) -> Result<HeldOrders, Unmet>
     requires needs { AreNeedsOf opening.now needs.orders needs }
     requires rows { AreSameRows opening.now book.old.rows }
-    ensures held { IfOk result (λ sheet. IsHeld number needs.wants.items book.old book.new needs.rooms.sheet sheet.room) }
+    ensures held { IfOk result (λ sheet. IsHeld number needs.wants.items book.old book.new
+        needs.rooms.sheet sheet.room) }
     ensures orders { IfOk result (λ sheet. sheet.orders ≡ needs.orders) }
-    ensures short { IfErr result (λ unmet. IsRefusedShort opening.now needs.wants.items book.old book.new unmet.why) }
+    ensures short { IfErr result (λ unmet. IsRefusedShort opening.now needs.wants.items book.old
+        book.new unmet.why) }
     ensures back { IfErr result (λ unmet. unmet.needs ≡ needs) }
 {
     if let Some(short) = gathered::short_article(book, needs.wants.as_slice(), None) {

@@ -1,7 +1,8 @@
 //! Pick: units that are gone, and waves of which nothing is left.
 ghost use Rattle.std.specs.Prelude.{◌≡◌, ◌≤◌, ◌<◌, true, List, length};
 ghost use Rattle.wp_book.specs.Calls.{HoldsNone};
-ghost use Rattle.wp_floor.specs.Floor.{HasAnswered, HasStepped, IsAt, IsFloor, number_of, state_at, state_in, state_of, wave_of};
+ghost use Rattle.wp_floor.specs.Floor.{HasAnswered, HasStepped, IsAt, IsFloor, number_of, state_at, state_in, state_of};
+ghost use Rattle.wp_floor.specs.Floor.{wave_of};
 ghost use Rattle.wp_floor.specs.HeldUnits.{IsRowAt, KnowsOrder, held_of};
 ghost use Rattle.wp_model.specs.Book.{held_for};
 ghost use Rattle.wp_model.specs.Opening.{Opening as OpeningData};
@@ -21,7 +22,8 @@ use wp_model::{Name, Reply};
 pub fn settle(book: &StockBook, number: u32, wave: &mut KeptWave)
     ensures none { HoldsNone book.now number → wave.new ≡ record wave.old { stage = Stage.Done } }
     ensures some { (HoldsNone book.now number → ⊥) → wave.new ≡ wave.old }
-    ensures live { state_in wave.old.stage ≡ states.Released → is_live (state_in wave.new.stage) ≡ true }
+    ensures live { state_in wave.old.stage ≡ states.Released
+        → is_live (state_in wave.new.stage) ≡ true }
 {
     if book.holds_none(number) {
         wave.stage = Stage::Done;
@@ -37,10 +39,13 @@ fn take_picked(
     quantity: u32,
 ) -> Reply
     requires { quantity ≤ held_for book.old number held.order held.row }
-    ensures live { state_in wave.old.stage ≡ states.Released → is_live (state_in wave.new.stage) ≡ true }
-    ensures answered { (opening : OpeningData) (waves : List Wave) → IsAt opening book.old waves number wave.old → state_in wave.old.stage ≡ states.Released
+    ensures live { state_in wave.old.stage ≡ states.Released
+        → is_live (state_in wave.new.stage) ≡ true }
+    ensures answered { (opening : OpeningData) (waves : List Wave)
+        → IsAt opening book.old waves number wave.old → state_in wave.old.stage ≡ states.Released
         → held.order < length wave.old.orders
-        → HasAnswered opening (pick (state_at book.old waves) number (wave_of wave.old) quantity (held_of held)) book.old book.new waves number wave.old
+        → HasAnswered opening (pick (state_at book.old waves) number (wave_of wave.old) quantity (held_of held))
+        book.old book.new waves number wave.old
         wave.new result }
 {
     book.take(number, held.order, held.row, quantity);
@@ -54,8 +59,10 @@ pub fn pick_wave(book: &mut StockBook, number: u32, wave: &mut KeptWave, claim: 
     requires row { IsRowAt book.old.rows claim.now.location claim.now.row }
     requires order { (opening : OpeningData) × KnowsOrder opening wave.old claim.now }
     ensures live { is_live (state_in wave.new.stage) ≡ is_live (state_in wave.old.stage) }
-    ensures answered { (opening : OpeningData) (waves : List Wave) → IsAt opening book.old waves number wave.old
-        → HasAnswered opening (at_released (state_at book.old waves) number (wave_of wave.old) claim.now.order claim.now.location claim.now.quantity
+    ensures answered { (opening : OpeningData) (waves : List Wave)
+        → IsAt opening book.old waves number wave.old
+        → HasAnswered opening (at_released (state_at book.old waves) number
+        (wave_of wave.old) claim.now.order claim.now.location claim.now.quantity
         (pick (state_at book.old waves) number (wave_of wave.old) claim.now.quantity) (state_in wave.old.stage))
         book.old book.new waves number wave.old wave.new result }
 {
@@ -71,7 +78,8 @@ impl Floor {
         requires floor { IsFloor opening.now self.old }
         requires row { IsRowAt (state_of self.old).rows claim.now.location claim.now.row }
         requires order { claim.now.number ≡ number_of opening.now claim.now.order }
-        ensures { HasStepped opening.now (command.Pick name.now claim.now.order claim.now.location claim.now.quantity) self.old self.new result }
+        ensures { HasStepped opening.now (command.Pick name.now claim.now.order claim.now.location
+            claim.now.quantity) self.old self.new result }
     {
         let Some(mut found) = self.waves.take_out(name) else {
             return Reply::UnknownWave;

@@ -21,7 +21,8 @@ fn receive_at(
 ) -> Reply
     requires rows { row < length book.old.rows }
     requires articles { AllHaveArticles opening.now book.old.rows }
-    ensures { (r : RowData) → slice_get book.old.rows row ≡ Some r → HasReceivedAt opening.now article.now quantity row r book.old book.new result }
+    ensures { (r : RowData) → slice_get book.old.rows row ≡ Some r
+        → HasReceivedAt opening.now article.now quantity row r book.old book.new result }
 {
     let now = book.row(row);
     let owner = opening.stock().article(now.article);
@@ -47,7 +48,8 @@ impl Floor {
     ) -> Reply
         requires floor { IsFloor opening.now self.old }
         requires row { IsRowAt (state_of self.old).rows location.now row }
-        ensures { HasStepped opening.now (command.Receive location.now article.now quantity) self.old self.new result }
+        ensures { HasStepped opening.now (command.Receive location.now article.now quantity)
+            self.old self.new result }
     {
         match row {
             Some(row) => receive_at(&mut self.book, opening, row, article, quantity),

@@ -7,10 +7,12 @@ ghost use Rattle.wp_model.specs.Step.{at_released, is_live, says_refilled, write
 ghost use Rattle.wp_model.specs.declared.command.Command.TheVariants as command;
 ghost use Rattle.wp_model.specs.declared.reply.Reply.TheVariants as replies;
 ghost use Rattle.wp_model.specs.declared.reply.WaveState.TheVariants as states;
-ghost use Rattle.wp_floor.specs.Floor.{HasAnswered, HasStepped, IsAt, IsFloor, number_of, state_at, state_in, state_of, wave_of};
+ghost use Rattle.wp_floor.specs.Floor.{HasAnswered, HasStepped, IsAt, IsFloor, number_of, state_at, state_in, state_of};
+ghost use Rattle.wp_floor.specs.Floor.{wave_of};
 ghost use Rattle.wp_floor.specs.HeldUnits.{IsRowAt, KnowsOrder, held_of};
 ghost use Rattle.wp_floor.specs.ReceivedUnits.{AllHaveArticles};
-ghost use Rattle.wp_floor.specs.MissingUnits.{HasRefilled, HaveRefillSpace, HaveRoomsAt, IfAnswered, IfRefilled, IsHeldElsewhere, TellsRefill};
+ghost use Rattle.wp_floor.specs.MissingUnits.{HasRefilled, HaveRefillSpace, HaveRoomsAt, IfAnswered, IfRefilled};
+ghost use Rattle.wp_floor.specs.MissingUnits.{IsHeldElsewhere, TellsRefill};
 
 use crate::floor::Floor;
 use crate::held::{Claim, HeldUnits, claimed};
@@ -73,15 +75,20 @@ fn write_off(
     requires held { quantity ≤ held_for book.old number lost.order lost.row }
     requires article { lost.article < length opening.now.stock.articles }
     requires rooms { HaveRefillSpace book.old.rows lost.article quantity rooms }
-    ensures live { state_in wave.old.stage ≡ states.Released → is_live (state_in wave.new.stage) ≡ true }
-    ensures refilled { IfRefilled result (λ room. (waves : List Wave) → IsAt opening.now book.old waves number wave.old
+    ensures live { state_in wave.old.stage ≡ states.Released
+        → is_live (state_in wave.new.stage) ≡ true }
+    ensures refilled { IfRefilled result (λ room. (waves : List Wave)
+        → IsAt opening.now book.old waves number wave.old
         → state_in wave.old.stage ≡ states.Released → lost.order < length wave.old.orders
-        → HasRefilled opening.now (write_off opening.now (state_at book.old waves) number (wave_of wave.old) quantity (held_of lost)) book.old book.new waves
+        → HasRefilled opening.now (write_off opening.now (state_at book.old waves) number (wave_of wave.old) quantity
+        (held_of lost)) book.old book.new waves
         number wave.old wave.new quantity room) }
     ensures stays { IfAnswered result (λ why. says_refilled why ≡ false) }
-    ensures lost { IfAnswered result (λ why. (waves : List Wave) → IsAt opening.now book.old waves number wave.old
+    ensures lost { IfAnswered result (λ why. (waves : List Wave)
+        → IsAt opening.now book.old waves number wave.old
         → state_in wave.old.stage ≡ states.Released → lost.order < length wave.old.orders
-        → HasAnswered opening.now (write_off opening.now (state_at book.old waves) number (wave_of wave.old) quantity (held_of lost)) book.old book.new waves
+        → HasAnswered opening.now (write_off opening.now (state_at book.old waves) number (wave_of wave.old) quantity
+        (held_of lost)) book.old book.new waves
         number wave.old wave.new why) }
 {
     book.take(number, lost.order, lost.row, quantity);
@@ -112,14 +119,20 @@ pub fn missing_wave(
     requires articles { AllHaveArticles opening.now book.old.rows }
     requires rooms { HaveRoomsAt book.old.rows claim.now.row claim.now.quantity rooms }
     ensures live { is_live (state_in wave.new.stage) ≡ is_live (state_in wave.old.stage) }
-    ensures refilled { IfRefilled result (λ room. (waves : List Wave) → IsAt opening.now book.old waves number wave.old
-        → HasRefilled opening.now (at_released (state_at book.old waves) number (wave_of wave.old) claim.now.order claim.now.location claim.now.quantity
-        (write_off opening.now (state_at book.old waves) number (wave_of wave.old) claim.now.quantity) (state_in wave.old.stage))
+    ensures refilled { IfRefilled result (λ room. (waves : List Wave)
+        → IsAt opening.now book.old waves number wave.old
+        → HasRefilled opening.now (at_released (state_at book.old waves) number
+        (wave_of wave.old) claim.now.order claim.now.location claim.now.quantity
+        (write_off opening.now (state_at book.old waves) number (wave_of wave.old) claim.now.quantity)
+        (state_in wave.old.stage))
         book.old book.new waves number wave.old wave.new claim.now.quantity room) }
     ensures stays { IfAnswered result (λ why. says_refilled why ≡ false) }
-    ensures answered { IfAnswered result (λ why. (waves : List Wave) → IsAt opening.now book.old waves number wave.old
-        → HasAnswered opening.now (at_released (state_at book.old waves) number (wave_of wave.old) claim.now.order claim.now.location claim.now.quantity
-        (write_off opening.now (state_at book.old waves) number (wave_of wave.old) claim.now.quantity) (state_in wave.old.stage))
+    ensures answered { IfAnswered result (λ why. (waves : List Wave)
+        → IsAt opening.now book.old waves number wave.old
+        → HasAnswered opening.now (at_released (state_at book.old waves) number
+        (wave_of wave.old) claim.now.order claim.now.location claim.now.quantity
+        (write_off opening.now (state_at book.old waves) number (wave_of wave.old) claim.now.quantity)
+        (state_in wave.old.stage))
         book.old book.new waves number wave.old wave.new why) }
 {
     match claimed(book, number, wave, claim) {
@@ -136,10 +149,13 @@ impl Floor {
         requires row { IsRowAt (state_of self.old).rows claim.now.location claim.now.row }
         requires order { claim.now.number ≡ number_of opening.now claim.now.order }
         requires quantity { 0 < claim.now.quantity }
-        requires rooms { HaveRoomsAt (state_of self.old).rows claim.now.row claim.now.quantity rooms }
+        requires rooms { HaveRoomsAt (state_of self.old).rows claim.now.row claim.now.quantity
+            rooms }
         ensures out { IfRefilled result (λ room. HasStepped opening.now
-            (command.Missing name.now claim.now.order claim.now.location claim.now.quantity) self.old self.new (replies.Refilled claim.now.quantity)) }
-        ensures told { IfRefilled result (λ room. TellsRefill (state_of self.old) (state_of self.new) name.now room) }
+            (command.Missing name.now claim.now.order claim.now.location claim.now.quantity) self.old self.new
+            (replies.Refilled claim.now.quantity)) }
+        ensures told { IfRefilled result (λ room. TellsRefill (state_of self.old)
+            (state_of self.new) name.now room) }
         ensures stays { IfAnswered result (λ why. says_refilled why ≡ false) }
         ensures refused { IfAnswered result (λ why. HasStepped opening.now
             (command.Missing name.now claim.now.order claim.now.location claim.now.quantity) self.old self.new why) }

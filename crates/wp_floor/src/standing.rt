@@ -27,7 +27,8 @@ impl Floor {
     /// How far the wave of a name is. None comes exactly where no submit of that name was done.
     pub fn state(&self, wave: &Name) -> Option<WaveState>
         requires { (opening : OpeningData) × IsFloor opening self.now }
-        ensures { result ≡ option_map (λ found. found.1.state) (wave_from 0 (state_of self.now).waves wave.now) }
+        ensures { result ≡ option_map (λ found. found.1.state)
+            (wave_from 0 (state_of self.now).waves wave.now) }
     {
         match self.waves.find(wave) {
             Some(kept) => Some(kept.stage.state()),

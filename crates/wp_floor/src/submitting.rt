@@ -154,7 +154,8 @@ fn order_fault(
     requires read { IsReadOpening opening.now }
     requires numbered { number ≡ number_of opening.now order.now }
     requires count { length takers.now ≡ length opening.now.orders }
-    ensures { (waves : List Wave) → AreTakers opening.now waves takers.now → result ≡ order_fault opening.now waves before.now order.now }
+    ensures { (waves : List Wave) → AreTakers opening.now waves takers.now
+        → result ≡ order_fault opening.now waves before.now order.now }
 {
     let Some(number) = number else {
         return Some(Reply::UnknownOrder(*order));
@@ -183,7 +184,8 @@ pub fn first_order_fault(
     requires read { IsReadOpening opening.now }
     requires numbered { numbers.now ≡ map (number_of opening.now) orders.now }
     requires count { length takers.now ≡ length opening.now.orders }
-    ensures { (waves : List Wave) → AreTakers opening.now waves takers.now → result ≡ first_order_fault opening.now waves [] orders.now }
+    ensures { (waves : List Wave) → AreTakers opening.now waves takers.now
+        → result ≡ first_order_fault opening.now waves [] orders.now }
 {
     for place in 0..orders.len() {
         let number = numbers[place];

@@ -29,8 +29,10 @@ fn add_line(wants: &mut Vec<Want>, start: usize, place: u32, line: &Line) -> Res
     requires some { 0 < line.now.quantity }
     requires small { units_in wants.old.items + line.now.quantity < 2 ^ 64 }
     ensures split { IfOk result (λ _. AreSplit start place wants.new.items) }
-    ensures added { IfOk result (λ _. HaveAdded place (line.now ∷ []) wants.old.items wants.new.items) }
-    ensures articles { IfOk result (λ _. KeepArticles (line.now ∷ []) wants.old.items wants.new.items) }
+    ensures added { IfOk result (λ _. HaveAdded place
+        (line.now ∷ []) wants.old.items wants.new.items) }
+    ensures articles { IfOk result (λ _. KeepArticles
+        (line.now ∷ []) wants.old.items wants.new.items) }
 {
     let quantity = u64::from(line.quantity);
     match find_article(&wants[start..], line.article) {

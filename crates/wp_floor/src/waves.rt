@@ -1,8 +1,10 @@
-ghost use Rattle.std.specs.Prelude.{◌≡◌, ◌<◌, ◌+◌, ◌^◌, ◌++◌, ◌∷◌, ℕ, List, false, Some, [], length, replicate, reverse, slice_get, IfOk, IfSome, IfNone};
+ghost use Rattle.std.specs.Prelude.{◌≡◌, ◌<◌, ◌+◌, ◌^◌, ◌++◌, ◌∷◌, ℕ, List, false, Some, [], length, replicate};
+ghost use Rattle.std.specs.Prelude.{reverse, slice_get, IfOk, IfSome, IfNone};
 ghost use Rattle.std.specs.List.{list_any};
 ghost use Rattle.wp_floor.specs.declared.waves.NumberedWave.{NumberedWave as NumberedWaveData};
 ghost use Rattle.wp_floor.specs.Floor.{state_in};
-ghost use Rattle.wp_floor.specs.Waves.{AreSameWaves, AreWaves, IsFound, IsReturned, chain_count, chain_of, has_name, is_named, waves_of};
+ghost use Rattle.wp_floor.specs.Waves.{AreSameWaves, AreWaves, IsFound, IsReturned, chain_count, chain_of, has_name};
+ghost use Rattle.wp_floor.specs.Waves.{is_named, waves_of};
 
 use crate::holding::Rooms;
 use std::alloc::Global;
@@ -151,7 +153,8 @@ fn empty_chains(alloc: Global) -> Result<Vec<Chain<NumberedWave>>, Memory>
 // A wave of this name in a chain. None comes exactly where no wave of the chain has it.
 fn find_in_chain<'a>(chain: &'a Chain<NumberedWave>, name: &Name) -> Option<&'a NumberedWave>
     ensures named { IfSome result (λ found. found.now.wave.name ≡ name.now) }
-    ensures some { IfSome result (λ found. (below : List NumberedWaveData) × ((above : List NumberedWaveData)
+    ensures some { IfSome result (λ found. (below : List NumberedWaveData)
+        × ((above : List NumberedWaveData)
         × (chain.now ≡ below ++ found.now ∷ above))) }
     ensures none { IfNone result (list_any (is_named name.now) chain.now ≡ false) }
 {
@@ -191,7 +194,8 @@ impl Waves {
     /// The wave of this name. None comes exactly where no wave has it.
     pub fn find(&self, name: &Name) -> Option<&KeptWave>
         requires { AreWaves self.now }
-        ensures some { IfSome result (λ kept. (kept.now.name ≡ name.now) × ((number : ℕ) × (slice_get (waves_of self.now) number ≡ Some kept.now))) }
+        ensures some { IfSome result (λ kept. (kept.now.name ≡ name.now)
+            × ((number : ℕ) × (slice_get (waves_of self.now) number ≡ Some kept.now))) }
         ensures none { IfNone result (list_any (has_name name.now) (waves_of self.now) ≡ false) }
     {
         match find_in_chain(&self.chains[chain_of(name)], name) {

@@ -54,7 +54,8 @@ submit_fits : (opening : Opening) (state : State) (name : List ℕ) (orders : Li
 submit_fits opening state name orders is_opening named few is are =
     option_map_or-both (Fits opening) (refuse state) (submit_fault opening state name orders) _
     (λ why found. refused opening state why named
-    (at_some (submit_fault opening state name orders) (λ why. IsTrue (is_line_reply why)) why found (submit_line opening state name orders is_opening named few are)))
+    (at_some (submit_fault opening state name orders) (λ why. IsTrue (is_line_reply why)) why found
+    (submit_line opening state name orders is_opening named few are)))
     (λ none. record { reply = refl; named = add_named opening state name orders named is })
 
 -- a command on a wave, where it fits at the wave with a number

@@ -26,7 +26,8 @@ is_head text = bytes_eq text (line (codes "journal"))
 -- what a line leads to after a history: it is that of the next entry, which the history then has too, or it is the
 -- first that isn't right; but there may be no memory
 abbrev pub Judges : {U : Type 0} → History → List ℕ → History → Result U AuditFault → Type 0
-Judges before next after (Ok done) = (desk : ℕ) × (command : Command) × IsLineOf next (next_entry before desk command) × (after ≡ answered before desk command)
+Judges before next after (Ok done) = (desk : ℕ) × (command : Command) × IsLineOf next (next_entry before desk command)
+    × (after ≡ answered before desk command)
 Judges before next after (Err (fault.BadLine number)) = (number ≡ line_number_after before) × IsNotNext before next
 Judges before next after (Err (fault.WrongReply number printed right)) = IsMisanswered before next number printed right
 Judges before next after (Err fault.Memory) = ⊤
@@ -35,5 +36,6 @@ Judges before next after (Err fault.Memory) = ⊤
 abbrev pub Tells : Opening → List ℕ → Result Audit AuditFault → Type 0
 Tells opening text (Ok audit) = Shows opening text (Ok audit)
 Tells opening text (Err (fault.BadLine number)) = Shows opening text (Err (fault.BadLine number))
-Tells opening text (Err (fault.WrongReply number printed right)) = Shows opening text (Err (fault.WrongReply number printed right))
+Tells opening text (Err (fault.WrongReply number printed right))
+    = Shows opening text (Err (fault.WrongReply number printed right))
 Tells opening text (Err fault.Memory) = ⊤

@@ -19,7 +19,8 @@ names_in (word ∷ words) = option_and_then (λ name. option_map (λ names. name
 abbrev pub submission_in : List Word → Option Command
 submission_in [] = None
 submission_in (wave ∷ orders) =
-    if nat_le (length orders) most_named then option_and_then (λ w. option_map (command.Submit w) (names_in orders)) (name_in wave) else None
+    if nat_le (length orders) most_named then option_and_then (λ w. option_map (command.Submit w) (names_in orders))
+    (name_in wave) else None
 
 -- a command on a wave, by its word
 abbrev pub wave_command : Word → List ℕ → Option Command
@@ -32,18 +33,21 @@ wave_command word wave =
 -- Receive: a location, an article and a quantity
 abbrev pub receipt_in : Word → Word → Word → Option Command
 receipt_in location article quantity =
-    option_and_then (λ l. option_and_then (λ a. option_map (command.Receive l a) (small_of quantity)) (name_in article)) (location_of location)
+    option_and_then (λ l. option_and_then (λ a. option_map (command.Receive l a) (small_of quantity)) (name_in article))
+    (location_of location)
 
 -- Pick: a wave, an order, a location and a quantity
 abbrev pub pick_in : Word → Word → Word → Word → Option Command
 pick_in wave order location quantity =
-    option_and_then (λ w. option_and_then (λ o. option_and_then (λ l. option_map (command.Pick w o l) (small_of quantity)) (location_of location))
+    option_and_then (λ w. option_and_then (λ o. option_and_then
+    (λ l. option_map (command.Pick w o l) (small_of quantity)) (location_of location))
     (name_in order)) (name_in wave)
 
 -- Missing: the same
 abbrev pub missing_in : Word → Word → Word → Word → Option Command
 missing_in wave order location quantity =
-    option_and_then (λ w. option_and_then (λ o. option_and_then (λ l. option_map (command.Missing w o l) (small_of quantity)) (location_of location))
+    option_and_then (λ w. option_and_then (λ o. option_and_then
+    (λ l. option_map (command.Missing w o l) (small_of quantity)) (location_of location))
     (name_in order)) (name_in wave)
 
 -- a command that takes no memory, by its word and its arguments

@@ -1,5 +1,6 @@
 -- The entry that a line may be of: where it is the line of one, of this.
-use Rattle.std.specs.Prelude.{◌≡◌, ℕ, ◌-◌, Bool, true, false, List, [], ◌∷◌, length, take, Option, Some, None, option_map, Result, Ok, Err}
+use Rattle.std.specs.Prelude.{◌≡◌, ℕ, ◌-◌, Bool, true, false, List, [], ◌∷◌, length, take, Option, Some, None}
+use Rattle.std.specs.Prelude.{option_map, Result, Ok, Err}
 use Rattle.std.specs.Option.{option_and_then}
 use Rattle.wp_model.specs.declared.entry.Entry.{Entry}
 use Rattle.wp_journal.specs.Commands.{command_in}
@@ -27,14 +28,16 @@ Gives = GivesBy (λ x. x)
 -- an entry of these parts
 abbrev pub entry_from : ℕ → ℕ → List Word → Option Entry
 entry_from number desk sentence =
-    option_and_then (λ c. option_map (λ r. record { number = number; desk = desk; command = c; reply = r }) (reply_in (after_arrow sentence)))
+    option_and_then (λ c. option_map (λ r. record { number = number; desk = desk; command = c; reply = r })
+    (reply_in (after_arrow sentence)))
     (command_in (before_arrow sentence))
 
 -- the entry that words write: a number, a desk, a command, an arrow and a reply
 abbrev pub entry_in : List Word → Option Entry
 entry_in [] = None
 entry_in (number ∷ []) = None
-entry_in (number ∷ desk ∷ sentence) = option_and_then (λ n. option_and_then (λ d. entry_from n d sentence) (small_of desk)) (whole_of number)
+entry_in (number ∷ desk ∷ sentence) = option_and_then
+    (λ n. option_and_then (λ d. entry_from n d sentence) (small_of desk)) (whole_of number)
 
 -- the entry that the words of a line without its last byte write
 abbrev pub candidate_of : List ℕ → Option Entry

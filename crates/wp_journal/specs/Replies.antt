@@ -79,7 +79,8 @@ order_refusal why order told = if bytes_eq why (codes "over-cart") then over_car
 -- Short: an article, and the units of it that are wanted and free
 abbrev pub short_in : Word → Word → Word → Option Reply
 short_in article wanted free =
-    option_and_then (λ a. option_and_then (λ w. option_map (reply.Short a w) (whole_of free)) (whole_of wanted)) (name_in article)
+    option_and_then (λ a. option_and_then (λ w. option_map (reply.Short a w) (whole_of free)) (whole_of wanted))
+    (name_in article)
 
 -- the word of a refusal
 abbrev pub is_refusal : Word → Bool

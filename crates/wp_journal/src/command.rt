@@ -1,6 +1,7 @@
 //! Commands as words. What isn't tested here is tested where the line is compared.
 ghost use Rattle.std.specs.Prelude.{◌≡◌, IfOk, length, vec_len};
-ghost use Rattle.wp_journal.specs.Commands.{command_in, missing_in, names_in, other_command, pick_in, receipt_in, submission_in, wave_command};
+ghost use Rattle.wp_journal.specs.Commands.{command_in, missing_in, names_in, other_command, pick_in, receipt_in};
+ghost use Rattle.wp_journal.specs.Commands.{submission_in, wave_command};
 ghost use Rattle.wp_journal.specs.Reading.{Gives, GivesBy};
 ghost use Rattle.wp_journal.specs.Splits.{words_now};
 

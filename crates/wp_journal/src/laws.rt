@@ -10,7 +10,9 @@ ghost use Rattle.wp_journal.specs.Journals.{IsJournalOf};
 /// gives it back from its line; and all the lines are those of a legal history from its opening, so `audit` answers
 /// with the number of the entries. For both there must be memory.
 pub fn printed_journals_are_right()
-    ensures entries { (history : History) → IsDay history → All (λ entry. IsTrue (is_line_entry entry)) history.entries }
-    ensures journal { (history : History) (more : List ℕ) → IsDay history → IsJournalOf history.opening (journal history.entries ++ more)
+    ensures entries { (history : History) → IsDay history
+        → All (λ entry. IsTrue (is_line_entry entry)) history.entries }
+    ensures journal { (history : History) (more : List ℕ) → IsDay history
+        → IsJournalOf history.opening (journal history.entries ++ more)
         (length history.entries) }
 {}

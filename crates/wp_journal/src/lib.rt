@@ -1,5 +1,5 @@
-//! The journal as text: an entry as its line, a line as its entry, the replay of a line, for which the machine answers its
-//! command again, and the audit of a journal, which replays every line.
+//! The journal as text: an entry as its line, a line as its entry, the replay of a line, for which the machine answers
+//! its command again, and the audit of a journal, which replays every line.
 #![tactic(auto)]
 
 mod bounds;

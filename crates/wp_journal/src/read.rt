@@ -49,7 +49,8 @@ fn candidate(alloc: Global, line: &[u8]) -> Result<Entry, EntryFault>
 
 /// Whether a line is that of an entry of the journal.
 pub fn has_line(alloc: Global, entry: &Entry, line: &[u8]) -> Result<bool, Memory>
-    ensures { IfOk result (λ is. is ≡ (is_line_entry entry.now && bytes_eq (entry_line entry.now) line.now)) }
+    ensures { IfOk result (λ is. is ≡ (is_line_entry entry.now && bytes_eq
+        (entry_line entry.now) line.now)) }
 {
     Ok(is_line_entry(entry) && print_entry(alloc, entry)?.as_slice() == line)
 }
@@ -75,7 +76,8 @@ fn entry_of_line(alloc: Global, line: &[u8]) -> Result<Entry, EntryFault>
 /// such entry. A line is of one entry alone.
 pub fn read_entry(alloc: Global, line: &[u8]) -> Result<Entry, EntryFault>
     ensures entry { IfOk result (IsLineOf line.now) }
-    ensures exact { (entry : Entry) → IsLineOf line.now entry → (result ≡ Ok entry) ⊎ (result ≡ Err fault.Memory) }
+    ensures exact { (entry : Entry) → IsLineOf line.now entry
+        → (result ≡ Ok entry) ⊎ (result ≡ Err fault.Memory) }
     ensures only { IfOk result (IsOnlyLineOf line.now) }
     ensures refusal { result ≡ Err fault.NotEntry → IsNoLine line.now }
 {

@@ -1,5 +1,6 @@
 //! Audits of journals: the machine answers each entry's command again, and its own entries are compared with the lines.
-ghost use Rattle.std.specs.Prelude.{◌≡◌, ◌↔◌, ◌⊎◌, ◌<◌, ◌&&◌, ◌++◌, ◌∷◌, [], ℕ, List, Result, Err, IfOk, IsTrue, codes, length};
+ghost use Rattle.std.specs.Prelude.{◌≡◌, ◌↔◌, ◌⊎◌, ◌<◌, ◌&&◌, ◌++◌, ◌∷◌, [], ℕ, List, Result, Err, IfOk, IsTrue, codes};
+ghost use Rattle.std.specs.Prelude.{length};
 ghost use Rattle.std.specs.List.{position_or_len};
 ghost use Rattle.std.specs.Str.{bytes_eq};
 ghost use Rattle.wp_model.specs.History.{answered, next_entry};
@@ -68,7 +69,8 @@ fn bad_line(machine: &Machine<'_>) -> AuditFault
 
 // Whether a line is that of the machine's last entry.
 fn last_has_line(alloc: Global, machine: &Machine<'_>, line: &[u8]) -> Result<bool, Memory>
-    ensures { IfOk result (λ is. (before : List EntryData) (last : EntryData) → machine.now.entries ≡ before ++ last ∷ []
+    ensures { IfOk result (λ is. (before : List EntryData) (last : EntryData)
+        → machine.now.entries ≡ before ++ last ∷ []
         → is ≡ (is_line_entry last && bytes_eq (entry_line last) line.now)) }
 {
     match machine.last() {
@@ -105,7 +107,8 @@ fn judge(
     requires number { entry.number ≡ length machine.old.entries }
     requires is { IsLineOf line.now entry }
     ensures replays { Replays machine.old line.now machine.new result }
-    ensures history { IfOk result (λ _. machine.new ≡ answered machine.old entry.desk entry.command) }
+    ensures history { IfOk result (λ _. machine.new
+        ≡ answered machine.old entry.desk entry.command) }
 {
     let Entry {
         number,
@@ -148,10 +151,11 @@ fn take_entry(
     }
 }
 
-/// Replays one line, its line feed with it, against a machine: what an audit does with each line of a journal, and a run with each record of its
-/// store. Where it is the line of an entry of the next number, the machine answers the entry's command again, and its own entry has to have this line.
-/// `NotNext` comes exactly where it is the line of no entry of the next number, and then the machine has answered nothing more; `WrongReply` comes
-/// exactly where it is, and the entry's reply isn't the machine's.
+/// Replays one line, its line feed with it, against a machine: what an audit does with each line of a journal, and a
+/// run with each record of its store. Where it is the line of an entry of the next number, the machine answers the
+/// entry's command again, and its own entry has to have this line. `NotNext` comes exactly where it is the line of no
+/// entry of the next number, and then the machine has answered nothing more; `WrongReply` comes exactly where it is,
+/// and the entry's reply isn't the machine's.
 pub fn replay_line(alloc: Global, machine: &mut Machine<'_>, line: &[u8]) -> Result<(), ReplayFault>
     requires few { length machine.old.entries < 4294967295 }
     ensures replays { Replays machine.old line.now machine.new result }
@@ -229,7 +233,8 @@ fn audit_text(alloc: Global, opening: &Opening, text: &[u8]) -> Result<Audit, Au
 /// or the text ends before it; `WrongReply` comes exactly where it is the next entry and its reply isn't the machine's.
 pub fn audit(alloc: Global, opening: &Opening, text: &Vec<u8>) -> Result<Audit, AuditFault>
     ensures tells { Tells opening.now text.now.items result }
-    ensures exact { (found : Result Audit AuditFault) → Shows opening.now text.now.items found → (result ≡ found) ⊎ (result ≡ Err fault.Memory) }
+    ensures exact { (found : Result Audit AuditFault) → Shows opening.now text.now.items found
+        → (result ≡ found) ⊎ (result ≡ Err fault.Memory) }
 {
     audit_text(alloc, opening, text.as_slice())
 }

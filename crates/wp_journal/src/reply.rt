@@ -1,6 +1,7 @@
 //! Replies as words. What isn't tested here is tested where the line is compared.
 ghost use Rattle.std.specs.Prelude.{◌≡◌};
-ghost use Rattle.wp_journal.specs.Replies.{is_refusal, loss_in, name_refusal, order_refusal, over_cart_in, plain_refusal, plain_reply, reply_in, short_in, state_of};
+ghost use Rattle.wp_journal.specs.Replies.{is_refusal, loss_in, name_refusal, order_refusal, over_cart_in};
+ghost use Rattle.wp_journal.specs.Replies.{plain_refusal, plain_reply, reply_in, short_in, state_of};
 ghost use Rattle.wp_journal.specs.Replies.{taken_in, told_refusal};
 ghost use Rattle.wp_journal.specs.Splits.{words_now};
 

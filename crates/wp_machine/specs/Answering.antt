@@ -10,7 +10,8 @@ use Rattle.wp_machine.specs.Outcome.{outcome_of}
 use Rattle.wp_machine.specs.declared.outcome.Answer.{Answer}
 
 -- a command was answered as the entry with a number, with all that its step tells
-pub record IsAnswer (opening : Opening) (number : ℕ) (command : Command) (old new : Floor) (answer : Answer) : Type 0 where
+pub record IsAnswer (opening : Opening) (number : ℕ) (command : Command) (old new : Floor)
+    (answer : Answer) : Type 0 where
   pub stepped : HasStepped opening command old new answer.reply
   pub numbered : answer.number ≡ number
   pub outcome : answer.outcome ≡ outcome_of number (state_of old) command (step opening (state_of old) command)

@@ -53,7 +53,8 @@ missing_outcome number before after name order other = outcome.Plain
 -- what the step of a command tells, as the entry with a number
 abbrev pub outcome_of : ℕ → State → Command → Stepped → Outcome
 outcome_of number before (command.Release name) stepped = release_outcome number stepped.state name stepped.reply
-outcome_of number before (command.Missing name order location quantity) stepped = missing_outcome number before stepped.state name order stepped.reply
+outcome_of number before (command.Missing name order location quantity) stepped
+    = missing_outcome number before stepped.state name order stepped.reply
 outcome_of number before other stepped = outcome.Plain
 
 -- what the steps of entries tell, one after the other, from a state on, where the first entry has this number
@@ -70,7 +71,8 @@ refill_in other = []
 
 -- the refills of a history, in the order of its entries
 abbrev pub refills_of : History → List Refill
-refills_of history = flat_map refill_in (outcomes_from history.opening 0 (opening_state history.opening) history.entries)
+refills_of history = flat_map refill_in (outcomes_from history.opening 0
+    (opening_state history.opening) history.entries)
 
 -- the wave that a step sends out, if it sends one out
 abbrev pub released_in : Outcome → List WaveHolds
@@ -79,10 +81,11 @@ released_in other = []
 
 -- the waves that went out in a history, in the order of its entries
 abbrev pub released_of : History → List WaveHolds
-released_of history = flat_map released_in (outcomes_from history.opening 0 (opening_state history.opening) history.entries)
+released_of history = flat_map released_in
+    (outcomes_from history.opening 0 (opening_state history.opening) history.entries)
 
--- a wave that went out is cancelled later: it is cancelled in the state after the history. That is so exactly where a later entry
--- cancels it: the law `later_entries_cancel_waves`.
+-- a wave that went out is cancelled later: it is cancelled in the state after the history. That is so exactly where a
+-- later entry cancels it: the law `later_entries_cancel_waves`.
 abbrev pub is_cancelled_later : History → WaveHolds → Bool
 is_cancelled_later history released = is_cancelled_in (state_after history) released.wave
 

@@ -30,7 +30,8 @@ fn released(number: u64, wave: Name, sheet: HeldOrders) -> Answer
     ensures { result ≡ record {
       number = number;
       reply = Reply.Released;
-      outcome = Outcome.Released (record { number = number; wave = wave; orders = sheet.orders; holds = sheet.room.holds });
+      outcome = Outcome.Released
+          (record { number = number; wave = wave; orders = sheet.orders; holds = sheet.room.holds });
     } }
 {
     let HeldOrders { orders, room } = sheet;
@@ -91,7 +92,8 @@ fn answer_missing(
     requires order { claim.now.number ≡ number_of opening.now claim.now.order }
     requires quantity { 0 < claim.now.quantity }
     requires rooms { HaveRoomsAt (state_of floor.old).rows claim.now.row claim.now.quantity rooms }
-    ensures { IsAnswer opening.now number (command.Missing name claim.now.order claim.now.location claim.now.quantity) floor.old floor.new result }
+    ensures { IsAnswer opening.now number (command.Missing name claim.now.order claim.now.location
+        claim.now.quantity) floor.old floor.new result }
 {
     match floor.missing(opening, &name, claim, rooms) {
         Missed::Refilled(room) => refilled(number, name, claim, room),
@@ -109,7 +111,8 @@ pub fn answer_prepared(
     requires floor { IsFloor opening.now floor.old }
     requires prepared { (asked : CommandData) × IsPreparedFor opening.now asked prepared }
     requires few { wave_count floor.old + 1 < 2 ^ 32 }
-    ensures { (asked : CommandData) → IsPreparedFor opening.now asked prepared → IsAnswer opening.now number asked floor.old floor.new result }
+    ensures { (asked : CommandData) → IsPreparedFor opening.now asked prepared
+        → IsAnswer opening.now number asked floor.old floor.new result }
 {
     match prepared {
         Prepared::Refuse(reply) => plain(number, reply),

@@ -51,10 +51,13 @@ fn machine_asked<'a>(
 pub fn answer_all(alloc: Global, opening: &Opening, askings: &[Asking]) -> Result<Entries, Memory>
     requires plain { All (λ asking. IsTrue (is_plain asking.command)) askings.now }
     requires few { length askings.now < 2 ^ 32 }
-    ensures entries { IfOk result (λ entries. entries ≡ (asked_all (opened opening.now) askings.now).entries) }
+    ensures entries { IfOk result (λ entries. entries
+        ≡ (asked_all (opened opening.now) askings.now).entries) }
     ensures asked { IfOk result (λ entries. map asking_of entries ≡ askings.now) }
-    ensures legal { IfOk result (λ entries. IsLegal (record { opening = opening.now; entries = entries })) }
-    ensures sound { IfOk result (λ entries. EachStateIsSound (record { opening = opening.now; entries = entries })) }
+    ensures legal { IfOk result (λ entries. IsLegal
+        (record { opening = opening.now; entries = entries })) }
+    ensures sound { IfOk result (λ entries. EachStateIsSound
+        (record { opening = opening.now; entries = entries })) }
 {
     let machine = machine_asked(alloc, opening, askings)?;
     machine.entries(alloc)

@@ -1,4 +1,5 @@
-ghost use Rattle.std.specs.Prelude.{◌≡◌, ◌<◌, ◌≤◌, ◌^◌, ◌++◌, ◌∷◌, [], List, length, map, slice_get, Some, IsTrue, IfOk, IfErr, IfSome, IfNone};
+ghost use Rattle.std.specs.Prelude.{◌≡◌, ◌<◌, ◌≤◌, ◌^◌, ◌++◌, ◌∷◌, [], List, length, map, slice_get, Some, IsTrue};
+ghost use Rattle.std.specs.Prelude.{IfOk, IfErr, IfSome, IfNone};
 ghost use Rattle.std.specs.Option.{option_map};
 ghost use Rattle.wp_model.specs.History.{IsLegal, answered, opened, state_after};
 ghost use Rattle.wp_model.specs.Plain.{is_plain};
@@ -104,7 +105,8 @@ impl<'a> Model for Machine<'a> {
 
     ghost view = { λ m. record { opening = m.opening.now; entries = m.entries } };
 
-    ghost invariant = { λ m. (m.count ≡ length m.entries) × IsMachine (record { opening = m.opening.now; entries = m.entries }) m.floor };
+    ghost invariant = { λ m. (m.count ≡ length m.entries)
+        × IsMachine (record { opening = m.opening.now; entries = m.entries }) m.floor };
 }
 
 fn entry_of(number: u64, desk: u32, command: Command, reply: Reply) -> Entry
@@ -176,8 +178,10 @@ impl<'a> Machine<'a> {
         requires few { length self.old.entries < 4294967295 }
         ensures history { self.new ≡ answered self.old desk ready.entry.command }
         ensures number { result.number ≡ length self.old.entries }
-        ensures reply { result.reply ≡ (step self.old.opening (state_after self.old) ready.entry.command).reply }
-        ensures outcome { result.outcome ≡ outcome_of (length self.old.entries) (state_after self.old) ready.entry.command
+        ensures reply { result.reply ≡ (step self.old.opening
+            (state_after self.old) ready.entry.command).reply }
+        ensures outcome { result.outcome ≡ outcome_of (length self.old.entries)
+            (state_after self.old) ready.entry.command
             (step self.old.opening (state_after self.old) ready.entry.command) }
     {
         let (command, prepared, cell) = ready.into_parts();
@@ -195,8 +199,10 @@ impl<'a> Machine<'a> {
         ensures history { IfOk result (λ _. self.new ≡ answered self.old desk command) }
         ensures same { IfErr result (λ _. self.new ≡ self.old) }
         ensures number { IfOk result (λ answer. answer.number ≡ length self.old.entries) }
-        ensures reply { IfOk result (λ answer. answer.reply ≡ (step self.old.opening (state_after self.old) command).reply) }
-        ensures outcome { IfOk result (λ answer. answer.outcome ≡ outcome_of (length self.old.entries) (state_after self.old) command
+        ensures reply { IfOk result (λ answer. answer.reply
+            ≡ (step self.old.opening (state_after self.old) command).reply) }
+        ensures outcome { IfOk result (λ answer. answer.outcome
+            ≡ outcome_of (length self.old.entries) (state_after self.old) command
             (step self.old.opening (state_after self.old) command)) }
     {
         let ready = prepare(alloc, self.opening, command)?;
@@ -205,7 +211,8 @@ impl<'a> Machine<'a> {
 
     /// The last entry. None comes exactly where nothing was answered.
     pub fn last(&self) -> Option<&Entry>
-        ensures some { IfSome result (λ entry. (before : List EntryData) × (self.now.entries ≡ before ++ entry.now ∷ [])) }
+        ensures some { IfSome result (λ entry. (before : List EntryData)
+            × (self.now.entries ≡ before ++ entry.now ∷ [])) }
         ensures none { IfNone result (self.now.entries ≡ []) }
     {
         match self.entries.split_last() {
@@ -223,7 +230,8 @@ impl<'a> Machine<'a> {
 
     /// The entries, in order, by reference.
     pub fn journal(&self, alloc: Global) -> Result<Vec<&Entry>, Memory>
-        ensures { IfOk result (λ entries. map (λ entry. entry.now) entries.items ≡ self.now.entries) }
+        ensures { IfOk result (λ entries. map (λ entry. entry.now) entries.items
+            ≡ self.now.entries) }
     {
         borrow_entries(alloc, &self.entries)
     }
@@ -245,7 +253,8 @@ impl<'a> Machine<'a> {
 
     /// How far the wave of a name is. None comes exactly where no submit of that name was done.
     pub fn state(&self, wave: &Name) -> Option<WaveState>
-        ensures { result ≡ option_map (λ found. found.1.state) (wave_from 0 (state_after self.now).waves wave.now) }
+        ensures { result ≡ option_map (λ found. found.1.state)
+            (wave_from 0 (state_after self.now).waves wave.now) }
     {
         self.floor.state(wave)
     }

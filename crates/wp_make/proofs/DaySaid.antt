@@ -43,7 +43,8 @@ day_said number size is said =
       record { layout = layout; stock = stock.after; orders = orders.after; scripts = scripts_of desks.after },
       record {
         layout = said;
-        stock = table_said (stock_after layout) empty_stock stock_heading (stock_records size.aisles) _ refl refl (stock_bare (stock_records size.aisles)) stock;
+        stock = table_said (stock_after layout) empty_stock stock_heading (stock_records size.aisles) _ refl refl
+            (stock_bare (stock_records size.aisles)) stock;
         orders = table_said (orders_after stock.after.articles) [] orders_heading (orders_records size.aisles number size.orders) _ refl refl
             (orders_bare (orders_records size.aisles number size.orders)) orders;
         desks = ap (λ read. and_then read (λ commands. Ok (scripts_of commands)))

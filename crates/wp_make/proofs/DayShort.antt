@@ -1,5 +1,6 @@
 -- No made text is longer than a file may be.
-use Rattle.std.proofs.Common.{◌≡◌, refl, sym, ap, subst, ◌⊎◌, ⊎_elim, Bool, if◌then◌else◌, ℕ, ◌+◌, ◌*◌, ◌/◌, ◌<◌, ◌≤◌, List, [], ◌∷◌, ◌++◌, codes, length, arith, length-append, lit<, lit≤}
+use Rattle.std.proofs.Common.{◌≡◌, refl, sym, ap, subst, ◌⊎◌, ⊎_elim, Bool, if◌then◌else◌, ℕ, ◌+◌, ◌*◌, ◌/◌, ◌<◌, ◌≤◌, List, [], ◌∷◌, ◌++◌, codes, length}
+use Rattle.std.proofs.Common.{arith, length-append, lit<, lit≤}
 use Rattle.std.specs.Prelude.{min, ◌-◌}
 use Rattle.std.specs.Fmt.{decimal, digits}
 use Rattle.std.specs.List.{range_with_len}
@@ -15,7 +16,8 @@ use Rattle.wp_tables.specs.OrderFile.{orders_heading}
 use Rattle.wp_tables.specs.StockFile.{stock_heading}
 use Rattle.wp_draws.specs.Draws.{next_state, state_after}
 use Rattle.wp_make.specs.Lines.{after_orders, line_count, line_from, made_slots, order_lines}
-use Rattle.wp_make.specs.Records.{aisle_records, desks_records, line_record, order_name, order_records, orders_records, stock_record, stock_records, wave_records}
+use Rattle.wp_make.specs.Records.{aisle_records, desks_records, line_record, order_name, order_records, orders_records, stock_record, stock_records}
+use Rattle.wp_make.specs.Records.{wave_records}
 use Rattle.wp_make.specs.Sizes.{IsSize, orders_of_wave, wave_count}
 use Rattle.wp_make.specs.Texts.{AreShort, made_layout, made_texts}
 use Rattle.wp_make.specs.declared.input.Size.{Size}

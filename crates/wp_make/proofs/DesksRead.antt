@@ -1,5 +1,6 @@
 -- The commands of the made waves are read, wave by wave.
-use Rattle.std.proofs.Common.{◌≡◌, ◌∙◌, refl, subst, ℕ, zero, suc, ◌+◌, ◌-◌, ◌*◌, ◌%◌, ◌<◌, ◌≤◌, Bool, true, List, [], ◌∷◌, ◌++◌, length, arith, length-append, lit≤, lt-ltb, le-leb}
+use Rattle.std.proofs.Common.{◌≡◌, ◌∙◌, refl, subst, ℕ, zero, suc, ◌+◌, ◌-◌, ◌*◌, ◌%◌, ◌<◌, ◌≤◌, Bool, true, List, [], ◌∷◌, ◌++◌, length, arith, length-append}
+use Rattle.std.proofs.Common.{lit≤, lt-ltb, le-leb}
 use Rattle.std.specs.Prelude.{min, if◌then◌else◌, Result, Ok, Err, map}
 use Rattle.std.specs.List.{count_by, list_all, range_with_len}
 use Rattle.std.proofs.lemmas.List.FromFn.{length-map-range_with_len}
@@ -140,7 +141,8 @@ submit_made : (size : Size) (waves : ℕ) (commands : List Asked) → IsWave siz
 submit_made size waves commands wave has =
     makes_one script_after commands (commands ++ got (submit_of size waves)) (submit_record size waves) (HasCommands (2 * waves + 1) (waves + 1))
     (rw (submit_read size waves (2 * waves) commands wave (omega (arith, wave.few)) has) refl) (submit_named size waves wave)
-    (command_more (2 * waves) waves (waves + 1) (desk_of_wave size waves) commands (command.Submit (wave_name (waves + 1)) (map order_name (orders_of_wave size waves))) has refl)
+    (command_more (2 * waves) waves (waves + 1) (desk_of_wave size waves) commands
+    (command.Submit (wave_name (waves + 1)) (map order_name (orders_of_wave size waves))) has refl)
 
 release_made : (size : Size) (waves : ℕ) (commands : List Asked) → IsWave size waves → HasCommands (2 * waves + 1) (waves + 1) commands
     → Makes script_after commands (release_record size waves ∷ []) (HasCommands (2 * (waves + 1)) (waves + 1))

@@ -31,7 +31,8 @@ parts_written write parts (k ∷ numbers) =
 
 -- text that has grown by what the parts of so many numbers write
 pub grown_by_parts : {P : Type 0} (write : P → List ℕ) (parts : ℕ → List P) (first n count : ℕ) (old text : List ℕ) → n ≡ count
-    → text ≡ old ++ flat_map (λ k. flat_map write (parts k)) (range_with_len first n) → text ≡ old ++ flat_map write (flat_map parts (range_with_len first count))
+    → text ≡ old ++ flat_map (λ k. flat_map write (parts k)) (range_with_len first n)
+    → text ≡ old ++ flat_map write (flat_map parts (range_with_len first count))
 grown_by_parts write parts first n count old text all is =
     is ∙ ap (λ rest. old ++ rest) (ap (λ m. flat_map (λ k. flat_map write (parts k)) (range_with_len first m)) all
     ∙ parts_written write parts (range_with_len first count))

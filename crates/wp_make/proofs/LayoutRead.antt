@@ -1,5 +1,6 @@
 -- The text of a made layout is read again with a line feed after it.
-use Rattle.std.proofs.Common.{◌≡◌, ◌∙◌, refl, sym, ap, subst, ◌⊎◌, ⊎_elim, ℕ, zero, suc, ◌-◌, ◌<◌, ◌≤◌, ◌==◌, ◌^◌, arith, lit<, Bool, true, false, List, [], ◌∷◌, ◌++◌, codes, append_assoc, replicate, Ok, None}
+use Rattle.std.proofs.Common.{◌≡◌, ◌∙◌, refl, sym, ap, subst, ◌⊎◌, ⊎_elim, ℕ, zero, suc, ◌-◌, ◌<◌, ◌≤◌, ◌==◌, ◌^◌, arith, lit<, Bool, true, false, List, []}
+use Rattle.std.proofs.Common.{◌∷◌, ◌++◌, codes, append_assoc, replicate, Ok, None}
 use Rattle.std.specs.Prelude.{if◌then◌else◌, Option, slice_index}
 use Rattle.std.specs.Fmt.{decimal}
 use Rattle.std.specs.List.{list_all}
@@ -170,7 +171,8 @@ text_with_feed bytes is =
     is_utf8-from_IsUtf8 (line bytes) (IsUtf8-append bytes (10 ∷ []) (IsUtf8-from_is_utf8 bytes is) feed_text)
 
 -- a text that is read as a layout is read as it with a line feed, too, where that changes nothing of what is lexed
-line_said : (bytes : List ℕ) (layout : Layout) → lex between bytes ≡ lex between (line bytes) → layout_said bytes ≡ Ok layout → layout_said (line bytes) ≡ Ok layout
+line_said : (bytes : List ℕ) (layout : Layout) → lex between bytes ≡ lex between (line bytes) → layout_said bytes ≡ Ok layout
+    → layout_said (line bytes) ≡ Ok layout
 line_said bytes layout same said =
     let text = said_text (is_utf8 bytes) (read bytes) layout said in
     let valued : and_then (ok_or (read bytes) fault.NotJson) value_said ≡ Ok layout = rw text at said in

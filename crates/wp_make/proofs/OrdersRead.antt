@@ -1,5 +1,6 @@
 -- The made orders are read, line by line.
-use Rattle.std.proofs.Common.{◌≡◌, ◌∙◌, refl, sym, subst, ℕ, ◌+◌, ◌*◌, ◌<◌, ◌≤◌, Bool, true, false, List, [], ◌∷◌, ◌++◌, length, arith, length-append, lit<, lit≤, lt-ltb, le-leb}
+use Rattle.std.proofs.Common.{◌≡◌, ◌∙◌, refl, sym, subst, ℕ, ◌+◌, ◌*◌, ◌<◌, ◌≤◌, Bool, true, false, List, [], ◌∷◌, ◌++◌, length, arith, length-append, lit<}
+use Rattle.std.proofs.Common.{lit≤, lt-ltb, le-leb}
 use Rattle.std.specs.Prelude.{◌||◌, nat_lt, if◌then◌else◌, Ok, Err, map}
 use Rattle.std.specs.List.{list_all, range_with_len}
 use Rattle.std.specs.Str.{bytes_eq}
@@ -120,7 +121,8 @@ lines_more : (orders : List Order) (line : OrderLine) → length (lines_of (add_
 lines_more [] line = rw (same_name line.order) refl
 lines_more (order ∷ orders) line = cases (bytes_eq order.name line.order) refl (lines_more orders line)
   where
-    cases : (b : Bool) → bytes_eq order.name line.order ≡ b → length (lines_of (add_order_line orders line) line.order) ≡ length (lines_of orders line.order) + 1
+    cases : (b : Bool) → bytes_eq order.name line.order ≡ b
+        → length (lines_of (add_order_line orders line) line.order) ≡ length (lines_of orders line.order) + 1
         → length (lines_of (if b then record order { lines = order.lines ++ line.line ∷ [] } ∷ orders else order ∷ add_order_line orders line) line.order)
         ≡ length (if b then order.lines else lines_of orders line.order) + 1
     cases true is rest = rw is (length-append order.lines (line.line ∷ []))
@@ -154,7 +156,8 @@ known_now (order ∷ orders) line = cases (bytes_eq order.name line.order) refl 
     cases false is rest = rw rest (after_any (bytes_eq order.name line.order))
 
 -- one more line of the next order
-line_more : (aisles count lines : ℕ) (articles : List (List ℕ)) (orders : List Order) (line : MadeLine) → count < most_file_orders → HasOrders count lines orders
+line_more : (aisles count lines : ℕ) (articles : List (List ℕ)) (orders : List Order) (line : MadeLine) → count < most_file_orders
+    → HasOrders count lines orders
     → HasOrders count (lines + 1) (add_order_line orders (line_of articles (count + 1) line))
 line_more aisles count lines articles orders line few has =
     let next = line_of articles (count + 1) line in

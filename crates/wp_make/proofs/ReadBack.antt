@@ -1,5 +1,6 @@
 -- What a made word was written for is read from it again.
-use Rattle.std.proofs.Common.{◌≡◌, ◌∙◌, refl, sym, ap, ap₂, ℕ, ◌+◌, ◌-◌, ◌*◌, ◌<◌, ◌≤◌, ◌^◌, true, List, [], ◌∷◌, ◌++◌, length, take, drop, cond, append_assoc, arith}
+use Rattle.std.proofs.Common.{◌≡◌, ◌∙◌, refl, sym, ap, ap₂, ℕ, ◌+◌, ◌-◌, ◌*◌, ◌<◌, ◌≤◌, ◌^◌, true, List, [], ◌∷◌, ◌++◌, length, take, drop, cond, append_assoc}
+use Rattle.std.proofs.Common.{arith}
 use Rattle.std.proofs.Common.{le-leb, lt-ltb, lit≤, lit<}
 use Rattle.std.specs.Prelude.{Some, None, if◌then◌else◌, not}
 use Rattle.std.specs.Char.{digit_value, is_ascii_digit}
@@ -81,7 +82,8 @@ location_back aisle slot small small' =
     ∙ rw (small_back 5 aisle (lit≤ tt) small, small_back 5 slot (lit≤ tt) small') refl
 
 -- the article of a slot tells the slot
-article_place : (aisle slot : ℕ) → IsSmall aisle → IsSmall slot → location_of (drop 1 (article_name aisle slot) ++ 45 ∷ 76 ∷ []) ≡ Some (slot_location aisle slot)
+article_place : (aisle slot : ℕ) → IsSmall aisle → IsSmall slot
+    → location_of (drop 1 (article_name aisle slot) ++ 45 ∷ 76 ∷ []) ≡ Some (slot_location aisle slot)
 article_place aisle slot small small' =
     ap (λ (t : List ℕ). location_of (t ++ 45 ∷ 76 ∷ [])) (append_assoc (decimal aisle) (45 ∷ []) (decimal slot)) ∙ location_back aisle slot small small'
 

@@ -1,5 +1,6 @@
 -- The made stock is read, row by row.
-use Rattle.std.proofs.Common.{◌≡◌, ◌∙◌, ⊎_elim, refl, sym, ap, ap₂, subst, ℕ, ◌+◌, ◌*◌, ◌<◌, ◌≤◌, Bool, true, false, List, [], ◌∷◌, ◌++◌, length, arith, length-append, lit<, lit≤, lt-ltb, le-leb}
+use Rattle.std.proofs.Common.{◌≡◌, ◌∙◌, ⊎_elim, refl, sym, ap, ap₂, subst, ℕ, ◌+◌, ◌*◌, ◌<◌, ◌≤◌, Bool, true, false, List, [], ◌∷◌, ◌++◌, length, arith}
+use Rattle.std.proofs.Common.{length-append, lit<, lit≤, lt-ltb, le-leb}
 use Rattle.std.specs.Prelude.{◌&&◌, ◌||◌, ◌==◌, nat_lt, if◌then◌else◌, Ok}
 use Rattle.std.specs.Fmt.{decimal}
 use Rattle.std.specs.List.{AllByRecursion, list_all, list_any}
@@ -142,7 +143,8 @@ other_article aisle slot other next place place' less =
     differs true h = absurd (h refl)
     differs false h = refl
 
-one_more : (articles : List (List ℕ)) (name other : List ℕ) → is_among (articles ++ name ∷ []) other ≡ (is_among articles other || (bytes_eq name other || false))
+one_more : (articles : List (List ℕ)) (name other : List ℕ)
+    → is_among (articles ++ name ∷ []) other ≡ (is_among articles other || (bytes_eq name other || false))
 one_more articles name other = list_any-append (λ n. bytes_eq n other) articles (name ∷ [])
 
 or_left : (p q : Bool) → p ≡ true → (p || q) ≡ true
@@ -155,7 +157,8 @@ or_right false q e = e
 one_slot : (aisle slot other next : ℕ) → IsPlace aisle slot → IsPlace other next → made_slots * other + next ≡ made_slots * aisle + slot
     → (aisle ≡ other) × (slot ≡ next)
 one_slot aisle slot other next place place' same =
-    let aisles : aisle ≡ other = omega (arith, place.first_slot, place.last_slot, place'.first_slot, place'.last_slot, same) in (aisles, omega (arith, aisles, same))
+    let aisles : aisle ≡ other = omega (arith, place.first_slot, place.last_slot, place'.first_slot, place'.last_slot, same) in
+    (aisles, omega (arith, aisles, same))
 
 -- the row of a slot is the next
 row_more : (aisle slot end : ℕ) (stock : Stock) → IsPlace aisle slot → end ≡ made_slots * aisle + slot → HasRowsBelow end stock
@@ -167,7 +170,9 @@ row_more aisle slot end stock place here has =
     let joined : join stock.articles name ≡ articles = join_new stock.articles name fresh in
     let row = row_of articles (line_of aisle slot) in
     let long = length-append stock.articles (name ∷ []) in
-    let number : number_among articles name < length articles = omega (arith, long, ap (λ names. number_among names name) (sym joined) ∙ (number_joined name stock.articles ∙ number_new stock.articles name fresh)) in
+    let number : number_among articles name < length articles
+    = omega (arith, long, ap (λ names. number_among names name) (sym joined) ∙ (number_joined name stock.articles ∙ number_new stock.articles name fresh))
+    in
     rw joined (record {
       few = omega (arith, length_put row stock.rows, has.few);
       free = λ other next place' later. any_put (lies_at (slot_location other next)) row stock.rows

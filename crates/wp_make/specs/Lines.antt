@@ -12,7 +12,8 @@ made_slots = 40
 abbrev pub line_count : ℕ → ℕ
 line_count state = 1 + draw_at (next_state state) 3
 
--- the line that is made from a state on, among so many aisles: where its article lies, and how many units of it are wanted
+-- the line that is made from a state on, among so many aisles: where its article lies, and how many units of it are
+-- wanted
 abbrev pub line_from : ℕ → ℕ → MadeLine
 line_from aisles state = record {
   aisle = 1 + draw_at (state_after 1 state) aisles;
@@ -22,7 +23,8 @@ line_from aisles state = record {
 
 -- the lines, of three draws each, of the order that is made from a state on
 abbrev pub order_lines : ℕ → ℕ → List MadeLine
-order_lines aisles state = map (λ line. line_from aisles (state_after (3 * line) (next_state state))) (range_with_len 0 (line_count state))
+order_lines aisles state = map (λ line. line_from aisles (state_after (3 * line) (next_state state)))
+    (range_with_len 0 (line_count state))
 
 -- the state after so many orders
 abbrev pub after_orders : ℕ → ℕ → ℕ

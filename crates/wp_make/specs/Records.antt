@@ -29,7 +29,8 @@ wave_name number = codes "W" ++ decimal number
 -- the row of a slot, which lies on the left: its location, its article and its units
 abbrev pub stock_record : ℕ → ℕ → Record
 stock_record aisle slot =
-    location_text (record { aisle = aisle; slot = slot; side = side.L }) ∷ article_name aisle slot ∷ decimal made_on_hand ∷ []
+    location_text (record { aisle = aisle; slot = slot; side = side.L }) ∷ article_name aisle slot
+    ∷ decimal made_on_hand ∷ []
 
 -- the rows of an aisle, slot by slot
 unfoldable pub aisle_records : ℕ → List Record

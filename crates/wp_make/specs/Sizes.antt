@@ -21,7 +21,8 @@ pub record IsSize (size : Size) : Type 0 where
   pub wave : size.wave ≤ most_wave_orders
   pub waves : wave_count size ≤ most_submissions
 
--- the numbers of the orders of the wave after so many: those after the orders of the waves before it, as many as a wave has, or as are left
+-- the numbers of the orders of the wave after so many: those after the orders of the waves before it, as many as a wave
+-- has, or as are left
 abbrev pub orders_of_wave : Size → ℕ → List ℕ
 orders_of_wave size waves = range_with_len (waves * size.wave + 1) (min size.wave (size.orders - waves * size.wave))
 

@@ -30,7 +30,12 @@ pub record AreShort (texts : Texts) : Type 0 where
 
 -- those of an input
 abbrev pub texts_of : Input → Texts
-texts_of input = record { layout = input.layout.items; stock = input.stock.items; orders = input.orders.items; desks = input.desks.items }
+texts_of input = record {
+  layout = input.layout.items;
+  stock = input.stock.items;
+  orders = input.orders.items;
+  desks = input.desks.items;
+}
 
 -- a warehouse of so many aisles, its depot in front in the middle
 abbrev pub made_layout : ℕ → Layout

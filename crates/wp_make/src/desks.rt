@@ -13,7 +13,9 @@ use wp_model::Memory;
 
 fn print_orders(text: &mut String, first: u32, count: u32) -> Result<(), Memory>
     requires { first + count < 2 ^ 32 }
-    ensures { IfOk result (λ _. string_bytes text.new ≡ string_bytes text.old ++ flat_map after_comma (map order_name (range_with_len first count))) }
+    ensures { IfOk result (λ _. string_bytes text.new
+        ≡ string_bytes text.old ++ flat_map after_comma
+        (map order_name (range_with_len first count))) }
 {
     for order in first..first + count {
         write!(text, ",O{order}")?;
@@ -25,7 +27,8 @@ fn print_orders(text: &mut String, first: u32, count: u32) -> Result<(), Memory>
 fn print_wave(text: &mut String, size: Size, waves: u32) -> Result<(), Memory>
     requires size { IsSize size }
     requires left { waves < wave_count size }
-    ensures { IfOk result (λ _. string_bytes text.new ≡ string_bytes text.old ++ flat_map record_line (wave_records size waves)) }
+    ensures { IfOk result (λ _. string_bytes text.new
+        ≡ string_bytes text.old ++ flat_map record_line (wave_records size waves)) }
 {
     let wave = waves + 1;
     let desk = 1 + waves % size.desks;

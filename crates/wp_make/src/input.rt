@@ -10,8 +10,8 @@ use crate::stock::made_stock_text;
 use std::alloc::Global;
 use wp_model::Memory;
 
-/// How large a made input is: 1 to 64 aisles of 40 slots each, 1 to 10,000 orders, 1 to 8 desks, and 1 to 64 orders in a
-/// wave; at most 500 waves.
+/// How large a made input is: 1 to 64 aisles of 40 slots each, 1 to 10,000 orders, 1 to 8 desks, and 1 to 64 orders in
+/// a wave; at most 500 waves.
 #[derive(Clone, Copy, PartialEq, Eq)]
 pub struct Size {
     pub aisles: u32,
@@ -29,10 +29,11 @@ pub struct Input {
     pub desks: Vec<u8>,
 }
 
-/// The input of a size that is drawn from a number. In the layout the depot lies in the middle, and each slot has a row on
-/// its left with 1,000,000 units of an article of its own. Each order has 1 to 3 lines, drawn one after the other. The
-/// orders are cut into waves in their order; each wave is submitted and released by one desk, and the desks take turns. The
-/// readers of files accept the texts, none of which is longer than a file may be. An `Err` comes from a want of memory alone.
+/// The input of a size that is drawn from a number. In the layout the depot lies in the middle, and each slot has a row
+/// on its left with 1,000,000 units of an article of its own. Each order has 1 to 3 lines, drawn one after the other.
+/// The orders are cut into waves in their order; each wave is submitted and released by one desk, and the desks take
+/// turns. The readers of files accept the texts, none of which is longer than a file may be. An `Err` comes from a want
+/// of memory alone.
 pub fn make(alloc: Global, number: u64, size: Size) -> Result<Input, Memory>
     requires { IsSize size }
     ensures texts { IfOk result (λ input. texts_of input ≡ made_texts number size) }

@@ -12,7 +12,8 @@ use std::fmt::Write;
 use wp_model::Memory;
 
 fn print_line(text: &mut String, order: u32, line: MadeLine) -> Result<(), Memory>
-    ensures { IfOk result (λ _. string_bytes text.new ≡ string_bytes text.old ++ record_line (line_record order line)) }
+    ensures { IfOk result (λ _. string_bytes text.new
+        ≡ string_bytes text.old ++ record_line (line_record order line)) }
 {
     let MadeLine {
         aisle,
@@ -49,7 +50,8 @@ pub(crate) fn made_orders_text(
 ) -> Result<Vec<u8>, Memory>
     requires some { 0 < aisles }
     requires orders { orders < 2 ^ 32 }
-    ensures { IfOk result (λ text. text.items ≡ table_text orders_heading (orders_records aisles number orders)) }
+    ensures { IfOk result (λ text. text.items
+        ≡ table_text orders_heading (orders_records aisles number orders)) }
 {
     let mut text = String::from_str(alloc, "order,article,quantity\n")?;
     let mut generator = Generator::new(number);

@@ -14,7 +14,8 @@ use wp_model::{Location, Memory, Side};
 const ON_HAND: u32 = 1_000_000;
 
 fn print_row(text: &mut String, aisle: u32, slot: u32) -> Result<(), Memory>
-    ensures { IfOk result (λ _. string_bytes text.new ≡ string_bytes text.old ++ record_line (stock_record aisle slot)) }
+    ensures { IfOk result (λ _. string_bytes text.new
+        ≡ string_bytes text.old ++ record_line (stock_record aisle slot)) }
 {
     let location = Location {
         aisle,
@@ -26,7 +27,8 @@ fn print_row(text: &mut String, aisle: u32, slot: u32) -> Result<(), Memory>
 }
 
 fn print_aisle(text: &mut String, aisle: u32) -> Result<(), Memory>
-    ensures { IfOk result (λ _. string_bytes text.new ≡ string_bytes text.old ++ flat_map record_line (aisle_records aisle)) }
+    ensures { IfOk result (λ _. string_bytes text.new
+        ≡ string_bytes text.old ++ flat_map record_line (aisle_records aisle)) }
 {
     for slot in 1..SLOTS + 1 {
         print_row(text, aisle, slot)?;

@@ -1,5 +1,6 @@
 -- The desks' commands as they are kept, and their scripts.
-use Rattle.std.proofs.Common.{◌≡◌, ◌∙◌, refl, sym, ap, subst, ℕ, zero, suc, ◌+◌, ◌≤◌, max, Bool, eqb, leb, cond, List, [], ◌∷◌, ◌++◌, length, map, get_or, slice_get, IfSome, arith}
+use Rattle.std.proofs.Common.{◌≡◌, ◌∙◌, refl, sym, ap, subst, ℕ, zero, suc, ◌+◌, ◌≤◌, max, Bool, eqb, leb, cond, List, [], ◌∷◌, ◌++◌, length, map, get_or}
+use Rattle.std.proofs.Common.{slice_get, IfSome, arith}
 use Rattle.std.specs.Prelude.{IsTrue}
 use Rattle.std.specs.List.{All, count_by, filter, range_with_len, sum_by}
 use Rattle.std.proofs.Math.Nat.{max-le}
@@ -107,7 +108,8 @@ numbered commands n i =
     if_some (slice_get scripts i) (λ script. script.desk ≡ i + 1)
     (λ script is.
     let within = slice_get_within scripts i script is in
-    let at = get_or-map-range_with_len (script_from commands) 1 n i (1 + i) script (omega (arith, within, length-map-range_with_len (script_from commands) 1 n)) refl in
+    let at = get_or-map-range_with_len (script_from commands) 1 n i (1 + i) script
+    (omega (arith, within, length-map-range_with_len (script_from commands) 1 n)) refl in
     omega (arith, ap (λ (s : Script). s.desk) (sym (get_or_from_slice_get scripts i script script is) ∙ at)))
 
 -- what holds of each command holds of each command of each script

@@ -1,5 +1,6 @@
 -- What a desk file says.
-use Rattle.std.specs.Prelude.{ℕ, ◌==◌, ◌||◌, ◌&&◌, not, nat_le, nat_lt, max, Bool, true, false, List, [], ◌∷◌, ◌++◌, length, map, codes, Option, Some, None}
+use Rattle.std.specs.Prelude.{ℕ, ◌==◌, ◌||◌, ◌&&◌, not, nat_le, nat_lt, max, Bool, true, false, List, [], ◌∷◌, ◌++◌}
+use Rattle.std.specs.Prelude.{length, map, codes, Option, Some, None}
 use Rattle.std.specs.Prelude.{Result, Ok, Err, if◌then◌else◌}
 use Rattle.std.specs.List.{count_by, filter, range_with_len}
 use Rattle.std.specs.Option.{ok_or}
@@ -42,13 +43,15 @@ word_read field = ok_or (word_of field) why.UnknownCommand
 -- the fields, where each is a name
 abbrev pub names_read : List (List ℕ) → Result (List (List ℕ)) Why
 names_read [] = Ok []
-names_read (field ∷ fields) = and_then (name_read field) (λ name. and_then (names_read fields) (λ names. Ok (name ∷ names)))
+names_read (field ∷ fields) = and_then (name_read field)
+    (λ name. and_then (names_read fields) (λ names. Ok (name ∷ names)))
 
 -- Submit: a wave, and then its orders, not too many
 abbrev pub submission_of : Record → Result Command Why
 submission_of [] = Err why.Columns
 submission_of (wave ∷ orders) =
-    if nat_le (length orders) most_named then and_then (name_read wave) (λ w. and_then (names_read orders) (λ names. Ok (command.Submit w names)))
+    if nat_le (length orders) most_named then and_then (name_read wave)
+    (λ w. and_then (names_read orders) (λ names. Ok (command.Submit w names)))
     else Err why.Columns
 
 -- the wave that the one argument names
@@ -70,7 +73,8 @@ hold_of arguments = and_then (four_of arguments)
 
 -- a command on units that are held
 abbrev pub of_hold : (List ℕ → List ℕ → Location → ℕ → Command) → Record → Result Command Why
-of_hold make arguments = and_then (hold_of arguments) (λ held. Ok (make held.wave held.order held.location held.quantity))
+of_hold make arguments = and_then (hold_of arguments)
+    (λ held. Ok (make held.wave held.order held.location held.quantity))
 
 -- Receive: a location, an article and a quantity
 abbrev pub receipt_of : Record → Result Command Why
@@ -96,7 +100,8 @@ is_desk number = nat_le 1 number && nat_le number greatest_desk
 
 -- a field that is the number of a desk
 abbrev pub desk_read : List ℕ → Result ℕ Why
-desk_read field = and_then (ok_or (number_of 18 field) why.BadNumber) (λ n. if is_desk n then Ok n else Err why.DeskNumber)
+desk_read field = and_then (ok_or (number_of 18 field) why.BadNumber) (λ n. if is_desk n then Ok n
+    else Err why.DeskNumber)
 
 -- the command submits a wave
 abbrev pub is_submission : Command → Bool
@@ -121,17 +126,20 @@ asked_by desk given = and_then given (λ c. Ok (record { desk = desk; command = 
 
 -- the command of a desk that a number, a word and arguments write
 abbrev pub command_in : List ℕ → List ℕ → Record → Result DeskCommand Why
-command_in desk text arguments = and_then (desk_read desk) (λ d. and_then (word_read text) (λ w. asked_by d (command_of w arguments)))
+command_in desk text arguments = and_then (desk_read desk)
+    (λ d. and_then (word_read text) (λ w. asked_by d (command_of w arguments)))
 
 -- the command of a desk that fields write
 abbrev pub command_in_fields : Record → Result DeskCommand Why
-command_in_fields (desk ∷ text ∷ arguments) = and_then (texts_of (desk ∷ text ∷ arguments)) (λ texts. command_in desk text arguments)
+command_in_fields (desk ∷ text ∷ arguments)
+    = and_then (texts_of (desk ∷ text ∷ arguments)) (λ texts. command_in desk text arguments)
 command_in_fields other = Err why.Columns
 
 -- the command of a desk that a record writes, after these commands; or the first test that the record fails
 abbrev pub command_after : List DeskCommand → Record → Result DeskCommand Why
 command_after commands fields =
-    if nat_lt (length commands) most_commands then and_then (command_in_fields fields) (with_room commands) else Err why.TooManyRows
+    if nat_lt (length commands) most_commands then and_then (command_in_fields fields) (with_room commands)
+    else Err why.TooManyRows
 
 -- the desks' commands with a record's
 abbrev pub script_after : List DeskCommand → Record → Result (List DeskCommand) Why
@@ -143,7 +151,11 @@ is_of desk asked = asked.desk == desk
 
 -- the script of a desk: what that desk asks for, in order
 abbrev pub script_from : List DeskCommand → ℕ → Script
-script_from commands desk = record { desk = desk; commands = map (λ asked. asked.command) (filter (is_of desk) commands) }
+script_from commands desk = record {
+  desk = desk;
+  commands = map (λ asked. asked.command)
+      (filter (is_of desk) commands);
+}
 
 -- how many desks there are: the greatest number of a desk that asks for a command, and 1 where none does
 abbrev pub desks_in : List DeskCommand → ℕ
@@ -160,4 +172,5 @@ desks_heading = codes "desk" ∷ codes "command" ∷ codes "arguments" ∷ []
 
 -- the scripts that a desk file says; or the first record that fails and its first failing test
 abbrev pub scripts_said : List ℕ → Result (List Script) RowFault
-scripts_said text = and_then (table_of desks_heading script_after [] (kept_in text)) (λ commands. Ok (scripts_of commands))
+scripts_said text = and_then (table_of desks_heading script_after [] (kept_in text))
+    (λ commands. Ok (scripts_of commands))

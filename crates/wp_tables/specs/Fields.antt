@@ -56,7 +56,8 @@ location_read field = ok_or (location_of field) why.BadName
 -- a field that is a number from `least` to `most`
 abbrev pub number_read : ℕ → ℕ → List ℕ → Result ℕ Why
 number_read least most field =
-    and_then (ok_or (number_of 18 field) why.BadNumber) (λ n. if nat_le least n && nat_le n most then Ok n else Err why.OutOfRange)
+    and_then (ok_or (number_of 18 field) why.BadNumber) (λ n. if nat_le least n && nat_le n most then Ok n
+    else Err why.OutOfRange)
 
 -- a field that is a quantity
 abbrev pub quantity_read : List ℕ → Result ℕ Why

@@ -13,10 +13,12 @@ use Rattle.wp_tables.specs.declared.fault.RowFault.{RowFault}
 use Rattle.wp_tables.specs.declared.fault.Why.{Why}
 use Rattle.wp_tables.specs.declared.fault.Why.TheVariants as why
 
--- the order of a name, where there is room for one more line: a known order has room for it, or there is room for a new order
+-- the order of a name, where there is room for one more line: a known order has room for it, or there is room for a new
+-- order
 abbrev pub order_with_room : List Order → List ℕ → Result (List ℕ) Why
 order_with_room orders name =
-    if is_known_order orders name then (if nat_lt (length (lines_of orders name)) most_lines then Ok name else Err why.TooManyLines)
+    if is_known_order orders name then (if nat_lt (length (lines_of orders name)) most_lines then Ok name
+    else Err why.TooManyLines)
     else if nat_lt (length orders) most_file_orders then Ok name else Err why.TooManyOrders
 
 -- the order of a further line
@@ -40,7 +42,8 @@ order_line_of articles orders fields = and_then (three_texts fields) (order_line
 
 -- the orders with a record's line
 abbrev pub orders_after : List (List ℕ) → List Order → Record → Result (List Order) Why
-orders_after articles orders fields = and_then (order_line_of articles orders fields) (λ line. Ok (add_order_line orders line))
+orders_after articles orders fields = and_then (order_line_of articles orders fields)
+    (λ line. Ok (add_order_line orders line))
 
 -- the heading of an order file
 abbrev pub orders_heading : Record

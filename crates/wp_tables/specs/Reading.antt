@@ -25,14 +25,17 @@ made_by next made (kept ∷ more) = and_then (at_row kept.number (next made kept
 -- the records under a heading, which is the first that is kept
 abbrev pub under_heading : Record → List Kept → Result (List Kept) RowFault
 under_heading heading [] = Err (fault_at 1 why.Columns)
-under_heading heading (kept ∷ more) = if same_record kept.fields heading then Ok more else Err (fault_at kept.number why.Columns)
+under_heading heading (kept ∷ more) = if same_record kept.fields heading then Ok more
+    else Err (fault_at kept.number why.Columns)
 
 -- what the records under a heading make, out of nothing
 abbrev pub table_of : {A : Type 0} → Record → (A → Record → Result A Why) → A → List Kept → Result A RowFault
 table_of heading next nothing records = and_then (under_heading heading records) (made_by next nothing)
 
--- the first record that fails, with its number: those before it make something, and after them it fails its first failing test
-pub record IsFirstFault {A : Type 0} (next : A → Record → Result A Why) (nothing : A) (records : List Kept) (fault : RowFault) : Type 0 where
+-- the first record that fails, with its number: those before it make something, and after them it fails its first
+-- failing test
+pub record IsFirstFault {A : Type 0} (next : A → Record → Result A Why) (nothing : A) (records : List Kept)
+    (fault : RowFault) : Type 0 where
   pub before : List Kept
   pub failing : Kept
   pub others : List Kept
@@ -42,7 +45,8 @@ pub record IsFirstFault {A : Type 0} (next : A → Record → Result A Why) (not
   pub fails : next made failing.fields ≡ Err fault.why
   pub number : fault.row ≡ failing.number
 
--- a part of a reader gives the value that a record says, as contracts see it, or the first test that fails; but it may want memory
+-- a part of a reader gives the value that a record says, as contracts see it, or the first test that fails; but it may
+-- want memory
 abbrev pub GivesBy : {A B : Type 0} → (A → B) → Result A Why → Result B Why → Type 0
 GivesBy view (Ok x) said = said ≡ Ok (view x)
 GivesBy view (Err why) said = wants_memory why ≡ false → said ≡ Err why
@@ -51,7 +55,8 @@ GivesBy view (Err why) said = wants_memory why ≡ false → said ≡ Err why
 abbrev pub Gives : {A : Type 0} → Result A Why → Result A Why → Type 0
 Gives = GivesBy (λ x. x)
 
--- a reader gives the value that the text says, as contracts see it, or the first record that fails and its first failing test; but it may want memory
+-- a reader gives the value that the text says, as contracts see it, or the first record that fails and its first
+-- failing test; but it may want memory
 abbrev pub ReadsBy : {A B : Type 0} → (A → B) → Result A RowFault → Result B RowFault → Type 0
 ReadsBy view (Ok x) said = said ≡ Ok (view x)
 ReadsBy view (Err fault) said = wants_memory fault.why ≡ false → said ≡ Err fault

@@ -37,7 +37,8 @@ kept_from number (fields ∷ records) = kept_before number (trimmed fields) (kep
 abbrev pub kept_in : List ℕ → List Kept
 kept_in text = kept_from 1 (records_in text)
 
--- a kept record is the one at a place of these records, counted from 0, without its trailing empty fields, and its number is one more
+-- a kept record is the one at a place of these records, counted from 0, without its trailing empty fields, and its
+-- number is one more
 pub record IsAmong (records : List Record) (kept : Kept) : Type 0 where
   pub place : ℕ
   pub fields : Record

@@ -1,5 +1,6 @@
 -- What a stock file says.
-use Rattle.std.specs.Prelude.{ℕ, ◌&&◌, nat_le, nat_lt, Bool, List, [], ◌∷◌, length, codes, if◌then◌else◌, Result, Ok, Err}
+use Rattle.std.specs.Prelude.{ℕ, ◌&&◌, nat_le, nat_lt, Bool, List, [], ◌∷◌, length, codes, if◌then◌else◌, Result, Ok}
+use Rattle.std.specs.Prelude.{Err}
 use Rattle.std.specs.List.{list_any}
 use Rattle.wp_model.specs.Opening.{Stock}
 use Rattle.wp_model.specs.Limits.{most_on_hand, most_places, most_rows}
@@ -17,12 +18,14 @@ use Rattle.wp_tables.specs.declared.fault.Why.TheVariants as why
 
 -- a location in a layout: its aisle is one of the aisles, and its slot one of the slots
 abbrev pub is_inside : Layout → Location → Bool
-is_inside layout location = nat_le 1 location.aisle && nat_le location.aisle layout.aisles && nat_le 1 location.slot && nat_le location.slot layout.slots
+is_inside layout location = nat_le 1 location.aisle && nat_le location.aisle layout.aisles && nat_le 1
+    location.slot && nat_le location.slot layout.slots
 
 -- the location of a further row: it is in the layout, and no row lies there
 abbrev pub free_location : Layout → Stock → List ℕ → Result Location Why
 free_location layout stock field = and_then (location_read field)
-    (λ location. if is_inside layout location then (if list_any (lies_at location) stock.rows then Err why.LocationTwice else Ok location) else Err
+    (λ location. if is_inside layout location
+    then (if list_any (lies_at location) stock.rows then Err why.LocationTwice else Ok location) else Err
     why.UnknownLocation)
 
 -- the article of a further row
@@ -40,7 +43,8 @@ line_of_three layout stock fields = and_then (free_location layout stock fields.
 -- the line that a record writes, after those that made this stock; or the first test that the record fails
 abbrev pub stock_line_of : Layout → Stock → Record → Result StockLine Why
 stock_line_of layout stock fields =
-    if nat_lt (length stock.rows) most_rows then and_then (three_texts fields) (line_of_three layout stock) else Err why.TooManyRows
+    if nat_lt (length stock.rows) most_rows then and_then (three_texts fields) (line_of_three layout stock)
+    else Err why.TooManyRows
 
 -- the stock with a record's line
 abbrev pub stock_after : Layout → Stock → Record → Result Stock Why

@@ -6,7 +6,8 @@ ghost use Rattle.std.specs.Str.{is_utf8};
 ghost use Rattle.csv.specs.Records.{fields_of};
 ghost use Rattle.wp_model.specs.Limits.{most_quantity};
 ghost use Rattle.wp_model.specs.Plain.{is_plain_location};
-ghost use Rattle.wp_tables.specs.Fields.{four_now, four_of, location_read, name_read, number_read, one_of, quantity_read, same_fault, three_now, three_of};
+ghost use Rattle.wp_tables.specs.Fields.{four_now, four_of, location_read, name_read, number_read, one_of};
+ghost use Rattle.wp_tables.specs.Fields.{quantity_read, same_fault, three_now, three_of};
 ghost use Rattle.wp_tables.specs.Fields.{three_texts};
 
 use crate::fault::Why;
@@ -24,7 +25,8 @@ pub fn field_of(fields: &ByteRecord, i: usize) -> &[u8]
 /// The one field from a place on. `Columns` comes exactly where there isn't just one.
 pub fn one_from(fields: &ByteRecord, at: usize) -> Result<&[u8], Why>
     requires { at ≤ length (fields_of fields.now) }
-    ensures { result_map_both (λ field. field.now) same_fault result ≡ one_of (drop at (fields_of fields.now)) }
+    ensures { result_map_both (λ field. field.now) same_fault result
+        ≡ one_of (drop at (fields_of fields.now)) }
 {
     if fields.len() - at != 1 {
         return Err(Why::Columns);
@@ -35,7 +37,8 @@ pub fn one_from(fields: &ByteRecord, at: usize) -> Result<&[u8], Why>
 /// The three fields from a place on. `Columns` comes exactly where there aren't just three.
 pub fn three_from(fields: &ByteRecord, at: usize) -> Result<(&[u8], &[u8], &[u8]), Why>
     requires { at ≤ length (fields_of fields.now) }
-    ensures { result_map_both three_now same_fault result ≡ three_of (drop at (fields_of fields.now)) }
+    ensures { result_map_both three_now same_fault result
+        ≡ three_of (drop at (fields_of fields.now)) }
 {
     if fields.len() - at != 3 {
         return Err(Why::Columns);
@@ -50,7 +53,8 @@ pub fn three_from(fields: &ByteRecord, at: usize) -> Result<(&[u8], &[u8], &[u8]
 /// The four fields from a place on. `Columns` comes exactly where there aren't just four.
 pub fn four_from(fields: &ByteRecord, at: usize) -> Result<(&[u8], &[u8], &[u8], &[u8]), Why>
     requires { at ≤ length (fields_of fields.now) }
-    ensures { result_map_both four_now same_fault result ≡ four_of (drop at (fields_of fields.now)) }
+    ensures { result_map_both four_now same_fault result
+        ≡ four_of (drop at (fields_of fields.now)) }
 {
     if fields.len() - at != 4 {
         return Err(Why::Columns);

@@ -13,9 +13,12 @@ ghost use Rattle.wp_tables.specs.declared.fault.RowFault.{RowFault};
 /// table's records is that of the first that fails after those before it.
 pub fn first_faults_are_told()
     ensures numbers { (text : List ℕ) → All (IsAmong (records_in text)) (kept_in text) }
-    ensures stock { (layout : Layout) (records : List Kept) (fault : RowFault) → made_by (stock_after layout) empty_stock records ≡ Err fault → IsFirstFault
+    ensures stock { (layout : Layout) (records : List Kept) (fault : RowFault)
+        → made_by (stock_after layout) empty_stock records ≡ Err fault → IsFirstFault
         (stock_after layout) empty_stock records fault }
-    ensures orders { (articles : List (List ℕ)) (records : List Kept) (fault : RowFault) → made_by (orders_after articles) [] records ≡ Err fault
+    ensures orders { (articles : List (List ℕ)) (records : List Kept) (fault : RowFault)
+        → made_by (orders_after articles) [] records ≡ Err fault
         → IsFirstFault (orders_after articles) [] records fault }
-    ensures desks { (records : List Kept) (fault : RowFault) → made_by script_after [] records ≡ Err fault → IsFirstFault script_after [] records fault }
+    ensures desks { (records : List Kept) (fault : RowFault)
+        → made_by script_after [] records ≡ Err fault → IsFirstFault script_after [] records fault }
 {}

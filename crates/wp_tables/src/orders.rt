@@ -1,11 +1,13 @@
-ghost use Rattle.std.specs.Prelude.{◌≡◌, ◌<◌, ◌≤◌, ◌^◌, ◌==◌, Some, true, false, [], length, slice_get, map, IfNone, IfOk, IfSome, OnOk, Ok};
+ghost use Rattle.std.specs.Prelude.{◌≡◌, ◌<◌, ◌≤◌, ◌^◌, ◌==◌, Some, true, false, [], length, slice_get, map, IfNone};
+ghost use Rattle.std.specs.Prelude.{IfOk, IfSome, OnOk, Ok};
 ghost use Rattle.csv.specs.Records.{fields_of};
 ghost use Rattle.wp_model.specs.Limits.{most_file_orders};
 ghost use Rattle.wp_model.specs.Opening.{is_known_order, lines_of};
 ghost use Rattle.wp_model.specs.TableLines.{MayJoinOrders, add_order_line, article_in};
 ghost use Rattle.wp_model.specs.Tables.{AreReadOrders};
 ghost use Rattle.wp_tables.specs.Keys.{IsHashUnder, IsOrdersKey, made_of};
-ghost use Rattle.wp_tables.specs.OrderFile.{article_read, order_line_of, order_line_of_three, order_read, order_with_room, orders_after, orders_said};
+ghost use Rattle.wp_tables.specs.OrderFile.{article_read, order_line_of, order_line_of_three, order_read};
+ghost use Rattle.wp_tables.specs.OrderFile.{order_with_room, orders_after, orders_said};
 ghost use Rattle.wp_tables.specs.Orders.{HasRoom, lines_in, name_of};
 ghost use Rattle.wp_tables.specs.Reading.{Reads, ReadsBy, TakesIn, at_row, made_by};
 ghost use Rattle.wp_tables.specs.RecordsLeft.{IsReading, kept_left};
@@ -72,7 +74,8 @@ impl OrdersSoFar {
     }
 
     fn lines_of(&self, name: &Name) -> Option<usize>
-        ensures known { IfSome result (λ lines. (is_known_order self.now.made name.now ≡ true) × (lines ≡ length (lines_of self.now.made name.now))) }
+        ensures known { IfSome result (λ lines. (is_known_order self.now.made name.now ≡ true)
+            × (lines ≡ length (lines_of self.now.made name.now))) }
         ensures new { IfNone result (is_known_order self.now.made name.now ≡ false) }
         ensures none { IfNone result (lines_of self.now.made name.now ≡ []) }
     {
@@ -108,7 +111,8 @@ impl OrdersSoFar {
         article: &[u8],
         quantity: &[u8],
     ) -> Result<OrderLine, Why>
-        ensures line { result ≡ order_line_of_three stock.now.articles self.now.made (order.now, article.now, quantity.now) }
+        ensures line { result ≡ order_line_of_three stock.now.articles self.now.made
+            (order.now, article.now, quantity.now) }
         ensures joins { IfOk result (MayJoinOrders stock.now.articles self.now.made) }
     {
         let order = self.read_order(order)?;
@@ -119,7 +123,8 @@ impl OrdersSoFar {
     }
 
     fn read_line(&self, stock: &Stock, fields: &ByteRecord) -> Result<OrderLine, Why>
-        ensures line { result ≡ order_line_of stock.now.articles self.now.made (fields_of fields.now) }
+        ensures line { result ≡ order_line_of stock.now.articles self.now.made
+            (fields_of fields.now) }
         ensures joins { IfOk result (MayJoinOrders stock.now.articles self.now.made) }
     {
         let (order, article, quantity) = three_texts(fields)?;
@@ -150,7 +155,8 @@ impl OrdersSoFar {
     }
 
     fn add(&mut self, alloc: Global, line: OrderLine) -> Result<(), Memory>
-        requires { is_known_order self.old.made line.order ≡ false → length self.old.made < most_file_orders }
+        requires { is_known_order self.old.made line.order ≡ false
+            → length self.old.made < most_file_orders }
         ensures made { IfOk result (λ _. self.new.made ≡ add_order_line self.old.made line) }
         ensures key { IfOk result (λ _. self.new.key ≡ self.old.key) }
     {
@@ -167,8 +173,10 @@ impl OrdersSoFar {
         row: u64,
         fields: &ByteRecord,
     ) -> Result<(), RowFault>
-        ensures taken { TakesIn result self.new.made (at_row row (orders_after stock.now.articles self.old.made (fields_of fields.now))) }
-        ensures read { AreReadOrders stock.now.articles self.old.made → OnOk result (AreReadOrders stock.now.articles self.new.made) }
+        ensures taken { TakesIn result self.new.made
+            (at_row row (orders_after stock.now.articles self.old.made (fields_of fields.now))) }
+        ensures read { AreReadOrders stock.now.articles self.old.made
+            → OnOk result (AreReadOrders stock.now.articles self.new.made) }
         ensures key { OnOk result (self.new.key ≡ self.old.key) }
     {
         match self.read_line(stock, fields) {
@@ -189,8 +197,8 @@ impl OrdersSoFar {
 }
 
 /// The orders of a warehouse in the order of their first appearance in the order file, numbered from 0. Contracts
-/// see the list of the orders, each with its name and its lines. The names are hashed under the digest of a file that says
-/// these orders.
+/// see the list of the orders, each with its name and its lines. The names are hashed under the digest of a file that
+/// says these orders.
 #[derive(Drop)]
 pub struct Orders {
     names: IndexSet<Name, FileKey>,
@@ -263,7 +271,8 @@ fn read_lines(
     records: &mut Records,
 ) -> Result<OrdersSoFar, RowFault>
     requires { IsReading records.old }
-    ensures exact { ReadsBy made_of result (made_by (orders_after stock.now.articles) [] (kept_left records.old)) }
+    ensures exact { ReadsBy made_of result (made_by (orders_after stock.now.articles) []
+        (kept_left records.old)) }
     ensures read { IfOk result (λ orders. AreReadOrders stock.now.articles orders.made) }
     ensures key { IfOk result (λ orders. orders.key ≡ key) }
 {
@@ -277,11 +286,11 @@ fn read_lines(
 
 /// The orders that an order file says, for a stock: the heading `order,article,quantity`, and then a record for each
 /// line of an order. A record is refused, in this order, as `Columns` where it hasn't three fields, `NotUtf8` where one
-/// isn't text, `BadName` where the first is no name, `TooManyOrders` where it is a new one and there are 10,000 already,
-/// `TooManyLines` where that order has 50 lines already, `BadName` where the second is no name, `UnknownArticle` where
-/// the stock has no such article, and `BadNumber` or `OutOfRange` where the third is no number 1 to 100,000. The first
-/// record that is refused is the answer, and so is the first record at all, or row 1 where there is none, as
-/// `Columns` where it isn't the heading.
+/// isn't text, `BadName` where the first is no name, `TooManyOrders` where it is a new one and there are 10,000
+/// already, `TooManyLines` where that order has 50 lines already, `BadName` where the second is no name,
+/// `UnknownArticle` where the stock has no such article, and `BadNumber` or `OutOfRange` where the third is no number 1
+/// to 100,000. The first record that is refused is the answer, and so is the first record at all, or row 1 where there
+/// is none, as `Columns` where it isn't the heading.
 pub fn read_orders(alloc: Global, text: &Vec<u8>, stock: &Stock) -> Result<Orders, RowFault>
     ensures exact { Reads result (orders_said stock.now text.now.items) }
     ensures read { IfOk result (AreReadOrders stock.now.articles) }

@@ -61,7 +61,8 @@ impl<'a> Records<'a> {
 
     fn read(&mut self, fields: &mut ByteRecord) -> Result<bool, Memory>
         requires { IsReading self.old }
-        ensures taken { IfOk result (λ found. found ≡ true → TakesRecord self.old (fields_of fields.new) self.new) }
+        ensures taken { IfOk result (λ found. found ≡ true
+            → TakesRecord self.old (fields_of fields.new) self.new) }
         ensures end { IfOk result (λ found. found ≡ false → records_left self.old ≡ []) }
     {
         let found = match self.reader.read_byte_record(fields) {
@@ -81,7 +82,8 @@ impl<'a> Records<'a> {
         requires { IsReading self.old }
         ensures next { IfOk result (λ number. MatchOption number (kept_left self.old ≡ [])
             (λ n. kept_left self.old ≡ record { number = n; fields = fields_of fields.new } ∷ kept_left self.new)) }
-        ensures reading { IfOk result (λ number. MatchOption number (Unit {0}) (λ n. IsReading self.new)) }
+        ensures reading { IfOk result (λ number. MatchOption number (Unit {0})
+            (λ n. IsReading self.new)) }
     {
         loop {
             if !self.read(fields)? {
@@ -113,7 +115,8 @@ impl<'a> Records<'a> {
         c: &[u8],
     ) -> Result<(), RowFault>
         requires { IsReading self.old }
-        ensures under { TakesIn result (kept_left self.new) (under_heading (a.now ∷ b.now ∷ c.now ∷ []) (kept_left self.old)) }
+        ensures under { TakesIn result (kept_left self.new)
+            (under_heading (a.now ∷ b.now ∷ c.now ∷ []) (kept_left self.old)) }
         ensures reading { OnOk result (IsReading self.new) }
     {
         let Some(row) = self.next(fields)? else {
@@ -141,7 +144,8 @@ impl<'a> Records<'a> {
         b: &[u8],
         c: &[u8],
     ) -> Result<Records<'a>, RowFault>
-        ensures under { ReadsBy kept_left result (under_heading (a.now ∷ b.now ∷ c.now ∷ []) (kept_in text.now)) }
+        ensures under { ReadsBy kept_left result
+            (under_heading (a.now ∷ b.now ∷ c.now ∷ []) (kept_in text.now)) }
         ensures reading { IfOk result IsReading }
     {
         let mut records = Records::of(alloc, text);

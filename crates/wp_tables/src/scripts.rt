@@ -1,12 +1,15 @@
-ghost use Rattle.std.specs.Prelude.{◌≡◌, ℕ, ◌<◌, ◌≤◌, ◌+◌, List, [], ◌∷◌, ◌++◌, Some, Ok, length, slice_get, drop, map, vec_len, IfOk, IsTrue};
+ghost use Rattle.std.specs.Prelude.{◌≡◌, ℕ, ◌<◌, ◌≤◌, ◌+◌, List, [], ◌∷◌, ◌++◌, Some, Ok, length, slice_get, drop, map};
+ghost use Rattle.std.specs.Prelude.{vec_len, IfOk, IsTrue};
 ghost use Rattle.std.specs.List.{All};
 ghost use Rattle.csv.specs.Records.{fields_of};
 ghost use Rattle.wp_model.specs.History.{script_of};
 ghost use Rattle.wp_model.specs.Plain.{is_plain, is_plain_location, is_plain_quantity};
 ghost use Rattle.wp_model.specs.Tables.{AreReadScripts};
 ghost use Rattle.wp_model.specs.declared.command.Command.TheVariants as command;
-ghost use Rattle.wp_tables.specs.DeskFile.{command_after, command_in_fields, command_of, desk_read, has_room, hold_of, is_desk, is_submission, names_read};
-ghost use Rattle.wp_tables.specs.DeskFile.{of_hold, receipt_of, script_after, scripts_of, scripts_said, submission_of, wave_of, word_read};
+ghost use Rattle.wp_tables.specs.DeskFile.{command_after, command_in_fields, command_of, desk_read, has_room, hold_of};
+ghost use Rattle.wp_tables.specs.DeskFile.{is_desk, is_submission, names_read};
+ghost use Rattle.wp_tables.specs.DeskFile.{of_hold, receipt_of, script_after, scripts_of, scripts_said, submission_of};
+ghost use Rattle.wp_tables.specs.DeskFile.{wave_of, word_read};
 ghost use Rattle.wp_tables.specs.Reading.{Gives, GivesBy, Reads, TakesIn, at_row, made_by};
 ghost use Rattle.wp_tables.specs.RecordsLeft.{IsReading, kept_left};
 ghost use Rattle.wp_tables.specs.Scripts.{AreDealt, IsReadCommand, MayFollow};
@@ -94,7 +97,8 @@ fn read_desk(field: &[u8]) -> Result<u32, Why>
 /// The names from a place of a record on.
 fn read_names(alloc: Global, fields: &ByteRecord, at: usize) -> Result<Vec<Name>, Why>
     requires { at ≤ length (fields_of fields.now) }
-    ensures names { GivesBy (λ names. names.items) result (names_read (drop at (fields_of fields.now))) }
+    ensures names { GivesBy (λ names. names.items) result
+        (names_read (drop at (fields_of fields.now))) }
     ensures len { IfOk result (λ names. vec_len names + at ≡ length (fields_of fields.now)) }
 {
     let mut names = Vec::new(alloc);
@@ -137,7 +141,8 @@ struct NamedHold {
 fn read_held(fields: &ByteRecord) -> Result<NamedHold, Why>
     requires { 2 ≤ length (fields_of fields.now) }
     ensures held { result ≡ hold_of (drop 2 (fields_of fields.now)) }
-    ensures plain { IfOk result (λ held. IsTrue (is_plain_location held.location) × IsTrue (is_plain_quantity held.quantity)) }
+    ensures plain { IfOk result (λ held. IsTrue (is_plain_location held.location)
+        × IsTrue (is_plain_quantity held.quantity)) }
 {
     let (wave, order, location, quantity) = four_from(fields, 2)?;
     let wave = read_name(wave)?;
@@ -275,7 +280,8 @@ fn empty_scripts(alloc: Global, desks: u32) -> Result<Vec<DeskScript>, Memory>
 fn deal(scripts: &mut Vec<DeskScript>, asked: DeskCommand) -> Result<(), Memory>
     requires first { 1 ≤ asked.desk }
     requires last { asked.desk ≤ length scripts.old.items }
-    ensures { IfOk result (λ _. (commands : List DeskCommand) (desks : ℕ) → AreDealt commands desks scripts.old.items
+    ensures { IfOk result (λ _. (commands : List DeskCommand) (desks : ℕ)
+        → AreDealt commands desks scripts.old.items
         → AreDealt (commands ++ asked ∷ []) desks scripts.new.items) }
 {
     let place = asked.desk as usize - 1;
@@ -348,7 +354,8 @@ impl CommandsSoFar {
     }
 
     fn take(&mut self, alloc: Global, row: u64, fields: &ByteRecord) -> Result<(), RowFault>
-        ensures { TakesIn result self.new (at_row row (script_after self.old (fields_of fields.now))) }
+        ensures { TakesIn result self.new (at_row row
+            (script_after self.old (fields_of fields.now))) }
     {
         match self.read(alloc, fields) {
             Ok(asked) => Ok(self.add(asked)?),
@@ -380,17 +387,17 @@ fn read_commands(alloc: Global, records: &mut Records) -> Result<CommandsSoFar, 
 }
 
 /// The scripts that a desk file says: the heading `desk,command,arguments`, and then a record for each command of a
-/// desk, 1 to 8, as `1,submit,WAVE,ORDER,..` with at most 100 orders, `1,allot,WAVE`, `1,release,WAVE`, `1,cancel,WAVE`,
-/// `1,pick,WAVE,ORDER,LOCATION,QUANTITY`, `1,missing,WAVE,ORDER,LOCATION,QUANTITY` and
+/// desk, 1 to 8, as `1,submit,WAVE,ORDER,..` with at most 100 orders, `1,allot,WAVE`, `1,release,WAVE`,
+/// `1,cancel,WAVE`, `1,pick,WAVE,ORDER,LOCATION,QUANTITY`, `1,missing,WAVE,ORDER,LOCATION,QUANTITY` and
 /// `1,receive,LOCATION,ARTICLE,QUANTITY`. There are as many desks as the greatest number of a desk in the file, and one
-/// where it has no command. Each desk has its commands in the order of the file, and none where the file has none of it.
-/// A record is refused, in this order, as `TooManyRows` where it is the 10,001st of all desks together, `Columns` where
-/// it has fewer than two fields, `NotUtf8` where one isn't text, `BadNumber` where the first isn't 1 to 18 digits,
-/// `DeskNumber` where it is no number 1 to 8, `UnknownCommand`, `Columns` where it hasn't its command's number of fields,
-/// for the arguments from left to right `BadName` where one is no name or location, and `BadNumber` or `OutOfRange` where
-/// one is no quantity 1 to 100,000, and `TooManyWaves` where it is the 501st of all desks together that submits a wave.
-/// The first record that is refused is the answer, and so is the first record at all, or row 1 where there is none, as
-/// `Columns` where it isn't the heading.
+/// where it has no command. Each desk has its commands in the order of the file, and none where the file has none of
+/// it. A record is refused, in this order, as `TooManyRows` where it is the 10,001st of all desks together, `Columns`
+/// where it has fewer than two fields, `NotUtf8` where one isn't text, `BadNumber` where the first isn't 1 to 18
+/// digits, `DeskNumber` where it is no number 1 to 8, `UnknownCommand`, `Columns` where it hasn't its command's number
+/// of fields, for the arguments from left to right `BadName` where one is no name or location, and `BadNumber` or
+/// `OutOfRange` where one is no quantity 1 to 100,000, and `TooManyWaves` where it is the 501st of all desks together
+/// that submits a wave. The first record that is refused is the answer, and so is the first record at all, or row 1
+/// where there is none, as `Columns` where it isn't the heading.
 pub fn read_desks(alloc: Global, text: &Vec<u8>) -> Result<Scripts, RowFault>
     ensures exact { Reads result (scripts_said text.now.items) }
     ensures read { IfOk result AreReadScripts }

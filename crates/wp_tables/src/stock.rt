@@ -1,4 +1,5 @@
-ghost use Rattle.std.specs.Prelude.{◌≡◌, ℕ, ◌+◌, ◌-◌, ◌<◌, ◌≤◌, ◌^◌, ◌==◌, if◌then◌else◌, max, Some, true, false, length, slice_get, slice_index, map, IfOk};
+ghost use Rattle.std.specs.Prelude.{◌≡◌, ℕ, ◌+◌, ◌-◌, ◌<◌, ◌≤◌, ◌^◌, ◌==◌, if◌then◌else◌, max, Some, true, false};
+ghost use Rattle.std.specs.Prelude.{length, slice_get, slice_index, map, IfOk};
 ghost use Rattle.std.specs.Prelude.{IfSome, Ok};
 ghost use Rattle.std.specs.List.{list_any};
 ghost use Rattle.csv.specs.Records.{fields_of};
@@ -7,7 +8,8 @@ ghost use Rattle.wp_model.specs.Tables.{IsReadStock, places_of, row_number_from}
 ghost use Rattle.wp_tables.specs.Keys.{IsHashUnder, IsStockKey, made_of};
 ghost use Rattle.wp_tables.specs.Reading.{Reads, ReadsBy, at_row, made_by, table_of};
 ghost use Rattle.wp_tables.specs.RecordsLeft.{IsReading, kept_left};
-ghost use Rattle.wp_tables.specs.StockFile.{article_with_room, free_location, is_inside, line_of_three, stock_after, stock_heading, stock_line_of, stock_said};
+ghost use Rattle.wp_tables.specs.StockFile.{article_with_room, free_location, is_inside, line_of_three, stock_after};
+ghost use Rattle.wp_tables.specs.StockFile.{stock_heading, stock_line_of, stock_said};
 
 use crate::fault::{RowFault, Why};
 use crate::fields::{read_location, read_name, read_number_in, three_texts};
@@ -46,7 +48,13 @@ impl Model for StockSoFar {
 
     ghost Value = { Keyed opening.Stock };
 
-    ghost view = { λ s. record { made = record { rows = map (λ e. e.1) s.rows.entries; articles = s.articles.keys }; key = hasher_of s.articles } };
+    ghost view = { λ s. record {
+      made = record {
+        rows = map (λ e. e.1) s.rows.entries;
+        articles = s.articles.keys;
+      };
+      key = hasher_of s.articles;
+    } };
 
     ghost invariant = { λ s. (s.rows.entries ≡ by_location (map (λ e. e.1) s.rows.entries)) × IsKeptStock
         (record { rows = map (λ e. e.1) s.rows.entries; articles = s.articles.keys }) s.places.items };
@@ -56,8 +64,10 @@ impl Model for StockSoFar {
 fn count_at(counts: &mut Vec<u32>, place: usize) -> Result<(), Memory>
     requires within { place ≤ length counts.old.items }
     requires room { slice_index counts.old.items place < 2 ^ 32 - 1 }
-    ensures counts { IfOk result (λ _. (i : ℕ) → slice_index counts.new.items i ≡ slice_index counts.old.items i + (if place == i then 1 else 0)) }
-    ensures length { IfOk result (λ _. length counts.new.items ≡ max (length counts.old.items) (place + 1)) }
+    ensures counts { IfOk result (λ _. (i : ℕ) → slice_index counts.new.items i
+        ≡ slice_index counts.old.items i + (if place == i then 1 else 0)) }
+    ensures length { IfOk result (λ _. length counts.new.items
+        ≡ max (length counts.old.items) (place + 1)) }
 {
     if place < counts.len() {
         counts[place] += 1;
@@ -130,7 +140,8 @@ impl StockSoFar {
         article: &[u8],
         on_hand: &[u8],
     ) -> Result<StockLine, Why>
-        ensures { result ≡ line_of_three layout.now self.now.made (location.now, article.now, on_hand.now) }
+        ensures { result ≡ line_of_three layout.now self.now.made
+            (location.now, article.now, on_hand.now) }
     {
         let location = self.read_location(layout, location)?;
         let article = self.read_article(article)?;
@@ -179,7 +190,8 @@ impl StockSoFar {
     }
 
     fn with(self, layout: &Layout, row: u64, fields: &ByteRecord) -> Result<StockSoFar, RowFault>
-        ensures made { ReadsBy made_of result (at_row row (stock_after layout.now self.made (fields_of fields.now))) }
+        ensures made { ReadsBy made_of result (at_row row
+            (stock_after layout.now self.made (fields_of fields.now))) }
         ensures key { IfOk result (λ stock. stock.key ≡ self.key) }
     {
         match self.read_line(layout, fields) {
@@ -323,7 +335,8 @@ fn read_rows(
     records: &mut Records,
 ) -> Result<StockSoFar, RowFault>
     requires { IsReading records.old }
-    ensures made { ReadsBy made_of result (made_by (stock_after layout.now) empty_stock (kept_left records.old)) }
+    ensures made { ReadsBy made_of result (made_by (stock_after layout.now) empty_stock
+        (kept_left records.old)) }
     ensures key { IfOk result (λ stock. stock.key ≡ key) }
 {
     let mut fields = ByteRecord::new(alloc);
@@ -334,9 +347,9 @@ fn read_rows(
     Ok(stock)
 }
 
-/// The stock that a stock file says of a layout: the heading `location,article,on_hand`, and then a record for each row. A
-/// record is refused, in this order, as `TooManyRows` where it is the 25,601st, `Columns` where it hasn't three fields,
-/// `NotUtf8` where one isn't text, `BadName` where the first is no location, `UnknownLocation` where the
+/// The stock that a stock file says of a layout: the heading `location,article,on_hand`, and then a record for each
+/// row. A record is refused, in this order, as `TooManyRows` where it is the 25,601st, `Columns` where it hasn't three
+/// fields, `NotUtf8` where one isn't text, `BadName` where the first is no location, `UnknownLocation` where the
 /// layout has no such aisle or slot, `LocationTwice`, `BadName` where the second is no name, `TooManyPlaces` where the
 /// article has 1,000 rows already, and `BadNumber` or `OutOfRange` where the third is no number 0 to 1,000,000. The
 /// first record that is refused is the answer, and so is the first record at all, or row 1 where there is none, as

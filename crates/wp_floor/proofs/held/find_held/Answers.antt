@@ -3,7 +3,8 @@ use Rattle.wp_floor.proofs.HeldUnits.{held_there_is, row_is_found}
 use Rattle.wp_floor.proofs.held.find_held.Goals as goal
 
 pub held_at_row-requires : goal.held_at_row-requires
-held_at_row-requires c = (row_is_found c.args.book.now.rows c.args.claim.now.location c.args.claim.now.row c.in_ok-row.row c.requires.row c.in_ok-row.was).within
+held_at_row-requires c = (row_is_found c.args.book.now.rows c.args.claim.now.location c.args.claim.now.row c.in_ok-row.row c.requires.row
+    c.in_ok-row.was).within
 
 pub returns : goal.returns
 returns c =

@@ -18,7 +18,8 @@ loop-preserved c =
     let before = c.loop.invariant in
     record {
       state = c.draw_line.ensures.state ∙ ap (state_after 3) before.state ∙ three_more c.loop.counter start;
-      text = grown (λ line. record_line (line_record c.args.order (line_from c.args.aisles (state_after (3 * line) start)))) 0 c.loop.counter c.loop.counter (c.loop.counter + 1) (string_bytes c.args.text.now)
+      text = grown (λ line. record_line (line_record c.args.order (line_from c.args.aisles (state_after (3 * line) start)))) 0 c.loop.counter c.loop.counter
+          (c.loop.counter + 1) (string_bytes c.args.text.now)
           (string_bytes c.loop.text) (string_bytes c.print_line.new.text) (omega arith) refl before.text
           (c.in_ok-print_line.ensures ∙ ap (λ line. string_bytes c.loop.text ++ record_line (line_record c.args.order line))
           (c.draw_line.ensures.line ∙ ap (line_from c.args.aisles) before.state));

@@ -7,7 +7,8 @@ use Rattle.wp_tables.proofs.stock.read_rows.Given as goal
 
 -- the records that are left make of the stock so far what all records make
 abbrev pub invariant-loop-stock : goal.invariant-loop-stock
-invariant-loop-stock l = (made_by (stock_after l.layout) empty_stock (kept_left l.fn.records) ≡ made_by (stock_after l.layout) l.stock.made (kept_left l.records))
+invariant-loop-stock l = (made_by (stock_after l.layout) empty_stock (kept_left l.fn.records)
+    ≡ made_by (stock_after l.layout) l.stock.made (kept_left l.records))
     × IsReading l.records
     × (l.stock.key ≡ l.fn.key)
 

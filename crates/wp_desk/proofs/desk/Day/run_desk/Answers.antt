@@ -9,7 +9,8 @@ loop-command-preserved g c =
     let script = c.args.script.now in
     let done = c.loop-command.invariant in
     let answer = if_no_err c.ask-next.result.1 _ (sym c.is_err.ensures.value ∙ c.if-is_err.false) c.ask-next.ensures.kept in
-    let more = take_more script c.loop-command.command-index c.command-item.result c.loop-command-test.true ∙ ap (λ x. take c.loop-command.command-index script ++ x ∷ []) (sym c.command-item.is) in (
+    let more = take_more script c.loop-command.command-index c.command-item.result c.loop-command-test.true ∙ ap
+    (λ x. take c.loop-command.command-index script ++ x ∷ []) (sym c.command-item.is) in (
       subst (λ desk. IsOfDesk c.args.self.now.turn desk c.ask-next.result.0.pass) done.0.desk_is c.ask-next.ensures.own,
       subst (λ commands. HasDone (start_of c.args.self.now.turn) commands c.ask-next.result.0.pass c.ask-next.new.told) (sym more)
           (done_more (start_of c.args.self.now.turn) (take c.loop-command.command-index script) c.loop-command.desk.pass c.ask-next.result.0.pass

@@ -13,7 +13,8 @@ deal-requires-clause-last c =
     let commands = c.self.inside.commands.items in
     let gives = c.into_iter-asked-iterator.ensures.into_iter_gives in
     let from = YieldsList-from_vec {s = c.into_iter-asked-iterator.result} commands gives.0 (gives.1 ∙ c.self.inside.commands.ok.0) in
-    let turn = YieldsList-turn from c.loop-asked.yielded _ c.loop-asked.yielded_by c.next.result c.next.new.self c.in-Some.asked c.in-Some.is c.next.ensures.steps in
+    let turn = YieldsList-turn from c.loop-asked.yielded _ c.loop-asked.yielded_by c.next.result c.next.new.self c.in-Some.asked c.in-Some.is
+    c.next.ensures.steps in
     let within = subst (IsWithin (desks_in commands)) (sym turn.1) (desks_within commands c.self.invariant.each _ c.in-Some.asked turn.0) in
     let dealt = rw (← c.self.view_is) at c.loop-asked.invariant in
     omega (arith, within.1, dealt_length c.loop-asked.yielded (desks_in commands) c.loop-asked.scripts.items dealt)
