@@ -106,9 +106,9 @@ batch_picks_some layout opening released terms plan place out good within =
     let order = slice_index batch 0 in
     let least = least_order plan.wave terms.capacity plan.planned.batching place good.good.sound.batching within in
     let below : order < length released.orders = omega (arith, least.1, good.wave.orders) in
-    let has = out.filled order below in
+    let has = out.listed.filled order below in
     let in_row : has.0.row < length opening.stock.rows =
-    (All-contains (IsHoldWithin (length released.orders) (length opening.stock.rows)) released.holds has.0 out.within has.1).1 in
+    (All-contains (IsHoldWithin (length released.orders) (length opening.stock.rows)) released.holds has.0 out.listed.within has.1).1 in
     let row = within_some opening.stock.rows has.0.row in_row in
     let point = slot_at row.0.location in
     let picked : Contains (picks_of plan.wave order) point =

@@ -18,7 +18,7 @@ pub batch_slots : (layout : Layout) (opening : Opening) (released : WaveHolds) (
     → IsWaveOf layout opening released wave → All (λ order. order < length released.orders) batch → AreSlots wave.layout (batch_picks wave batch)
 batch_slots layout opening released wave batch out of known =
     subst (λ (l : Layout). AreSlots l (batch_picks wave batch)) (sym of.layout_is) (record {
-      ranges = (of.slots 0 (omega (arith, out.some))).ranges;
+      ranges = (of.slots 0 (omega (arith, out.listed.some))).ranges;
       slots = λ p has.
           let source = flat_map_source (picks_of wave) batch p (among_from_Contains (batch_picks wave batch) p has) in
           let within = All-contains (λ (order : ℕ). order < length released.orders) batch source.0 known (Contains-from_among batch source.0 source.1) in

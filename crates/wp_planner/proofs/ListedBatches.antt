@@ -124,7 +124,7 @@ few_sent layout opening terms one is =
       count,
       few_batches plan.wave terms.capacity plan.planned.batching sound.batching sound.listed,
       is.good.wave.orders,
-      is.released.most,
+      is.released.listed.most,
     )
 
 -- so all of them together have 64 times as many at most

@@ -1,6 +1,5 @@
 -- The picks of orders grow hold by hold.
 use Rattle.std.proofs.Common.{◌≡◌, ◌≢◌, ◌∙◌, refl, sym, ap, subst, ℕ, ◌+◌, ◌<◌, ◌↔◌, ◌⊎◌, inl, inr, ⊎_elim, List, [], ◌∷◌, ◌++◌, Some, All, Contains, length}
-use Rattle.std.proofs.Common.{Option}
 use Rattle.std.proofs.Common.{add-one, arith, take, get_or, get_or-set_other, get_or-set_same, length-append, length-set, slice_get, slice_set}
 use Rattle.std.proofs.lemmas.Bool.{cases_eq}
 use Rattle.std.proofs.lemmas.List.Elements.{All-contains, All-nil, All-push, All-set}

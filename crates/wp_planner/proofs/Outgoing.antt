@@ -116,14 +116,16 @@ listed_goes_out opening number after name found is same w there holds =
     let fills = wanted_is_held opening after found.0 found.1 is w.known holds in
     record {
       released = record {
-        some = omega (arith, w.some);
-        most = w.most;
-        within = subst (λ (n : ℕ). All (IsHoldWithin orders n) list) count (all_of_each (IsHoldWithin orders rows) list (held_within orders rows held));
-        rise = held_rises orders rows held;
-        filled = λ order below.
-            let at = fills order below in
-            let units = held_units orders rows held order at.0 below (there order at.0 at.1) in
-            hold_listed order at.0 list (omega (arith, units, at.1));
+        listed = record {
+          some = omega (arith, w.some);
+          most = w.most;
+          within = subst (λ (n : ℕ). All (IsHoldWithin orders n) list) count (all_of_each (IsHoldWithin orders rows) list (held_within orders rows held));
+          rise = held_rises orders rows held;
+          filled = λ order below.
+              let at = fills order below in
+              let units = held_units orders rows held order at.0 below (there order at.0 at.1) in
+              hold_listed order at.0 list (omega (arith, units, at.1));
+        };
         light = served_is_light opening number after name found w.fits served;
       };
       served = served;

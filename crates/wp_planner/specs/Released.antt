@@ -16,15 +16,23 @@ use Rattle.wp_planner.specs.Slots.{HoldsAt, slot_at}
 abbrev pub HasHold : List Hold → ℕ → Type 0
 HasHold holds order = (hold : Hold) × Contains holds hold × (hold.order ≡ order)
 
--- A wave that went out has 1 to 64 orders, each of which holds units. All that it holds is held for one of them in a row of the stock, and is listed by
--- order and then by row. Where carts hold so many units, no order loads more.
+-- A wave has 1 to 64 orders, each of which holds units. All that it holds is held for one of them in one of so many rows, and is listed by order and then by row.
+pub record IsListed (rows : ℕ) (wave : WaveHolds) : Type 0 where
+  pub some : 1 ≤ length wave.orders
+  pub most : length wave.orders ≤ most_wave_orders
+  pub within : All (IsHoldWithin (length wave.orders) rows) wave.holds
+  pub rise : Rises wave.holds
+  pub filled : (order : ℕ) → order < length wave.orders → HasHold wave.holds order
+
+-- A wave that went out is listed so, with holds in the rows of the stock. Where carts hold so many units, no order loads more.
 pub record IsReleased (opening : Opening) (released : WaveHolds) : Type 0 where
-  pub some : 1 ≤ length released.orders
-  pub most : length released.orders ≤ most_wave_orders
-  pub within : All (IsHoldWithin (length released.orders) (length opening.stock.rows)) released.holds
-  pub rise : Rises released.holds
-  pub filled : (order : ℕ) → order < length released.orders → HasHold released.holds order
+  pub listed : IsListed (length opening.stock.rows) released
   pub light : AreLight opening.units released.holds
+
+-- a wave that went out, and the opening in whose stock it holds units
+pub record Released : Type 0 where
+  pub opening : Opening
+  pub wave : WaveHolds
 
 -- each order of a wave holds what its lines want together
 abbrev pub IsServed : Opening → WaveHolds → Type 0

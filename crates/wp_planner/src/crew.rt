@@ -8,6 +8,7 @@ ghost use Rattle.wp_planner.specs.Sent.{ArePlanned, IsPlanned, plans_of, waves_o
 ghost use Rattle.wp_planner.specs.Terms.{Terms as TermsData};
 
 use crate::planner::WavePlan;
+use crate::sent::plan_sent;
 use std::alloc::Global;
 use wp_crew::{Crew, assign};
 use wp_desk::Planned;
@@ -76,10 +77,7 @@ fn add_wave(batches: &mut DayBatches, one: &Planned<Option<WavePlan>>) -> Result
     requires { (layout : Block) × (opening : OpeningData) × (terms : TermsData) × IsPlanned layout opening terms one.now }
     ensures { (before : List DayBatch) → AreListed before batches.old → OnOk result (AreListed (before ++ sent_batches one.now) batches.new) }
 {
-    let Some(plan) = &one.plan else {
-        unreachable!()
-    };
-    add_batches(batches, one.wave.wave, plan)
+    add_batches(batches, one.wave.wave, plan_sent(one))
 }
 
 // The batches of all waves that went out.

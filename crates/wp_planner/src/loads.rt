@@ -1,10 +1,9 @@
-ghost use Rattle.std.specs.Prelude.{◌≡◌, ◌+◌, ◌<◌, ◌≤◌, ◌↔◌, ℕ, All, IfSome, IsSome, IsTrue, Option, Some, length, replicate, slice_index, slice_set};
+ghost use Rattle.std.specs.Prelude.{◌≡◌, ◌+◌, ◌<◌, ◌≤◌, ◌↔◌, ℕ, All, IfSome, IsSome, IsTrue, Some, length, replicate, slice_index, slice_set};
 ghost use Rattle.wp_model.specs.Limits.{most_wave_orders};
 ghost use Rattle.wp_model.specs.Tables.{IsCart};
-ghost use Rattle.wp_planner.specs.Loads.{AreLight, IsCartOf, IsLoadedBy, load_for};
-ghost use Rattle.wp_planner.specs.Released.{IsReleased};
+ghost use Rattle.wp_planner.specs.Loads.{AreLight, IsLoadedBy, load_for};
 
-use wp_machine::{Opening, WaveHolds};
+use wp_machine::WaveHolds;
 use wp_model::Hold;
 use wp_pairs::Cart;
 
@@ -49,44 +48,16 @@ fn loads_within(holds: &[Hold], units: u32) -> Option<[u32; MOST_LOADS]>
     Some(loads)
 }
 
-// Whether no order loads more than carts hold, where these hold so many units.
-pub(crate) fn are_light(units: Option<u32>, holds: &[Hold]) -> bool
-    requires { All (λ hold. hold.order < 64) holds.now }
-    ensures { IsTrue result ↔ AreLight units holds.now }
-{
-    match units {
-        Some(units) => loads_within(holds, units).is_some(),
-        None => true,
-    }
-}
-
-// The cart of so many units with what each order of a wave that went out loads.
-fn loaded_cart(units: u32, released: &WaveHolds) -> Cart
+// The cart of so many units with what each order of a wave loads. None comes exactly where an order loads more than the cart holds.
+pub(crate) fn loaded_cart(units: u32, wave: &WaveHolds) -> Option<Cart>
     requires cart { IsCart units }
-    requires some { 1 ≤ length released.now.orders }
-    requires most { length released.now.orders ≤ most_wave_orders }
-    requires within { All (λ hold. hold.order < 64) released.now.holds }
-    requires light { AreLight (Some units) released.now.holds }
-    ensures { IsLoadedBy released.now units result }
+    requires some { 1 ≤ length wave.now.orders }
+    requires most { length wave.now.orders ≤ most_wave_orders }
+    requires within { All (λ hold. hold.order < 64) wave.now.holds }
+    ensures light { IsSome result ↔ AreLight (Some units) wave.now.holds }
+    ensures loads { IfSome result (IsLoadedBy wave.now units) }
 {
-    let orders = released.orders.len() as usize;
-    let Some(loads) = loads_within(released.holds.as_slice(), units) else {
-        unreachable!()
-    };
-    let Some(cart) = Cart::new(units, &loads[..orders]) else {
-        unreachable!()
-    };
-    cart
-}
-
-// The cart with what each order of a wave that went out loads. None comes exactly where carts hold any number of units.
-pub(crate) fn cart_of(opening: &Opening, released: &WaveHolds) -> Option<Cart>
-    requires { IsReleased opening.now released.now }
-    ensures { IsCartOf opening.now.units released.now result }
-{
-    let _read = opening.stock();
-    match opening.units() {
-        Some(units) => Some(loaded_cart(units, released)),
-        None => None,
-    }
+    let orders = wave.orders.len() as usize;
+    let loads = loads_within(wave.holds.as_slice(), units)?;
+    Cart::new(units, &loads[..orders])
 }

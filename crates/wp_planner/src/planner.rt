@@ -4,11 +4,11 @@ ghost use Rattle.wp_machine.specs.declared.outcome.WaveHolds.{WaveHolds as Holds
 ghost use Rattle.wp_model.specs.Opening.{Opening as OpeningData};
 ghost use Rattle.wp_model.specs.Warehouse.{Layout as Block};
 ghost use Rattle.wp_planner.specs.Plans.{IsCertified, IsPlanFor, IsPlanOf};
-ghost use Rattle.wp_planner.specs.Released.{IsReleased, IsWaveOf, LiesIn};
+ghost use Rattle.wp_planner.specs.Released.{IsWaveOf, LiesIn};
 ghost use Rattle.wp_planner.specs.Roots.{IsRootFor, rounds_of};
 ghost use Rattle.wp_planner.specs.Terms.{budget_of};
 
-use crate::released::is_released;
+use crate::released::ReleasedWave;
 use crate::terms::Terms;
 use crate::waves::wave_of;
 use std::alloc::Global;
@@ -135,18 +135,18 @@ fn searched<R: Threads + Sync, G: Gate>(
     Ok(Found { planned, root })
 }
 
-/// The plan of a wave that went out: a good plan, for the terms' capacity and what they spend on it, of the wave whose orders pick at the slots
-/// of the layout at which they hold units, and whose batches fit a cart of the opening's units, if it has them; and a bracket of its
-/// linear bound, where the terms ask for one. The text of its certificate tells its bound. The workers that price it pass the gate.
-pub fn plan_of<R: Threads + Sync, G: Gate>(
+// The plan of a wave that went out: a good plan, for the terms' capacity and what they spend on it, of the wave whose orders pick at the slots
+// of the layout at which they hold units, and whose batches fit a cart of the opening's units, if it has them; and a bracket of its
+// linear bound, where the terms ask for one. The text of its certificate tells its bound. The workers that price it pass the gate.
+fn plan_of<R: Threads + Sync, G: Gate>(
     planning: &Planning<'_, R, G>,
     alloc: Global,
-    released: &WaveHolds,
+    released: &ReleasedWave<'_>,
 ) -> Result<WavePlan, Memory>
-    requires { IsReleased planning.now.opening.now released.now }
-    ensures { IfOk result (IsPlanOf planning.now.layout.now planning.now.opening.now released.now planning.now.terms.now) }
+    requires { released.now.opening ≡ planning.now.opening.now }
+    ensures { IfOk result (IsPlanOf planning.now.layout.now planning.now.opening.now released.now.wave planning.now.terms.now) }
 {
-    let mut wave = wave_of(alloc, planning.layout, planning.opening, released)?;
+    let mut wave = wave_of(alloc, planning.layout, released)?;
     let budget = planning.terms.budget_for(wave.orders());
     let kept = kept_orders(&wave, planning.terms.capacity(), budget);
     wave.keep_lengths_by(planning.rt, alloc, kept, planning.terms.workers())?;
@@ -167,9 +167,9 @@ pub fn plan_for<R: Threads + Sync, G: Gate>(
 ) -> Result<Option<WavePlan>, Memory>
     ensures { IfOk result (IsPlanFor planning.now.layout.now planning.now.opening.now planning.now.terms.now wave.now) }
 {
-    if !is_released(planning.opening, wave) {
+    let Some(released) = ReleasedWave::of(planning.opening, wave) else {
         return Ok(None);
-    }
-    let plan = plan_of(planning, alloc, wave)?;
+    };
+    let plan = plan_of(planning, alloc, &released)?;
     Ok(Some(plan))
 }

@@ -1,11 +1,34 @@
-ghost use Rattle.std.specs.Prelude.{◌<◌, ◌≤◌, ◌↔◌, ℕ, All, IsTrue, length};
+ghost use Rattle.std.specs.Prelude.{◌≡◌, ◌<◌, ◌≤◌, ◌↔◌, ℕ, All, IfSome, IsSome, IsTrue};
 ghost use Rattle.wp_model.specs.HoldLists.{IsBefore, IsHoldWithin, Rises};
 ghost use Rattle.wp_model.specs.Limits.{most_wave_orders};
-ghost use Rattle.wp_planner.specs.Released.{HasHold, IsReleased};
+ghost use Rattle.wp_planner.specs.Loads.{IsCartOf};
+ghost use Rattle.wp_planner.specs.Released.{HasHold, IsListed, IsReleased};
 
-use crate::loads::are_light;
+use crate::loads::loaded_cart;
+use std::marker::Model;
 use wp_machine::{Opening, WaveHolds};
 use wp_model::{Hold, MOST_WAVE_ORDERS};
+use wp_pairs::Cart;
+
+/// A wave that went out, and the opening in whose stock it holds units. Where carts hold so many units, the cart with what each of
+/// its orders loads is made with it.
+#[derive(Drop)]
+pub(crate) struct ReleasedWave<'a> {
+    opening: &'a Opening,
+    wave: &'a WaveHolds,
+    cart: Option<Cart>,
+}
+
+impl<'a> Model for ReleasedWave<'a> {
+    ghost use Rattle.wp_planner.specs.Loads.{IsCartOf};
+    ghost use Rattle.wp_planner.specs.Released.{IsReleased, Released};
+
+    ghost Value = { Released };
+
+    ghost view = { λ r. record { opening = r.opening.now; wave = r.wave.now } };
+
+    ghost invariant = { λ r. IsReleased r.opening.now r.wave.now × IsCartOf r.opening.now.units r.wave.now r.cart };
+}
 
 // Whether a wave may have so many orders.
 fn is_wave_size(orders: u32) -> bool
@@ -74,14 +97,60 @@ fn are_listed(holds: &[Hold], orders: u32, rows: u32) -> bool
     are_within(holds, orders, rows) && are_rising(holds) && are_filled(holds, orders)
 }
 
-/// Whether a wave is one that can have gone out: it has 1 to 64 orders, each of which holds units, and all that it holds is
-/// held for one of them in a row of the stock, and is listed by order and then by row; and where carts hold so many units, no
-/// order loads more.
-pub fn is_released(opening: &Opening, wave: &WaveHolds) -> bool
-    ensures { IsTrue result ↔ IsReleased opening.now wave.now }
+// Whether a wave has 1 to 64 orders, each of which holds units, and all that it holds is held for one of them in one of so many
+// rows, and is listed by order and then by row.
+fn is_listed(wave: &WaveHolds, rows: u32) -> bool
+    ensures { IsTrue result ↔ IsListed rows wave.now }
 {
     let orders = wave.orders.len();
-    let holds = wave.holds.as_slice();
-    let rows = opening.stock().rows();
-    is_wave_size(orders) && are_listed(holds, orders, rows) && are_light(opening.units(), holds)
+    is_wave_size(orders) && are_listed(wave.holds.as_slice(), orders, rows)
+}
+
+impl<'a> ReleasedWave<'a> {
+    /// A wave as one that went out. None comes exactly where it isn't one that can have gone out.
+    pub(crate) fn of(opening: &'a Opening, wave: &'a WaveHolds) -> Option<ReleasedWave<'a>>
+        ensures there { IsSome result ↔ IsReleased opening.now wave.now }
+        ensures is { IfSome result (λ released. released ≡ record { opening = opening.now; wave = wave.now }) }
+    {
+        if !is_listed(wave, opening.stock().rows()) {
+            return None;
+        }
+        match opening.units() {
+            None => Some(ReleasedWave {
+                opening,
+                wave,
+                cart: None,
+            }),
+            Some(units) => {
+                let cart = Some(loaded_cart(units, wave)?);
+                Some(ReleasedWave {
+                    opening,
+                    wave,
+                    cart,
+                })
+            }
+        }
+    }
+
+    /// The opening in whose stock it holds units.
+    pub(crate) fn opening(&self) -> &Opening
+        ensures { result.now ≡ self.now.opening }
+    {
+        self.opening
+    }
+
+    /// What it holds.
+    pub(crate) fn wave(&self) -> &WaveHolds
+        ensures wave { result.now ≡ self.now.wave }
+        ensures released { IsReleased self.now.opening self.now.wave }
+    {
+        self.wave
+    }
+
+    /// The cart with what each order loads. None comes exactly where carts hold any number of units.
+    pub(crate) fn cart(&self) -> Option<Cart>
+        ensures { IsCartOf self.now.opening.units self.now.wave result }
+    {
+        self.cart
+    }
 }

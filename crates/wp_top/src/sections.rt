@@ -17,7 +17,7 @@ use wp_desk::Planned;
 use wp_machine::{Machine, Opening, Refill, WaveHolds};
 use wp_model::{Entry, Memory, Row, WaveState};
 use wp_outside::Parts;
-use wp_planner::{DayCrew, SentWave, Terms, WavePlan, print_sheet};
+use wp_planner::{DayCrew, SentWave, Terms, WavePlan, plan_sent, print_sheet};
 use wp_sheets::{print_crew, print_refill, print_row};
 use wp_tables::Stock;
 
@@ -84,14 +84,11 @@ fn print_one(
     requires { (layout : Block) × IsPlanned layout day.now.opening.now day.now.terms.now one.now }
     ensures { IfOk result (λ _. GrowsBy (IsSentSheet day.now.machine.now day.now.terms.now one.now) text.old.items text.new.items) }
 {
-    let Some(plan) = &one.plan else {
-        unreachable!()
-    };
     let sent = SentWave {
         opening: day.opening,
         released: &one.wave,
         terms: day.terms,
-        plan,
+        plan: plan_sent(one),
         cancelled_later: is_cancelled(day.machine, &one.wave),
     };
     print_sheet(alloc, text, &sent)

@@ -8,6 +8,6 @@ use Rattle.wp_planner.proofs.crew.add_wave.Goals as goal
 pub add_batches-requires-clause-some : goal.add_batches-requires-clause-some
 add_batches-requires-clause-some c =
     let is = c.requires.3 in
-    let same : is.plan ≡ c.in-Some.plan = same_Some is.plan c.in-Some.plan (sym is.there ∙ c.in-Some.is) in
+    let same : is.plan ≡ c.plan_sent.result.now = same_Some is.plan c.plan_sent.result.now (sym is.there ∙ c.plan_sent.ensures) in
     subst (λ (plan : WavePlan). All (GoesSomewhere plan.wave) plan.planned.batching) same
     (each_goes c.requires.0 c.requires.1 c.args.one.now.wave c.requires.2 is.plan is.released is.good)

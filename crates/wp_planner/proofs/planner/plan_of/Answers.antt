@@ -8,9 +8,9 @@ pub returns : goal.returns
 returns g c =
     let layout = c.args.planning.now.layout.now in
     let opening = c.args.planning.now.opening.now in
-    let released = c.args.released.now in
+    let released = c.args.released.now.wave in
     let found = c.in_ok-planned.field-0 in
-    let of = subst (IsWaveOf layout opening released) (sym c.keep_lengths_by.ensures) c.in_ok-wave.ensures in
+    let of = subst (IsWaveOf layout opening released) (sym c.keep_lengths_by.ensures) (rw c.requires at c.in_ok-wave.ensures) in
     subst
     (λ (wave : WavePicks). IsPlanOf layout opening released c.args.planning.now.terms.now
     (record { wave = wave; planned = found.planned; root = found.root }))
