@@ -21,7 +21,9 @@ use wp_model::Memory;
 use wp_pairs::Batch;
 use wp_rules::{Rule, rule_length};
 use wp_search::{Planned, State};
-use wp_sheets::{BatchSheet, RootLine, print_batch, print_heading, print_root, print_rules};
+use wp_sheets::{
+    BatchSheet, Heading, RootLine, append_batch, append_heading, append_root, append_rules,
+};
 
 /// A wave that went out, as its sheet tells of it: the opening in whose stock it holds units, the terms of its plan, the plan, and whether
 /// a later entry cancels the wave.
@@ -48,13 +50,7 @@ fn sheet_of(alloc: Global, wave: &Wave, batch: Batch) -> Result<BatchSheet, Memo
 }
 
 // Adds the line of what three usual rules would walk past a batch's picks, beside the length of its tour.
-fn print_walks(
-    alloc: Global,
-    text: &mut Vec<u8>,
-    wave: &Wave,
-    batch: Batch,
-    shortest: u64,
-) -> Result<(), Memory>
+fn print_walks(text: &mut Vec<u8>, wave: &Wave, batch: Batch, shortest: u64) -> Result<(), Memory>
     requires places { All (λ order. order < length wave.now.orders) batch }
     requires length { IsLengthOf wave.now batch shortest }
     ensures { IfOk result (λ _. GrowsBy (IsRulesLine wave.now batch shortest) text.old.items text.new.items) }
@@ -64,14 +60,11 @@ fn print_walks(
     let shape = rule_length(&layout, &picks, Rule::SShape);
     let back = rule_length(&layout, &picks, Rule::Return);
     let gap = rule_length(&layout, &picks, Rule::LargestGap);
-    let line = print_rules(alloc, shape, back, gap, shortest)?;
-    text.extend_from_slice(&line)?;
-    Ok(())
+    append_rules(text, shape, back, gap, shortest)
 }
 
 // Adds what follows the picks of a batch, where the sheets tell of rules.
 fn print_after(
-    alloc: Global,
     text: &mut Vec<u8>,
     sent: &SentWave<'_>,
     batch: Batch,
@@ -82,7 +75,7 @@ fn print_after(
     ensures { IfOk result (λ _. GrowsBy (FollowsPicks sent.now.terms.now.rules sent.now.plan.now.wave batch shortest) text.old.items text.new.items) }
 {
     if sent.terms.rules() {
-        print_walks(alloc, text, &sent.plan.wave, batch, shortest)?;
+        print_walks(text, &sent.plan.wave, batch, shortest)?;
     }
     Ok(())
 }
@@ -102,9 +95,8 @@ fn print_part(
         (IsPart sent.now.opening.now.stock sent.now.released.now sent.now.plan.now.wave sent.now.terms.now.rules number batch) text.old.items text.new.items) }
 {
     let sheet = sheet_of(alloc, &sent.plan.wave, batch)?;
-    let part = print_batch(alloc, number, sent.released, sent.opening.stock(), &sheet)?;
-    text.extend_from_slice(&part)?;
-    print_after(alloc, text, sent, batch, sheet.length)
+    append_batch(text, number, sent.released, sent.opening.stock(), &sheet)?;
+    print_after(text, sent, batch, sheet.length)
 }
 
 // Adds the parts of all batches of a plan, numbered from 1, each with its tour, of which none is kept.
@@ -135,23 +127,21 @@ fn is_open(planned: &Planned) -> bool
 }
 
 // Adds the first line.
-fn print_plan(alloc: Global, text: &mut Vec<u8>, sent: &SentWave<'_>) -> Result<(), Memory>
+fn print_plan(text: &mut Vec<u8>, sent: &SentWave<'_>) -> Result<(), Memory>
     ensures { IfOk result (λ _. text.new.items ≡ text.old.items
         ++ plan_line sent.now.opening.now.units sent.now.released.now sent.now.terms.now.capacity sent.now.plan.now.planned sent.now.cancelled_later) }
 {
     let planned = &sent.plan.planned;
-    let heading = print_heading(
-        alloc,
-        sent.released,
-        sent.terms.capacity().most,
-        sent.opening.units(),
-        planned.cost,
-        planned.bound,
-        is_open(planned),
-        sent.cancelled_later,
-    )?;
-    text.extend_from_slice(&heading)?;
-    Ok(())
+    let heading = Heading {
+        wave: sent.released,
+        capacity: sent.terms.capacity().most,
+        units: sent.opening.units(),
+        cost: planned.cost,
+        bound: planned.bound,
+        state_open: is_open(planned),
+        cancelled_later: sent.cancelled_later,
+    };
+    append_heading(text, &heading)
 }
 
 // Adds the line of the certificate.
@@ -180,7 +170,7 @@ fn is_narrow(root: &Root) -> bool
 }
 
 // Adds the line of the bracket of the linear bound, if there is one.
-fn print_bracket(alloc: Global, text: &mut Vec<u8>, root: &Option<Root>) -> Result<(), Memory>
+fn print_bracket(text: &mut Vec<u8>, root: &Option<Root>) -> Result<(), Memory>
     ensures { IfOk result (λ _. text.new.items ≡ text.old.items ++ root_text root.now) }
 {
     let Some(root) = root else {
@@ -192,9 +182,7 @@ fn print_bracket(alloc: Global, text: &mut Vec<u8>, root: &Option<Root>) -> Resu
         denominator: root.denominator,
         narrow: is_narrow(root),
     };
-    let line = print_root(alloc, &told)?;
-    text.extend_from_slice(&line)?;
-    Ok(())
+    append_root(text, &told)
 }
 
 /// Adds the sheet of a wave that went out and its plan to a text: a line of the wave, its cost and its bound; for each batch, numbered
@@ -208,10 +196,10 @@ pub fn print_sheet(alloc: Global, text: &mut Vec<u8>, sent: &SentWave<'_>) -> Re
     ensures { IfOk result (λ _. GrowsBy
         (IsSheet sent.now.opening.now sent.now.released.now sent.now.terms.now sent.now.plan.now sent.now.cancelled_later) text.old.items text.new.items) }
 {
-    print_plan(alloc, text, sent)?;
+    print_plan(text, sent)?;
     print_parts(alloc, text, sent)?;
     print_shown(alloc, text, sent)?;
-    print_bracket(alloc, text, &sent.plan.root)?;
+    print_bracket(text, &sent.plan.root)?;
     text.extend_from_slice(b"end wave\n")?;
     Ok(())
 }

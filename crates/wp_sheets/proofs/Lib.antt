@@ -3,3 +3,4 @@ pub mod OnePicking
 pub mod OrdersAhead
 pub mod AnyPicks
 pub mod GivenBatches
+pub mod Written

@@ -11,10 +11,10 @@ mod root;
 mod rules;
 mod stock_lines;
 
-pub use batch::{BatchSheet, print_batch};
-pub use crew::print_crew;
-pub use heading::print_heading;
+pub use batch::{BatchSheet, append_batch, print_batch};
+pub use crew::{append_crew, print_crew};
+pub use heading::{Heading, append_heading, print_heading};
 pub use laws::batches_have_one_text;
-pub use root::{RootLine, print_root};
-pub use rules::print_rules;
-pub use stock_lines::{print_refill, print_row};
+pub use root::{RootLine, append_root, print_root};
+pub use rules::{append_rules, print_rules};
+pub use stock_lines::{append_refill, append_row, print_refill, print_row};

@@ -15,10 +15,10 @@ use std::alloc::Global;
 use std::io::Write;
 use wp_desk::Planned;
 use wp_machine::{Machine, Opening, Refill, WaveHolds};
-use wp_model::{Entry, Memory, Row, WaveState};
+use wp_model::{Entry, Memory, WaveState};
 use wp_outside::Parts;
 use wp_planner::{DayCrew, SentWave, Terms, WavePlan, plan_sent, print_sheet};
-use wp_sheets::{print_crew, print_refill, print_row};
+use wp_sheets::{append_crew, append_refill, append_row};
 use wp_tables::Stock;
 
 /// The lines of a journal's entries.
@@ -31,10 +31,7 @@ pub struct JournalLines<'a, 'b> {
 fn print_entry(text: &mut Vec<u8>, entry: &Entry) -> Result<(), Memory>
     ensures { IfOk result (λ _. text.new.items ≡ text.old.items ++ entry_line entry.now) }
 {
-    match writeln!(text, "{entry}") {
-        Ok(()) => Ok(()),
-        Err(_) => Err(Memory),
-    }
+    writeln!(text, "{entry}").or(Err(Memory))
 }
 
 impl Parts for JournalLines<'_, '_> {
@@ -117,21 +114,6 @@ pub struct RefillLines<'a> {
     pub refills: &'a [Refill],
 }
 
-// Adds the lines of a refill.
-fn print_taken(
-    alloc: Global,
-    text: &mut Vec<u8>,
-    stock: &Stock,
-    refill: &Refill,
-) -> Result<(), Memory>
-    requires { All (λ hold. hold.row < length stock.now.rows) refill.now.holds }
-    ensures { IfOk result (λ _. text.new.items ≡ text.old.items ++ refill_lines stock.now refill.now) }
-{
-    let lines = print_refill(alloc, refill, stock)?;
-    text.extend_from_slice(&lines)?;
-    Ok(())
-}
-
 impl Parts for RefillLines<'_> {
     ghost count = { λ lines. length lines.refills.now };
 
@@ -143,8 +125,8 @@ impl Parts for RefillLines<'_> {
         self.refills.len()
     }
 
-    fn print(&self, alloc: Global, number: usize, text: &mut Vec<u8>) -> Result<(), Memory> {
-        print_taken(alloc, text, self.stock, &self.refills[number])
+    fn print(&self, _alloc: Global, number: usize, text: &mut Vec<u8>) -> Result<(), Memory> {
+        append_refill(text, &self.refills[number], self.stock)
     }
 }
 
@@ -155,23 +137,21 @@ pub struct CrewLines<'a> {
 }
 
 // Adds the section of a crew.
-fn print_dealt(alloc: Global, text: &mut Vec<u8>, dealt: &DayCrew) -> Result<(), Memory>
+fn print_dealt(text: &mut Vec<u8>, dealt: &DayCrew) -> Result<(), Memory>
     requires { (pickers : ℕ) × (batches : List DayBatch) × AreDealt pickers batches dealt.now }
     ensures { IfOk result (λ _. text.new.items ≡ text.old.items ++ crew_text (Some dealt.now)) }
 {
     let batches = &dealt.batches;
-    let section = print_crew(alloc, &dealt.crew, &batches.waves, &batches.numbers)?;
-    text.extend_from_slice(&section)?;
-    Ok(())
+    append_crew(text, &dealt.crew, &batches.waves, &batches.numbers)
 }
 
 // Adds the section of a crew, if there is one.
-fn print_if_dealt(alloc: Global, text: &mut Vec<u8>, crew: &Option<DayCrew>) -> Result<(), Memory>
+fn print_if_dealt(text: &mut Vec<u8>, crew: &Option<DayCrew>) -> Result<(), Memory>
     requires { (pickers : ℕ) × (batches : List DayBatch) × IsCrewFor pickers batches crew.now }
     ensures { IfOk result (λ _. text.new.items ≡ text.old.items ++ crew_text crew.now) }
 {
     match crew {
-        Some(dealt) => print_dealt(alloc, text, dealt),
+        Some(dealt) => print_dealt(text, dealt),
         None => Ok(()),
     }
 }
@@ -187,8 +167,8 @@ impl Parts for CrewLines<'_> {
         1
     }
 
-    fn print(&self, alloc: Global, _number: usize, text: &mut Vec<u8>) -> Result<(), Memory> {
-        print_if_dealt(alloc, text, self.crew)
+    fn print(&self, _alloc: Global, _number: usize, text: &mut Vec<u8>) -> Result<(), Memory> {
+        print_if_dealt(text, self.crew)
     }
 }
 
@@ -197,16 +177,6 @@ impl Parts for CrewLines<'_> {
 pub struct StockRows<'a, 'b> {
     pub stock: &'a Stock,
     pub machine: &'a Machine<'b>,
-}
-
-// Adds the line of a row.
-fn add_row(alloc: Global, text: &mut Vec<u8>, stock: &Stock, row: Row) -> Result<(), Memory>
-    requires { row.article < length stock.now.articles }
-    ensures { IfOk result (λ _. text.new.items ≡ text.old.items ++ row_line stock.now row) }
-{
-    let line = print_row(alloc, &row, stock)?;
-    text.extend_from_slice(&line)?;
-    Ok(())
 }
 
 impl Parts for StockRows<'_, '_> {
@@ -220,10 +190,10 @@ impl Parts for StockRows<'_, '_> {
         self.machine.rows() as usize
     }
 
-    fn print(&self, alloc: Global, number: usize, text: &mut Vec<u8>) -> Result<(), Memory> {
+    fn print(&self, _alloc: Global, number: usize, text: &mut Vec<u8>) -> Result<(), Memory> {
         let rows = self.machine.rows();
         let within = number < rows as usize;
         prove!(within);
-        add_row(alloc, text, self.stock, self.machine.row(number as u32))
+        append_row(text, &self.machine.row(number as u32), self.stock)
     }
 }

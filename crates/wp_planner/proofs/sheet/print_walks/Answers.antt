@@ -1,20 +1,22 @@
-use Rattle.std.proofs.Common.{◌∙◌, ◌++◌, List, ℕ, ap}
+use Rattle.std.proofs.Common.{refl}
+use Rattle.std.proofs.lemmas.Result.{IfOk-weaker}
 use Rattle.wp_rules.specs.declared.rule.Rule.TheVariants as rule
+use Rattle.wp_sheets.specs.Rules.{rules_line}
 use Rattle.wp_planner.proofs.RuleWalks.{told_length}
 use Rattle.wp_planner.proofs.sheet.print_walks.Goals as goal
 
-pub print_rules-requires-clause-shape : goal.print_rules-requires-clause-shape
-print_rules-requires-clause-shape c =
+pub append_rules-requires-clause-shape : goal.append_rules-requires-clause-shape
+append_rules-requires-clause-shape c =
     (told_length c.args.wave.now c.args.batch _ _ rule.SShape c.args.shortest _ c.layout-layout.ensures c.union_of-picks.ensures.points c.requires.length
     c.rule_length-shape.ensures).1
 
-pub print_rules-requires-clause-back : goal.print_rules-requires-clause-back
-print_rules-requires-clause-back c =
+pub append_rules-requires-clause-back : goal.append_rules-requires-clause-back
+append_rules-requires-clause-back c =
     (told_length c.args.wave.now c.args.batch _ _ rule.Return c.args.shortest _ c.layout-layout.ensures c.union_of-picks.ensures.points c.requires.length
     c.rule_length-back.ensures).1
 
-pub print_rules-requires-clause-gap : goal.print_rules-requires-clause-gap
-print_rules-requires-clause-gap c =
+pub append_rules-requires-clause-gap : goal.append_rules-requires-clause-gap
+append_rules-requires-clause-gap c =
     (told_length c.args.wave.now c.args.batch _ _ rule.LargestGap c.args.shortest _ c.layout-layout.ensures c.union_of-picks.ensures.points c.requires.length
     c.rule_length-gap.ensures).1
 
@@ -24,8 +26,10 @@ returns c =
     let layout = c.layout-layout.ensures in
     let shape = told_length c.args.wave.now c.args.batch _ _ rule.SShape c.args.shortest _ layout same c.requires.length c.rule_length-shape.ensures in
     let back = told_length c.args.wave.now c.args.batch _ _ rule.Return c.args.shortest _ layout same c.requires.length c.rule_length-back.ensures in
-    let gap = told_length c.args.wave.now c.args.batch _ _ rule.LargestGap c.args.shortest _ layout same c.requires.length c.rule_length-gap.ensures in (
-      c.in_ok-line.line.items,
+    let gap = told_length c.args.wave.now c.args.batch _ _ rule.LargestGap c.args.shortest _ layout same c.requires.length c.rule_length-gap.ensures in
+    IfOk-weaker c.append_rules.result _ _
+    (λ done grows. (
+      rules_line c.rule_length-shape.result c.rule_length-back.result c.rule_length-gap.result c.args.shortest,
       record {
         shape = c.rule_length-shape.result;
         s_shape = shape.0;
@@ -33,7 +37,8 @@ returns c =
         return = back.0;
         gap = c.rule_length-gap.result;
         largest_gap = gap.0;
-        is = c.in_ok-line.ensures;
+        is = refl;
       },
-      c.in_ok-extend_from_slice.ensures.items ∙ ap (λ (t : List ℕ). c.args.text.now.items ++ t) c.deref.ensures.value,
-    )
+      grows,
+    ))
+    c.append_rules.ensures

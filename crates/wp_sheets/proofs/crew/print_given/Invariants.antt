@@ -1,7 +1,7 @@
-use Rattle.std.proofs.Common.{◌≡◌, ◌++◌, string_bytes}
+use Rattle.std.proofs.Common.{◌≡◌, ◌++◌}
 use Rattle.wp_sheets.proofs.GivenBatches.{given_before}
 use Rattle.wp_sheets.proofs.crew.print_given.Given as goal
 
 -- those of the batches so far that are given to the picker were written
 abbrev pub invariant-loop-place : goal.invariant-loop-place
-invariant-loop-place l = string_bytes l.text ≡ string_bytes l.fn.text ++ given_before l.picker l.place l.picker_of l.names l.numbers
+invariant-loop-place l = l.text.items ≡ l.fn.text.items ++ given_before l.picker l.place l.picker_of l.names l.numbers

@@ -1,5 +1,6 @@
 use Rattle.std.proofs.Common.{◌∙◌, append_assoc}
+use Rattle.wp_sheets.proofs.Written.{told}
 use Rattle.wp_sheets.proofs.crew.print_longest.Goals as goal
 
 pub returns : goal.returns
-returns c = c.in_ok-writeln.ensures.bytes ∙ simp append_assoc
+returns c = told c.writeln.result _ c.or.result c.or.ensures c.writeln.ensures.bytes (λ is. is ∙ simp append_assoc)

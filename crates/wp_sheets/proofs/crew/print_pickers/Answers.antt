@@ -1,4 +1,4 @@
-use Rattle.std.proofs.Common.{◌≡◌, ◌∙◌, sym, ap, ℕ, ◌+◌, List, [], ◌∷◌, ◌++◌, arith, string_bytes}
+use Rattle.std.proofs.Common.{◌≡◌, ◌∙◌, sym, ap, ℕ, ◌+◌, List, [], ◌∷◌, ◌++◌, arith}
 use Rattle.std.proofs.lemmas.List.{flat_map_more, map-id}
 use Rattle.std.proofs.lemmas.List.FromFn.{map-range_with_len_more}
 use Rattle.std.specs.List.{flat_map, range_with_len}
@@ -15,6 +15,6 @@ pub loop-picker-preserved : goal.loop-picker-preserved
 loop-picker-preserved c =
     let line_of = picker_line c.args.crew.now c.args.names.now c.args.numbers.now in
     let picker = c.loop-picker.picker in
-    let old = string_bytes c.args.text.now in
+    let old = c.args.text.now.items in
     c.in_ok-print_picker.ensures ∙ ap (λ (text : List ℕ). text ++ line_of picker) c.loop-picker.invariant
     ∙ flat_map_more line_of old (range_with_len 0 picker) picker ∙ ap (λ (pickers : List ℕ). old ++ flat_map line_of pickers) (sym (range_with_len-more picker))

@@ -4,8 +4,8 @@ use Rattle.wp_planner.proofs.ListedBatches.{count_lengths}
 use Rattle.wp_planner.specs.Crews.{DayBatch}
 use Rattle.wp_top.proofs.sections.print_dealt.Goals as goal
 
-pub print_crew-requires-clause-names : goal.print_crew-requires-clause-names
-print_crew-requires-clause-names c =
+pub append_crew-requires-clause-names : goal.append_crew-requires-clause-names
+append_crew-requires-clause-names c =
     let batches = c.requires.1 in
     let dealt = c.requires.2 in
     omega (
@@ -17,8 +17,8 @@ print_crew-requires-clause-names c =
       dealt.crew.assigned.each,
     )
 
-pub print_crew-requires-clause-numbers : goal.print_crew-requires-clause-numbers
-print_crew-requires-clause-numbers c =
+pub append_crew-requires-clause-numbers : goal.append_crew-requires-clause-numbers
+append_crew-requires-clause-numbers c =
     let batches = c.requires.1 in
     let dealt = c.requires.2 in
     omega (
