@@ -52,7 +52,8 @@ fn after_name(alloc: Global, given: Args) -> Result<Vec<String>, AllocError>
 
 // The words of the command line, by what the system gives: the program's name and the words after it, or a fault.
 fn words_given(alloc: Global, given: io::Result<Args>) -> Result<Vec<String>, AllocError>
-    ensures given { IfOk given (λ given. IfOk result (λ words. words.items ≡ drop 1 (into_iter_items given))) }
+    ensures given { IfOk given (λ given. IfOk result
+        (λ words. words.items ≡ drop 1 (into_iter_items given))) }
     ensures fault { IfErr given (λ fault. IfOk result (λ words. (error_kind fault ≡ InvalidData) × (map string_bytes words.items ≡ codes "plan" ∷ []))) }
 {
     match given {
@@ -70,9 +71,11 @@ fn end_of<R: Threads + Wait + Sync, F: Files, K: Sink, G: Gate, D: Disk>(
     out: &mut K,
     disk: &mut D,
 ) -> ExitCode
-    ensures runs { IfOk words (λ words. Keeps (asked_by words.items) (course (F.told files.old) (K.told out.old) (F.told files.new) (K.told out.new)
+    ensures runs { IfOk words (λ words. Keeps (asked_by words.items)
+        (course (F.told files.old) (K.told out.old) (F.told files.new) (K.told out.new)
         (disk_course (D.told disk.old) (D.told disk.new))) disk.old disk.new (exit_status result)) }
-    ensures lacks { OnErr words (LacksWords (course (F.told files.old) (K.told out.old) (F.told files.new) (K.told out.new)
+    ensures lacks { OnErr words (LacksWords (course (F.told files.old) (K.told out.old)
+        (F.told files.new) (K.told out.new)
         (disk_course (D.told disk.old) (D.told disk.new))) disk.old disk.new (exit_status result)) }
 {
     match words {

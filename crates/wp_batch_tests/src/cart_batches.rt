@@ -184,7 +184,8 @@ fn starts_freely(alloc: Global, orders: &[Slots], capacity: u32) -> Option<bool>
     Some(are_same(&carted, &start_of(alloc, &free, capacity)?))
 }
 
-/// The first wave and capacity for which a cart that is too small for two orders, or one that holds all, has another start.
+/// The first wave and capacity for which a cart that is too small for two orders, or one that holds all, has another
+/// start.
 fn other_start(alloc: Global) -> Option<(usize, u32)> {
     for (place, orders) in WAVES.iter().enumerate() {
         for capacity in 1..9 {

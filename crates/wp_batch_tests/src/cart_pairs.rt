@@ -12,8 +12,8 @@ const CARTS: u32 = 10;
 /// How many batches are drawn for each cart.
 const BATCHES: u32 = 100;
 
-/// A kind of carts: for how many orders, how many of these a batch may have, what the cart holds, what an order loads at most, and
-/// how many of the batches that are drawn are permitted.
+/// A kind of carts: for how many orders, how many of these a batch may have, what the cart holds, what an order loads
+/// at most, and how many of the batches that are drawn are permitted.
 struct Kind {
     orders: u32,
     capacity: u32,
@@ -138,7 +138,8 @@ fn permitted_of(kind: &Kind) -> Option<u32> {
     Some(count)
 }
 
-/// The first kind of which a plain sum says something else, or of which another number of batches is permitted, and that number.
+/// The first kind of which a plain sum says something else, or of which another number of batches is permitted, and
+/// that number.
 fn wrong_kind() -> Option<(usize, Option<u32>)> {
     for (place, kind) in KINDS.iter().enumerate() {
         let found = permitted_of(kind);

@@ -12,7 +12,8 @@ use wp_pairs::Capacity;
 use wp_samples::{Slots, are_exactly, batch_below, cart_wave_of, wave_of};
 use wp_search::{Planned, State};
 
-/// A wave, what its cart holds, what each order loads, a capacity and a budget; the batches, the cost and the bound of its plan.
+/// A wave, what its cart holds, what each order loads, a capacity and a budget; the batches, the cost and the bound of
+/// its plan.
 struct Case {
     orders: &'static [Slots],
     units: u32,
@@ -232,7 +233,8 @@ fn is_single(planned: &Planned, wave: &Wave, own: usize) -> Option<bool> {
     Some(are_apart && costs_so(planned, cost, cost) && own_nodes(&planned.tree) == own)
 }
 
-/// Whether single orders are proven at the root, where no two orders fit the cart and the budget pays for the root alone.
+/// Whether single orders are proven at the root, where no two orders fit the cart and the budget pays for the root
+/// alone.
 fn is_proven_at_root<R: Threads + Sync>(
     rt: &R,
     alloc: Global,

@@ -8,8 +8,8 @@ use wp_samples::made_wave;
 /// How many made waves are drawn of each kind.
 const WAVES: u32 = 10;
 
-/// Kinds of small waves: how many orders they have, at most eight, how many orders a batch has at most, and of how many of ten
-/// drawn waves the start is a cheapest batching of all that there are.
+/// Kinds of small waves: how many orders they have, at most eight, how many orders a batch has at most, and of how many
+/// of ten drawn waves the start is a cheapest batching of all that there are.
 const KINDS: &[(u32, u32, u32)] = &[
     (5, 2, 10),
     (6, 4, 9),
@@ -54,8 +54,8 @@ fn all_lengths(alloc: Global, wave: &Wave, sets: u32) -> Option<Vec<u64>> {
     Some(lengths)
 }
 
-/// What a set costs where one of its batches has its least order, and the orders left are batched at the least cost; None where
-/// the batch isn't of the set, is without its least order, or has too many orders.
+/// What a set costs where one of its batches has its least order, and the orders left are batched at the least cost;
+/// None where the batch isn't of the set, is without its least order, or has too many orders.
 fn cost_with(lengths: &[u64], costs: &[u64], set: u32, batch: u32, capacity: u32) -> Option<u64> {
     let least = least_in(set)?;
     if batch & set != batch || !is_in(batch, least) || batch_of(batch).len() > capacity {

@@ -1,5 +1,5 @@
-//! Where all pairs of orders are decided, the classes are the batches. A search comes there only where a node's linear program has no
-//! answer.
+//! Where all pairs of orders are decided, the classes are the batches. A search comes there only where a node's linear
+//! program has no answer.
 ghost use Rattle.std.specs.Prelude.{◌≡◌, ℕ, List, IfSome, IsTrue, length};
 ghost use Rattle.wp_pairs.specs.Permitted.{AllDecided};
 ghost use Rattle.wp_lengths.specs.Batchings.{IsBatching};
@@ -21,7 +21,8 @@ const APART: &[Slots] = &[&[(1, 4)], &[(2, 4)], &[(3, 1)]];
 /// Three orders at one slot.
 const SAME: &[Slots] = &[&[(3, 4)], &[(3, 4)], &[(3, 4)]];
 
-/// Where the orders of a wave pick, a capacity, for each undecided pair in turn whether it goes together, and tight duals; the classes and their cost.
+/// Where the orders of a wave pick, a capacity, for each undecided pair in turn whether it goes together, and tight
+/// duals; the classes and their cost.
 struct Classes {
     orders: &'static [Slots],
     capacity: u32,
@@ -95,7 +96,8 @@ fn decided_pairs(wave: &Wave, capacity: Capacity, together: &[bool]) -> Option<P
 
 /// Whether the class of an order is tight for it.
 fn is_class_tight(given: &DualWave<'_>, order: u32) -> bool
-    ensures { IsTrue result → (batch : List ℕ) × IsTightFor given.now.wave.now given.now.pairs.now given.now.duals.now order batch }
+    ensures { IsTrue result → (batch : List ℕ)
+        × IsTightFor given.now.wave.now given.now.pairs.now given.now.duals.now order batch }
 {
     if given.pairs.orders() <= order {
         return false;

@@ -5,7 +5,8 @@ use wp_lp::{Halt, RootState, scalable, solved};
 use wp_master::{Pool, solve};
 use wp_pairs::Batch;
 
-/// The batch of the orders, of the first 31, whose number from 1 on has an odd number of ones in common with a column's.
+/// The batch of the orders, of the first 31, whose number from 1 on has an odd number of ones in common with a
+/// column's.
 fn odd_batch(column: u32) -> Batch {
     let mut batch = Batch::empty();
     for number in 1..32 {
@@ -33,7 +34,8 @@ fn is_added(pool: &mut Pool, batch: Batch, length: u64) -> bool {
     pool.add(batch, length).is_ok()
 }
 
-/// The pool of 31 columns of one length over the first 31 orders, a matrix of 0 and 1 with a determinant of 2 ^ 49, and of one more column.
+/// The pool of 31 columns of one length over the first 31 orders, a matrix of 0 and 1 with a determinant of 2 ^ 49, and
+/// of one more column.
 fn odd_columns(alloc: Global, length: u64) -> Option<Pool> {
     let mut pool = Pool::new(alloc, 64).ok()?;
     for column in 1..32 {

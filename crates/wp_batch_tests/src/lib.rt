@@ -1,8 +1,9 @@
-//! Tests of the crates of pairs, batches, pools, certificates, pricing, brackets and plans: which batches pairs permit and what they leave
-//! undecided, which carts there are and what fits them, the lengths of batches and the places where they are kept, the batches that a start has and that joins lead to,
-//! marks, pools of columns with their tables and solutions; which trees are right and how others are refused, the batch of least slack and its marks,
-//! found by any number of workers, brackets of the linear bound, and the plans of waves with their costs and bounds, all this of waves with
-//! carts too.
+//! Tests of the crates of pairs, batches, pools, certificates, pricing, brackets and plans: which batches pairs permit
+//! and what they leave undecided, which carts there are and what fits them, the lengths of batches and the places where
+//! they are kept, the batches that a start has and that joins lead to, marks, pools of columns with their tables and
+//! solutions; which trees are right and how others are refused, the batch of least slack and its marks, found by any
+//! number of workers, brackets of the linear bound, and the plans of waves with their costs and bounds, all this of
+//! waves with carts too.
 #![tactic(auto)]
 
 #[cfg(test)]

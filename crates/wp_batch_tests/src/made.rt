@@ -8,7 +8,8 @@ use wp_search::State;
 /// How many orders the waves of the table have.
 const ORDERS: u32 = 20;
 
-/// The bounds of the ten made waves, with at most three orders in a batch. They sum to 35,748; no tree of one node gives more.
+/// The bounds of the ten made waves, with at most three orders in a batch. They sum to 35,748; no tree of one node
+/// gives more.
 const BOUNDS: &[u64] = &[3074, 3557, 3817, 4089, 4023, 3524, 3426, 3465, 3963, 2810];
 
 /// What one worker is asked.
@@ -44,8 +45,8 @@ fn plans_of_made_waves_have_high_bounds(rt: HostRuntime) {
     assert_eq!(rt; wrong_bound(&rt, rt.alloc()), None);
 }
 
-/// A wave of which a node's solution gives a cheaper batching than the start is: the state from which it is drawn, how many
-/// orders it has, the capacity, and how many nodes the tree of its plan has.
+/// A wave of which a node's solution gives a cheaper batching than the start is: the state from which it is drawn, how
+/// many orders it has, the capacity, and how many nodes the tree of its plan has.
 struct Rounded {
     state: u64,
     orders: u32,
@@ -68,7 +69,8 @@ const ROUNDED: &[Rounded] = &[
     },
 ];
 
-/// A budget that pays for nodes of these waves, and for no more than the one round of moves that a start has without any.
+/// A budget that pays for nodes of these waves, and for no more than the one round of moves that a start has without
+/// any.
 const FEW_NODES: u64 = 199_999;
 
 /// Whether a plan is proven with so many nodes, and costs less than the start, which is the plan for no budget.

@@ -64,7 +64,8 @@ fn a_pool_tells_the_first_order_that_no_column_holds(rt: HostRuntime) {
 /// Three orders in three columns of two, each of length 34.
 const PAIRS: &[Row] = &[(&[0, 1], 34), (&[0, 2], 34), (&[1, 2], 34)];
 
-/// A pivot's row and place, or none, and the table of three pairs then: its entries row by row, and its denominator last.
+/// A pivot's row and place, or none, and the table of three pairs then: its entries row by row, and its denominator
+/// last.
 const TABLES: &[(Option<(usize, usize)>, &[i128])] = &[
     (
         None,
@@ -137,8 +138,8 @@ fn a_pivot_leads_to_the_next_table(rt: HostRuntime) {
     assert_eq!(rt; wrong_table(rt.alloc()), None);
 }
 
-/// A pivot's row and place, or none, and in the table of three pairs then: the lowest place of the last row below 0, and two rows
-/// and a place, with whether the first precedes the other over its entry there.
+/// A pivot's row and place, or none, and in the table of three pairs then: the lowest place of the last row below 0,
+/// and two rows and a place, with whether the first precedes the other over its entry there.
 type Choice = (
     Option<(usize, usize)>,
     Option<usize>,
@@ -293,7 +294,8 @@ fn odd_orders(alloc: Global, column: u32) -> Option<Vec<u32>> {
     Some(orders)
 }
 
-/// The pool of 31 orders in 31 such columns of one length: a matrix of 0 and 1 with the greatest determinant of its size, 2 ^ 49.
+/// The pool of 31 orders in 31 such columns of one length: a matrix of 0 and 1 with the greatest determinant of its
+/// size, 2 ^ 49.
 fn odd_columns(alloc: Global, length: u64) -> Option<Pool> {
     let mut pool = Pool::new(alloc, 31).ok()?;
     for column in 1..32 {

@@ -1,9 +1,10 @@
-//! The places at which the lengths of batches are kept. They decide how fast a length is found and no answer, so no public call shows them.
+//! The places at which the lengths of batches are kept. They decide how fast a length is found and no answer, so no
+//! public call shows them.
 use wp_lengths::{Later, Part, Places};
 use wp_pairs::Batch;
 
-/// How many places one after the other are those of a batch and of all that begin with it, as a visit comes past them: each
-/// is widened by up to so many of the orders from a first one on. None comes where a place is another one.
+/// How many places one after the other are those of a batch and of all that begin with it, as a visit comes past them:
+/// each is widened by up to so many of the orders from a first one on. None comes where a place is another one.
 fn visited_places(
     places: &Places,
     orders: u32,
@@ -68,8 +69,8 @@ fn a_visit_comes_past_one_place_after_the_other(rt: HostRuntime) {
     assert_eq!(rt; Places::of(64, 8).count(), 5130659561);
 }
 
-/// How many places of a part, with so many places, a visit comes past that goes on only from a batch where the part has a place
-/// of it or of one that begins with it.
+/// How many places of a part, with so many places, a visit comes past that goes on only from a batch where the part has
+/// a place of it or of one that begins with it.
 fn places_within(part: &Part<'_>, count: usize, orders: u32, batch: Batch, later: Later) -> u64 {
     let Some(span) = part.places.span_of(batch) else {
         return 0;

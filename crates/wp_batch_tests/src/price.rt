@@ -21,8 +21,8 @@ pub struct Given {
 /// The orders of a batch, its slack, and the marks, 1 and 0, where there are marks.
 type Found = (&'static [u32], i64, Option<&'static [u8]>);
 
-/// Three orders with a slot each. The tours of the first, the second and the third are 14, 24 and 22 long, those of two are
-/// 26, 36 and 36.
+/// Three orders with a slot each. The tours of the first, the second and the third are 14, 24 and 22 long, those of two
+/// are 26, 36 and 36.
 const APART: &[Slots] = &[&[(1, 4)], &[(2, 4)], &[(3, 1)]];
 
 /// Three orders at one slot. Each tour is 34 long.

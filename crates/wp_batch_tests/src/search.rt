@@ -24,8 +24,8 @@ pub const SHARED: &[Slots] = &[
     &[(2, 1)],
 ];
 
-/// A wave, a capacity, a budget; the batches, the cost and the bound of its plan, and how many nodes of its tree have duals of
-/// their own.
+/// A wave, a capacity, a budget; the batches, the cost and the bound of its plan, and how many nodes of its tree have
+/// duals of their own.
 struct Case {
     orders: &'static [Slots],
     capacity: u32,

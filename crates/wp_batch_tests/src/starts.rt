@@ -7,7 +7,8 @@ use wp_lengths::{Batching, Wave};
 use wp_pairs::Batch;
 use wp_samples::made_wave;
 
-/// Made waves, drawn one after the other, of so many orders each, and what their starts cost with at most so many orders in a batch.
+/// Made waves, drawn one after the other, of so many orders each, and what their starts cost with at most so many
+/// orders in a batch.
 struct Starts {
     orders: u32,
     capacity: u32,

@@ -40,8 +40,8 @@ fn drawn(seed: u64) -> u64 {
         .wrapping_add(1_442_695_040_888_963_407)
 }
 
-/// A byte as a crash may leave it. What was cut off stays or is gone, and what stands past the old end may be missing. Else it is
-/// the old one, the new one, 1 or any.
+/// A byte as a crash may leave it. What was cut off stays or is gone, and what stands past the old end may be missing.
+/// Else it is the old one, the new one, 1 or any.
 fn torn_byte(old: Option<u8>, new: Option<u8>, seed: u64) -> Option<u8> {
     let choice = seed >> 60;
     match (old, new) {
@@ -187,8 +187,8 @@ fn tell_draws<R: Threads + Wait + Sync, F: Files, K: Sink>(
     }
 }
 
-/// Runs what a line `next` says over each image that the disk may have now, where there is such a line, and tells how that
-/// ends. Where a line `drawn` gives a number, so many images between these are drawn too.
+/// Runs what a line `next` says over each image that the disk may have now, where there is such a line, and tells how
+/// that ends. Where a line `drawn` gives a number, so many images between these are drawn too.
 pub fn tell_next<R: Threads + Wait + Sync, F: Files, K: Sink>(
     host: &Host<'_, R>,
     lines: &str,

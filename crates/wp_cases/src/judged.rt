@@ -27,7 +27,8 @@ fn run_once<R: Threads + Wait + Sync>(
     run_words(host, &words, files, gate, &mut disk)
 }
 
-/// Whether the audit of an output writes what a line `audit` says, where there is one. It is given the units of the words.
+/// Whether the audit of an output writes what a line `audit` says, where there is one. It is given the units of the
+/// words.
 fn is_audited(
     alloc: Global,
     lines: &str,

@@ -1,5 +1,5 @@
-//! `wp_cases` runs the cases of the files that its arguments name, and prints the status and the output of each, or how its
-//! runs are judged.
+//! `wp_cases` runs the cases of the files that its arguments name, and prints the status and the output of each, or how
+//! its runs are judged.
 #![tactic(auto)]
 
 mod counting;
@@ -65,8 +65,8 @@ pub fn print_end<K: Sink>(
     Ok(())
 }
 
-/// The status of a run whose desks and workers pass a gate, over the disk of the case. What the gate tells follows the output, and then
-/// whether the store is as the lines say, and how the next run ends.
+/// The status of a run whose desks and workers pass a gate, over the disk of the case. What the gate tells follows the
+/// output, and then whether the store is as the lines say, and how the next run ends.
 fn run_at_gate<R: Threads + Wait + Sync, F: Files, K: Sink>(
     host: &Host<'_, R>,
     words: &Vec<String>,
@@ -200,8 +200,8 @@ fn run_file<R: Threads + Wait + Sync, F: Files, K: Sink>(
     run_cases(host, text.as_str(), source, out)
 }
 
-/// Runs the cases of each file that the arguments name. The handle for threads and for waiting is that of `main`, which alone
-/// has it.
+/// Runs the cases of each file that the arguments name. The handle for threads and for waiting is that of `main`, which
+/// alone has it.
 fn run_files<R: Threads + Wait + Sync>(rt: &HostRuntime, threads: &R) -> Result<(), CaseFault> {
     let Ok(mut names) = env::args(rt) else {
         return Err(CaseFault::Memory);

@@ -1,4 +1,5 @@
-//! The store of a case: the bytes of its file before the run, the calls that fail, and the bytes that it has to have afterwards.
+//! The store of a case: the bytes of its file before the run, the calls that fail, and the bytes that it has to have
+//! afterwards.
 use crate::fault::CaseFault;
 use crate::lines::{failing, number_in, rest_of};
 use std::alloc::Global;
@@ -12,7 +13,8 @@ const MORE_BYTES: u64 = 200_000;
 /// How many calls a run may make.
 const CALLS: u32 = 30_000;
 
-/// An opened record of a text and a line feed: the byte 1, the length as four bytes, the most significant first, and the body.
+/// An opened record of a text and a line feed: the byte 1, the length as four bytes, the most significant first, and
+/// the body.
 fn add_record(bytes: &mut Vec<u8>, text: &str) -> Result<(), Memory> {
     let length = text.len().saturating_add(1);
     bytes.push(1)?;
@@ -78,7 +80,8 @@ fn add_text(bytes: &mut Vec<u8>, text: &str, ending: &[u8]) -> Result<(), Memory
     Ok(())
 }
 
-/// What the rest of a line adds: `record TEXT`, `records COUNT TEXT`, `text TEXT`, `letters TEXT`, `bytes DIGITS` or `zeros COUNT`.
+/// What the rest of a line adds: `record TEXT`, `records COUNT TEXT`, `text TEXT`, `letters TEXT`, `bytes DIGITS` or
+/// `zeros COUNT`.
 fn add_part(bytes: &mut Vec<u8>, alloc: Global, part: &str) -> Result<(), CaseFault> {
     let Some((kind, rest)) = part.split_once(' ') else {
         return Err(CaseFault::Line);
@@ -177,7 +180,8 @@ fn two_digits(alloc: Global, byte: u8) -> Result<String, Memory> {
     Ok(digits)
 }
 
-/// Tells whether the file has the bytes that the lines `store after` make, where there are such lines, and else which it has.
+/// Tells whether the file has the bytes that the lines `store after` make, where there are such lines, and else which
+/// it has.
 pub fn tell_store<K: Sink>(
     alloc: Global,
     lines: &str,

@@ -35,7 +35,8 @@ any_after true wave batch total slots =
 
 -- batches that pick at slots and cost something together have parts
 any_parts : (stock : Stock) (released : WaveHolds) (wave : WavePicks) (rules : Bool) (number : ℕ) (batches : List (List ℕ)) (total : ℕ)
-    → All (λ batch. AreSlots wave.layout (batch_picks wave batch)) batches → IsCost wave batches total → (parts : List ℕ) × AreParts stock released wave rules number batches parts
+    → All (λ batch. AreSlots wave.layout (batch_picks wave batch)) batches → IsCost wave batches total
+    → (parts : List ℕ) × AreParts stock released wave rules number batches parts
 any_parts stock released wave rules number [] total slots cost = ([], refl)
 any_parts stock released wave rules number (batch ∷ batches) total slots (first, rest, shortest, others, sum) =
     let P : List ℕ → Type 0 = λ batch. AreSlots wave.layout (batch_picks wave batch) in

@@ -1,5 +1,6 @@
 -- The batches of a day are listed wave by wave.
-use Rattle.std.proofs.Common.{◌≡◌, ◌∙◌, ℕ, ◌+◌, ◌*◌, ◌≤◌, All, List, [], ◌∷◌, ◌++◌, Some, ap, append_assoc, arith, length, length-append, map, refl, subst, sym, take, slice_get}
+use Rattle.std.proofs.Common.{◌≡◌, ◌∙◌, ℕ, ◌+◌, ◌*◌, ◌≤◌, All, List, [], ◌∷◌, ◌++◌, Some, ap, append_assoc, arith, length, length-append, map, refl, subst, sym}
+use Rattle.std.proofs.Common.{take, slice_get}
 use Rattle.std.specs.List.{flat_map}
 use Rattle.std.proofs.lemmas.Grind.{flat_map-append}
 use Rattle.std.proofs.lemmas.List.{append-nil}

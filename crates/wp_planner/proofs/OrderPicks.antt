@@ -179,7 +179,8 @@ slot_held layout stock holds order point lies at =
 
 -- a wave with these picks and with their cart is the wave of those holds
 pub wave_with : (layout : Layout) (opening : Opening) (released : WaveHolds) (picks : List PickSet) (wave : WavePicks) → IsLayout layout
-    → LiesIn layout opening.stock → wave.layout ≡ layout → ArePicksOf layout opening.stock.rows released.holds (length released.orders) picks → wave.orders ≡ picks
+    → LiesIn layout opening.stock → wave.layout ≡ layout → ArePicksOf layout opening.stock.rows released.holds (length released.orders) picks
+    → wave.orders ≡ picks
     → IsCartOf opening.units released wave.cart → IsWaveOf layout opening released wave
 wave_with layout opening released picks wave valid lies of_layout of_picks picked cart =
     let are = subst (ArePicksOf layout opening.stock.rows released.holds (length released.orders)) (sym picked) of_picks in

@@ -13,7 +13,8 @@ use Rattle.wp_model.specs.Tours.{IsTour}
 use Rattle.wp_model.specs.Warehouse.{Layout, back_end, depot_point}
 use Rattle.wp_model.specs.declared.point.Point.{Point}
 use Rattle.wp_rules.proofs.RuleTours.{rule_tour}
-use Rattle.wp_rules.specs.Rules.{around, around_gaps, deepest_where, far, far_part, from_far, from_home, home, home_part, in_turn, is_picked, last_of, picked_aisles, place_of, return_stops, stops_between, through, walk_of_rule, widest_where}
+use Rattle.wp_rules.specs.Rules.{around, around_gaps, deepest_where, far, far_part, from_far, from_home, home, home_part, in_turn, is_picked, last_of}
+use Rattle.wp_rules.specs.Rules.{picked_aisles, place_of, return_stops, stops_between, through, walk_of_rule, widest_where}
 use Rattle.wp_rules.specs.Straight.{past}
 use Rattle.wp_rules.specs.declared.rule.Rule.{Rule}
 use Rattle.wp_rules.specs.declared.rule.Rule.TheVariants.{SShape, Return, LargestGap}

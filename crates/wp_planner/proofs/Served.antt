@@ -68,7 +68,8 @@ sum-one : (n at units : ℕ) → at < n → sum_below n (λ k. if at == k then u
 sum-one zero at units within = absurd (omega arith)
 sum-one (suc n) at units within = elim (cases_eq at n) [
   | inl here ↦
-      let before = sum-zero n (λ k. if at == k then units else 0) (λ k below. cond-false (at == k) units 0 (ne_eqb at k (λ e. absurd (omega (arith, here, e, below))))) in
+      let before = sum-zero n (λ k. if at == k then units
+      else 0) (λ k below. cond-false (at == k) units 0 (ne_eqb at k (λ e. absurd (omega (arith, here, e, below))))) in
       omega (arith, before, cond-true (at == n) units 0 (eq-eqb at n here))
   | inr other ↦ omega (arith, sum-one n at units (omega (arith, within, other)), cond-false (at == n) units 0 (ne_eqb at n other))
 ]

@@ -11,7 +11,8 @@ use Rattle.wp_planner.specs.declared.crew.DayBatches.{DayBatches}
 use Rattle.wp_planner.specs.declared.crew.DayCrew.{DayCrew}
 use Rattle.wp_planner.specs.declared.planner.WavePlan.{WavePlan}
 
--- a batch of a day: the name of its wave, its number on the wave's sheet, the wave as it was planned, and the batch's orders
+-- a batch of a day: the name of its wave, its number on the wave's sheet, the wave as it was planned, and the batch's
+-- orders
 pub record DayBatch : Type 0 where
   pub wave : List ℕ
   pub number : ℕ
@@ -22,13 +23,15 @@ pub record DayBatch : Type 0 where
 unfoldable pub wave_batches : List ℕ → WavePicks → ℕ → List (List ℕ) → List DayBatch
 wave_batches name planned number [] = []
 wave_batches name planned number (orders ∷ batches) =
-    record { wave = name; number = number; planned = planned; orders = orders } ∷ wave_batches name planned (number + 1) batches
+    record { wave = name; number = number; planned = planned; orders = orders }
+    ∷ wave_batches name planned (number + 1) batches
 
 -- the batches of waves that went out and of their plans, in the order of their sheets
 unfoldable pub day_batches : List WaveHolds → List WavePlan → List DayBatch
 day_batches [] plans = []
 day_batches (released ∷ more) [] = []
-day_batches (released ∷ more) (plan ∷ plans) = wave_batches released.wave plan.wave 1 plan.planned.batching ++ day_batches more plans
+day_batches (released ∷ more) (plan ∷ plans)
+    = wave_batches released.wave plan.wave 1 plan.planned.batching ++ day_batches more plans
 
 -- the batches of one wave that went out, where it has a plan
 abbrev pub sent_batches : Sent → List DayBatch
@@ -55,12 +58,15 @@ pub record AreListed (batches : List DayBatch) (listed : DayBatches) : Type 0 wh
   pub lengths : AreLengths batches listed.lengths.items
   pub each : All MayBeDealt listed.lengths.items
 
--- batches are dealt to so many pickers: the crew is settled, no crew's longest load is below the least that it tells, and its longest load is near the mean
+-- batches are dealt to so many pickers: the crew is settled, no crew's longest load is below the least that it tells,
+-- and its longest load is near the mean
 pub record AreDealt (pickers : ℕ) (batches : List DayBatch) (dealt : DayCrew) : Type 0 where
   pub listed : AreListed batches dealt.batches
-  pub crew : IsCrew dealt.batches.lengths.items pickers dealt.crew.picker_of.items dealt.crew.loads.items dealt.crew.longest dealt.crew.least
+  pub crew : IsCrew dealt.batches.lengths.items pickers dealt.crew.picker_of.items dealt.crew.loads.items
+      dealt.crew.longest dealt.crew.least
   pub least : NoneIsBelow dealt.batches.lengths.items pickers dealt.crew.least
-  pub near : IsNearTheMean dealt.batches.lengths.items pickers dealt.crew.picker_of.items dealt.crew.loads.items dealt.crew.longest
+  pub near : IsNearTheMean dealt.batches.lengths.items pickers dealt.crew.picker_of.items dealt.crew.loads.items
+      dealt.crew.longest
 
 -- where there are pickers, batches are dealt to them, and else there is no crew
 abbrev pub IsCrewFor : ℕ → List DayBatch → Option DayCrew → Type 0

@@ -25,9 +25,11 @@ pub record GoesOutFilled (opening : Opening) (out : WaveHolds) : Type 0 where
 
 -- a release that sends a wave out, in a sound state of an opening that was read, tells a wave that goes out filled
 abbrev pub EachReleaseFills : Type 0
-EachReleaseFills = (opening : Opening) (number : ℕ) (state : State) (name : List ℕ) (out : WaveHolds) → IsReadOpening opening → IsSound opening state
+EachReleaseFills = (opening : Opening) (number : ℕ) (state : State) (name : List ℕ) (out : WaveHolds)
+    → IsReadOpening opening → IsSound opening state
     → AreSameRows opening state.rows
-    → outcome_of number state (command.Release name) (step opening state (command.Release name)) ≡ outcome.Released out → GoesOutFilled opening out
+    → outcome_of number state (command.Release name) (step opening state (command.Release name)) ≡ outcome.Released out
+    → GoesOutFilled opening out
 
 -- every wave that goes out in a history of an opening that was read goes out filled
 abbrev pub EachWaveOutIsFilled : Type 0
@@ -37,7 +39,9 @@ EachWaveOutIsFilled = (history : History) (out : WaveHolds) → IsReadOpening hi
 
 -- the certificate that a sheet has tells one bound, and it is the one in the sheet's first line
 abbrev pub CheckedBoundsAreTold : Type 0
-CheckedBoundsAreTold = (opening : Opening) (released : WaveHolds) (terms : Terms) (plan : WavePlan) (cancelled_later : Bool) (sheet : List ℕ) (bound : ℕ)
+CheckedBoundsAreTold = (opening : Opening) (released : WaveHolds) (terms : Terms) (plan : WavePlan)
+    (cancelled_later : Bool) (sheet : List ℕ) (bound : ℕ)
     → IsSheet opening released terms plan cancelled_later sheet
-    → TellsBound plan.wave.layout (certificate_text (wave_places plan.wave) plan.wave.cart terms.capacity plan.planned.tree.nodes) bound
+    → TellsBound plan.wave.layout (certificate_text
+    (wave_places plan.wave) plan.wave.cart terms.capacity plan.planned.tree.nodes) bound
     → bound ≡ plan.planned.bound

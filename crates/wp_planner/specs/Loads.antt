@@ -1,5 +1,6 @@
 -- What the orders of a wave that went out load.
-use Rattle.std.specs.Prelude.{◌≡◌, ℕ, ◌<◌, ◌≤◌, ◌==◌, if◌then◌else◌, IfSome, List, None, Option, Some, length, slice_index, sum_by}
+use Rattle.std.specs.Prelude.{◌≡◌, ℕ, ◌<◌, ◌≤◌, ◌==◌, if◌then◌else◌, IfSome, List, None, Option, Some, length}
+use Rattle.std.specs.Prelude.{slice_index, sum_by}
 use Rattle.wp_model.specs.declared.row.Hold.{Hold}
 use Rattle.wp_machine.specs.declared.outcome.WaveHolds.{WaveHolds}
 use Rattle.wp_pairs.specs.Carts.{LoadedCart}
@@ -20,7 +21,8 @@ AreLight units holds = IfSome units (λ most. (order : ℕ) → load_for holds o
 pub record IsLoadedBy (released : WaveHolds) (units : ℕ) (cart : LoadedCart) : Type 0 where
   pub holds_units : cart.units ≡ units
   pub count : length cart.loads ≡ length released.orders
-  pub loads : (order : ℕ) → order < length released.orders → slice_index cart.loads order ≡ load_for released.holds order
+  pub loads : (order : ℕ) → order < length released.orders
+      → slice_index cart.loads order ≡ load_for released.holds order
 
 -- where carts hold so many units, there is such a cart, and else there is none
 abbrev pub IsCartOf : Option ℕ → WaveHolds → Option LoadedCart → Type 0

@@ -18,15 +18,17 @@ abbrev pub IsCertified : Layout → Terms → WavePicks → Planned → Type 0
 IsCertified layout terms wave planned =
     TellsBound layout (certificate_text (wave_places wave) wave.cart terms.capacity planned.tree.nodes) planned.bound
 
--- a good plan of the wave that picks where the one that went out holds units, with a bracket of its linear bound where the terms ask for one, and with a
--- certificate that tells its bound
-pub record IsPlanOf (layout : Layout) (opening : Opening) (released : WaveHolds) (terms : Terms) (plan : WavePlan) : Type 0 where
+-- a good plan of the wave that picks where the one that went out holds units, with a bracket of its linear bound where
+-- the terms ask for one, and with a certificate that tells its bound
+pub record IsPlanOf (layout : Layout) (opening : Opening) (released : WaveHolds) (terms : Terms)
+    (plan : WavePlan) : Type 0 where
   pub wave : IsWaveOf layout opening released plan.wave
   pub good : IsGoodPlan plan.wave terms.capacity (budget_of (length plan.wave.orders) terms) plan.planned
   pub root : IsRootFor terms plan.wave plan.root
   pub certified : IsCertified layout terms plan.wave plan.planned
 
 -- there is a plan of a wave exactly where it is one that goes out, and it is a good one
-pub record IsPlanFor (layout : Layout) (opening : Opening) (terms : Terms) (wave : WaveHolds) (plan : Option WavePlan) : Type 0 where
+pub record IsPlanFor (layout : Layout) (opening : Opening) (terms : Terms) (wave : WaveHolds)
+    (plan : Option WavePlan) : Type 0 where
   pub there : IsSome plan ↔ IsReleased opening wave
   pub good : IfSome plan (IsPlanOf layout opening wave terms)

@@ -16,7 +16,8 @@ use Rattle.wp_planner.specs.Slots.{HoldsAt, slot_at}
 abbrev pub HasHold : List Hold → ℕ → Type 0
 HasHold holds order = (hold : Hold) × Contains holds hold × (hold.order ≡ order)
 
--- A wave has 1 to 64 orders, each of which holds units. All that it holds is held for one of them in one of so many rows, and is listed by order and then by row.
+-- A wave has 1 to 64 orders, each of which holds units. All that it holds is held for one of them in one of so many
+-- rows, and is listed by order and then by row.
 pub record IsListed (rows : ℕ) (wave : WaveHolds) : Type 0 where
   pub some : 1 ≤ length wave.orders
   pub most : length wave.orders ≤ most_wave_orders
@@ -24,7 +25,8 @@ pub record IsListed (rows : ℕ) (wave : WaveHolds) : Type 0 where
   pub rise : Rises wave.holds
   pub filled : (order : ℕ) → order < length wave.orders → HasHold wave.holds order
 
--- A wave that went out is listed so, with holds in the rows of the stock. Where carts hold so many units, no order loads more.
+-- A wave that went out is listed so, with holds in the rows of the stock. Where carts hold so many units, no order
+-- loads more.
 pub record IsReleased (opening : Opening) (released : WaveHolds) : Type 0 where
   pub listed : IsListed (length opening.stock.rows) released
   pub light : AreLight opening.units released.holds
@@ -43,8 +45,8 @@ IsServed opening released = (order : ℕ) (name : List ℕ) → slice_get releas
 abbrev pub LiesIn : Layout → Stock → Type 0
 LiesIn layout stock = All (λ row. IsSlot layout (slot_at row.location)) stock.rows
 
--- the wave of a layout whose orders pick where those of a wave that went out hold units, at slots of the layout; where carts hold so many units, it has such
--- a cart, in which each order loads what it holds
+-- the wave of a layout whose orders pick where those of a wave that went out hold units, at slots of the layout; where
+-- carts hold so many units, it has such a cart, in which each order loads what it holds
 pub record IsWaveOf (layout : Layout) (opening : Opening) (released : WaveHolds) (wave : WavePicks) : Type 0 where
   pub layout_is : wave.layout ≡ layout
   pub orders : length wave.orders ≡ length released.orders

@@ -15,14 +15,16 @@ use Rattle.wp_planner.specs.Terms.{Terms, budget_of}
 abbrev pub rounds_of : WavePicks → Terms → ℕ
 rounds_of wave terms = budget_of (length wave.orders) terms / price (length wave.orders) terms.capacity
 
--- What a bracket of a wave's linear bound shows: a fractional cover and feasible duals over one denominator, of which no fractional cover costs less than the low
--- side, and the linear bound isn't above the high one. Its state has its cause, and rounds are wanting only where there are more permitted batches.
+-- What a bracket of a wave's linear bound shows: a fractional cover and feasible duals over one denominator, of which
+-- no fractional cover costs less than the low side, and the linear bound isn't above the high one. Its state has its
+-- cause, and rounds are wanting only where there are more permitted batches.
 pub record IsBracketOf (wave : WavePicks) (capacity rounds : ℕ) (root : Root) : Type 0 where
   pub is : IsRoot wave (pairs_of wave capacity) rounds root
   pub below : IsBelowCovers wave (pairs_of wave capacity) root.low root.denominator
   pub above : (cost denominator : ℤ) → IsLinearBound wave (pairs_of wave capacity) cost denominator
       → (cost *ℤ root.denominator) ≤ℤ (root.high *ℤ denominator)
-  pub few : (made : ℕ) (all : List (List ℕ)) → root.state ≡ state.Rounds made → HasPermitted (pairs_of wave capacity) all → made < length all
+  pub few : (made : ℕ) (all : List (List ℕ)) → root.state ≡ state.Rounds made
+      → HasPermitted (pairs_of wave capacity) all → made < length all
 
 -- where the terms ask for it there is a bracket of a wave, and else there is none
 abbrev pub IsRootFor : Terms → WavePicks → Option Root → Type 0
@@ -37,4 +39,9 @@ is_narrow other = false
 -- the line of a bracket, if there is one
 abbrev pub root_text : Option Root → List ℕ
 root_text None = []
-root_text (Some root) = root_line (record { low = root.low; high = root.high; denominator = root.denominator; narrow = is_narrow root.state })
+root_text (Some root) = root_line (record {
+  low = root.low;
+  high = root.high;
+  denominator = root.denominator;
+  narrow = is_narrow root.state;
+})

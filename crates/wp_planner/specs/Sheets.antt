@@ -28,7 +28,8 @@ pub record IsShortestTour (wave : WavePicks) (batch : List ℕ) (walk : List Poi
 
 -- how long the walk is that a rule would go past all that the orders of a batch pick
 abbrev pub IsRuleLength : WavePicks → List ℕ → Rule → ℕ → Type 0
-IsRuleLength wave batch rule total = IsTour wave.layout (batch_picks wave batch) (walk_of_rule wave.layout (batch_picks wave batch) rule) total
+IsRuleLength wave batch rule total = IsTour wave.layout (batch_picks wave batch)
+    (walk_of_rule wave.layout (batch_picks wave batch) rule) total
 
 -- the line of what three usual rules would walk past a batch's picks, beside the length of its tour
 pub record IsRulesLine (wave : WavePicks) (batch : List ℕ) (total : ℕ) (text : List ℕ) : Type 0 where
@@ -45,8 +46,10 @@ abbrev pub FollowsPicks : Bool → WavePicks → List ℕ → ℕ → List ℕ �
 FollowsPicks true wave batch total text = IsRulesLine wave batch total text
 FollowsPicks false wave batch total text = text ≡ []
 
--- the part of a batch on a wave's sheet: its number, the length of its tour, its orders, a shortest tour, its picks by row, and what follows them
-pub record IsPart (stock : Stock) (released : WaveHolds) (wave : WavePicks) (rules : Bool) (number : ℕ) (batch part : List ℕ) : Type 0 where
+-- the part of a batch on a wave's sheet: its number, the length of its tour, its orders, a shortest tour, its picks by
+-- row, and what follows them
+pub record IsPart (stock : Stock) (released : WaveHolds) (wave : WavePicks) (rules : Bool) (number : ℕ)
+    (batch part : List ℕ) : Type 0 where
   pub total : ℕ
   pub walk : List Point
   pub tours : IsShortestTour wave batch walk total
@@ -82,9 +85,11 @@ abbrev pub TellsTheBound : WavePicks → ℕ → Planned → Type 0
 TellsTheBound wave capacity planned =
     TellsBound wave.layout (certificate_text (wave_places wave) wave.cart capacity planned.tree.nodes) planned.bound
 
--- the sheet of a wave that went out and its plan: a first line, the parts of its batches, numbered from 1, its certificate, its bracket of the linear bound, if it
--- has one, and a last line; and its certificate tells the bound of its first line
-pub record IsSheet (opening : Opening) (released : WaveHolds) (terms : Terms) (plan : WavePlan) (cancelled_later : Bool) (sheet : List ℕ) : Type 0 where
+-- the sheet of a wave that went out and its plan: a first line, the parts of its batches, numbered from 1, its
+-- certificate, its bracket of the linear bound, if it has one, and a last line; and its certificate tells the bound of
+-- its first line
+pub record IsSheet (opening : Opening) (released : WaveHolds) (terms : Terms) (plan : WavePlan) (cancelled_later : Bool)
+    (sheet : List ℕ) : Type 0 where
   pub parts : List ℕ
   pub are : AreParts opening.stock released plan.wave terms.rules 1 plan.planned.batching parts
   pub is : sheet ≡ plan_line opening.units released terms.capacity plan.planned cancelled_later ++ parts

@@ -21,7 +21,8 @@ pub record HoldsAt (rows : List StockRow) (holds : List Hold) (order : ℕ) (poi
   pub lies : point ≡ slot_at row.location
 
 -- so many orders' picks in a layout: each order picks at the slots at which it holds units
-pub record ArePicksOf (layout : Layout) (rows : List StockRow) (holds : List Hold) (orders : ℕ) (picks : List PickSet) : Type 0 where
+pub record ArePicksOf (layout : Layout) (rows : List StockRow) (holds : List Hold) (orders : ℕ)
+    (picks : List PickSet) : Type 0 where
   pub count : length picks ≡ orders
   pub of_layout : All (λ set. set.layout ≡ layout) picks
   pub each : (order : ℕ) (d : PickSet) (point : Point) → order < orders

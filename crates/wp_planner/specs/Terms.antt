@@ -2,8 +2,9 @@
 use Rattle.std.specs.Prelude.{ℕ, ◌≤◌, ◌*◌, ◌^◌, min, Bool, Option, Some, None}
 use Rattle.wp_node.specs.Prices.{price}
 
--- how many orders a batch may have, what may be spent on a wave's bound, or in its place for how many nodes, and on how many threads; whether sheets tell what three usual rules would walk,
--- to how many pickers all batches are dealt, 0 where they aren't, and whether sheets tell a bracket of the linear bound
+-- how many orders a batch may have, what may be spent on a wave's bound, or in its place for how many nodes, and on how
+-- many threads; whether sheets tell what three usual rules would walk, to how many pickers all batches are dealt, 0
+-- where they aren't, and whether sheets tell a bracket of the linear bound
 pub record Terms : Type 0 where
   pub capacity : ℕ
   pub budget : ℕ
@@ -22,8 +23,8 @@ pub record AreTerms (terms : Terms) : Type 0 where
   pub most_workers : terms.workers ≤ 16
   pub pickers : terms.pickers ≤ 100
 
--- what may be spent on the bound of a wave of so many orders: where there are nodes, so many times the price of a node of that wave, but no more than
--- the greatest budget
+-- what may be spent on the bound of a wave of so many orders: where there are nodes, so many times the price of a node
+-- of that wave, but no more than the greatest budget
 abbrev pub spent_on : ℕ → ℕ → ℕ → Option ℕ → ℕ
 spent_on orders capacity budget None = budget
 spent_on orders capacity budget (Some nodes) = min (price orders capacity * nodes) (10 ^ 18)

@@ -3,7 +3,8 @@ ghost use Rattle.std.specs.Prelude.{◌≡◌, ◌<◌, ◌≤◌, ◌++◌, [],
 ghost use Rattle.std.specs.List.{flat_map};
 ghost use Rattle.wp_model.specs.Opening.{Opening as OpeningData};
 ghost use Rattle.wp_model.specs.Warehouse.{Layout as Block};
-ghost use Rattle.wp_planner.specs.Crews.{AreListed, DayBatch, GoesSomewhere, IsCrewFor, day_batches, sent_batches, wave_batches};
+ghost use Rattle.wp_planner.specs.Crews.{AreListed, DayBatch, GoesSomewhere, IsCrewFor, day_batches, sent_batches};
+ghost use Rattle.wp_planner.specs.Crews.{wave_batches};
 ghost use Rattle.wp_planner.specs.Sent.{ArePlanned, IsPlanned, plans_of, waves_of};
 ghost use Rattle.wp_planner.specs.Terms.{Terms as TermsData};
 
@@ -47,8 +48,10 @@ impl DayBatches {
     // Adds a batch behind the others.
     fn add(&mut self, wave: Name, number: u32, length: u64) -> Result<(), Memory>
         ensures waves { OnOk result (self.new.waves.items ≡ self.old.waves.items ++ wave ∷ []) }
-        ensures numbers { OnOk result (self.new.numbers.items ≡ self.old.numbers.items ++ number ∷ []) }
-        ensures lengths { OnOk result (self.new.lengths.items ≡ self.old.lengths.items ++ length ∷ []) }
+        ensures numbers { OnOk result (self.new.numbers.items ≡ self.old.numbers.items ++ number
+            ∷ []) }
+        ensures lengths { OnOk result (self.new.lengths.items ≡ self.old.lengths.items ++ length
+            ∷ []) }
     {
         self.waves.push(wave)?;
         self.numbers.push(number)?;
@@ -59,7 +62,8 @@ impl DayBatches {
 
 // Adds the batches of a wave's plan, numbered from 1.
 fn add_batches(batches: &mut DayBatches, name: Name, plan: &WavePlan) -> Result<(), Memory>
-    requires places { All (All (λ order. order < length plan.now.wave.orders)) plan.now.planned.batching }
+    requires places { All (All (λ order. order < length plan.now.wave.orders))
+        plan.now.planned.batching }
     requires some { All (GoesSomewhere plan.now.wave) plan.now.planned.batching }
     ensures { (before : List DayBatch) → AreListed before batches.old → OnOk result
         (AreListed (before ++ wave_batches name plan.now.wave 1 plan.now.planned.batching) batches.new) }
@@ -74,15 +78,18 @@ fn add_batches(batches: &mut DayBatches, name: Name, plan: &WavePlan) -> Result<
 
 // Adds the batches of a wave that went out.
 fn add_wave(batches: &mut DayBatches, one: &Planned<Option<WavePlan>>) -> Result<(), Memory>
-    requires { (layout : Block) × (opening : OpeningData) × (terms : TermsData) × IsPlanned layout opening terms one.now }
-    ensures { (before : List DayBatch) → AreListed before batches.old → OnOk result (AreListed (before ++ sent_batches one.now) batches.new) }
+    requires { (layout : Block) × (opening : OpeningData) × (terms : TermsData)
+        × IsPlanned layout opening terms one.now }
+    ensures { (before : List DayBatch) → AreListed before batches.old
+        → OnOk result (AreListed (before ++ sent_batches one.now) batches.new) }
 {
     add_batches(batches, one.wave.wave, plan_sent(one))
 }
 
 // The batches of all waves that went out.
 fn batches_of(alloc: Global, sent: &[Planned<Option<WavePlan>>]) -> Result<DayBatches, Memory>
-    requires { (layout : Block) × (opening : OpeningData) × (terms : TermsData) × ArePlanned layout opening terms sent.now }
+    requires { (layout : Block) × (opening : OpeningData) × (terms : TermsData)
+        × ArePlanned layout opening terms sent.now }
     ensures { IfOk result (AreListed (flat_map sent_batches sent.now)) }
 {
     let mut batches = DayBatches::none(alloc);
@@ -92,17 +99,20 @@ fn batches_of(alloc: Global, sent: &[Planned<Option<WavePlan>>]) -> Result<DayBa
     Ok(batches)
 }
 
-/// Deals all batches of the waves that went out on a day, up to 10,000 of them, to so many pickers, 0 to 100, so that the longest load
-/// is short (`assign` of `wp_crew` says how). None comes exactly where there are no pickers. `Memory` comes where memory runs out.
+/// Deals all batches of the waves that went out on a day, up to 10,000 of them, to so many pickers, 0 to 100, so that
+/// the longest load is short (`assign` of `wp_crew` says how). None comes exactly where there are no pickers. `Memory`
+/// comes where memory runs out.
 pub fn crew_for(
     alloc: Global,
     sent: &[Planned<Option<WavePlan>>],
     pickers: u32,
 ) -> Result<Option<DayCrew>, Memory>
-    requires planned { (layout : Block) × (opening : OpeningData) × (terms : TermsData) × ArePlanned layout opening terms sent.now }
+    requires planned { (layout : Block) × (opening : OpeningData) × (terms : TermsData)
+        × ArePlanned layout opening terms sent.now }
     requires few { length sent.now ≤ 10000 }
     requires most { pickers ≤ 100 }
-    ensures { IfOk result (IsCrewFor pickers (day_batches (waves_of sent.now) (plans_of sent.now))) }
+    ensures { IfOk result (IsCrewFor pickers
+        (day_batches (waves_of sent.now) (plans_of sent.now))) }
 {
     if pickers == 0 {
         return Ok(None);

@@ -1,4 +1,5 @@
-//! The plan of a wave that went out: its batches and their bound, and its sheet; and the crew to which the batches of a day are dealt.
+//! The plan of a wave that went out: its batches and their bound, and its sheet; and the crew to which the batches of a
+//! day are dealt.
 #![tactic(auto)]
 
 mod crew;

@@ -1,4 +1,5 @@
-ghost use Rattle.std.specs.Prelude.{◌≡◌, ◌+◌, ◌<◌, ◌≤◌, ◌↔◌, ℕ, All, IfSome, IsSome, IsTrue, Some, length, replicate, slice_index, slice_set};
+ghost use Rattle.std.specs.Prelude.{◌≡◌, ◌+◌, ◌<◌, ◌≤◌, ◌↔◌, ℕ, All, IfSome, IsSome, IsTrue, Some, length, replicate};
+ghost use Rattle.std.specs.Prelude.{slice_index, slice_set};
 ghost use Rattle.wp_model.specs.Limits.{most_wave_orders};
 ghost use Rattle.wp_model.specs.Tables.{IsCart};
 ghost use Rattle.wp_planner.specs.Loads.{AreLight, IsLoadedBy, load_for};
@@ -17,12 +18,15 @@ fn no_loads() -> [u32; MOST_LOADS]
     [0; MOST_LOADS]
 }
 
-// Adds a hold to what its order loads. False comes exactly where the order then would load more than so many units, and no load
-// changes then.
+// Adds a hold to what its order loads. False comes exactly where the order then would load more than so many units, and
+// no load changes then.
 fn add_load(loads: &mut [u32; MOST_LOADS], hold: &Hold, units: u32) -> bool
     requires { hold.now.order < 64 }
-    ensures fits { IsTrue result ↔ (slice_index loads.old hold.now.order + hold.now.quantity ≤ units) }
-    ensures added { IsTrue result → loads.new ≡ slice_set loads.old hold.now.order (slice_index loads.old hold.now.order + hold.now.quantity) }
+    ensures fits { IsTrue result ↔ (slice_index loads.old hold.now.order + hold.now.quantity
+        ≤ units) }
+    ensures added { IsTrue result → loads.new
+        ≡ slice_set loads.old hold.now.order (slice_index loads.old hold.now.order
+        + hold.now.quantity) }
 {
     let place = hold.order as usize;
     let load = u64::from(loads[place]) + u64::from(hold.quantity);
@@ -33,11 +37,13 @@ fn add_load(loads: &mut [u32; MOST_LOADS], hold: &Hold, units: u32) -> bool
     true
 }
 
-// What each order loads, in one pass over all that is held. None comes exactly where an order loads more than so many units.
+// What each order loads, in one pass over all that is held. None comes exactly where an order loads more than so many
+// units.
 fn loads_within(holds: &[Hold], units: u32) -> Option<[u32; MOST_LOADS]>
     requires { All (λ hold. hold.order < 64) holds.now }
     ensures light { IsSome result ↔ AreLight (Some units) holds.now }
-    ensures loads { IfSome result (λ loads. (order : ℕ) → order < 64 → slice_index loads order ≡ load_for holds.now order) }
+    ensures loads { IfSome result (λ loads. (order : ℕ) → order < 64 → slice_index loads order
+        ≡ load_for holds.now order) }
 {
     let mut loads = no_loads();
     for hold in holds {
@@ -48,7 +54,8 @@ fn loads_within(holds: &[Hold], units: u32) -> Option<[u32; MOST_LOADS]>
     Some(loads)
 }
 
-// The cart of so many units with what each order of a wave loads. None comes exactly where an order loads more than the cart holds.
+// The cart of so many units with what each order of a wave loads. None comes exactly where an order loads more than the
+// cart holds.
 pub(crate) fn loaded_cart(units: u32, wave: &WaveHolds) -> Option<Cart>
     requires cart { IsCart units }
     requires some { 1 ≤ length wave.now.orders }

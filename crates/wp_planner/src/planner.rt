@@ -26,8 +26,8 @@ use wp_search::{Planned, plan_wave};
 /// How many lengths are kept at most where the budget doesn't pay for duals of a node's own.
 const MOST_KEPT: u64 = 50_000;
 
-/// What the waves of a day are planned with: the layout, the opening whose stock lies in it, the terms, and the threads and the
-/// gate of the workers that price them.
+/// What the waves of a day are planned with: the layout, the opening whose stock lies in it, the terms, and the threads
+/// and the gate of the workers that price them.
 #[derive(Drop)]
 pub struct Planning<'a, R, G> {
     pub rt: &'a R,
@@ -68,9 +68,9 @@ fn orders_within(wave: &Wave, capacity: Capacity, most: u64) -> u32
     kept
 }
 
-// Up to how many orders the batches have whose lengths are kept while a wave is planned: those of all batches are asked for again
-// and again where the budget pays for duals of a node's own. Where it doesn't, the start asks for the lengths of batches of few
-// orders more often than it takes to keep them, as long as these aren't too many.
+// Up to how many orders the batches have whose lengths are kept while a wave is planned: those of all batches are asked
+// for again and again where the budget pays for duals of a node's own. Where it doesn't, the start asks for the lengths
+// of batches of few orders more often than it takes to keep them, as long as these aren't too many.
 fn kept_orders(wave: &Wave, capacity: Capacity, budget: u64) -> u32
     ensures { result ≤ capacity.most }
 {
@@ -114,9 +114,11 @@ fn searched<R: Threads + Sync, G: Gate>(
     alloc: Global,
     wave: &Wave,
 ) -> Result<Found, Memory>
-    ensures plan { IfOk result (λ found. IsGoodPlan wave.now planning.now.terms.now.capacity (budget_of (length wave.now.orders) planning.now.terms.now) found.planned) }
+    ensures plan { IfOk result (λ found. IsGoodPlan wave.now planning.now.terms.now.capacity
+        (budget_of (length wave.now.orders) planning.now.terms.now) found.planned) }
     ensures root { IfOk result (λ found. IsRootFor planning.now.terms.now wave.now found.root) }
-    ensures certified { (layout : Block) (opening : OpeningData) (released : Holds) → IsWaveOf layout opening released wave.now
+    ensures certified { (layout : Block) (opening : OpeningData) (released : Holds)
+        → IsWaveOf layout opening released wave.now
         → IfOk result (λ found. IsCertified layout planning.now.terms.now wave.now found.planned) }
 {
     let capacity = planning.terms.capacity();
@@ -135,16 +137,18 @@ fn searched<R: Threads + Sync, G: Gate>(
     Ok(Found { planned, root })
 }
 
-// The plan of a wave that went out: a good plan, for the terms' capacity and what they spend on it, of the wave whose orders pick at the slots
-// of the layout at which they hold units, and whose batches fit a cart of the opening's units, if it has them; and a bracket of its
-// linear bound, where the terms ask for one. The text of its certificate tells its bound. The workers that price it pass the gate.
+// The plan of a wave that went out: a good plan, for the terms' capacity and what they spend on it, of the wave whose
+// orders pick at the slots of the layout at which they hold units, and whose batches fit a cart of the opening's units,
+// if it has them; and a bracket of its linear bound, where the terms ask for one. The text of its certificate tells its
+// bound. The workers that price it pass the gate.
 fn plan_of<R: Threads + Sync, G: Gate>(
     planning: &Planning<'_, R, G>,
     alloc: Global,
     released: &ReleasedWave<'_>,
 ) -> Result<WavePlan, Memory>
     requires { released.now.opening ≡ planning.now.opening.now }
-    ensures { IfOk result (IsPlanOf planning.now.layout.now planning.now.opening.now released.now.wave planning.now.terms.now) }
+    ensures { IfOk result (IsPlanOf planning.now.layout.now planning.now.opening.now
+        released.now.wave planning.now.terms.now) }
 {
     let mut wave = wave_of(alloc, planning.layout, released)?;
     let budget = planning.terms.budget_for(wave.orders());
@@ -159,13 +163,15 @@ fn plan_of<R: Threads + Sync, G: Gate>(
     })
 }
 
-/// The plan of a wave that goes out. None comes exactly where a wave isn't one that does. The workers that price it pass the gate.
+/// The plan of a wave that goes out. None comes exactly where a wave isn't one that does. The workers that price it
+/// pass the gate.
 pub fn plan_for<R: Threads + Sync, G: Gate>(
     planning: &Planning<'_, R, G>,
     alloc: Global,
     wave: &WaveHolds,
 ) -> Result<Option<WavePlan>, Memory>
-    ensures { IfOk result (IsPlanFor planning.now.layout.now planning.now.opening.now planning.now.terms.now wave.now) }
+    ensures { IfOk result (IsPlanFor planning.now.layout.now planning.now.opening.now
+        planning.now.terms.now wave.now) }
 {
     let Some(released) = ReleasedWave::of(planning.opening, wave) else {
         return Ok(None);

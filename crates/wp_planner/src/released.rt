@@ -10,8 +10,8 @@ use wp_machine::{Opening, WaveHolds};
 use wp_model::{Hold, MOST_WAVE_ORDERS};
 use wp_pairs::Cart;
 
-/// A wave that went out, and the opening in whose stock it holds units. Where carts hold so many units, the cart with what each of
-/// its orders loads is made with it.
+/// A wave that went out, and the opening in whose stock it holds units. Where carts hold so many units, the cart with
+/// what each of its orders loads is made with it.
 #[derive(Drop)]
 pub(crate) struct ReleasedWave<'a> {
     opening: &'a Opening,
@@ -89,7 +89,8 @@ fn are_filled(holds: &[Hold], orders: u32) -> bool
     true
 }
 
-// Whether all holds are for one of so many orders in one of so many rows, are listed by order and then by row, and each order has one.
+// Whether all holds are for one of so many orders in one of so many rows, are listed by order and then by row, and each
+// order has one.
 fn are_listed(holds: &[Hold], orders: u32, rows: u32) -> bool
     ensures { IsTrue result ↔ (All (IsHoldWithin orders rows) holds.now × Rises holds.now
         × ((order : ℕ) → order < orders → HasHold holds.now order)) }
@@ -97,8 +98,8 @@ fn are_listed(holds: &[Hold], orders: u32, rows: u32) -> bool
     are_within(holds, orders, rows) && are_rising(holds) && are_filled(holds, orders)
 }
 
-// Whether a wave has 1 to 64 orders, each of which holds units, and all that it holds is held for one of them in one of so many
-// rows, and is listed by order and then by row.
+// Whether a wave has 1 to 64 orders, each of which holds units, and all that it holds is held for one of them in one of
+// so many rows, and is listed by order and then by row.
 fn is_listed(wave: &WaveHolds, rows: u32) -> bool
     ensures { IsTrue result ↔ IsListed rows wave.now }
 {
@@ -110,7 +111,10 @@ impl<'a> ReleasedWave<'a> {
     /// A wave as one that went out. None comes exactly where it isn't one that can have gone out.
     pub(crate) fn of(opening: &'a Opening, wave: &'a WaveHolds) -> Option<ReleasedWave<'a>>
         ensures there { IsSome result ↔ IsReleased opening.now wave.now }
-        ensures is { IfSome result (λ released. released ≡ record { opening = opening.now; wave = wave.now }) }
+        ensures is { IfSome result (λ released. released ≡ record {
+          opening = opening.now;
+          wave = wave.now;
+        }) }
     {
         if !is_listed(wave, opening.stock().rows()) {
             return None;

@@ -5,7 +5,8 @@ ghost use Rattle.wp_cert.specs.TextData.{HaveDualsWithin};
 ghost use Rattle.wp_planner.specs.Plans.{IsPlanOf};
 ghost use Rattle.wp_planner.specs.Released.{IsReleased};
 ghost use Rattle.wp_outside.specs.Sections.{GrowsBy};
-ghost use Rattle.wp_planner.specs.Sheets.{AreParts, FollowsPicks, IsPart, IsRulesLine, IsSheet, IsShortestTour, certificate_line};
+ghost use Rattle.wp_planner.specs.Sheets.{AreParts, FollowsPicks, IsPart, IsRulesLine, IsSheet, IsShortestTour};
+ghost use Rattle.wp_planner.specs.Sheets.{certificate_line};
 ghost use Rattle.wp_planner.specs.Roots.{is_narrow as is_narrow_state, root_text};
 ghost use Rattle.wp_planner.specs.Sheets.{is_open as is_open_state, plan_line};
 
@@ -25,8 +26,8 @@ use wp_sheets::{
     BatchSheet, Heading, RootLine, append_batch, append_heading, append_root, append_rules,
 };
 
-/// A wave that went out, as its sheet tells of it: the opening in whose stock it holds units, the terms of its plan, the plan, and whether
-/// a later entry cancels the wave.
+/// A wave that went out, as its sheet tells of it: the opening in whose stock it holds units, the terms of its plan,
+/// the plan, and whether a later entry cancels the wave.
 #[derive(Clone, Copy)]
 pub struct SentWave<'a> {
     pub opening: &'a Opening,
@@ -40,7 +41,8 @@ pub struct SentWave<'a> {
 fn sheet_of(alloc: Global, wave: &Wave, batch: Batch) -> Result<BatchSheet, Memory>
     requires { All (λ order. order < length wave.now.orders) batch }
     ensures batch { IfOk result (λ sheet. sheet.batch ≡ batch) }
-    ensures tour { IfOk result (λ sheet. IsShortestTour wave.now batch sheet.walk.items sheet.length) }
+    ensures tour { IfOk result (λ sheet. IsShortestTour wave.now batch sheet.walk.items
+        sheet.length) }
 {
     Ok(BatchSheet {
         batch,
@@ -53,7 +55,8 @@ fn sheet_of(alloc: Global, wave: &Wave, batch: Batch) -> Result<BatchSheet, Memo
 fn print_walks(text: &mut Vec<u8>, wave: &Wave, batch: Batch, shortest: u64) -> Result<(), Memory>
     requires places { All (λ order. order < length wave.now.orders) batch }
     requires length { IsLengthOf wave.now batch shortest }
-    ensures { IfOk result (λ _. GrowsBy (IsRulesLine wave.now batch shortest) text.old.items text.new.items) }
+    ensures { IfOk result (λ _. GrowsBy (IsRulesLine wave.now batch shortest) text.old.items
+        text.new.items) }
 {
     let layout = wave.layout();
     let picks = wave.union_of(batch);
@@ -72,7 +75,8 @@ fn print_after(
 ) -> Result<(), Memory>
     requires places { All (λ order. order < length sent.now.plan.now.wave.orders) batch }
     requires length { IsLengthOf sent.now.plan.now.wave batch shortest }
-    ensures { IfOk result (λ _. GrowsBy (FollowsPicks sent.now.terms.now.rules sent.now.plan.now.wave batch shortest) text.old.items text.new.items) }
+    ensures { IfOk result (λ _. GrowsBy (FollowsPicks sent.now.terms.now.rules
+        sent.now.plan.now.wave batch shortest) text.old.items text.new.items) }
 {
     if sent.terms.rules() {
         print_walks(text, &sent.plan.wave, batch, shortest)?;
@@ -90,9 +94,11 @@ fn print_part(
 ) -> Result<(), Memory>
     requires orders { length sent.now.plan.now.wave.orders ≡ length sent.now.released.now.orders }
     requires places { All (λ order. order < length sent.now.released.now.orders) batch }
-    requires rows { All (λ hold. hold.row < length sent.now.opening.now.stock.rows) sent.now.released.now.holds }
+    requires rows { All (λ hold. hold.row < length sent.now.opening.now.stock.rows)
+        sent.now.released.now.holds }
     ensures { IfOk result (λ _. GrowsBy
-        (IsPart sent.now.opening.now.stock sent.now.released.now sent.now.plan.now.wave sent.now.terms.now.rules number batch) text.old.items text.new.items) }
+        (IsPart sent.now.opening.now.stock sent.now.released.now sent.now.plan.now.wave sent.now.terms.now.rules number
+        batch) text.old.items text.new.items) }
 {
     let sheet = sheet_of(alloc, &sent.plan.wave, batch)?;
     append_batch(text, number, sent.released, sent.opening.stock(), &sheet)?;
@@ -102,10 +108,13 @@ fn print_part(
 // Adds the parts of all batches of a plan, numbered from 1, each with its tour, of which none is kept.
 fn print_parts(alloc: Global, text: &mut Vec<u8>, sent: &SentWave<'_>) -> Result<(), Memory>
     requires orders { length sent.now.plan.now.wave.orders ≡ length sent.now.released.now.orders }
-    requires places { All (All (λ order. order < length sent.now.released.now.orders)) sent.now.plan.now.planned.batching }
-    requires rows { All (λ hold. hold.row < length sent.now.opening.now.stock.rows) sent.now.released.now.holds }
+    requires places { All (All (λ order. order < length sent.now.released.now.orders))
+        sent.now.plan.now.planned.batching }
+    requires rows { All (λ hold. hold.row < length sent.now.opening.now.stock.rows)
+        sent.now.released.now.holds }
     ensures { IfOk result (λ _. GrowsBy
-        (AreParts sent.now.opening.now.stock sent.now.released.now sent.now.plan.now.wave sent.now.terms.now.rules 1 sent.now.plan.now.planned.batching)
+        (AreParts sent.now.opening.now.stock sent.now.released.now sent.now.plan.now.wave sent.now.terms.now.rules 1
+        sent.now.plan.now.planned.batching)
         text.old.items text.new.items) }
 {
     let batches = &sent.plan.planned.batching;
@@ -129,7 +138,8 @@ fn is_open(planned: &Planned) -> bool
 // Adds the first line.
 fn print_plan(text: &mut Vec<u8>, sent: &SentWave<'_>) -> Result<(), Memory>
     ensures { IfOk result (λ _. text.new.items ≡ text.old.items
-        ++ plan_line sent.now.opening.now.units sent.now.released.now sent.now.terms.now.capacity sent.now.plan.now.planned sent.now.cancelled_later) }
+        ++ plan_line sent.now.opening.now.units sent.now.released.now sent.now.terms.now.capacity
+        sent.now.plan.now.planned sent.now.cancelled_later) }
 {
     let planned = &sent.plan.planned;
     let heading = Heading {
@@ -148,7 +158,8 @@ fn print_plan(text: &mut Vec<u8>, sent: &SentWave<'_>) -> Result<(), Memory>
 fn print_shown(alloc: Global, text: &mut Vec<u8>, sent: &SentWave<'_>) -> Result<(), Memory>
     requires { HaveDualsWithin sent.now.plan.now.planned.tree.nodes }
     ensures { IfOk result (λ _. text.new.items
-        ≡ text.old.items ++ certificate_line sent.now.plan.now.wave sent.now.terms.now.capacity sent.now.plan.now.planned) }
+        ≡ text.old.items ++ certificate_line sent.now.plan.now.wave sent.now.terms.now.capacity
+        sent.now.plan.now.planned) }
 {
     let plan = sent.plan;
     let capacity = sent.terms.capacity().most;
@@ -185,16 +196,19 @@ fn print_bracket(text: &mut Vec<u8>, root: &Option<Root>) -> Result<(), Memory>
     append_root(text, &told)
 }
 
-/// Adds the sheet of a wave that went out and its plan to a text: a line of the wave, its cost and its bound; for each batch, numbered
-/// from 1, the length of its tour, its orders, the tour point by point and its picks by row, and, where the terms say so, what three usual
-/// rules would walk past them; the certificate; the bracket of the linear bound, where the plan has one; and a last line. The heading
-/// says `cancelled later` where a later entry cancels the wave. Tours are made one batch at a time. An `Err` comes from a want of memory
-/// alone, and the text may then have some of the sheet.
+/// Adds the sheet of a wave that went out and its plan to a text: a line of the wave, its cost and its bound; for each
+/// batch, numbered from 1, the length of its tour, its orders, the tour point by point and its picks by row, and, where
+/// the terms say so, what three usual rules would walk past them; the certificate; the bracket of the linear bound,
+/// where the plan has one; and a last line. The heading says `cancelled later` where a later entry cancels the wave.
+/// Tours are made one batch at a time. An `Err` comes from a want of memory alone, and the text may then have some of
+/// the sheet.
 pub fn print_sheet(alloc: Global, text: &mut Vec<u8>, sent: &SentWave<'_>) -> Result<(), Memory>
     requires released { IsReleased sent.now.opening.now sent.now.released.now }
-    requires plan { (layout : Block) × IsPlanOf layout sent.now.opening.now sent.now.released.now sent.now.terms.now sent.now.plan.now }
+    requires plan { (layout : Block) × IsPlanOf layout sent.now.opening.now sent.now.released.now
+        sent.now.terms.now sent.now.plan.now }
     ensures { IfOk result (λ _. GrowsBy
-        (IsSheet sent.now.opening.now sent.now.released.now sent.now.terms.now sent.now.plan.now sent.now.cancelled_later) text.old.items text.new.items) }
+        (IsSheet sent.now.opening.now sent.now.released.now sent.now.terms.now sent.now.plan.now
+        sent.now.cancelled_later) text.old.items text.new.items) }
 {
     print_plan(text, sent)?;
     print_parts(alloc, text, sent)?;

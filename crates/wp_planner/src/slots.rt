@@ -20,7 +20,8 @@ fn slot_of(row: &StockRow) -> Point
 
 // No slot for each of so many orders.
 fn no_picks(alloc: Global, layout: &Layout, orders: u32) -> Result<Vec<Picks>, Memory>
-    ensures { IfOk result (λ picks. (rows : List RowData) → ArePicksOf layout.now rows [] orders picks.items) }
+    ensures { IfOk result (λ picks. (rows : List RowData)
+        → ArePicksOf layout.now rows [] orders picks.items) }
 {
     let mut picks = Vec::new(alloc);
     for _ in 0..orders {

@@ -16,9 +16,10 @@ fn budget_of_nodes(price: u128, nodes: u64) -> u64
     price.saturating_mul(u128::from(nodes)).min(MOST_BUDGET) as u64
 }
 
-/// What waves are planned with: how many orders a batch may have, 1 to 8; what may be spent on a wave's bound, 0 to 10 ^ 18,
-/// or in its place for how many nodes; and on how many threads, 1 to 16. And what is told of their plans besides: whether their sheets tell what three usual rules
-/// would walk, and to how many pickers all batches are dealt, 0 to 100, where 0 says that they aren't.
+/// What waves are planned with: how many orders a batch may have, 1 to 8; what may be spent on a wave's bound, 0 to 10
+/// ^ 18, or in its place for how many nodes; and on how many threads, 1 to 16. And what is told of their plans besides:
+/// whether their sheets tell what three usual rules would walk, and to how many pickers all batches are dealt, 0 to
+/// 100, where 0 says that they aren't.
 #[derive(Clone, Copy)]
 pub struct Terms {
     capacity: u32,
@@ -35,18 +36,63 @@ impl Model for Terms {
 
     ghost Value = { Numbers };
 
-    ghost view = { λ t. record { capacity = t.capacity; budget = t.budget; nodes = t.nodes; workers = t.workers; rules = t.rules; pickers = t.pickers; root = t.root } };
+    ghost view = { λ t. record {
+      capacity = t.capacity;
+      budget = t.budget;
+      nodes = t.nodes;
+      workers = t.workers;
+      rules = t.rules;
+      pickers
+          = t.pickers;
+      root = t.root;
+    } };
 
-    ghost invariant = { λ t. AreTerms (record { capacity = t.capacity; budget = t.budget; nodes = t.nodes; workers = t.workers; rules = t.rules; pickers = t.pickers; root = t.root }) };
+    ghost invariant = { λ t. AreTerms (record {
+      capacity = t.capacity;
+      budget = t.budget;
+      nodes = t.nodes;
+      workers = t.workers;
+      rules = t.rules;
+      pickers
+          = t.pickers;
+      root = t.root;
+    }) };
 
-    ghost inverse = { λ t. record { capacity = t.capacity; budget = t.budget; nodes = t.nodes; workers = t.workers; rules = t.rules; pickers = t.pickers; root = t.root } };
+    ghost inverse = { λ t. record {
+      capacity = t.capacity;
+      budget = t.budget;
+      nodes = t.nodes;
+      workers = t.workers;
+      rules = t.rules;
+      pickers
+          = t.pickers;
+      root = t.root;
+    } };
 }
 
 impl Terms {
     /// The terms of three numbers within their ranges, with nothing told besides.
     pub fn of(capacity: u32, budget: u64, workers: u32) -> Terms
-        requires { AreTerms (record { capacity = capacity; budget = budget; nodes = None; workers = workers; rules = false; pickers = 0; root = false }) }
-        ensures { result ≡ record { capacity = capacity; budget = budget; nodes = None; workers = workers; rules = false; pickers = 0; root = false } }
+        requires { AreTerms (record {
+          capacity = capacity;
+          budget = budget;
+          nodes = None;
+          workers = workers;
+          rules
+              = false;
+          pickers = 0;
+          root = false;
+        }) }
+        ensures { result ≡ record {
+          capacity = capacity;
+          budget = budget;
+          nodes = None;
+          workers = workers;
+          rules
+              = false;
+          pickers = 0;
+          root = false;
+        } }
     {
         Terms {
             capacity,
@@ -66,8 +112,8 @@ impl Terms {
         Terms { nodes, ..self }
     }
 
-    /// The same with what is told besides: whether sheets tell what three usual rules would walk, to how many pickers all batches are
-    /// dealt, 0 to 100, and whether sheets tell a bracket of the linear bound.
+    /// The same with what is told besides: whether sheets tell what three usual rules would walk, to how many pickers
+    /// all batches are dealt, 0 to 100, and whether sheets tell a bracket of the linear bound.
     pub fn telling(self, rules: bool, pickers: u32, root: bool) -> Terms
         requires { pickers ≤ 100 }
         ensures { result ≡ record self { rules = rules; pickers = pickers; root = root } }
@@ -104,8 +150,8 @@ impl Terms {
         self.nodes
     }
 
-    /// What may be spent on the bound of a wave of so many orders, 0 to 10 ^ 18: the budget, or where there are nodes their
-    /// number times the wave's own price of a node, but no more than 10 ^ 18.
+    /// What may be spent on the bound of a wave of so many orders, 0 to 10 ^ 18: the budget, or where there are nodes
+    /// their number times the wave's own price of a node, but no more than 10 ^ 18.
     pub fn budget_for(&self, orders: u32) -> u64
         requires { orders ≤ 64 }
         ensures value { result ≡ budget_of orders self.now }

@@ -8,9 +8,9 @@ use wp_graph::Layout;
 use wp_lengths::Wave;
 use wp_model::Memory;
 
-/// The orders of a wave that went out, each with the slots of the layout at which it holds units. Orders keep their places,
-/// and a slot counts once, whichever of its sides the rows lie on. Where carts hold so many units, the wave has such a cart, in
-/// which each order loads what it holds.
+/// The orders of a wave that went out, each with the slots of the layout at which it holds units. Orders keep their
+/// places, and a slot counts once, whichever of its sides the rows lie on. Where carts hold so many units, the wave has
+/// such a cart, in which each order loads what it holds.
 pub(crate) fn wave_of(
     alloc: Global,
     layout: &Layout,

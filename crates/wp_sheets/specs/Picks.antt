@@ -10,9 +10,11 @@ is_of batch hold = list_any (λ order. hold.order == order) batch
 
 -- a hold comes no later than another by row, then by order, and then by units
 abbrev pub ComesNoLater : Hold → Hold → Type 0
-ComesNoLater g h = (g.row < h.row) ⊎ ((g.row ≡ h.row) × ((g.order < h.order) ⊎ ((g.order ≡ h.order) × (g.quantity ≤ h.quantity))))
+ComesNoLater g h = (g.row < h.row) ⊎ ((g.row ≡ h.row)
+    × ((g.order < h.order) ⊎ ((g.order ≡ h.order) × (g.quantity ≤ h.quantity))))
 
 -- the picks of a batch are just the holds of its orders, each as often, by row, then by order, and then by units
 pub record AreByRow (holds : List Hold) (batch : List ℕ) (picks : List Hold) : Type 0 where
   pub just : IsPermutation (filter (is_of batch) holds) picks
-  pub ascend : (i j : ℕ) (g h : Hold) → i < j → slice_get picks i ≡ Some g → slice_get picks j ≡ Some h → ComesNoLater g h
+  pub ascend : (i j : ℕ) (g h : Hold) → i < j → slice_get picks i ≡ Some g → slice_get picks j ≡ Some h
+      → ComesNoLater g h

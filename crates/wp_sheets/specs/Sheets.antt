@@ -1,5 +1,6 @@
 -- The sheet of a wave: a heading, a part for each batch, the certificate, and a last line.
-use Rattle.std.specs.Prelude.{◌≡◌, ℕ, Bool, true, false, List, [], ◌∷◌, ◌++◌, Option, None, Some, codes, length, slice_get, slice_index_or}
+use Rattle.std.specs.Prelude.{◌≡◌, ℕ, Bool, true, false, List, [], ◌∷◌, ◌++◌, Option, None, Some, codes, length}
+use Rattle.std.specs.Prelude.{slice_get, slice_index_or}
 use Rattle.std.specs.Fmt.{decimal}
 use Rattle.std.specs.List.{flat_map}
 use Rattle.std.specs.Option.{option_map_or}
@@ -21,7 +22,8 @@ abbrev pub later_text : Bool → List ℕ
 later_text true = codes " cancelled later"
 later_text false = []
 
--- what a heading says of the wave: its name, the number of its release's entry, how many orders it has, and how many of them a batch may have
+-- what a heading says of the wave: its name, the number of its release's entry, how many orders it has, and how many of
+-- them a batch may have
 abbrev pub wave_words : WaveHolds → ℕ → List ℕ
 wave_words wave capacity =
     codes "wave" ++ after_space wave.wave ++ codes " entry" ++ number_after_space wave.number ++ codes " orders" ++ number_after_space (length wave.orders)
@@ -40,7 +42,8 @@ search_words cost bound state_open =
 -- the first line of a wave's sheet
 abbrev pub heading_line : WaveHolds → ℕ → Option ℕ → ℕ → ℕ → Bool → Bool → List ℕ
 heading_line wave capacity units cost bound state_open cancelled_later =
-    line (wave_words wave capacity ++ units_words units ++ search_words cost bound state_open ++ later_text cancelled_later)
+    line (wave_words wave capacity ++ units_words units ++ search_words cost bound state_open
+    ++ later_text cancelled_later)
 
 -- the name of the order at a place of a wave
 abbrev pub name_of_order : WaveHolds → ℕ → List ℕ
@@ -70,7 +73,8 @@ tour_line walk = line (codes "tour" ++ flat_map point_after_space walk)
 
 -- the article of the row with a number, after a space
 abbrev pub article_after_space : Stock → ℕ → List ℕ
-article_after_space stock number = option_map_or (λ row. after_space (name_of_article stock row.article)) (slice_get stock.rows number) []
+article_after_space stock number = option_map_or (λ row. after_space (name_of_article stock row.article))
+    (slice_get stock.rows number) []
 
 -- the line of a pick: where it lies, the article, how many units, and the order that they are for
 abbrev pub pick_line : WaveHolds → Stock → Hold → List ℕ
@@ -84,7 +88,8 @@ batch_text number wave stock batch tour_length walk picks =
     batch_line number wave batch tour_length ++ tour_line walk ++ flat_map (pick_line wave stock) picks
 
 -- a text is the part of a batch, with its orders' holds by row as its picks
-pub record IsBatchText (number : ℕ) (wave : WaveHolds) (stock : Stock) (batch : List ℕ) (tour_length : ℕ) (walk : List Point) (text : List ℕ) : Type 0 where
+pub record IsBatchText (number : ℕ) (wave : WaveHolds) (stock : Stock) (batch : List ℕ) (tour_length : ℕ)
+    (walk : List Point) (text : List ℕ) : Type 0 where
   pub picks : List Hold
   pub by_row : AreByRow wave.holds batch picks
   pub is : text ≡ batch_text number wave stock batch tour_length walk picks

@@ -14,7 +14,8 @@ name_of_article stock article = slice_index_or stock.articles article []
 
 -- where the row with a number lies, after a space
 abbrev pub location_after_space : Stock → ℕ → List ℕ
-location_after_space stock number = option_map_or (λ row. after_space (location_text row.location)) (slice_get stock.rows number) []
+location_after_space stock number = option_map_or (λ row. after_space (location_text row.location))
+    (slice_get stock.rows number) []
 
 -- the line of one row from which a refill took: the entry's number, the wave, the order, the location and the units
 abbrev pub refill_line : Stock → Refill → Hold → List ℕ
@@ -26,10 +27,12 @@ refill_line stock refill hold =
 abbrev pub refill_lines : Stock → Refill → List ℕ
 refill_lines stock refill = flat_map (refill_line stock refill) refill.holds
 
--- the line of a row of an article as it stands: its location, the article, the units on hand, the free ones and the held ones
+-- the line of a row of an article as it stands: its location, the article, the units on hand, the free ones and the
+-- held ones
 abbrev pub article_line : List ℕ → Row → List ℕ
 article_line article row =
-    line (location_text row.location ++ after_space article ++ number_after_space row.on_hand ++ number_after_space row.free ++ number_after_space row.held)
+    line (location_text row.location ++ after_space article ++ number_after_space row.on_hand
+    ++ number_after_space row.free ++ number_after_space row.held)
 
 -- the line of a row as it stands
 abbrev pub row_line : Stock → Row → List ℕ

@@ -3,7 +3,8 @@ ghost use Rattle.std.specs.Prelude.{◌≡◌, ◌<◌, ◌++◌, length, slice_
 ghost use Rattle.std.specs.List.{All, flat_map};
 ghost use Rattle.wp_model.specs.Opening.{IsStockRow};
 ghost use Rattle.wp_outside.specs.Sections.{GrowsBy};
-ghost use Rattle.wp_sheets.specs.Sheets.{IsBatchText, batch_line, name_of_order, order_after_space, pick_line, point_after_space, tour_line};
+ghost use Rattle.wp_sheets.specs.Sheets.{IsBatchText, batch_line, name_of_order, order_after_space, pick_line};
+ghost use Rattle.wp_sheets.specs.Sheets.{point_after_space, tour_line};
 
 use crate::picks::picks_of;
 use crate::stock_lines::article_at;
@@ -32,7 +33,8 @@ fn order_at(wave: &WaveHolds, order: u32) -> Name
 
 fn print_orders(text: &mut Vec<u8>, wave: &WaveHolds, batch: Batch) -> Result<(), Memory>
     requires { All (λ order. order < length wave.now.orders) batch }
-    ensures { IfOk result (λ _. text.new.items ≡ text.old.items ++ flat_map (order_after_space wave.now) batch) }
+    ensures { IfOk result (λ _. text.new.items
+        ≡ text.old.items ++ flat_map (order_after_space wave.now) batch) }
 {
     for order in 0..wave.orders.len() {
         if batch.has(order) {
@@ -51,7 +53,8 @@ fn print_first_line(
     tour_length: u64,
 ) -> Result<(), Memory>
     requires { All (λ order. order < length wave.now.orders) batch }
-    ensures { IfOk result (λ _. text.new.items ≡ text.old.items ++ batch_line number wave.now batch tour_length) }
+    ensures { IfOk result (λ _. text.new.items
+        ≡ text.old.items ++ batch_line number wave.now batch tour_length) }
 {
     write!(text, "batch {number} length {tour_length} orders").or(Err(Memory))?;
     print_orders(text, wave, batch)?;
@@ -59,7 +62,8 @@ fn print_first_line(
 }
 
 fn print_points(text: &mut Vec<u8>, walk: &[Point]) -> Result<(), Memory>
-    ensures { IfOk result (λ _. text.new.items ≡ text.old.items ++ flat_map point_after_space walk.now) }
+    ensures { IfOk result (λ _. text.new.items
+        ≡ text.old.items ++ flat_map point_after_space walk.now) }
 {
     for point in walk {
         let aisle = point.aisle;
@@ -89,7 +93,8 @@ fn row_at(stock: &Stock, number: u32) -> StockRow
 fn print_pick(text: &mut Vec<u8>, wave: &WaveHolds, stock: &Stock, pick: Hold) -> Result<(), Memory>
     requires row { pick.row < length stock.now.rows }
     requires order { pick.order < length wave.now.orders }
-    ensures { IfOk result (λ _. text.new.items ≡ text.old.items ++ pick_line wave.now stock.now pick) }
+    ensures { IfOk result (λ _. text.new.items
+        ≡ text.old.items ++ pick_line wave.now stock.now pick) }
 {
     let row = row_at(stock, pick.row);
     let location = row.location;
@@ -107,7 +112,8 @@ fn print_picks(
 ) -> Result<(), Memory>
     requires rows { All (λ pick. pick.row < length stock.now.rows) picks.now }
     requires orders { All (λ pick. pick.order < length wave.now.orders) picks.now }
-    ensures { IfOk result (λ _. text.new.items ≡ text.old.items ++ flat_map (pick_line wave.now stock.now) picks.now) }
+    ensures { IfOk result (λ _. text.new.items
+        ≡ text.old.items ++ flat_map (pick_line wave.now stock.now) picks.now) }
 {
     for pick in picks {
         print_pick(text, wave, stock, *pick)?;
@@ -115,9 +121,9 @@ fn print_picks(
     Ok(())
 }
 
-/// Adds the part of a batch on its wave's sheet, each line with its line feed: its number, the length of its tour and its
-/// orders in the order of the wave; the tour point by point; and a line for each hold of its orders, by row, then by
-/// order, and then by units: the location, the article, the units and the order. Contracts see the sheet's batch as
+/// Adds the part of a batch on its wave's sheet, each line with its line feed: its number, the length of its tour and
+/// its orders in the order of the wave; the tour point by point; and a line for each hold of its orders, by row, then
+/// by order, and then by units: the location, the article, the units and the order. Contracts see the sheet's batch as
 /// the ascending list of its places. An `Err` comes from a want of memory alone.
 pub fn append_batch(
     text: &mut Vec<u8>,
@@ -128,7 +134,8 @@ pub fn append_batch(
 ) -> Result<(), Memory>
     requires places { All (λ order. order < length wave.now.orders) sheet.now.batch }
     requires rows { All (λ hold. hold.row < length stock.now.rows) wave.now.holds }
-    ensures { IfOk result (λ _. GrowsBy (IsBatchText number wave.now stock.now sheet.now.batch sheet.now.length sheet.now.walk.items) text.old.items text.new.items) }
+    ensures { IfOk result (λ _. GrowsBy (IsBatchText number wave.now stock.now sheet.now.batch
+        sheet.now.length sheet.now.walk.items) text.old.items text.new.items) }
 {
     let picks = picks_of(*text.allocator(), wave.holds.as_slice(), sheet.batch)?;
     print_first_line(text, number, wave, sheet.batch, sheet.length)?;
@@ -146,7 +153,8 @@ pub fn print_batch(
 ) -> Result<Vec<u8>, Memory>
     requires places { All (λ order. order < length wave.now.orders) sheet.now.batch }
     requires rows { All (λ hold. hold.row < length stock.now.rows) wave.now.holds }
-    ensures { IfOk result (λ text. IsBatchText number wave.now stock.now sheet.now.batch sheet.now.length sheet.now.walk.items text.items) }
+    ensures { IfOk result (λ text. IsBatchText number wave.now stock.now sheet.now.batch
+        sheet.now.length sheet.now.walk.items text.items) }
 {
     let mut text = Vec::new(alloc);
     append_batch(&mut text, number, wave, stock, sheet)?;

@@ -17,7 +17,8 @@ fn print_given(
 ) -> Result<(), Memory>
     requires names { length names.now ≡ length picker_of.now }
     requires numbers { length numbers.now ≡ length picker_of.now }
-    ensures { IfOk result (λ _. text.new.items ≡ text.old.items ++ given_to picker picker_of.now names.now numbers.now) }
+    ensures { IfOk result (λ _. text.new.items
+        ≡ text.old.items ++ given_to picker picker_of.now names.now numbers.now) }
 {
     for place in 0..picker_of.len() {
         let owner = picker_of[place] as usize;
@@ -40,7 +41,8 @@ fn print_picker(
     requires picker { picker < length crew.now.loads.items }
     requires names { length names.now ≡ length crew.now.picker_of.items }
     requires numbers { length numbers.now ≡ length crew.now.picker_of.items }
-    ensures { IfOk result (λ _. text.new.items ≡ text.old.items ++ picker_line crew.now names.now numbers.now picker) }
+    ensures { IfOk result (λ _. text.new.items
+        ≡ text.old.items ++ picker_line crew.now names.now numbers.now picker) }
 {
     let number = picker + 1;
     let load = crew.loads[picker];
@@ -57,7 +59,9 @@ fn print_pickers(
 ) -> Result<(), Memory>
     requires names { length names.now ≡ length crew.now.picker_of.items }
     requires numbers { length numbers.now ≡ length crew.now.picker_of.items }
-    ensures { IfOk result (λ _. text.new.items ≡ text.old.items ++ flat_map (picker_line crew.now names.now numbers.now) (range_with_len 0 (length crew.now.loads.items))) }
+    ensures { IfOk result (λ _. text.new.items
+        ≡ text.old.items ++ flat_map (picker_line crew.now names.now numbers.now)
+        (range_with_len 0 (length crew.now.loads.items))) }
 {
     for picker in 0..crew.loads.len() {
         print_picker(text, crew, names, numbers, picker)?;
@@ -73,10 +77,10 @@ fn print_longest(text: &mut Vec<u8>, crew: &Crew) -> Result<(), Memory>
     writeln!(text, "crew longest {longest} least {least}").or(Err(Memory))
 }
 
-/// Adds the section of a crew, each line with its line feed: the longest load and what no crew's longest load is below; for
-/// each picker, from 1 on, its load and the batches that are given to it, each by the name of its wave and its number on the
-/// wave's sheet; and a last line. Of each batch there are its picker, the name of its wave and its number. An `Err` comes
-/// from a want of memory alone.
+/// Adds the section of a crew, each line with its line feed: the longest load and what no crew's longest load is below;
+/// for each picker, from 1 on, its load and the batches that are given to it, each by the name of its wave and its
+/// number on the wave's sheet; and a last line. Of each batch there are its picker, the name of its wave and its
+/// number. An `Err` comes from a want of memory alone.
 pub fn append_crew(
     text: &mut Vec<u8>,
     crew: &Crew,
@@ -85,8 +89,10 @@ pub fn append_crew(
 ) -> Result<(), Memory>
     requires names { length names.now ≡ length crew.now.picker_of.items }
     requires numbers { length numbers.now ≡ length crew.now.picker_of.items }
-    requires pickers { All (λ picker. picker < length crew.now.loads.items) crew.now.picker_of.items }
-    ensures { IfOk result (λ _. text.new.items ≡ text.old.items ++ crew_section crew.now names.now numbers.now) }
+    requires pickers { All (λ picker. picker < length crew.now.loads.items)
+        crew.now.picker_of.items }
+    ensures { IfOk result (λ _. text.new.items
+        ≡ text.old.items ++ crew_section crew.now names.now numbers.now) }
 {
     print_longest(text, crew)?;
     print_pickers(text, crew, names, numbers)?;
@@ -102,7 +108,8 @@ pub fn print_crew(
 ) -> Result<Vec<u8>, Memory>
     requires names { length names.now ≡ length crew.now.picker_of.items }
     requires numbers { length numbers.now ≡ length crew.now.picker_of.items }
-    requires pickers { All (λ picker. picker < length crew.now.loads.items) crew.now.picker_of.items }
+    requires pickers { All (λ picker. picker < length crew.now.loads.items)
+        crew.now.picker_of.items }
     ensures { IfOk result (λ text. text.items ≡ crew_section crew.now names.now numbers.now) }
 {
     let mut text = Vec::new(alloc);

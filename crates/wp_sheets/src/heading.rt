@@ -46,15 +46,16 @@ fn print_units(text: &mut Vec<u8>, units: Option<u32>) -> Result<(), Memory>
 }
 
 fn print_search(text: &mut Vec<u8>, cost: u64, bound: u64, state_open: bool) -> Result<(), Memory>
-    ensures { IfOk result (λ _. text.new.items ≡ text.old.items ++ search_words cost bound state_open) }
+    ensures { IfOk result (λ _. text.new.items
+        ≡ text.old.items ++ search_words cost bound state_open) }
 {
     let state = state_word(state_open);
     write!(text, " cost {cost} bound {bound} {state}").or(Err(Memory))
 }
 
-/// What the first line of a wave's sheet tells: the wave, how many of its orders a batch may have, the units that a cart holds
-/// where it holds a number of them, the cost of the wave's batching and the bound that no batching costs less than, whether that
-/// batching isn't known to be cheapest, and whether a later entry cancels the wave.
+/// What the first line of a wave's sheet tells: the wave, how many of its orders a batch may have, the units that a
+/// cart holds where it holds a number of them, the cost of the wave's batching and the bound that no batching costs
+/// less than, whether that batching isn't known to be cheapest, and whether a later entry cancels the wave.
 #[derive(Clone, Copy)]
 pub struct Heading<'a> {
     pub wave: &'a WaveHolds,
@@ -66,12 +67,13 @@ pub struct Heading<'a> {
     pub cancelled_later: bool,
 }
 
-/// Adds the first line of a wave's sheet, with its line feed: the wave, the number of its release's entry, how many orders it
-/// has, the capacity, the units where there are some, the cost, the bound, `open` or `proven`, and `cancelled later` where a
-/// later entry cancels the wave. An `Err` comes from a want of memory alone.
+/// Adds the first line of a wave's sheet, with its line feed: the wave, the number of its release's entry, how many
+/// orders it has, the capacity, the units where there are some, the cost, the bound, `open` or `proven`, and `cancelled
+/// later` where a later entry cancels the wave. An `Err` comes from a want of memory alone.
 pub fn append_heading(text: &mut Vec<u8>, told: &Heading<'_>) -> Result<(), Memory>
     ensures { IfOk result (λ _. text.new.items ≡ text.old.items
-        ++ heading_line told.now.wave.now told.now.capacity told.now.units told.now.cost told.now.bound told.now.state_open told.now.cancelled_later) }
+        ++ heading_line told.now.wave.now told.now.capacity told.now.units told.now.cost told.now.bound
+        told.now.state_open told.now.cancelled_later) }
 {
     print_wave(text, told.wave, told.capacity)?;
     print_units(text, told.units)?;
@@ -91,7 +93,8 @@ pub fn print_heading(
     state_open: bool,
     cancelled_later: bool,
 ) -> Result<Vec<u8>, Memory>
-    ensures { IfOk result (λ line. line.items ≡ heading_line wave.now capacity units cost bound state_open cancelled_later) }
+    ensures { IfOk result (λ line. line.items
+        ≡ heading_line wave.now capacity units cost bound state_open cancelled_later) }
 {
     let told = Heading {
         wave,

@@ -7,6 +7,8 @@ ghost use Rattle.wp_sheets.specs.Sheets.{IsBatchText};
 /// A law: the text of a batch is determined by its number, its wave's holds, the stock, its orders, and the length and
 /// the points of its tour. So there is one list of its picks.
 pub fn batches_have_one_text()
-    ensures { (number : ℕ) (wave : WaveData) (stock : StockData) (batch : List ℕ) (tour_length : ℕ) (walk : List PointData) (text other : List ℕ)
-        → IsBatchText number wave stock batch tour_length walk text → IsBatchText number wave stock batch tour_length walk other → text ≡ other }
+    ensures { (number : ℕ) (wave : WaveData) (stock : StockData) (batch : List ℕ) (tour_length : ℕ)
+        (walk : List PointData) (text other : List ℕ)
+        → IsBatchText number wave stock batch tour_length walk text
+        → IsBatchText number wave stock batch tour_length walk other → text ≡ other }
 {}

@@ -1,5 +1,5 @@
-//! The texts of the sheets: a wave's heading and its batches with their tours and picks, the line of what usual rules would
-//! walk, the section of a crew, and the lines of brackets, of refills and of rows.
+//! The texts of the sheets: a wave's heading and its batches with their tours and picks, the line of what usual rules
+//! would walk, the section of a crew, and the lines of brackets, of refills and of rows.
 #![tactic(auto)]
 
 mod batch;

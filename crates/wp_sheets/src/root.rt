@@ -6,8 +6,8 @@ use std::alloc::Global;
 use std::io::Write;
 use wp_model::Memory;
 
-/// A bracket of a wave's linear bound as a sheet tells it: its low and its high side over one denominator, and whether they are less
-/// than a sixtieth of a unit for each order apart.
+/// A bracket of a wave's linear bound as a sheet tells it: its low and its high side over one denominator, and whether
+/// they are less than a sixtieth of a unit for each order apart.
 #[derive(Clone, Copy)]
 pub struct RootLine {
     pub low: i128,
@@ -38,8 +38,8 @@ fn print_over(text: &mut Vec<u8>, root: &RootLine) -> Result<(), Memory>
     write!(text, " over {denominator} {width}").or(Err(Memory))
 }
 
-/// Adds the line of a bracket, with its line feed: its low and its high side, the denominator of both, and `narrow` or `open`. An
-/// `Err` comes from a want of memory alone.
+/// Adds the line of a bracket, with its line feed: its low and its high side, the denominator of both, and `narrow` or
+/// `open`. An `Err` comes from a want of memory alone.
 pub fn append_root(text: &mut Vec<u8>, root: &RootLine) -> Result<(), Memory>
     ensures { IfOk result (λ _. text.new.items ≡ text.old.items ++ root_line root.now) }
 {

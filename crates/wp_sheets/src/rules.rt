@@ -15,8 +15,8 @@ fn print_rule(text: &mut Vec<u8>, walked: u64, shortest: u64) -> Result<(), Memo
 }
 
 /// Adds the line of what three usual rules would walk past a batch's picks, with its line feed: for S-shape, return and
-/// largest gap each the length, and how much longer that is than a shortest tour, which has the last length. An `Err` comes
-/// from a want of memory alone.
+/// largest gap each the length, and how much longer that is than a shortest tour, which has the last length. An `Err`
+/// comes from a want of memory alone.
 pub fn append_rules(
     text: &mut Vec<u8>,
     shape: u64,
@@ -27,7 +27,8 @@ pub fn append_rules(
     requires shape { length ≤ shape }
     requires back { length ≤ back }
     requires gap { length ≤ gap }
-    ensures { IfOk result (λ _. text.new.items ≡ text.old.items ++ rules_line shape back gap length) }
+    ensures { IfOk result (λ _. text.new.items
+        ≡ text.old.items ++ rules_line shape back gap length) }
 {
     text.extend_from_slice(b"rules s-shape")?;
     print_rule(text, shape, length)?;

@@ -16,7 +16,8 @@ fn print_refill_at(
     hold: Hold,
 ) -> Result<(), Memory>
     requires { hold.row < length stock.now.rows }
-    ensures { IfOk result (λ _. text.new.items ≡ text.old.items ++ refill_line stock.now refill.now hold) }
+    ensures { IfOk result (λ _. text.new.items
+        ≡ text.old.items ++ refill_line stock.now refill.now hold) }
 {
     let number = refill.number;
     let wave = refill.wave;
@@ -30,7 +31,8 @@ fn print_refill_at(
 /// entry, the wave, the order, the location and the units. An `Err` comes from a want of memory alone.
 pub fn append_refill(text: &mut Vec<u8>, refill: &Refill, stock: &Stock) -> Result<(), Memory>
     requires { All (λ hold. hold.row < length stock.now.rows) refill.now.holds }
-    ensures { IfOk result (λ _. text.new.items ≡ text.old.items ++ refill_lines stock.now refill.now) }
+    ensures { IfOk result (λ _. text.new.items
+        ≡ text.old.items ++ refill_lines stock.now refill.now) }
 {
     for hold in refill.holds.as_slice() {
         print_refill_at(text, refill, stock, *hold)?;
@@ -56,8 +58,8 @@ pub(crate) fn article_at(stock: &Stock, article: u32) -> Name
     stock.article(article)
 }
 
-/// Adds the line of a row as it stands, with its line feed: its location, its article, the units on hand, and how many of
-/// them are free and how many are held. An `Err` comes from a want of memory alone.
+/// Adds the line of a row as it stands, with its line feed: its location, its article, the units on hand, and how many
+/// of them are free and how many are held. An `Err` comes from a want of memory alone.
 pub fn append_row(text: &mut Vec<u8>, row: &Row, stock: &Stock) -> Result<(), Memory>
     requires { row.now.article < length stock.now.articles }
     ensures { IfOk result (λ _. text.new.items ≡ text.old.items ++ row_line stock.now row.now) }

@@ -28,7 +28,8 @@ fn pair(wanted: [Wanted; 2]) -> [Want; 2] {
 /// Whether the want at a place may stand after all before it.
 fn follows(wants: &[Want], place: usize) -> bool
     requires { place < length wants.now }
-    ensures { IsTrue result → (k : ℕ) (v w : WantData) → k < place → slice_get wants.now k ≡ Some v → slice_get wants.now place ≡ Some w → (v.order ≤ w.order)
+    ensures { IsTrue result → (k : ℕ) (v w : WantData) → k < place → slice_get wants.now k ≡ Some v
+        → slice_get wants.now place ≡ Some w → (v.order ≤ w.order)
         × (v.order ≡ w.order → v.article ≡ w.article → ⊥) }
 {
     let last = wants[place];
@@ -43,7 +44,8 @@ fn follows(wants: &[Want], place: usize) -> bool
 
 /// Whether each want may stand after all before it.
 fn all_follow(wants: &[Want]) -> bool
-    ensures { IsTrue result → (j k : ℕ) (v w : WantData) → k < j → slice_get wants.now k ≡ Some v → slice_get wants.now j ≡ Some w → (v.order ≤ w.order) ×
+    ensures { IsTrue result → (j k : ℕ) (v w : WantData) → k < j → slice_get wants.now k ≡ Some v
+        → slice_get wants.now j ≡ Some w → (v.order ≤ w.order) ×
         (v.order ≡ w.order → v.article ≡ w.article → ⊥) }
 {
     for place in 0..wants.len() {
@@ -56,7 +58,8 @@ fn all_follow(wants: &[Want]) -> bool
 
 /// Whether each want is of 1 to 1,000,000 units.
 fn are_moderate(wants: &[Want]) -> bool
-    ensures { IsTrue result → All (λ (want : WantData). (0 < want.quantity) × (want.quantity ≤ 1000000)) wants.now }
+    ensures { IsTrue result → All (λ (want : WantData). (0 < want.quantity)
+        × (want.quantity ≤ 1000000)) wants.now }
 {
     for want in wants {
         if want.quantity == 0 || want.quantity > 1_000_000 {

@@ -34,7 +34,8 @@ fn units_of(holds: &[Hold], row: u32) -> u64
 /// Whether each row has free what the holds want of it.
 fn are_free(book: &StockBook, holds: &[Hold]) -> bool
     requires { length holds.now < 2 ^ 31 }
-    ensures { IsTrue result → (row : ℕ) → IfSome (slice_get book.now.rows row) (λ r. units_at holds.now row ≤ r.free) }
+    ensures { IsTrue result → (row : ℕ) → IfSome (slice_get book.now.rows row)
+        (λ r. units_at holds.now row ≤ r.free) }
 {
     for row in 0..book.rows() {
         if units_of(holds, row) > u64::from(book.row(row).free) {

@@ -12,8 +12,8 @@ use std::test::Fail;
 use wp_machine::{Machine, Opening};
 use wp_model::{Command, MOST_CART_UNITS};
 
-/// The units of a cart or none, orders, the commands of desk 1, and what these are told: the entries, and how many units
-/// are free in each row after them.
+/// The units of a cart or none, orders, the commands of desk 1, and what these are told: the entries, and how many
+/// units are free in each row after them.
 #[derive(Clone, Copy)]
 struct CartDay {
     units: Option<u32>,

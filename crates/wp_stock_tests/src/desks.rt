@@ -85,7 +85,8 @@ impl Planner for NumberPlanner {
     }
 }
 
-/// Counts how often desks 1 and 2 pass before a command, before a plan and after one: desk 1's three counts, and desk 2's.
+/// Counts how often desks 1 and 2 pass before a command, before a plan and after one: desk 1's three counts, and desk
+/// 2's.
 #[derive(Drop)]
 struct Passes {
     counts: [AtomicU32; 6],

@@ -290,7 +290,8 @@ fn states_of_waves_and_holds_are_told(rt: HostRuntime) -> Result<(), Fail> {
 /// What two desks ask for in turns, desk 2 first.
 fn askings_of(alloc: Global, script: &[Command]) -> Result<Vec<Asking>, Fail>
     requires { All (λ command. IsTrue (is_plain command)) script.now }
-    ensures { IfOk result (λ askings. All (λ asking. IsTrue (is_plain asking.command)) askings.items) }
+    ensures { IfOk result (λ askings. All (λ asking. IsTrue (is_plain asking.command))
+        askings.items) }
 {
     let mut askings = Vec::new(alloc);
     for command in script {

@@ -1,5 +1,5 @@
-//! Lines of the journal that are read as entries and printed again, lines that are no entries, and the most entries of a
-//! journal.
+//! Lines of the journal that are read as entries and printed again, lines that are no entries, and the most entries of
+//! a journal.
 ghost use Rattle.std.specs.Prelude.{IfOk};
 ghost use Rattle.wp_model.specs.Tables.{AreReadOrders};
 

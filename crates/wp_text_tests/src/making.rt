@@ -31,8 +31,8 @@ fn made(alloc: Global, number: u64, numbers: [u32; 4]) -> Result<Option<Input>, 
     Ok(Some(make(alloc, number, size)?))
 }
 
-/// Numbers and sizes (the aisles, the orders, the desks and the orders of a wave), and the layout, the orders and the desks'
-/// commands that are made from them.
+/// Numbers and sizes (the aisles, the orders, the desks and the orders of a wave), and the layout, the orders and the
+/// desks' commands that are made from them.
 const MADE: &[(u64, [u32; 4], &str, &str, &str)] = &[
     (
         7,

@@ -1,4 +1,5 @@
-//! Lines of sheets, refills and rows with numbers that no run comes to, and lines of rules and crews that were worked by hand.
+//! Lines of sheets, refills and rows with numbers that no run comes to, and lines of rules and crews that were worked
+//! by hand.
 ghost use Rattle.std.specs.Prelude.{◌≡◌, ◌≤◌, ◌^◌, ◌↔◌, IfOk, IsTrue, [], length};
 ghost use Rattle.std.specs.List.{All};
 

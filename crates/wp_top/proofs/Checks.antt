@@ -68,7 +68,8 @@ abbrev with_certificate : Layout → List ℕ → Said
 with_certificate layout text = record (of_layout layout) { certificate = text }
 
 -- nothing came of the layout file
-pub stop_at_layout : (disk : DiskCourse) (old new : FilesTold) (names : CheckNames) (s : Stop) → StopsFor (of_file layout_in old new names.layout input.Layout) s
+pub stop_at_layout : (disk : DiskCourse) (old new : FilesTold) (names : CheckNames) (s : Stop)
+    → StopsFor (of_file layout_in old new names.layout input.Layout) s
     → StopsFor (of_run (Ok (check names)) disk old new) s
 stop_at_layout disk old new names s nothing =
     stop_of disk old new (check names) s

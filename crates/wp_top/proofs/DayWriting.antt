@@ -63,7 +63,8 @@ abbrev Lines : List Entry → ℕ → List ℕ → Type 0
 Lines entries count text = IsSection (line (codes "journal")) count (IsTextAt entry_line entries) (line (codes "end journal")) text
 
 -- the journal of a day fails, and some text of the day begins with it
-pub day_fails : (layout : Layout) (terms : Terms) (start : History) (day : DayRun (Option WavePlan)) (crew : Option DayCrew) (entries : List Entry) (count : ℕ) (waited : List ℕ) (fault : SinkFault)
+pub day_fails : (layout : Layout) (terms : Terms) (start : History) (day : DayRun (Option WavePlan)) (crew : Option DayCrew) (entries : List Entry) (count : ℕ)
+    (waited : List ℕ) (fault : SinkFault)
     (old new : SinkTold) → IsToldOf layout terms start day → HasCrew terms day crew → entries ≡ day.machine.entries → count ≡ length entries → waited ≡ []
     → (text : List ℕ) × Lines entries count text × Fails fault old new (waited ++ text)
     → (text : List ℕ) × IsTextOf terms (day_told start day) text × Fails fault old new text
@@ -78,7 +79,8 @@ day_fails layout terms start day crew entries count waited fault old new told de
     )
 
 -- it is written, and then all that comes after it
-pub day_then : (layout : Layout) (terms : Terms) (start : History) (day : DayRun (Option WavePlan)) (crew : Option DayCrew) (entries : List Entry) (count : ℕ) (waited between : List ℕ)
+pub day_then : (layout : Layout) (terms : Terms) (start : History) (day : DayRun (Option WavePlan)) (crew : Option DayCrew) (entries : List Entry) (count : ℕ)
+    (waited between : List ℕ)
     (old mid new : SinkTold) → IsToldOf layout terms start day → HasCrew terms day crew → entries ≡ day.machine.entries → count ≡ length entries → waited ≡ []
     → (text : List ℕ) × Lines entries count text × Writes old mid waited between text
     → (sheets : List ℕ) × AreSheets day.machine terms (waves_of day.plans.items) (plans_of day.plans.items) sheets
@@ -95,8 +97,10 @@ day_then layout terms start day crew entries count waited between old mid new to
     )
 
 -- it is written, and then something fails
-pub day_then_fails : (layout : Layout) (terms : Terms) (start : History) (day : DayRun (Option WavePlan)) (crew : Option DayCrew) (entries : List Entry) (count : ℕ) (waited between : List ℕ)
-    (fault : SinkFault) (old mid new : SinkTold) → IsToldOf layout terms start day → HasCrew terms day crew → entries ≡ day.machine.entries → count ≡ length entries → waited ≡ []
+pub day_then_fails : (layout : Layout) (terms : Terms) (start : History) (day : DayRun (Option WavePlan)) (crew : Option DayCrew) (entries : List Entry)
+    (count : ℕ) (waited between : List ℕ)
+    (fault : SinkFault) (old mid new : SinkTold) → IsToldOf layout terms start day → HasCrew terms day crew → entries ≡ day.machine.entries
+    → count ≡ length entries → waited ≡ []
     → (text : List ℕ) × Lines entries count text × Writes old mid waited between text
     → (sheets : List ℕ) × AreSheets day.machine terms (waves_of day.plans.items) (plans_of day.plans.items) sheets
     × Fails fault mid new (between ++ (sheets ++ refills_and_end day.machine day.refills.items (crew_text crew)))
@@ -112,7 +116,9 @@ day_then_fails layout terms start day crew entries count waited between fault ol
     )
 
 -- where nothing is written some text of the day isn't
-pub day_unwritten : (layout : Layout) (terms : Terms) (start : History) (day : DayRun (Option WavePlan)) (crew : Option DayCrew) (fault : SinkFault) (told : SinkTold) → IsToldOf layout terms start day → HasCrew terms day crew
+pub day_unwritten : (layout : Layout) (terms : Terms) (start : History) (day : DayRun (Option WavePlan)) (crew : Option DayCrew) (fault : SinkFault)
+    (told : SinkTold) → IsToldOf layout terms start day → HasCrew terms day crew
     → ((text : List ℕ) → Fails fault told told text) → (text : List ℕ) × IsTextOf terms (day_told start day) text × Fails fault told told text
 day_unwritten layout terms start day crew fault told is dealt none =
-    let whole = any_text layout terms start day crew is dealt in (journal day.machine.entries ++ whole.0, whole.1, none (journal day.machine.entries ++ whole.0))
+    let whole = any_text layout terms start day crew is dealt in
+    (journal day.machine.entries ++ whole.0, whole.1, none (journal day.machine.entries ++ whole.0))

@@ -10,7 +10,8 @@ use Rattle.wp_outside.specs.declared.sink.SinkFault.TheVariants as sink_fault
 use Rattle.wp_outside.proofs.Steps.{Writes-whole}
 use Rattle.wp_outside.specs.Writing.{Fails, Writes}
 use Rattle.wp_top.specs.Ends.{Asked, IsOutput, of_run}
-use Rattle.wp_top.specs.Stops.{Finishes, FinishesJob, HasEnded, IsEndOf, IsEnding, IsOfInput, StopsFor, end_of, gives, number_of, of_store, status_of, status_when}
+use Rattle.wp_top.specs.Stops.{Finishes, FinishesJob, HasEnded, IsEndOf, IsEnding, IsOfInput, StopsFor, end_of, gives, number_of, of_store, status_of}
+use Rattle.wp_top.specs.Stops.{status_when}
 use Rattle.wp_top.specs.Stores.{DiskCourse}
 use Rattle.wp_top.specs.declared.complaint.Complaint.TheVariants as complaint
 use Rattle.wp_top.specs.declared.complaint.Stop.{Stop}
@@ -21,7 +22,8 @@ use Rattle.wp_top.specs.declared.status.Status.TheVariants as status
 
 -- the ending of an output, or of a stop, has its cause
 caused : (asked : Asked) (disk : DiskCourse) (old new : FilesTold) (output : Result (Vec ℕ Global) Stop) (end : Ending) → IsEndOf output end
-    → IfOk output (λ text. IsOutput asked disk old new text.items) → IfErr output (StopsFor (of_run asked disk old new)) → IsEnding asked disk old new (end_of end)
+    → IfOk output (λ text. IsOutput asked disk old new text.items) → IfErr output (StopsFor (of_run asked disk old new))
+    → IsEnding asked disk old new (end_of end)
 caused asked disk old new (Ok text) end is given stops = subst (λ (e : Ending). IsEnding asked disk old new (end_of e)) (sym is) given
 caused asked disk old new (Err (stop.Complaint why)) end is given stops = subst (λ (e : Ending). IsEnding asked disk old new (end_of e)) (sym is) stops
 caused asked disk old new (Err stop.Memory) end is given stops = absurd is

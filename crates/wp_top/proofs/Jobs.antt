@@ -18,7 +18,8 @@ use Rattle.wp_top.specs.Planned.{IsToldOf}
 use Rattle.wp_top.specs.Runs.{AreBracketed, AreNewOf, ComesTo, Day, IsHistoryOf, IsSummary, IsTextOf, IsWrong, UsesStore, audit_line, command_count}
 use Rattle.wp_top.specs.Sections.{waves_out}
 use Rattle.wp_top.specs.Sheets.{terms_of}
-use Rattle.wp_top.specs.Stops.{HasRightText, IsMadeDay, IsRead, IsReadDay, IsSaid, StopsAt, StopsFor, day_said, of_file, of_journal, of_store, opening_files, stop_at_words, tables_said}
+use Rattle.wp_top.specs.Stops.{HasRightText, IsMadeDay, IsRead, IsReadDay, IsSaid, StopsAt, StopsFor, day_said, of_file, of_journal, of_store, opening_files}
+use Rattle.wp_top.specs.Stops.{stop_at_words, tables_said}
 use Rattle.wp_top.specs.Stores.{AreSomeKept, DiskCourse, Held, IsRefusedStore, IsStored, no_disk}
 use Rattle.wp_planner.specs.Sent.{plans_of}
 use Rattle.wp_top.specs.Summaries.{AreGoodPlans, AreWholePlans, made_terms, summary_of}
@@ -37,7 +38,8 @@ use Rattle.wp_words.specs.declared.fault.WordsFault.TheVariants as fault
 use Rattle.wp_words.specs.Words.{AuditNames, JobNames, MakeNumbers, PlanNames, audit, check, make, plan}
 
 -- a stop among a job's files is one of the job
-pub stop_of : (disk : DiskCourse) (old new : FilesTold) (job : JobNames) (s : Stop) → StopsFor (among old new (files_of job)) s → StopsFor (of_run (Ok job) disk old new) s
+pub stop_of : (disk : DiskCourse) (old new : FilesTold) (job : JobNames) (s : Stop) → StopsFor (among old new (files_of job)) s
+    → StopsFor (of_run (Ok job) disk old new) s
 stop_of disk old new job (stop.Complaint (complaint.Words why)) stops = absurd stops
 stop_of disk old new job (stop.Complaint (complaint.Refused kind why)) stops = (job, refl, stops)
 stop_of disk old new job (stop.Complaint (complaint.Fault kind)) stops = (job, refl, stops)
@@ -46,7 +48,8 @@ stop_of disk old new job (stop.Complaint complaint.Store) stops = absurd stops
 stop_of disk old new job stop.Memory stops = tt
 
 -- words that ask for no job stop a run before it reads
-pub words_stop : (disk : DiskCourse) (asked : Asked) (told : FilesTold) (why : WordsFault) → IsFaultOf asked why → StopsFor (of_run asked disk told told) (stop_at_words why)
+pub words_stop : (disk : DiskCourse) (asked : Asked) (told : FilesTold) (why : WordsFault) → IsFaultOf asked why
+    → StopsFor (of_run asked disk told told) (stop_at_words why)
 words_stop disk asked told fault.NoMode is = (is refl, refl)
 words_stop disk asked told fault.UnknownMode is = (is refl, refl)
 words_stop disk asked told fault.BadWords is = (is refl, refl)
@@ -60,7 +63,8 @@ stop_at_opening disk old new job files last s are stops =
     stop_of disk old new job s (subst (λ fs. StopsFor (among old new fs) s) (sym are) (stops_among_more old new files (last ∷ []) s stops))
 
 -- nothing came of the last file
-pub stop_at_last : {A : Type 0} (disk : DiskCourse) (says : List ℕ → Result A Refusal) (old mid new : FilesTold) (job : JobNames) (files : List File) (said : Said)
+pub stop_at_last : {A : Type 0} (disk : DiskCourse) (says : List ℕ → Result A Refusal) (old mid new : FilesTold) (job : JobNames) (files : List File)
+    (said : Said)
     (kind : Input) (name : List ℕ) (s : Stop) → files_of job ≡ files ++ file_of kind name ∷ []
     → ((text : List ℕ) (why : Refusal) → says text ≡ Err why → said_with said kind text ≡ Err why) → HaveRead old mid files said
     → StopsFor (of_file says mid new name kind) s → StopsFor (of_run (Ok job) disk old new) s
@@ -104,7 +108,8 @@ stop_at_fault disk old mid new names layout opening text (stop.Complaint complai
 stop_at_fault disk old mid new names layout opening text stop.Memory units so_far was read wrong = tt
 
 -- the audit finds nothing
-pub stop_at_finding : (disk : DiskCourse) (old mid new : FilesTold) (names : AuditNames) (layout : Layout) (opening : Opening) (s : Stop) → opening.units ≡ names.units
+pub stop_at_finding : (disk : DiskCourse) (old mid new : FilesTold) (names : AuditNames) (layout : Layout) (opening : Opening) (s : Stop)
+    → opening.units ≡ names.units
     → HaveRead old mid (opening_files names.layout names.stock names.orders) (tables_said layout opening)
     → SameBytes mid.holds new.holds → NoneFalls mid.faults new.faults
     → StopsAt (of_journal opening) mid new names.journal input.Journal s → StopsFor (of_run (Ok (audit names)) disk old new) s
@@ -184,14 +189,16 @@ IsNoPlan (plan names) = ⊥
 IsNoPlan other = ⊤
 
 -- what it comes to doesn't hang on a disk
-comes_with : (disk : DiskCourse) (job : JobNames) (said : Said) (output : List ℕ) → IsNoPlan job → ComesTo no_disk job said output → ComesTo disk job said output
+comes_with : (disk : DiskCourse) (job : JobNames) (said : Said) (output : List ℕ) → IsNoPlan job → ComesTo no_disk job said output
+    → ComesTo disk job said output
 comes_with disk (plan names) said output other comes = absurd other
 comes_with disk (check names) said output other comes = comes
 comes_with disk (audit names) said output other comes = comes
 comes_with disk (make numbers) said output other comes = comes
 
 -- nor does what is found wrong of it
-wrong_with : (held : Held) (job : JobNames) (said : Said) (found : Finding) → IsNoPlan job → IsWrong no_disk.old.holds job said found → IsWrong held job said found
+wrong_with : (held : Held) (job : JobNames) (said : Said) (found : Finding) → IsNoPlan job → IsWrong no_disk.old.holds job said found
+    → IsWrong held job said found
 wrong_with held (plan names) said found other wrong = absurd other
 wrong_with held (check names) said (finding.Certificate fault) other wrong = wrong
 wrong_with held (check names) said (finding.Journal fault) other wrong = absurd wrong

@@ -27,7 +27,8 @@ use Rattle.wp_words.specs.declared.fault.WordsFault.{WordsFault}
 use Rattle.wp_top.proofs.Checks.{bound_no_fault}
 use Rattle.wp_top.proofs.Endings.{is_of_input}
 use Rattle.wp_top.proofs.RisenCounts.{bad_before_rise, none_rose}
-use Rattle.wp_top.proofs.Statuses.{due, few_statuses, part_taken, sink_rose, sink_sound, sink_stands, stands, when_done, when_fault, when_refused, when_store, when_words, when_wrong}
+use Rattle.wp_top.proofs.Statuses.{due, few_statuses, part_taken, sink_rose, sink_sound, sink_stands, stands, when_done, when_fault, when_refused, when_store}
+use Rattle.wp_top.proofs.Statuses.{when_words, when_wrong}
 use Rattle.wp_top.proofs.Statuses.{whole}
 use Rattle.wp_top.proofs.ToldFiles.{none_refused, none_told, one_said}
 
@@ -51,7 +52,8 @@ ends_for_bad_file : (asked : Asked) (run : Course) (e : End) → IsEnding asked 
     → number_of (status_of e) ≡ 2
 ends_for_bad_file asked run (gives text) is bad =
     absurd (none_told run.files.holds (files_of bad.job) bad.before bad.file bad.later is.said bad.said bad.text bad.why
-    (subst (λ (j : JobNames). HaveSaid (IsHeld run.files.holds) (files_of j) is.said) (job_is asked is.job bad.job is.asked_for bad.asked_for) is.accepted) bad.place
+    (subst (λ (j : JobNames). HaveSaid (IsHeld run.files.holds) (files_of j) is.said) (job_is asked is.job bad.job is.asked_for bad.asked_for) is.accepted)
+    bad.place
     bad.accepted bad.told bad.refused)
 ends_for_bad_file asked run (complains (complaint.Words why)) is bad = absurd (not_both asked bad.job why bad.asked_for is.0)
 ends_for_bad_file asked run (complains (complaint.Refused f why)) is bad = refl
@@ -60,11 +62,13 @@ ends_for_bad_file asked run (complains (complaint.Fault f)) is bad =
     (job_is asked is.0 bad.job is.1 bad.asked_for) is.2))
 ends_for_bad_file asked run (complains (complaint.Wrong found)) is bad =
     absurd (none_told run.files.holds (files_of bad.job) bad.before bad.file bad.later is.said bad.said bad.text bad.why
-    (subst (λ (j : JobNames). HaveSaid (IsHeld run.files.holds) (files_of j) is.said) (job_is asked is.job bad.job is.asked_for bad.asked_for) is.accepted) bad.place
+    (subst (λ (j : JobNames). HaveSaid (IsHeld run.files.holds) (files_of j) is.said) (job_is asked is.job bad.job is.asked_for bad.asked_for) is.accepted)
+    bad.place
     bad.accepted bad.told bad.refused)
 ends_for_bad_file asked run (complains complaint.Store) is bad =
     absurd (none_told run.files.holds (files_of bad.job) bad.before bad.file bad.later is.said bad.said bad.text bad.why
-    (subst (λ (j : JobNames). HaveSaid (IsHeld run.files.holds) (files_of j) is.said) (job_is asked is.job bad.job is.asked_for bad.asked_for) is.accepted) bad.place
+    (subst (λ (j : JobNames). HaveSaid (IsHeld run.files.holds) (files_of j) is.said) (job_is asked is.job bad.job is.asked_for bad.asked_for) is.accepted)
+    bad.place
     bad.accepted bad.told bad.refused)
 
 ok_no_err : (a : Audit) (fault : AuditFault) → ◌≡◌ {A = Result Audit AuditFault} (Ok a) (Err fault) → ⊥
@@ -105,7 +109,8 @@ right_no_wrong run (make numbers) said (finding.Store found) stands right wrong 
 right_no_wrong run (audit names) said (finding.Certificate fault) stands right wrong = wrong
 right_no_wrong run (audit names) said (finding.Store found) stands right wrong = wrong
 right_no_wrong run (audit names) said (finding.Journal fault) stands (entries, right) wrong =
-    ok_no_err (record { entries = entries }) fault (shows_one (opening_with said.opening names.units) said.journal (Ok (record { entries = entries })) (Err fault) right wrong)
+    ok_no_err (record { entries = entries }) fault
+    (shows_one (opening_with said.opening names.units) said.journal (Ok (record { entries = entries })) (Err fault) right wrong)
 
 -- an output is what right files come to
 right_output : (disk : DiskCourse) (job : JobNames) (said : Said) (output : List ℕ) → ComesTo disk job said output → IsRight disk.old.holds job said
@@ -123,8 +128,11 @@ no_store_fault run job other stands same (uses, failed) =
 said_is : (asked : Asked) (run : Course) (job other : JobNames) (said more : Said) → AreGoodFiles asked run job said → asked ≡ Ok other
     → HaveSaid (IsHeld run.files.holds) (files_of other) more → (other ≡ job) × (more ≡ said)
 said_is asked run job other said more good asked_for have =
-    let same = job_is asked other job asked_for good.asked_for in
-    (same, one_said run.files.holds (files_of job) more said (subst (λ (j : JobNames). HaveSaid (IsHeld run.files.holds) (files_of j) more) same have) good.accepted)
+    let same = job_is asked other job asked_for good.asked_for in (
+      same,
+      one_said run.files.holds (files_of job) more said
+          (subst (λ (j : JobNames). HaveSaid (IsHeld run.files.holds) (files_of j) more) same have) good.accepted,
+    )
 
 ends_for_wrong : (asked : Asked) (run : Course) (e : End) (job : JobNames) (said : Said) (found : Finding)
     → IsEnding asked run.disk run.files run.files' e → AreGoodFiles asked run job said → StoreStands run job → IsWrong run.disk.old.holds job said found
@@ -180,7 +188,8 @@ pub record LeavesDisk {D : Type 0} (asked : Asked) (ended : Status) (disk disk' 
   pub unopened : IsOfInput ended → disk' ≡ disk
 
 -- a run that ended so keeps its promise
-keeps : {D : Type 0} (asked : Asked) (run : Course) (disk disk' : D) (ended : Status) (e : End) → IsFrame asked run → LeavesDisk asked ended disk disk' → IsEnding asked run.disk run.files run.files' e
+keeps : {D : Type 0} (asked : Asked) (run : Course) (disk disk' : D) (ended : Status) (e : End) → IsFrame asked run → LeavesDisk asked ended disk disk'
+    → IsEnding asked run.disk run.files run.files' e
     → Finishes e run.sink run.sink' ended → Keeps asked run disk disk' (number_of ended)
 keeps asked run disk disk' ended e frame left cause finishes =
     record {
@@ -196,7 +205,8 @@ keeps asked run disk disk' ended e frame left cause finishes =
       most = few_statuses ended;
       bad_words = λ why bad stand. stands run ended 1 e finishes stand (ends_for_words asked run e why cause bad);
       bad_file = λ bad stand. stands run ended 2 e finishes stand (ends_for_bad_file asked run e cause bad);
-      bad_content = λ job said found good store wrong stand. stands run ended 6 e finishes stand (ends_for_wrong asked run e job said found cause good store wrong);
+      bad_content = λ job said found good store wrong stand. stands run ended 6 e finishes stand
+          (ends_for_wrong asked run e job said found cause good store wrong);
       complete = λ job said good store right stand. stands run ended 0 e finishes stand (ends_for_good asked run e job said cause good store right);
       stored = λ job is uses. frame.stored (asks_for_store asked job is uses);
       untouched = left.untouched;
@@ -243,7 +253,8 @@ keeps_nothing asked run disk disk' frame untouched same = record {
 }
 
 -- a run that ended so, with an end or for want of memory before it had one
-pub run_keeps : {D : Type 0} (asked : Asked) (run : Course) (disk disk' : D) (ended : Status) → IsFrame asked run → LeavesDisk asked ended disk disk' → HasEnded asked run.disk run.files run.files' run.sink run.sink' ended
+pub run_keeps : {D : Type 0} (asked : Asked) (run : Course) (disk disk' : D) (ended : Status) → IsFrame asked run → LeavesDisk asked ended disk disk'
+    → HasEnded asked run.disk run.files run.files' run.sink run.sink' ended
     → Keeps asked run disk disk' (number_of ended)
 run_keeps asked run disk disk' ended frame left (inl (e, cause, finishes)) = keeps asked run disk disk' ended e frame left cause finishes
 run_keeps asked run disk disk' ended frame left (inr (none, same)) =

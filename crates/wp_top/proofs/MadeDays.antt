@@ -80,7 +80,8 @@ good_from_whole : (layout : Layout) (opening : Opening) (terms : Terms) (waves :
 good_from_whole layout opening terms [] [] are = tt
 good_from_whole layout opening terms [] (plan ∷ plans) are = absurd are
 good_from_whole layout opening terms (wave ∷ waves) [] are = absurd are
-good_from_whole layout opening terms (wave ∷ waves) (plan ∷ plans) (first, others) = ((first.wave, first.good), good_from_whole layout opening terms waves plans others)
+good_from_whole layout opening terms (wave ∷ waves) (plan ∷ plans) (first, others)
+    = ((first.wave, first.good), good_from_whole layout opening terms waves plans others)
 
 -- the plans of a day's waves are good ones
 pub good_plans : (layout : Layout) (terms : Terms) (start : History) (day : DayRun (Option WavePlan)) → IsToldOf layout terms start day

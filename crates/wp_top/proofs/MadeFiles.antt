@@ -51,7 +51,8 @@ say_with : (said more all : Said) (kind : Input) (name text : List ℕ) (later :
 say_with said more all kind name text later one rest = ap (λ (r : Result Said Refusal). and_then r (λ s. said_after s later)) one ∙ rest
 
 -- the files of short texts that the readers accept say the day of the texts
-files_say : (texts : Texts) (day : Day) → Accept texts day → AreShort texts → Say (made_files texts) (day_said day.layout (opening_of day.stock day.orders) day.scripts)
+files_say : (texts : Texts) (day : Day) → Accept texts day → AreShort texts
+    → Say (made_files texts) (day_said day.layout (opening_of day.stock day.orders) day.scripts)
 files_say texts day says short =
     let all = day_said day.layout (opening_of day.stock day.orders) day.scripts in
     let desks = made_file input.Desks (codes "desks") texts.desks in

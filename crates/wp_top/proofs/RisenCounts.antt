@@ -54,9 +54,11 @@ bad_before_rise asked run bad kind risen =
             (λ (fs : List File). FilesStand run (fs ++ bad.file ∷ [])) earlier.1 bad.stand in
             let at : run.files'.faults risen.name ≡ run.files.faults risen.name =
             all_here (λ (f : File). run.files'.faults f.name ≡ run.files.faults f.name) risen.before (file_of kind risen.name) earlier.0
-            (all_first (λ (f : File). run.files'.faults f.name ≡ run.files.faults f.name) (risen.before ++ file_of kind risen.name ∷ earlier.0) (bad.file ∷ []) stand) in
+            (all_first (λ (f : File). run.files'.faults f.name ≡ run.files.faults f.name) (risen.before ++ file_of kind risen.name ∷ earlier.0)
+            (bad.file ∷ []) stand) in
             omega (arith, risen.why, at))
-        | inr later ↦ none_told run.files.holds risen.before bad.before bad.file later.0 risen.said bad.said bad.text bad.why risen.accepted later.1 bad.accepted
+        | inr later ↦ none_told run.files.holds risen.before bad.before bad.file later.0 risen.said bad.said bad.text bad.why risen.accepted later.1
+            bad.accepted
             bad.told bad.refused
       ]
     ]

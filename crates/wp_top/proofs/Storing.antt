@@ -1,5 +1,6 @@
 -- What a crash leaves of a store to which entries are added, at each moment.
-use Rattle.std.proofs.Common.{◌≡◌, ◌∙◌, refl, sym, ap, ap₂, subst, ⊎_elim, inl, inr, ◌⊎◌, ℕ, ◌+◌, ◌<◌, ◌≤◌, List, [], ◌∷◌, ◌++◌, length, map, append_assoc, arith}
+use Rattle.std.proofs.Common.{◌≡◌, ◌∙◌, refl, sym, ap, ap₂, subst, ⊎_elim, inl, inr, ◌⊎◌, ℕ, ◌+◌, ◌<◌, ◌≤◌, List, [], ◌∷◌, ◌++◌, length, map, append_assoc}
+use Rattle.std.proofs.Common.{arith}
 use Rattle.std.specs.Prelude.{◌*◌, Some, slice_get, take}
 use Rattle.std.proofs.lemmas.Bool.{cases_lt}
 use Rattle.std.proofs.lemmas.List.{append-nil, map-append}
@@ -10,7 +11,8 @@ use Rattle.wp_store.proofs.Told.{same_some, told_after}
 use Rattle.wp_store.specs.Disk.{DiskTold, EndsSynced, GoesOn, IsDisk, LeavesOnly, SinceSync, SinceSyncs, WhereTold}
 use Rattle.wp_store.specs.Records.{records_of}
 use Rattle.wp_store.specs.Store.{HasRecords, IsBeforeOrStandsFor, IsWithOrWithout, KeepsRecords, StandsFor}
-use Rattle.wp_top.specs.Stores.{Appends, AreAllKept, AreImagesOfRecords, AreKept, AreSomeKept, DiskCourse, HasAdded, HasFewCalls, HasNew, DiskStands, disk_course, entry_calls, entry_syncs, opening_calls, opening_syncs, sync_of}
+use Rattle.wp_top.specs.Stores.{Appends, AreAllKept, AreImagesOfRecords, AreKept, AreSomeKept, DiskCourse, HasAdded, HasFewCalls, HasNew, DiskStands}
+use Rattle.wp_top.specs.Stores.{disk_course, entry_calls, entry_syncs, opening_calls, opening_syncs, sync_of}
 use Rattle.wp_top.proofs.Writing.{take_all as take_whole, take_more}
 
 -- a file that stands for the records from before has none of the new entries, or more
@@ -19,7 +21,8 @@ has_none bodies entries image stands =
     record { count = 0; no_fewer = omega arith; no_more = omega arith; stands = stands ∙ sym (append-nil bodies) }
 
 -- one that has so many of the new entries has fewer
-pub has_fewer : (bodies : List (List ℕ)) (entries : List Entry) (n k : ℕ) (image : List ℕ) → k ≤ n → HasNew bodies entries n image → HasNew bodies entries k image
+pub has_fewer : (bodies : List (List ℕ)) (entries : List Entry) (n k : ℕ) (image : List ℕ) → k ≤ n → HasNew bodies entries n image
+    → HasNew bodies entries k image
 has_fewer bodies entries n k image fewer has =
     record { count = has.count; no_fewer = omega (arith, fewer, has.no_fewer); no_more = has.no_more; stands = has.stands }
 
@@ -37,7 +40,8 @@ has_next bodies entries n entry image next there stands =
     record { count = n + 1; no_fewer = omega arith; no_more = omega (arith, there); stands = stands ∙ longer bodies entries n entry next }
 
 -- a file with the next of them or without
-with_or_without : (bodies : List (List ℕ)) (entries : List Entry) (n : ℕ) (entry : Entry) (image : List ℕ) → slice_get entries n ≡ Some entry → n < length entries
+with_or_without : (bodies : List (List ℕ)) (entries : List Entry) (n : ℕ) (entry : Entry) (image : List ℕ) → slice_get entries n ≡ Some entry
+    → n < length entries
     → IsWithOrWithout (bodies ++ map entry_line (take n entries)) (entry_line entry) image → HasNew bodies entries n image
 with_or_without bodies entries n entry image next there (inl without) =
     record { count = n; no_fewer = omega arith; no_more = omega (arith, there); stands = without }
@@ -45,7 +49,8 @@ with_or_without bodies entries n entry image next there (inr with) =
     has_fewer bodies entries (n + 1) n image (omega arith) (has_next bodies entries n entry image next there with)
 
 -- before the first append, where each image stands for the records from before
-pub none_appended : (old : DiskTold) (bodies : List (List ℕ)) (entries : List Entry) → IsDisk old → ((image : List ℕ) → old.images image → StandsFor bodies image)
+pub none_appended : (old : DiskTold) (bodies : List (List ℕ)) (entries : List Entry) → IsDisk old
+    → ((image : List ℕ) → old.images image → StandsFor bodies image)
     → Appends old old bodies entries 0
 none_appended old bodies entries law durable = record {
   any_moment = started old (HasNew bodies entries 0) (λ image since. has_none bodies entries image (durable image (law.only_now image since)));
@@ -99,7 +104,8 @@ one_appended old mid new bodies entries n entry law law' next there so_far synce
       any_moment = joined old mid new P so_far.any_moment
           (weakened mid new (IsNextOrNot bodies entries n entry) P leaves
           (λ image has. has_fewer bodies entries n 0 image (omega arith) (with_or_without bodies entries n entry image next there has)));
-      since = λ k some few. ⊎_elim (still old mid new bodies entries n entry law next there so_far course leaves k some) (since_now k few) (before_or_now k n few);
+      since = λ k some few. ⊎_elim (still old mid new bodies entries n entry law next there so_far course leaves k some) (since_now k few)
+          (before_or_now k n few);
       few = omega (arith, there);
       all = omega (arith, synced, ends.counted);
       most = omega (arith, synced, ends.counted);
@@ -171,7 +177,8 @@ one_more old mid new entries n entry body law law' next there line so_far done =
   appends = λ bytes tells.
       let (after, told, records) = between old mid entries n bytes so_far tells in
       one_appended old mid new (records_of bytes) entries n entry law law' next there (so_far.appends bytes tells) (so_far.synced bytes tells)
-      done.appends.course (done.ends after told) (next_leaves mid new entries n entry body (records_of bytes) after line records (done.appends.leaves after told))
+      done.appends.course (done.ends after told)
+      (next_leaves mid new entries n entry body (records_of bytes) after line records (done.appends.leaves after told))
       (λ image is. done.acknowledged after told image is ∙ same_body records line);
   synced = λ bytes tells.
       let (after, told, records) = between old mid entries n bytes so_far tells in
@@ -214,7 +221,8 @@ one_lost old mid new entries n entry body law next there line so_far lost unsync
 pub lost_course : (old mid new : DiskTold) (entries : List Entry) (n m : ℕ) (body : List ℕ) → n < m → HasAppended old mid entries n → AppendsBody mid new body
     → GoesOn (entry_calls * m) (entry_syncs * m) old new
 lost_course old mid new entries n m body few so_far lost =
-    course_within (entry_calls * n + entry_calls) (entry_calls * m) (entry_syncs * n + entry_syncs) (entry_syncs * m) old new (omega (arith, few)) (omega (arith, few))
+    course_within (entry_calls * n + entry_calls) (entry_calls * m) (entry_syncs * n + entry_syncs) (entry_syncs * m) old new (omega (arith, few))
+    (omega (arith, few))
     (course_joined (entry_calls * n) entry_calls (entry_syncs * n) entry_syncs old mid new so_far.course lost.course)
 
 -- What is left of a run whose store was recovered.
@@ -240,7 +248,8 @@ pub record HasRecovered (old mid : DiskTold) (bodies : List (List ℕ)) : Type 0
 appended_kept : (old mid new : DiskTold) (bodies : List (List ℕ)) (entries : List Entry) (n calls syncs : ℕ) → IsDisk mid → IsDisk new
     → HasRecovered old mid bodies → GoesOn calls syncs mid new → Appends mid new bodies entries n → AreKept (disk_course old new) bodies entries
 appended_kept old mid new bodies entries n calls syncs law law' recovered course appends = record {
-  any_moment = λ image since. ⊎_elim (λ past. ⊎_elim (λ before. inl before) (λ stands. inr (has_none bodies entries image stands)) (recovered.leaves.each image past))
+  any_moment = λ image since. ⊎_elim (λ past. ⊎_elim (λ before. inl before) (λ stands. inr (has_none bodies entries image stands))
+      (recovered.leaves.each image past))
       (λ has. inr has)
       (appends.any_moment.before old.moment image recovered.course.later since);
   since_first = λ k more few image since. ⊎_elim

@@ -104,7 +104,8 @@ history_of opening scripts start (Ok day) starts goes_on legal parts sound read 
 -- a day of an opening that was read tells what the steps of its history tell, where whatever may be made of a wave is a plan for it
 pub told_as : (layout : Layout) (terms : Terms) (opening : Opening) (scripts : List Script) (start : History) (makes : WaveHolds → Option WavePlan → Type 0)
     (result : Result (DayRun (Option WavePlan)) Memory) → IsReadOpening opening → IfOk result (λ day. IsHistoryOf opening scripts start day.machine)
-    → IfOk result (λ day. waves_of day.plans.items ≡ released_after start (new_entries start day.machine)) → IfOk result (λ day. day.refills.items ≡ refills_told start day.machine)
+    → IfOk result (λ day. waves_of day.plans.items ≡ released_after start (new_entries start day.machine))
+    → IfOk result (λ day. day.refills.items ≡ refills_told start day.machine)
     → IfOk result (λ day. AreMadeBy makes day.plans.items)
     → ((wave : WaveHolds) (plan : Option WavePlan) → makes wave plan → IsPlanFor layout opening terms wave plan)
     → IfOk result (IsToldOf layout terms start)

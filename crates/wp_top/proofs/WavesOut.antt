@@ -30,7 +30,8 @@ loss_sends_none number before after name order (reply.Refilled units) = no_wave 
 loss_sends_none number before after name order other = refl
 
 -- what a step tells of a wave is what its command sends out
-step_sends : (number : ℕ) (before : State) (asked : Command) (stepped : Stepped) → released_in (outcome_of number before asked stepped) ≡ sent_by number asked stepped
+step_sends : (number : ℕ) (before : State) (asked : Command) (stepped : Stepped)
+    → released_in (outcome_of number before asked stepped) ≡ sent_by number asked stepped
 step_sends number before (command.Release name) stepped = refl
 step_sends number before (command.Missing name order location quantity) stepped =
     loss_sends_none number before stepped.state name order stepped.reply

@@ -62,8 +62,8 @@ finding_text (finding.Certificate fault) = codes "certificate" ++ after_space (c
 finding_text (finding.Journal fault) = codes "journal" ++ after_space (audit_fault_text fault)
 finding_text (finding.Store found) = codes "store" ++ after_space (store_finding_text found)
 
--- what is said of words that ask for no job, of a refused file, of a file that could not be read, of a certificate, a journal or a store that isn't right, and
--- of a store whose disk failed
+-- what is said of words that ask for no job, of a refused file, of a file that could not be read, of a certificate, a
+-- journal or a store that isn't right, and of a store whose disk failed
 abbrev pub complaint_text : Complaint → List ℕ
 complaint_text (complaint.Words why) = codes "refused words" ++ after_space (fault_text why)
 complaint_text (complaint.Refused file why) = codes "refused" ++ after_space (input_text file) ++ after_space (refusal_text why)
@@ -95,8 +95,8 @@ HasCause causes (complaint.Fault kind) = causes.fault kind
 HasCause causes (complaint.Wrong found) = causes.wrong found
 HasCause causes complaint.Store = causes.store
 
--- the last read, between these two states of the files, was of one of them; those before it aren't refused, and this holds of what they say and
--- of its name
+-- the last read, between these two states of the files, was of one of them; those before it aren't refused, and this
+-- holds of what they say and of its name
 pub record EndsAt (old new : FilesTold) (files : List File) (kind : Input) (Why : Said → List ℕ → Type 0) : Type 0 where
   pub before : List File
   pub name : List ℕ
@@ -115,7 +115,8 @@ IsRefused old kind why said name = (text : List ℕ) × IsHeld old.holds name te
 abbrev pub HasRisen : FilesTold → FilesTold → Said → List ℕ → Type 0
 HasRisen old new said name = old.faults name < new.faults name
 
--- why a job stops among files, which were read up to the one at fault: it is the first that is refused, or its count of faults rose
+-- why a job stops among files, which were read up to the one at fault: it is the first that is refused, or its count of
+-- faults rose
 abbrev pub among : FilesTold → FilesTold → List File → Causes
 among old new files = record no_cause {
   refused = λ kind why. EndsAt old new files kind (IsRefused old kind why);
@@ -139,8 +140,8 @@ IsOutput asked disk old new output = HasRead asked old new (λ job said. ComesTo
 abbrev pub AreNewIn : Asked → Held → FilesTold → FilesTold → List Entry → Type 0
 AreNewIn asked held old new entries = HasRead asked old new (λ job said. AreNewFor held job said entries)
 
--- why a run complains: of its words, and then nothing was read; of a file of the job; of what is found when all were read; or of its disk, when all were
--- read and the words have a store
+-- why a run complains: of its words, and then nothing was read; of a file of the job; of what is found when all were
+-- read; or of its disk, when all were read and the words have a store
 abbrev pub of_run : Asked → DiskCourse → FilesTold → FilesTold → Causes
 of_run asked disk old new = record {
   words = λ why. (asked ≡ Err why) × (new.reads ≡ old.reads);

@@ -20,17 +20,20 @@ use Rattle.wp_planner.specs.declared.planner.WavePlan.{WavePlan}
 
 -- the sheet of one that was sent
 abbrev pub IsSentSheet : History → Terms → Sent → List ℕ → Type 0
-IsSentSheet history terms sent sheet = (plan : WavePlan) × (sent.plan ≡ Some plan) × IsSheetOf history terms sent.wave plan sheet
+IsSentSheet history terms sent sheet = (plan : WavePlan) × (sent.plan ≡ Some plan)
+    × IsSheetOf history terms sent.wave plan sheet
 
 -- the sheet of the one at a place
 abbrev pub IsSheetAt : History → Terms → List Sent → ℕ → List ℕ → Type 0
-IsSheetAt history terms sent number sheet = (one : Sent) × (slice_get sent number ≡ Some one) × IsSentSheet history terms one sheet
+IsSheetAt history terms sent number sheet
+    = (one : Sent) × (slice_get sent number ≡ Some one) × IsSentSheet history terms one sheet
 
 -- each has what may be made of its wave
 pub record AreMadeBy (makes : WaveHolds → Option WavePlan → Type 0) (sent : List Sent) : Type 0 where
   pub each : All (λ s. makes s.wave s.plan) sent
 
--- what a day tells is what the steps of its new entries tell, after the history with which it began, and each wave that went out has a good plan
+-- what a day tells is what the steps of its new entries tell, after the history with which it began, and each wave that
+-- went out has a good plan
 pub record IsToldOf (layout : Layout) (terms : Terms) (start : History) (day : DayRun (Option WavePlan)) : Type 0 where
   pub goes_on : GoesOnFrom start day.machine
   pub waves : waves_of day.plans.items ≡ released_after start (new_entries start day.machine)
@@ -43,11 +46,13 @@ day_told start day = record { start = start; history = day.machine; plans = plan
 
 -- and where the terms have pickers, all batches of a day are dealt to them
 abbrev pub HasCrew : Terms → DayRun (Option WavePlan) → Option DayCrew → Type 0
-HasCrew terms day crew = IsCrewFor terms.pickers (day_batches (waves_of day.plans.items) (plans_of day.plans.items)) crew
+HasCrew terms day crew = IsCrewFor terms.pickers
+    (day_batches (waves_of day.plans.items) (plans_of day.plans.items)) crew
 
--- a day that is planned and was run over a disk: it began as the words say, answers the scripts, tells what its new entries tell, its batches are dealt,
--- and where the words have a store all its new entries are there
-pub record IsDayOver (disk : DiskCourse) (store : ℕ) (layout : Layout) (opening : Opening) (terms : Terms) (scripts : List Script) (day : DayPlans) : Type 0 where
+-- a day that is planned and was run over a disk: it began as the words say, answers the scripts, tells what its new
+-- entries tell, its batches are dealt, and where the words have a store all its new entries are there
+pub record IsDayOver (disk : DiskCourse) (store : ℕ) (layout : Layout) (opening : Opening) (terms : Terms)
+    (scripts : List Script) (day : DayPlans) : Type 0 where
   pub start : History
   pub stored : IsStored disk store opening (command_count scripts) start day.run.machine
   pub answers : IsHistoryOf opening scripts start day.run.machine

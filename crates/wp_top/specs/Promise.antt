@@ -39,7 +39,8 @@ Complains asked run why = IsCause asked run why × Took run (complaint_line why)
 
 -- a text that the run was due to write: its output, or the line of a complaint that had its cause
 abbrev pub IsDue : Asked → Course → List ℕ → Type 0
-IsDue asked run text = IsOutput asked run.disk run.files run.files' text ⊎ ((why : Complaint) × IsCause asked run why × (text ≡ complaint_line why))
+IsDue asked run text = IsOutput asked run.disk run.files run.files' text
+    ⊎ ((why : Complaint) × IsCause asked run why × (text ≡ complaint_line why))
 
 -- the sink's count of faults stands
 abbrev pub SinkStands : Course → Type 0
@@ -62,7 +63,8 @@ StoreStands run job = UsesStore job → ((told : List ℕ) × IsToldOn run.disk 
 abbrev pub EndsWith : ℕ → ℕ → Type 0
 EndsWith due status = (status ≡ due) ⊎ (status ≡ 5)
 
--- what one of the job's files holds is told and refused, those before it are told and aren't refused, and no count of a name up to it rose
+-- what one of the job's files holds is told and refused, those before it are told and aren't refused, and no count of a
+-- name up to it rose
 pub record IsBadFile (asked : Asked) (run : Course) : Type 0 where
   pub job : JobNames
   pub asked_for : asked ≡ Ok job
@@ -98,10 +100,13 @@ pub record Keeps {D : Type 0} (asked : Asked) (run : Course) (disk disk' : D) (s
   pub sink : status ≡ 4 → run.sink'.faults ≡ run.sink.faults + 1
   pub cut : status ≡ 4 → (text : List ℕ) × IsDue asked run text × TookPart run.sink.taken run.sink'.taken text
   -- 5: the sink took nothing, or a beginning of a text that was due
-  pub partial : status ≡ 5 → Took run [] ⊎ ((text : List ℕ) × IsDue asked run text × TookPrefix run.sink.taken run.sink'.taken text)
-  -- 6: no file is refused and each was read once, but the certificate, the journal or the store isn't right, and the sink took the line that says where
+  pub partial : status ≡ 5 → Took run [] ⊎ ((text : List ℕ) × IsDue asked run text
+      × TookPrefix run.sink.taken run.sink'.taken text)
+  -- 6: no file is refused and each was read once, but the certificate, the journal or the store isn't right, and the
+  -- sink took the line that says where
   pub wrong : status ≡ 6 → (found : Finding) × Complains asked run (complaint.Wrong found)
-  -- 7: the words have a store, no file is refused and each was read once, but the disk failed, and the sink took the line that says so
+  -- 7: the words have a store, no file is refused and each was read once, but the disk failed, and the sink took the
+  -- line that says so
   pub store : status ≡ 7 → Complains asked run complaint.Store
   -- there is no other status
   pub most : status ≤ 7
@@ -110,14 +115,17 @@ pub record Keeps {D : Type 0} (asked : Asked) (run : Course) (disk disk' : D) (s
   -- a refused file ends with 2
   pub bad_file : IsBadFile asked run → SinkStands run → EndsWith 2 status
   -- a certificate, a journal or a store that isn't right ends with 6
-  pub bad_content : (job : JobNames) (said : Said) (found : Finding) → AreGoodFiles asked run job said → StoreStands run job
+  pub bad_content : (job : JobNames) (said : Said) (found : Finding) → AreGoodFiles asked run job said
+      → StoreStands run job
       → IsWrong run.disk.old.holds job said found → SinkStands run → EndsWith 6 status
   -- and else the run ends with 0
-  pub complete : (job : JobNames) (said : Said) → AreGoodFiles asked run job said → StoreStands run job → IsRight run.disk.old.holds job said → SinkStands run
+  pub complete : (job : JobNames) (said : Said) → AreGoodFiles asked run job said → StoreStands run job
+      → IsRight run.disk.old.holds job said → SinkStands run
       → EndsWith 0 status
-  -- however the run ends, each image of the store that a crash leaves at some moment of it has the records that there were, then a beginning of the new
-  -- entries of a history that answers the desks, and all that were acknowledged
-  pub stored : (job : JobNames) → asked ≡ Ok job → UsesStore job → AreSomeKept run.disk (AreNewIn asked run.disk.old.holds run.files run.files')
+  -- however the run ends, each image of the store that a crash leaves at some moment of it has the records that there
+  -- were, then a beginning of the new entries of a history that answers the desks, and all that were acknowledged
+  pub stored : (job : JobNames) → asked ≡ Ok job → UsesStore job
+      → AreSomeKept run.disk (AreNewIn asked run.disk.old.holds run.files run.files')
   -- without a store the disk is what it was, and where the words or a file are complained of
   pub untouched : (AsksForStore asked → ⊥) → disk' ≡ disk
   pub unopened : 1 ≤ status → status ≤ 3 → disk' ≡ disk

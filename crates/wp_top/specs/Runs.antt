@@ -36,11 +36,13 @@ use Rattle.wp_words.specs.Words.{AuditNames, JobNames, MakeNumbers, PlanNames, a
 abbrev pub command_count : List Script → ℕ
 command_count scripts = sum_by (λ script. length script.commands) scripts
 
--- What is promised of a day's history, in the words in which it is promised: it is one history of a single thread, from this opening,
+-- What is promised of a day's history, in the words in which it is promised: it is one history of a single thread, from
+-- this opening,
 pub record IsHistoryOf (opening : Opening) (scripts : List Script) (start history : History) : Type 0 where
   pub starts : history.opening ≡ opening
   pub legal : IsLegal history
-  -- that goes on from the one with which the day began, and holds after that one every desk's commands once and in order;
+  -- that goes on from the one with which the day began, and holds after that one every desk's commands once and in
+  -- order;
   pub goes_on : GoesOnFrom start history
   pub parts : (desk : ℕ) → part_of desk (new_entries start history) ≡ script_of scripts desk
   -- on hand is always free plus held;
@@ -56,17 +58,20 @@ pub record AreNewOf (held : Held) (opening : Opening) (scripts : List Script) (e
   pub answers : IsHistoryOf opening scripts start history
   pub new : entries ≡ new_entries start history
 
--- a day that was run: the history with which it began, the whole history, and the plans of the waves that its new entries release
+-- a day that was run: the history with which it began, the whole history, and the plans of the waves that its new
+-- entries release
 pub record Day : Type 0 where
   pub start : History
   pub history : History
   pub plans : List WavePlan
 
 -- What a plan promises of its day where it ends with status 0, in the words in which it is promised:
-pub record IsPlan (layout : Layout) (opening : Opening) (scripts : List Script) (terms : Terms) (day : Day) : Type 0 where
+pub record IsPlan (layout : Layout) (opening : Opening) (scripts : List Script) (terms : Terms)
+    (day : Day) : Type 0 where
   -- it is one history of this opening and of these scripts;
   pub answers : IsHistoryOf opening scripts day.start day.history
-  -- each wave that a new entry releases has a good plan: every released order lies in one batch within capacity; no batching costs less than the bound
+  -- each wave that a new entry releases has a good plan: every released order lies in one batch within capacity; no
+  -- batching costs less than the bound
   pub planned : AreGoodPlans layout day.history.opening terms (waves_out day.start day.history) day.plans
 
 -- each plan of a day has a bracket of its linear bound where the terms ask for one
@@ -75,23 +80,27 @@ AreBracketed terms day = All (λ (plan : WavePlan). IsRootFor terms plan.wave pl
 
 -- the text of a day:
 pub record IsTextOf (terms : Terms) (day : Day) (output : List ℕ) : Type 0 where
-  -- each wave has its sheet, on which every tour is a shortest closed walk, with what three usual rules would walk where the terms say so;
+  -- each wave has its sheet, on which every tour is a shortest closed walk, with what three usual rules would walk
+  -- where the terms say so;
   pub sheets : List ℕ
   pub printed : AreSheets day.history terms (waves_out day.start day.history) day.plans sheets
-  -- where the terms have pickers, all batches of the sheets are dealt to them, and the longest load is near the least that it can be;
+  -- where the terms have pickers, all batches of the sheets are dealt to them, and the longest load is near the least
+  -- that it can be;
   pub crew : Option DayCrew
   pub dealt : IsCrewFor terms.pickers (day_batches (waves_out day.start day.history) day.plans) crew
   -- this is the text: the whole journal, the sheets, the refills of new entries, the crew, the stock after it
   pub is : output ≡ output_of day.history sheets (refills_told day.start day.history) (crew_text crew)
 
--- the output of a plan: the text of a day of what the files say, for carts of the units that the words say, which is as promised; where the words say so each
--- plan has a bracket of its linear bound, and the day goes on from the store and is kept there
+-- the output of a plan: the text of a day of what the files say, for carts of the units that the words say, which is as
+-- promised; where the words say so each plan has a bracket of its linear bound, and the day goes on from the store and
+-- is kept there
 pub record IsPlanOutput (disk : DiskCourse) (names : PlanNames) (said : Said) (output : List ℕ) : Type 0 where
   pub day : Day
   pub promised : IsPlan said.layout (opening_with said.opening names.units) said.scripts (terms_of names) day
   pub text : IsTextOf (terms_of names) day output
   pub brackets : AreBracketed (terms_of names) day
-  pub stored : IsStored disk names.store (opening_with said.opening names.units) (command_count said.scripts) day.start day.history
+  pub stored : IsStored disk names.store (opening_with said.opening names.units)
+      (command_count said.scripts) day.start day.history
 
 -- What a make promises where it ends with status 0, in the words in which it is promised.
 pub record IsSummary (numbers : MakeNumbers) (output : List ℕ) : Type 0 where
@@ -102,7 +111,8 @@ pub record IsSummary (numbers : MakeNumbers) (output : List ℕ) : Type 0 where
   pub answers : IsHistoryOf day.opening day.scripts (opened day.opening) history
   -- each released wave has a good plan
   pub plans : List WavePlan
-  pub planned : AreWholePlans day.layout history.opening (made_terms numbers) (waves_out (opened day.opening) history) plans
+  pub planned : AreWholePlans day.layout history.opening (made_terms numbers)
+      (waves_out (opened day.opening) history) plans
   -- the output is the summary of this history and of these plans
   pub is : output ≡ summary_of numbers history plans
 
@@ -110,8 +120,8 @@ pub record IsSummary (numbers : MakeNumbers) (output : List ℕ) : Type 0 where
 abbrev pub audit_line : ℕ → List ℕ
 audit_line entries = line (codes "audit" ++ number_after_space entries ++ codes " entries")
 
--- the output of an audit: the journal begins with that of a legal history of the opening, for carts of the units that the words say, and this is how many
--- entries it has
+-- the output of an audit: the journal begins with that of a legal history of the opening, for carts of the units that
+-- the words say, and this is how many entries it has
 pub record IsAudit (names : AuditNames) (said : Said) (output : List ℕ) : Type 0 where
   pub entries : ℕ
   pub shows : IsJournalOf (opening_with said.opening names.units) said.journal entries
@@ -121,7 +131,8 @@ pub record IsAudit (names : AuditNames) (said : Said) (output : List ℕ) : Type
 abbrev pub bound_line : ℕ → List ℕ
 bound_line bound = line (codes "bound" ++ number_after_space bound)
 
--- the text of a certificate tells a tree with this bound, and however its wave is put into batches within the capacity, carts walk no less
+-- the text of a certificate tells a tree with this bound, and however its wave is put into batches within the capacity,
+-- carts walk no less
 pub record ShowsBound (layout : Layout) (text : List ℕ) (bound : ℕ) : Type 0 where
   pub tree : TellsBound layout text bound
   pub least : NoWalksAreShorter tree.wave tree.capacity bound
@@ -171,7 +182,8 @@ abbrev pub IsWrong : Held → JobNames → Said → Finding → Type 0
 IsWrong held (plan names) said (finding.Store found) = (names.store ≡ 1)
     × IsRefusedStore held (opening_with said.opening names.units) (command_count said.scripts) found
 IsWrong held (check names) said (finding.Certificate fault) = IsRefusedCertificate said.layout said.certificate fault
-IsWrong held (audit names) said (finding.Journal fault) = Shows (opening_with said.opening names.units) said.journal (Err fault)
+IsWrong held (audit names) said (finding.Journal fault)
+    = Shows (opening_with said.opening names.units) said.journal (Err fault)
 IsWrong held other said found = ⊥
 
 -- it is right
@@ -179,5 +191,6 @@ abbrev pub IsRight : Held → JobNames → Said → Type 0
 IsRight held (plan names) said = names.store ≡ 1 → (start : History)
     × GoesOnFromStore held (opening_with said.opening names.units) (command_count said.scripts) start
 IsRight held (check names) said = (bound : ℕ) × TellsBound said.layout said.certificate bound
-IsRight held (audit names) said = (entries : ℕ) × IsJournalOf (opening_with said.opening names.units) said.journal entries
+IsRight held (audit names) said = (entries : ℕ)
+    × IsJournalOf (opening_with said.opening names.units) said.journal entries
 IsRight held (make numbers) said = ⊤

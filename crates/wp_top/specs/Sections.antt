@@ -17,7 +17,8 @@ use Rattle.wp_machine.specs.Outcome.{refill_in, release_outcome, released_in}
 use Rattle.wp_machine.specs.declared.outcome.WaveHolds.{WaveHolds}
 use Rattle.wp_sheets.specs.StockLines.{refill_lines, row_line}
 
--- the wave that a command sends out, as the entry with this number: a release that is done sends out all that its wave holds
+-- the wave that a command sends out, as the entry with this number: a release that is done sends out all that its wave
+-- holds
 abbrev pub sent_by : ℕ → Command → Stepped → List WaveHolds
 sent_by number (command.Release name) stepped = released_in (release_outcome number stepped.state name stepped.reply)
 sent_by number other stepped = []
@@ -29,9 +30,11 @@ waves_from opening number state (entry ∷ entries) =
     sent_by number entry.command (step opening state entry.command)
     ++ waves_from opening (number + 1) (step opening state entry.command).state entries
 
--- the waves of which the output has sheets: those that the new entries send out, after the history with which the day began
+-- the waves of which the output has sheets: those that the new entries send out, after the history with which the day
+-- began
 abbrev pub waves_out : History → History → List WaveHolds
-waves_out start history = waves_from start.opening (length start.entries) (state_after start) (new_entries start history)
+waves_out start history = waves_from start.opening (length start.entries) (state_after start)
+    (new_entries start history)
 
 -- and the refills that it has: those of the new entries
 abbrev pub refills_told : History → History → List Refill
@@ -45,8 +48,8 @@ refills_section stock refills = line (codes "refills") ++ flat_map (refill_lines
 abbrev pub stock_section : Stock → List Row → List ℕ
 stock_section stock rows = line (codes "stock") ++ flat_map (row_line stock) rows ++ line (codes "end stock")
 
--- the output of a history, of sheets of waves that went out, of refills and of the crew of the waves' batches: its whole journal, the sheets, the refills, the
--- section of the crew, the stock as the history leaves it, and a last line
+-- the output of a history, of sheets of waves that went out, of refills and of the crew of the waves' batches: its
+-- whole journal, the sheets, the refills, the section of the crew, the stock as the history leaves it, and a last line
 abbrev pub output_of : History → List ℕ → List Refill → List ℕ → List ℕ
 output_of history sheets refills crew =
     journal history.entries ++ sheets ++ refills_section history.opening.stock refills ++ crew

@@ -22,12 +22,14 @@ terms_of names = record {
 
 -- the sheet of a wave that went out in a history and of its plan
 abbrev pub IsSheetOf : History → Terms → WaveHolds → WavePlan → List ℕ → Type 0
-IsSheetOf history terms released plan sheet = IsSheet history.opening released terms plan (is_cancelled_later history released) sheet
+IsSheetOf history terms released plan sheet
+    = IsSheet history.opening released terms plan (is_cancelled_later history released) sheet
 
 -- the sheets of waves that went out and of their plans, one after the other
 abbrev pub AreSheets : History → Terms → List WaveHolds → List WavePlan → List ℕ → Type 0
 AreSheets history terms [] [] sheets = sheets ≡ []
 AreSheets history terms (released ∷ more) (plan ∷ plans) sheets =
-    (sheet : List ℕ) × (others : List ℕ) × IsSheetOf history terms released plan sheet × AreSheets history terms more plans others
+    (sheet : List ℕ) × (others : List ℕ) × IsSheetOf history terms released plan sheet
+    × AreSheets history terms more plans others
     × (sheets ≡ sheet ++ others)
 AreSheets history terms other others sheets = ⊥

@@ -1,5 +1,7 @@
--- What comes of the files, one after the other, why a job stops, and how a run ends. The code is held against these; what they come to is in Promise.
-use Rattle.std.specs.Prelude.{◌≡◌, ◌⊎◌, ℕ, ◌+◌, ◌<◌, ⊤, Bool, true, false, List, [], ◌∷◌, ◌++◌, codes, map, None, Option, Vec, Result, Ok, Err, if◌then◌else◌}
+-- What comes of the files, one after the other, why a job stops, and how a run ends. The code is held against these;
+-- what they come to is in Promise.
+use Rattle.std.specs.Prelude.{◌≡◌, ◌⊎◌, ℕ, ◌+◌, ◌<◌, ⊤, Bool, true, false, List, [], ◌∷◌, ◌++◌, codes, map, None}
+use Rattle.std.specs.Prelude.{Option, Vec, Result, Ok, Err, if◌then◌else◌}
 use Rattle.std.specs.declared.alloc.Global.{Global}
 use Rattle.wp_cert.specs.declared.tree.CertFault.{CertFault}
 use Rattle.wp_cert.specs.declared.tree.CertWhy.{CertWhy}
@@ -21,7 +23,8 @@ use Rattle.wp_store.specs.declared.faults.OpenFault.TheVariants as open_fault
 use Rattle.wp_top.specs.Runs.{IsRefusedCertificate}
 use Rattle.wp_top.specs.Stores.{AreRefused, DiskCourse, HasFailed, IsRefusedStore}
 use Rattle.wp_top.specs.Summaries.{made_files, size_of}
-use Rattle.wp_top.specs.Texts.{File, HaveSaid, IsHeld, IsTold, ReadFile, Said, Say, file_of, files_of, nothing_said, opening_with, text_in}
+use Rattle.wp_top.specs.Texts.{File, HaveSaid, IsHeld, IsTold, ReadFile, Said, Say, file_of, files_of, nothing_said}
+use Rattle.wp_top.specs.Texts.{opening_with, text_in}
 use Rattle.wp_top.specs.declared.complaint.Complaint.{Complaint}
 use Rattle.wp_top.specs.declared.complaint.Complaint.TheVariants as complaint
 use Rattle.wp_top.specs.declared.complaint.Finding.TheVariants as finding
@@ -57,25 +60,30 @@ StopsFor causes stop.Memory = ⊤
 -- why nothing came of one file, in one read: its text is refused, or its count of faults rose
 abbrev pub of_file : {A : Type 0} → (List ℕ → Result A Refusal) → FilesTold → FilesTold → List ℕ → Input → Causes
 of_file says old new name file = record no_cause {
-  refused = λ kind why. (kind ≡ file) × (new.reads ≡ old.reads + 1) × (text : List ℕ) × IsHeld old.holds name text × (says text ≡ Err why);
+  refused = λ kind why. (kind ≡ file) × (new.reads ≡ old.reads + 1) × (text : List ℕ) × IsHeld old.holds name text
+      × (says text ≡ Err why);
   fault = λ kind. (kind ≡ file) × (new.reads ≡ old.reads + 1) × (old.faults name < new.faults name);
 }
 
 -- why a journal stops a run: it isn't right
 abbrev pub of_journal : Opening → List ℕ → Causes
-of_journal opening text = record no_cause { wrong = λ found. (fault : AuditFault) × (found ≡ finding.Journal fault) × Shows opening text (Err fault) }
+of_journal opening text = record no_cause {
+  wrong = λ found. (fault : AuditFault) × (found ≡ finding.Journal fault) × Shows opening text (Err fault);
+}
 
 -- why a store does, before desks that have so many commands: the disk failed, or what the store has is refused
 abbrev pub of_store : DiskCourse → Opening → ℕ → Causes
 of_store disk opening commands = record no_cause {
-  wrong = λ found. (refused : StoreFinding) × (found ≡ finding.Store refused) × IsRefusedStore disk.old.holds opening commands refused;
+  wrong = λ found. (refused : StoreFinding) × (found ≡ finding.Store refused)
+      × IsRefusedStore disk.old.holds opening commands refused;
   store = HasFailed disk;
 }
 
 -- why its records do
 abbrev pub of_records : Opening → List (List ℕ) → ℕ → Causes
 of_records opening bodies commands = record no_cause {
-  wrong = λ found. (refused : StoreFinding) × (found ≡ finding.Store refused) × AreRefused opening bodies commands refused;
+  wrong = λ found. (refused : StoreFinding) × (found ≡ finding.Store refused)
+      × AreRefused opening bodies commands refused;
 }
 
 -- why adding entries to a store does
@@ -120,7 +128,8 @@ stop_at_words why = if wants_memory why then stop.Memory else stop.Complaint (co
 
 -- the files that say an opening
 abbrev pub opening_files : List ℕ → List ℕ → List ℕ → List File
-opening_files layout stock orders = file_of input.Layout layout ∷ file_of input.Stock stock ∷ file_of input.Orders orders ∷ []
+opening_files layout stock orders = file_of input.Layout layout ∷ file_of input.Stock stock
+    ∷ file_of input.Orders orders ∷ []
 
 -- what they say
 abbrev pub opening_said : Layout → Opening → Said
@@ -152,8 +161,10 @@ pub record HoldMadeDay (holds : List ℕ → Option (List ℕ)) (numbers : MakeN
   pub made : IsMadeDay numbers day
   pub told : HaveSaid (IsTold holds) day_files day
 
--- the four files of a plan were read once each, between these two states of files, none is refused, and together they say this
-pub record IsReadDay (names : PlanNames) (layout : Layout) (opening : Opening) (scripts : List Script) (old new : FilesTold) : Type 0 where
+-- the four files of a plan were read once each, between these two states of files, none is refused, and together they
+-- say this
+pub record IsReadDay (names : PlanNames) (layout : Layout) (opening : Opening) (scripts : List Script)
+    (old new : FilesTold) : Type 0 where
   pub said : HaveSaid (IsHeld old.holds) (files_of (plan names)) (day_said layout (opening_with opening None) scripts)
   pub units : opening.units ≡ names.units
   pub all : new.reads ≡ old.reads + 4
@@ -165,7 +176,8 @@ is_memory other = false
 
 -- why the fault of a certificate stops a run
 abbrev pub stop_at_certificate : CertFault → Stop
-stop_at_certificate fault = if is_memory fault.why then stop.Memory else stop.Complaint (complaint.Wrong (finding.Certificate fault))
+stop_at_certificate fault = if is_memory fault.why then stop.Memory
+    else stop.Complaint (complaint.Wrong (finding.Certificate fault))
 
 -- how a run ends, where its text is taken: it gives an output, or complains
 pub data End : Type 0 where
@@ -229,16 +241,20 @@ IsEnding asked disk old new (complains why) = HasCause (of_run asked disk old ne
 -- the text of an end was taken, or the sink failed, once, after a part of it, or memory ran out
 abbrev pub Finishes : End → SinkTold → SinkTold → Status → Type 0
 Finishes end old new ended =
-    ((ended ≡ status_of end) × Grows old.taken new.taken (text_of end) × (new.faults ≡ old.faults) × (new.stopped ≡ old.stopped))
+    ((ended ≡ status_of end) × Grows old.taken new.taken (text_of end) × (new.faults ≡ old.faults)
+    × (new.stopped ≡ old.stopped))
     ⊎ ((ended ≡ status.WriteFault) × (new.faults ≡ old.faults + 1) × TookPart old.taken new.taken (text_of end))
     ⊎ ((ended ≡ status.OutOfMemory) × (new.faults ≡ old.faults) × TookPrefix old.taken new.taken (text_of end))
 
 -- a job that gave this output, or stopped, has ended so: its ending finished, or memory ran out before there was one
 abbrev pub FinishesJob : Result (Vec ℕ Global) Stop → SinkTold → SinkTold → Status → Type 0
 FinishesJob output sink sink' ended =
-    ((end : Ending) × IsEndOf output end × Finishes (end_of end) sink sink' ended) ⊎ ((ended ≡ status.OutOfMemory) × (sink' ≡ sink))
+    ((end : Ending) × IsEndOf output end × Finishes (end_of end) sink sink' ended)
+    ⊎ ((ended ≡ status.OutOfMemory) × (sink' ≡ sink))
 
--- a run that was asked for this has ended so: some end of it has its cause and finished, or memory ran out before there was one
+-- a run that was asked for this has ended so: some end of it has its cause and finished, or memory ran out before there
+-- was one
 abbrev pub HasEnded : Asked → DiskCourse → FilesTold → FilesTold → SinkTold → SinkTold → Status → Type 0
 HasEnded asked disk old new sink sink' ended =
-    ((end : End) × IsEnding asked disk old new end × Finishes end sink sink' ended) ⊎ ((ended ≡ status.OutOfMemory) × (sink' ≡ sink))
+    ((end : End) × IsEnding asked disk old new end × Finishes end sink sink' ended)
+    ⊎ ((ended ≡ status.OutOfMemory) × (sink' ≡ sink))

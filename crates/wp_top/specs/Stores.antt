@@ -1,4 +1,5 @@
--- The store of a run: what its records say, the history with which a day begins, and what a crash leaves of the store at each moment.
+-- The store of a run: what its records say, the history with which a day begins, and what a crash leaves of the store
+-- at each moment.
 use Rattle.std.specs.Prelude.{◌≡◌, ◌⊎◌, ℕ, ◌+◌, ◌*◌, ◌<◌, ◌≤◌, List, [], ◌∷◌, ◌++◌, length, map, take, Option, Some}
 use Rattle.wp_desk.specs.GoingOn.{new_entries}
 use Rattle.wp_journal.specs.Journals.{IsMisanswered, IsNotNext}
@@ -46,16 +47,18 @@ IsToldOn disk told = disk.old.holds ≡ Some told
 
 -- What the records of a store say.
 
--- what a store holds as a run begins, where its disk tells that: a day asks no more of the disk to go on from it, nor a refusal
+-- what a store holds as a run begins, where its disk tells that: a day asks no more of the disk to go on from it, nor a
+-- refusal
 abbrev pub Held : Type 0
 Held = Option (List ℕ)
 
--- these are the records of a store that holds this. A sync that succeeds doesn't change what a read gives, so they are those of what a read gives right
--- after the first sync of the run
+-- these are the records of a store that holds this. A sync that succeeds doesn't change what a read gives, so they are
+-- those of what a read gives right after the first sync of the run
 abbrev pub AreRecordsIn : Held → List (List ℕ) → Type 0
 AreRecordsIn held bodies = WhereTold held (λ told. bodies ≡ records_of told)
 
--- the record of this number is the first that isn't the line of the next entry: those before it are the lines of a legal history
+-- the record of this number is the first that isn't the line of the next entry: those before it are the lines of a
+-- legal history
 pub record IsBadRecord (opening : Opening) (bodies : List (List ℕ)) (number : ℕ) : Type 0 where
   pub history : History
   pub next : List ℕ
@@ -64,7 +67,8 @@ pub record IsBadRecord (opening : Opening) (bodies : List (List ℕ)) (number : 
   pub bad : IsNotNext history next
   pub numbered : number ≡ length history.entries
 
--- the entry of this number is the first with another reply than the machine's: the records before it are the lines of a legal history
+-- the entry of this number is the first with another reply than the machine's: the records before it are the lines of a
+-- legal history
 pub record IsWrongEntry (opening : Opening) (bodies : List (List ℕ)) (number : ℕ) (printed right : Reply) : Type 0 where
   pub history : History
   pub next : List ℕ
@@ -72,7 +76,8 @@ pub record IsWrongEntry (opening : Opening) (bodies : List (List ℕ)) (number :
   pub begins : LinesBegin opening bodies history (next ∷ others)
   pub misanswered : IsMisanswered history next number printed right
 
--- all records are the lines of a legal history, but with the commands of the desks there are so many entries, more than a journal may have
+-- all records are the lines of a legal history, but with the commands of the desks there are so many entries, more than
+-- a journal may have
 pub record AreTooMany (opening : Opening) (bodies : List (List ℕ)) (commands number : ℕ) : Type 0 where
   pub history : History
   pub begins : LinesBegin opening bodies history []
@@ -83,18 +88,22 @@ pub record AreTooMany (opening : Opening) (bodies : List (List ℕ)) (commands n
 abbrev pub AreRefused : Opening → List (List ℕ) → ℕ → StoreFinding → Type 0
 AreRefused opening bodies commands finding.TooLong = ⊥
 AreRefused opening bodies commands (finding.Record number) = IsBadRecord opening bodies number
-AreRefused opening bodies commands (finding.Entry number printed right) = IsWrongEntry opening bodies number printed right
+AreRefused opening bodies commands (finding.Entry number printed right)
+    = IsWrongEntry opening bodies number printed right
 AreRefused opening bodies commands (finding.Entries number) = AreTooMany opening bodies commands number
 
--- a store is refused with this, before desks that have so many commands: its file is too long, or its records are refused
+-- a store is refused with this, before desks that have so many commands: its file is too long, or its records are
+-- refused
 abbrev pub IsRefusedStore : Held → Opening → ℕ → StoreFinding → Type 0
 IsRefusedStore held opening commands finding.TooLong = WhereTold held IsTooLong
-IsRefusedStore held opening commands other = (bodies : List (List ℕ)) × AreRecordsIn held bodies × AreRefused opening bodies commands other
+IsRefusedStore held opening commands other
+    = (bodies : List (List ℕ)) × AreRecordsIn held bodies × AreRefused opening bodies commands other
 
 -- The history with which a day begins.
 
--- a day goes on from a store with this history, before desks that have so many commands: its records are the lines of the history's entries, which is a
--- legal one of the opening, and with the commands they are no more than a journal may have. Nor is its file too long
+-- a day goes on from a store with this history, before desks that have so many commands: its records are the lines of
+-- the history's entries, which is a legal one of the opening, and with the commands they are no more than a journal may
+-- have. Nor is its file too long
 pub record GoesOnFromStore (held : Held) (opening : Opening) (commands : ℕ) (start : History) : Type 0 where
   pub bodies : List (List ℕ)
   pub records : AreRecordsIn held bodies
@@ -118,9 +127,11 @@ pub record HasNew (bodies : List (List ℕ)) (entries : List Entry) (least : ℕ
 
 -- each image of a disk stands for the records of what a read gives, where it tells its bytes
 abbrev pub AreImagesOfRecords : DiskTold → Type 0
-AreImagesOfRecords disk = WhereTold disk.holds (λ told. (image : List ℕ) → disk.images image → StandsFor (records_of told) image)
+AreImagesOfRecords disk = WhereTold disk.holds
+    (λ told. (image : List ℕ) → disk.images image → StandsFor (records_of told) image)
 
--- how many calls a run makes on its disk at most to open a store, and how many of them are syncs; and then to add an entry
+-- how many calls a run makes on its disk at most to open a store, and how many of them are syncs; and then to add an
+-- entry
 abbrev pub opening_calls : ℕ
 opening_calls = 6
 
@@ -137,9 +148,11 @@ entry_syncs = 2
 abbrev pub sync_of : ℕ → ℕ → ℕ
 sync_of before n = before + entry_syncs * n
 
--- In these calls new entries were added, one after the other. At each moment each image has the records from before and a beginning of the new entries, and
--- since an entry was acknowledged each has it. So many were acknowledged, and perhaps one more begun.
-pub record Appends (old new : DiskTold) (bodies : List (List ℕ)) (entries : List Entry) (acknowledged : ℕ) : Type 0 where
+-- In these calls new entries were added, one after the other. At each moment each image has the records from before and
+-- a beginning of the new entries, and since an entry was acknowledged each has it. So many were acknowledged, and
+-- perhaps one more begun.
+pub record Appends (old new : DiskTold) (bodies : List (List ℕ)) (entries : List Entry)
+    (acknowledged : ℕ) : Type 0 where
   pub any_moment : LeavesOnly old new (HasNew bodies entries 0)
   pub since : (n : ℕ) → 1 ≤ n → n ≤ acknowledged → SinceSync new (sync_of old.syncs n) (HasNew bodies entries n)
   pub few : acknowledged ≤ length entries
@@ -150,12 +163,15 @@ pub record Appends (old new : DiskTold) (bodies : List (List ℕ)) (entries : Li
 pub record HasAdded (old new : DiskTold) (entries : List Entry) : Type 0 where
   pub appends : WhereTold old.holds (λ told. Appends old new (records_of told) entries (length entries))
   pub synced : WhereTold old.holds (λ told. new.syncs ≡ old.syncs + entry_syncs * length entries)
-  pub now : WhereTold old.holds (λ told. (image : List ℕ) → new.images image → StandsFor (records_of told ++ map entry_line entries) image)
+  pub now : WhereTold old.holds (λ told. (image : List ℕ) → new.images image
+      → StandsFor (records_of told ++ map entry_line entries) image)
 
--- Entries are kept after the records of a store. At each moment of the run each image is one that there was as it began, or has the records and then a
--- beginning of the new entries; since the run's first sync each has these. Entry n is acknowledged by the sync 3 + 2n of the run: since that, each has it.
+-- Entries are kept after the records of a store. At each moment of the run each image is one that there was as it
+-- began, or has the records and then a beginning of the new entries; since the run's first sync each has these. Entry n
+-- is acknowledged by the sync 3 + 2n of the run: since that, each has it.
 pub record AreKept (disk : DiskCourse) (bodies : List (List ℕ)) (entries : List Entry) : Type 0 where
-  pub any_moment : (image : List ℕ) → disk.new.images_since disk.old.moment image → disk.old.images image ⊎ HasNew bodies entries 0 image
+  pub any_moment : (image : List ℕ) → disk.new.images_since disk.old.moment image
+      → disk.old.images image ⊎ HasNew bodies entries 0 image
   pub since_first : SinceSyncs disk.old disk.new (HasNew bodies entries 0)
   pub acknowledged : (n : ℕ) → 1 ≤ n → sync_of (disk.old.syncs + opening_syncs) n ≤ disk.new.syncs
       → SinceSync disk.new (sync_of (disk.old.syncs + opening_syncs) n) (HasNew bodies entries n)
@@ -174,13 +190,16 @@ pub record AreSomeKept (disk : DiskCourse) (AreNew : List Entry → Type 0) : Ty
 -- all are kept and acknowledged, and as the run ends each image has all
 pub record AreAllKept (disk : DiskCourse) (entries : List Entry) : Type 0 where
   pub kept : WhereTold disk.old.holds (λ told. AreKept disk (records_of told) entries)
-  pub acknowledged : WhereTold disk.old.holds (λ told. disk.new.syncs ≡ sync_of (disk.old.syncs + opening_syncs) (length entries))
-  pub now : WhereTold disk.old.holds (λ told. (image : List ℕ) → disk.new.images image → StandsFor (records_of told ++ map entry_line entries) image)
+  pub acknowledged : WhereTold disk.old.holds
+      (λ told. disk.new.syncs ≡ sync_of (disk.old.syncs + opening_syncs) (length entries))
+  pub now : WhereTold disk.old.holds (λ told. (image : List ℕ) → disk.new.images image
+      → StandsFor (records_of told ++ map entry_line entries) image)
   pub calls : HasFewCalls disk entries
   pub sound : DiskStands disk
 
--- a day that began with this history goes on from the store where the words say so; and then its new entries are all acknowledged, and whatever a crash
--- leaves of the store has them
-pub record IsStored (disk : DiskCourse) (store : ℕ) (opening : Opening) (commands : ℕ) (start history : History) : Type 0 where
+-- a day that began with this history goes on from the store where the words say so; and then its new entries are all
+-- acknowledged, and whatever a crash leaves of the store has them
+pub record IsStored (disk : DiskCourse) (store : ℕ) (opening : Opening) (commands : ℕ)
+    (start history : History) : Type 0 where
   pub begun : IsBegun disk.old.holds store opening commands start
   pub kept : store ≡ 1 → AreAllKept disk (new_entries start history)

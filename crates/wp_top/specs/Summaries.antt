@@ -25,11 +25,25 @@ use Rattle.wp_words.specs.Words.{MakeNumbers}
 
 -- how large a day the words of a make ask for
 abbrev pub size_of : MakeNumbers → Size
-size_of numbers = record { aisles = numbers.aisles; orders = numbers.orders; desks = numbers.desks; wave = numbers.wave }
+size_of numbers = record {
+  aisles = numbers.aisles;
+  orders = numbers.orders;
+  desks = numbers.desks;
+  wave = numbers.wave;
+}
 
 -- and how its waves are to be planned
 abbrev pub made_terms : MakeNumbers → Terms
-made_terms numbers = record { capacity = numbers.capacity; budget = numbers.budget; nodes = numbers.nodes; workers = numbers.workers; rules = false; pickers = 0; root = false }
+made_terms numbers = record {
+  capacity = numbers.capacity;
+  budget = numbers.budget;
+  nodes = numbers.nodes;
+  workers = numbers.workers;
+  rules
+      = false;
+  pickers = 0;
+  root = false;
+}
 
 -- a file of a made day: which it is, the name by which it is read, and its text
 abbrev pub made_file : Input → List ℕ → List ℕ → ReadFile
@@ -41,15 +55,18 @@ made_files texts =
     made_file input.Layout (codes "layout") texts.layout ∷ made_file input.Stock (codes "stock") texts.stock
     ∷ made_file input.Orders (codes "orders") texts.orders ∷ made_file input.Desks (codes "desks") texts.desks ∷ []
 
--- good plans of waves that went out, one by one: each is one of the wave that picks where the one that went out holds units
+-- good plans of waves that went out, one by one: each is one of the wave that picks where the one that went out holds
+-- units
 abbrev pub AreGoodPlans : Layout → Opening → Terms → List WaveHolds → List WavePlan → Type 0
 AreGoodPlans layout opening terms waves plans = AllZip
     (λ (released : WaveHolds) (plan : WavePlan).
-    IsWaveOf layout opening released plan.wave × IsGoodPlan plan.wave terms.capacity (budget_of (length plan.wave.orders) terms) plan.planned) waves plans
+    IsWaveOf layout opening released plan.wave
+    × IsGoodPlan plan.wave terms.capacity (budget_of (length plan.wave.orders) terms) plan.planned) waves plans
 
 -- such plans, each with a certificate that tells its bound, and with a bracket where the terms ask for one
 abbrev pub AreWholePlans : Layout → Opening → Terms → List WaveHolds → List WavePlan → Type 0
-AreWholePlans layout opening terms waves plans = AllZip (λ (released : WaveHolds) (plan : WavePlan). IsPlanOf layout opening released terms plan) waves plans
+AreWholePlans layout opening terms waves plans
+    = AllZip (λ (released : WaveHolds) (plan : WavePlan). IsPlanOf layout opening released terms plan) waves plans
 
 -- how many entries have the reply that a wave is released
 abbrev pub releases : List Entry → ℕ
@@ -86,7 +103,8 @@ size_words size =
 abbrev pub made_line : ℕ → Size → List ℕ
 made_line number size = codes "made number" ++ number_after_space number ++ size_words size
 
--- the line of what the desks did: how many commands there were, how many waves were released, and how many units are held at the end
+-- the line of what the desks did: how many commands there were, how many waves were released, and how many units are
+-- held at the end
 abbrev pub commands_line : History → List ℕ
 commands_line history =
     line (codes "commands" ++ number_after_space (length history.entries) ++ codes " released" ++ number_after_space (releases history.entries)
@@ -100,4 +118,5 @@ plans_line plans =
 
 -- the summary of a history and of the plans of its waves
 abbrev pub summary_of : MakeNumbers → History → List WavePlan → List ℕ
-summary_of numbers history plans = made_line numbers.number (size_of numbers) ++ commands_line history ++ plans_line plans
+summary_of numbers history plans = made_line numbers.number (size_of numbers) ++ commands_line history
+    ++ plans_line plans

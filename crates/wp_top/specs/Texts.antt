@@ -1,5 +1,6 @@
 -- The files that a job reads, what they say one after the other, and why one is refused.
-use Rattle.std.specs.Prelude.{◌≡◌, ℕ, nat_lt, List, [], ◌∷◌, codes, Option, Some, IfSome, length, map, if◌then◌else◌, Result, Ok, Err}
+use Rattle.std.specs.Prelude.{◌≡◌, ℕ, nat_lt, List, [], ◌∷◌, codes, Option, Some, IfSome, length, map, if◌then◌else◌}
+use Rattle.std.specs.Prelude.{Result, Ok, Err}
 use Rattle.std.specs.List.{All}
 use Rattle.wp_floor.specs.Opening.{opening_of}
 use Rattle.wp_layout.specs.Keys.{fault_text}
@@ -30,10 +31,12 @@ file_of kind name = record { kind = kind; name = name }
 -- the files that a job reads, one after the other. A make reads none
 abbrev pub files_of : JobNames → List File
 files_of (plan names) =
-    file_of input.Layout names.layout ∷ file_of input.Stock names.stock ∷ file_of input.Orders names.orders ∷ file_of input.Desks names.desks ∷ []
+    file_of input.Layout names.layout ∷ file_of input.Stock names.stock ∷ file_of input.Orders names.orders
+    ∷ file_of input.Desks names.desks ∷ []
 files_of (check names) = file_of input.Layout names.layout ∷ file_of input.Certificate names.certificate ∷ []
 files_of (audit names) =
-    file_of input.Layout names.layout ∷ file_of input.Stock names.stock ∷ file_of input.Orders names.orders ∷ file_of input.Journal names.journal ∷ []
+    file_of input.Layout names.layout ∷ file_of input.Stock names.stock ∷ file_of input.Orders names.orders
+    ∷ file_of input.Journal names.journal ∷ []
 files_of (make numbers) = []
 
 -- a file and its text
@@ -49,7 +52,8 @@ IsHeld holds name text = IfSome (holds name) (λ told. text ≡ told)
 abbrev pub IsTold : (List ℕ → Option (List ℕ)) → List ℕ → List ℕ → Type 0
 IsTold holds name text = holds name ≡ Some text
 
--- what was said so far: the layout, the stock and the orders, the scripts of the desks, and the texts of a certificate and of a journal
+-- what was said so far: the layout, the stock and the orders, the scripts of the desks, and the texts of a certificate
+-- and of a journal
 pub record Said : Type 0 where
   pub layout : Layout
   pub opening : Opening
@@ -100,14 +104,17 @@ orders_in stock = said_in refusal.Row (orders_said stock)
 abbrev pub scripts_in : List ℕ → Result (List Script) Refusal
 scripts_in = said_in refusal.Row scripts_said
 
--- what is said with a further file, or why that file is refused: the stock lies in the layout, and the orders want its articles
+-- what is said with a further file, or why that file is refused: the stock lies in the layout, and the orders want its
+-- articles
 abbrev pub said_with : Said → Input → List ℕ → Result Said Refusal
 said_with said input.Layout text = and_then (layout_in text) (λ layout. Ok (record said { layout = layout }))
-said_with said input.Stock text = and_then (stock_in said.layout text) (λ stock. Ok (record said { opening = opening_of stock [] }))
+said_with said input.Stock text = and_then (stock_in said.layout text)
+    (λ stock. Ok (record said { opening = opening_of stock [] }))
 said_with said input.Orders text = and_then (orders_in said.opening.stock text)
     (λ orders. Ok (record said { opening = opening_of said.opening.stock orders }))
 said_with said input.Desks text = and_then (scripts_in text) (λ scripts. Ok (record said { scripts = scripts }))
-said_with said input.Certificate text = and_then (text_in text) (λ certificate. Ok (record said { certificate = certificate }))
+said_with said input.Certificate text = and_then (text_in text)
+    (λ certificate. Ok (record said { certificate = certificate }))
 said_with said input.Journal text = and_then (text_in text) (λ journal. Ok (record said { journal = journal }))
 
 -- what files say, one after the other, after what was said before them; or why the first is refused that is

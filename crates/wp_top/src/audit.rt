@@ -45,8 +45,10 @@ fn found_in<F: Files>(
     opening: &Opening,
     name: &str,
 ) -> Result<Audit, Stop>
-    ensures found { IfOk result (λ found. HasRightText (F.told files.old).holds name.now (λ text. IsJournalOf opening.now text found.entries)) }
-    ensures stops { IfErr result (StopsAt (of_journal opening.now) (F.told files.old) (F.told files.new) name.now Input.Journal) }
+    ensures found { IfOk result (λ found. HasRightText (F.told files.old).holds name.now
+        (λ text. IsJournalOf opening.now text found.entries)) }
+    ensures stops { IfErr result (StopsAt (of_journal opening.now) (F.told files.old)
+        (F.told files.new) name.now Input.Journal) }
     ensures same { SameBytes (F.told files.old).holds (F.told files.new).holds }
     ensures counts { NoneFalls (F.told files.old).faults (F.told files.new).faults }
     ensures once { OnOk result ((F.told files.new).reads ≡ (F.told files.old).reads + 1) }
@@ -62,8 +64,10 @@ pub fn audit_output<F: Files>(
     files: &mut F,
     words: &AuditWords,
 ) -> Result<Vec<u8>, Stop>
-    ensures output { IfOk result (λ text. IsOutput (Ok (audit_job words.now)) no_disk (F.told files.old) (F.told files.new) text.items) }
-    ensures stops { IfErr result (StopsFor (of_run (Ok (audit_job words.now)) no_disk (F.told files.old) (F.told files.new))) }
+    ensures output { IfOk result (λ text. IsOutput (Ok (audit_job words.now)) no_disk
+        (F.told files.old) (F.told files.new) text.items) }
+    ensures stops { IfErr result (StopsFor (of_run (Ok (audit_job words.now)) no_disk
+        (F.told files.old) (F.told files.new))) }
     ensures same { SameBytes (F.told files.old).holds (F.told files.new).holds }
     ensures counts { NoneFalls (F.told files.old).faults (F.told files.new).faults }
     ensures reads { ReadsWithin (F.told files.old) (F.told files.new) 4 }

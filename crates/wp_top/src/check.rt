@@ -21,7 +21,8 @@ use wp_words::CheckWords;
 // The bound that the text of a certificate shows.
 fn bound_of(alloc: Global, layout: &Layout, text: &Vec<u8>) -> Result<u64, CertFault>
     ensures right { IfOk result (ShowsBound layout.now text.now.items) }
-    ensures wrong { IfErr result (λ fault. (fault.why ≡ cert_why.Memory → ⊥) → IsRefusedCertificate layout.now text.now.items fault) }
+    ensures wrong { IfErr result (λ fault. (fault.why ≡ cert_why.Memory → ⊥)
+        → IsRefusedCertificate layout.now text.now.items fault) }
 {
     let read = read_certificate(alloc, text, layout)?;
     check(alloc, &read.wave, read.capacity, &read.tree)
@@ -62,8 +63,10 @@ fn shown_in<F: Files>(
     layout: &Layout,
     name: &str,
 ) -> Result<u64, Stop>
-    ensures shown { IfOk result (λ bound. HasRightText (F.told files.old).holds name.now (λ text. ShowsBound layout.now text bound)) }
-    ensures stops { IfErr result (StopsAt (of_certificate layout.now) (F.told files.old) (F.told files.new) name.now Input.Certificate) }
+    ensures shown { IfOk result (λ bound. HasRightText (F.told files.old).holds name.now
+        (λ text. ShowsBound layout.now text bound)) }
+    ensures stops { IfErr result (StopsAt (of_certificate layout.now) (F.told files.old)
+        (F.told files.new) name.now Input.Certificate) }
     ensures same { SameBytes (F.told files.old).holds (F.told files.new).holds }
     ensures counts { NoneFalls (F.told files.old).faults (F.told files.new).faults }
     ensures once { OnOk result ((F.told files.new).reads ≡ (F.told files.old).reads + 1) }
@@ -79,8 +82,10 @@ pub fn check_output<F: Files>(
     files: &mut F,
     words: &CheckWords,
 ) -> Result<Vec<u8>, Stop>
-    ensures output { IfOk result (λ text. IsOutput (Ok (check_job words.now)) no_disk (F.told files.old) (F.told files.new) text.items) }
-    ensures stops { IfErr result (StopsFor (of_run (Ok (check_job words.now)) no_disk (F.told files.old) (F.told files.new))) }
+    ensures output { IfOk result (λ text. IsOutput (Ok (check_job words.now)) no_disk
+        (F.told files.old) (F.told files.new) text.items) }
+    ensures stops { IfErr result (StopsFor (of_run (Ok (check_job words.now)) no_disk
+        (F.told files.old) (F.told files.new))) }
     ensures same { SameBytes (F.told files.old).holds (F.told files.new).holds }
     ensures counts { NoneFalls (F.told files.old).faults (F.told files.new).faults }
     ensures reads { ReadsWithin (F.told files.old) (F.told files.new) 2 }

@@ -36,14 +36,16 @@ pub struct DayFiles {
     pub scripts: Scripts,
 }
 
-/// A day that is planned: what the desks give, and the crew to which all batches are dealt, where the words have pickers.
+/// A day that is planned: what the desks give, and the crew to which all batches are dealt, where the words have
+/// pickers.
 #[derive(Drop)]
 pub struct DayPlans<'a> {
     pub run: DayRun<'a, Option<WavePlan>>,
     pub crew: Option<DayCrew>,
 }
 
-// Runs the scripts of all desks, after what the machine has answered. Each wave that goes out is planned by these calls.
+// Runs the scripts of all desks, after what the machine has answered. Each wave that goes out is planned by these
+// calls.
 fn run_planned<'a, R: Threads + Wait + Sync, C: PlansWaves, G: Gate>(
     resources: &Resources<'_, R, G>,
     opening: &'a Opening,
@@ -54,18 +56,21 @@ fn run_planned<'a, R: Threads + Wait + Sync, C: PlansWaves, G: Gate>(
     requires takes { C.takes_any calls }
     requires opened { machine.opening ≡ opening.now }
     requires few { length machine.entries < most_opened }
-    ensures history { IsReadOpening opening.now → IfOk result (λ day. IsHistoryOf opening.now scripts.now machine.entry day.machine) }
-    ensures waves { IfOk result (λ day. waves_of day.plans.items ≡ released_after machine.entry (new_entries machine.entry day.machine)) }
+    ensures history { IsReadOpening opening.now
+        → IfOk result (λ day. IsHistoryOf opening.now scripts.now machine.entry day.machine) }
+    ensures waves { IfOk result (λ day. waves_of day.plans.items
+        ≡ released_after machine.entry (new_entries machine.entry day.machine)) }
     ensures plans { IfOk result (λ day. AreMadeBy (C.makes calls) day.plans.items) }
-    ensures refills { IfOk result (λ day. day.refills.items ≡ refills_told machine.entry day.machine) }
+    ensures refills { IfOk result (λ day. day.refills.items
+        ≡ refills_told machine.entry day.machine) }
 {
     let Resources { rt, alloc, gate } = *resources;
     let planner = DayPlanner::by(calls);
     run_desks(rt, alloc, opening, machine, scripts, &planner, gate)
 }
 
-/// Runs the scripts of all desks, after what the machine has answered from the opening on. Each wave that goes out now is
-/// planned. All desks, and the workers that price their waves, pass the gate.
+/// Runs the scripts of all desks, after what the machine has answered from the opening on. Each wave that goes out now
+/// is planned. All desks, and the workers that price their waves, pass the gate.
 pub fn run_day<'a, R: Threads + Wait + Sync, G: Gate>(
     resources: &Resources<'_, R, G>,
     warehouse: &'a Warehouse,
@@ -75,14 +80,16 @@ pub fn run_day<'a, R: Threads + Wait + Sync, G: Gate>(
 ) -> Result<DayRun<'a, Option<WavePlan>>, Memory>
     requires opened { machine.opening ≡ warehouse.now.opening }
     requires few { length machine.entries < most_opened }
-    ensures history { IfOk result (λ day. IsHistoryOf warehouse.now.opening scripts.now machine.entry day.machine) }
+    ensures history { IfOk result (λ day. IsHistoryOf warehouse.now.opening scripts.now
+        machine.entry day.machine) }
     ensures told { IfOk result (IsToldOf warehouse.now.layout terms.now machine.entry) }
 {
     let Resources { rt, gate, .. } = *resources;
     let Warehouse { layout, opening } = warehouse;
     let plan = |alloc: Global, wave: &WaveHolds|
         requires { LiesIn layout.now opening.now.stock }
-        ensures { IfOk result (IsPlanFor layout.entry.now opening.entry.now terms.entry.now wave.entry.now) }
+        ensures { IfOk result (IsPlanFor layout.entry.now opening.entry.now terms.entry.now
+            wave.entry.now) }
     {
         let planning = Planning {
             rt,
@@ -96,8 +103,8 @@ pub fn run_day<'a, R: Threads + Wait + Sync, G: Gate>(
     run_planned(resources, opening, machine, scripts, plan)
 }
 
-/// Runs a day, after what the machine has answered, and deals the batches of the waves that go out, where the terms have
-/// pickers.
+/// Runs a day, after what the machine has answered, and deals the batches of the waves that go out, where the terms
+/// have pickers.
 pub fn plan_day<'a, R: Threads + Wait + Sync, G: Gate>(
     resources: &Resources<'_, R, G>,
     files: &'a DayFiles,
@@ -107,8 +114,10 @@ pub fn plan_day<'a, R: Threads + Wait + Sync, G: Gate>(
     requires read { AreReadScripts files.now.scripts }
     requires opened { machine.opening ≡ files.now.warehouse.opening }
     requires few { length machine.entries < most_opened }
-    ensures history { IfOk result (λ day. IsHistoryOf files.now.warehouse.opening files.now.scripts machine.entry day.run.machine) }
-    ensures told { IfOk result (λ day. IsToldOf files.now.warehouse.layout terms.now machine.entry day.run) }
+    ensures history { IfOk result (λ day. IsHistoryOf files.now.warehouse.opening files.now.scripts
+        machine.entry day.run.machine) }
+    ensures told { IfOk result (λ day. IsToldOf files.now.warehouse.layout terms.now machine.entry
+        day.run) }
     ensures dealt { IfOk result (λ day. HasCrew terms.now day.run day.crew) }
 {
     let run = run_day(resources, &files.warehouse, machine, terms, &files.scripts)?;

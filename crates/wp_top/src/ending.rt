@@ -55,26 +55,38 @@ fn line_of(alloc: Global, complaint: Complaint) -> Result<String, Memory>
 }
 
 fn write_line<K: Sink>(alloc: Global, complaint: Complaint, out: &mut K) -> Result<(), SinkFault>
-    ensures whole { OnOk result (Grows (K.told out.old).taken (K.told out.new).taken (complaint_line complaint)) }
-    ensures prefix { TookPrefix (K.told out.old).taken (K.told out.new).taken (complaint_line complaint) }
-    ensures part { IsErrOf result sink_fault.Failed → TookPart (K.told out.old).taken (K.told out.new).taken (complaint_line complaint) }
-    ensures counted { IsErrOf result sink_fault.Failed → (K.told out.new).faults ≡ (K.told out.old).faults + 1 }
-    ensures uncounted { (IsErrOf result sink_fault.Failed → ⊥) → (K.told out.new).faults ≡ (K.told out.old).faults }
+    ensures whole { OnOk result (Grows (K.told out.old).taken (K.told out.new).taken
+        (complaint_line complaint)) }
+    ensures prefix { TookPrefix (K.told out.old).taken (K.told out.new).taken
+        (complaint_line complaint) }
+    ensures part { IsErrOf result sink_fault.Failed
+        → TookPart (K.told out.old).taken (K.told out.new).taken (complaint_line complaint) }
+    ensures counted { IsErrOf result sink_fault.Failed
+        → (K.told out.new).faults ≡ (K.told out.old).faults + 1 }
+    ensures uncounted { (IsErrOf result sink_fault.Failed → ⊥)
+        → (K.told out.new).faults ≡ (K.told out.old).faults }
     ensures sound { OnOk result ((K.told out.new).stopped ≡ (K.told out.old).stopped) }
-    ensures early { (K.told out.old).stopped ≡ false → (K.told out.new).late ≡ (K.told out.old).late }
+    ensures early { (K.told out.old).stopped ≡ false
+        → (K.told out.new).late ≡ (K.told out.old).late }
 {
     let line = line_of(alloc, complaint)?;
     write_text(out, line.as_bytes())
 }
 
 fn write_ending<K: Sink>(alloc: Global, ending: &Ending, out: &mut K) -> Result<(), SinkFault>
-    ensures whole { OnOk result (Grows (K.told out.old).taken (K.told out.new).taken (text_of (end_of ending.now))) }
-    ensures prefix { TookPrefix (K.told out.old).taken (K.told out.new).taken (text_of (end_of ending.now)) }
-    ensures part { IsErrOf result sink_fault.Failed → TookPart (K.told out.old).taken (K.told out.new).taken (text_of (end_of ending.now)) }
-    ensures counted { IsErrOf result sink_fault.Failed → (K.told out.new).faults ≡ (K.told out.old).faults + 1 }
-    ensures uncounted { (IsErrOf result sink_fault.Failed → ⊥) → (K.told out.new).faults ≡ (K.told out.old).faults }
+    ensures whole { OnOk result (Grows (K.told out.old).taken (K.told out.new).taken
+        (text_of (end_of ending.now))) }
+    ensures prefix { TookPrefix (K.told out.old).taken (K.told out.new).taken
+        (text_of (end_of ending.now)) }
+    ensures part { IsErrOf result sink_fault.Failed
+        → TookPart (K.told out.old).taken (K.told out.new).taken (text_of (end_of ending.now)) }
+    ensures counted { IsErrOf result sink_fault.Failed
+        → (K.told out.new).faults ≡ (K.told out.old).faults + 1 }
+    ensures uncounted { (IsErrOf result sink_fault.Failed → ⊥)
+        → (K.told out.new).faults ≡ (K.told out.old).faults }
     ensures sound { OnOk result ((K.told out.new).stopped ≡ (K.told out.old).stopped) }
-    ensures early { (K.told out.old).stopped ≡ false → (K.told out.new).late ≡ (K.told out.old).late }
+    ensures early { (K.told out.old).stopped ≡ false
+        → (K.told out.new).late ≡ (K.told out.old).late }
 {
     match ending {
         Ending::Done(text) => write_text(out, text.as_slice()),
@@ -85,7 +97,8 @@ fn write_ending<K: Sink>(alloc: Global, ending: &Ending, out: &mut K) -> Result<
 // Writes the text of an ending, and gives the status: the ending's, or that the sink failed, or that memory ran out.
 fn end_with<K: Sink>(alloc: Global, ending: &Ending, out: &mut K) -> Status
     ensures finishes { Finishes (end_of ending.now) (K.told out.old) (K.told out.new) result }
-    ensures early { (K.told out.old).stopped ≡ false → (K.told out.new).late ≡ (K.told out.old).late }
+    ensures early { (K.told out.old).stopped ≡ false
+        → (K.told out.new).late ≡ (K.told out.old).late }
 {
     match write_ending(alloc, ending, out) {
         Ok(()) => ending.status(),
@@ -96,9 +109,12 @@ fn end_with<K: Sink>(alloc: Global, ending: &Ending, out: &mut K) -> Status
 
 // Ends a run, whose ending may lack memory, and gives the status.
 fn finish<K: Sink>(alloc: Global, ending: Result<Ending, Memory>, out: &mut K) -> Status
-    ensures finishes { IfOk ending (λ ended. Finishes (end_of ended) (K.told out.old) (K.told out.new) result) }
-    ensures nothing { OnErr ending ((result ≡ status.OutOfMemory) × (K.told out.new ≡ K.told out.old)) }
-    ensures early { (K.told out.old).stopped ≡ false → (K.told out.new).late ≡ (K.told out.old).late }
+    ensures finishes { IfOk ending (λ ended. Finishes (end_of ended) (K.told out.old)
+        (K.told out.new) result) }
+    ensures nothing { OnErr ending ((result ≡ status.OutOfMemory)
+        × (K.told out.new ≡ K.told out.old)) }
+    ensures early { (K.told out.old).stopped ≡ false
+        → (K.told out.new).late ≡ (K.told out.old).late }
 {
     match ending {
         Ok(ending) => end_with(alloc, &ending, out),
@@ -109,7 +125,8 @@ fn finish<K: Sink>(alloc: Global, ending: Result<Ending, Memory>, out: &mut K) -
 /// Writes the output of a job, or why it stopped, and gives the status.
 pub fn end_job<K: Sink>(alloc: Global, output: Result<Vec<u8>, Stop>, out: &mut K) -> Status
     ensures ended { FinishesJob output (K.told out.old) (K.told out.new) result }
-    ensures early { (K.told out.old).stopped ≡ false → (K.told out.new).late ≡ (K.told out.old).late }
+    ensures early { (K.told out.old).stopped ≡ false
+        → (K.told out.new).late ≡ (K.told out.old).late }
 {
     finish(alloc, ending_with(output), out)
 }
@@ -117,7 +134,8 @@ pub fn end_job<K: Sink>(alloc: Global, output: Result<Vec<u8>, Stop>, out: &mut 
 /// Writes why a job stopped, and gives the status.
 pub fn end_stopped<K: Sink>(alloc: Global, why: Stop, out: &mut K) -> Status
     ensures ended { FinishesJob (Err why) (K.told out.old) (K.told out.new) result }
-    ensures early { (K.told out.old).stopped ≡ false → (K.told out.new).late ≡ (K.told out.old).late }
+    ensures early { (K.told out.old).stopped ≡ false
+        → (K.told out.new).late ≡ (K.told out.old).late }
 {
     end_job(alloc, Err(why), out)
 }

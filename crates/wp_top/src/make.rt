@@ -46,7 +46,8 @@ fn terms_of(words: &MakeWords) -> Terms
 }
 
 fn add_name(alloc: Global, names: &mut Vec<String>, name: &str) -> Result<(), Memory>
-    ensures bytes { IfOk result (λ _. map string_bytes names.new.items ≡ map string_bytes names.old.items ++ name.now ∷ []) }
+    ensures bytes { IfOk result (λ _. map string_bytes names.new.items
+        ≡ map string_bytes names.old.items ++ name.now ∷ []) }
     ensures count { IfOk result (λ _. vec_len names.new ≡ vec_len names.old + 1) }
 {
     names.push(String::from_str(alloc, name)?)?;
@@ -68,7 +69,8 @@ fn file_names(alloc: Global) -> Result<Vec<String>, Memory>
 
 // The texts of an input, in the order of those names.
 fn file_texts(alloc: Global, input: Input) -> Result<Vec<Vec<u8>>, Memory>
-    ensures { IfOk result (λ texts. texts.items ≡ input.layout ∷ input.stock ∷ input.orders ∷ input.desks ∷ []) }
+    ensures { IfOk result (λ texts. texts.items
+        ≡ input.layout ∷ input.stock ∷ input.orders ∷ input.desks ∷ []) }
 {
     let Input {
         layout,
@@ -92,7 +94,8 @@ fn files_with(alloc: Global, input: Input) -> Result<NeverFails, Memory>
 // The files of the day that the words ask for, in memory.
 fn files_of_day(alloc: Global, words: &MakeWords) -> Result<NeverFails, Memory>
     requires { IsMakeable (make_numbers words.now) }
-    ensures { IfOk result (λ files. HoldMadeDay (λ name. Some (bytes_or_empty files.files name)) (make_numbers words.now)) }
+    ensures { IfOk result (λ files. HoldMadeDay (λ name. Some (bytes_or_empty files.files name))
+        (make_numbers words.now)) }
 {
     let input = make(alloc, words.number, size_of(words))?;
     files_with(alloc, input)
@@ -106,7 +109,8 @@ fn summary_of_day<R: Threads + Wait + Sync, G: Gate>(
     scripts: &Scripts,
 ) -> Result<Vec<u8>, Memory>
     requires words { IsMakeable (make_numbers words.now) }
-    requires made { IsMadeDay (make_numbers words.now) (day_said warehouse.now.layout warehouse.now.opening scripts.now) }
+    requires made { IsMadeDay (make_numbers words.now)
+        (day_said warehouse.now.layout warehouse.now.opening scripts.now) }
     ensures { IfOk result (λ text. IsSummary (make_numbers words.now) text.items) }
 {
     let machine = Machine::open(resources.alloc, &warehouse.opening)?;
@@ -123,7 +127,8 @@ fn summary_of_files<R: Threads + Wait + Sync, F: Files, G: Gate>(
     requires words { IsMakeable (make_numbers words.now) }
     requires held { HoldMadeDay (F.told files.old).holds (make_numbers words.now) }
     ensures summary { IfOk result (λ text. IsSummary (make_numbers words.now) text.items) }
-    ensures stops { IfErr result (StopsFor (among (F.told files.old) (F.told files.new) day_files)) }
+    ensures stops { IfErr result (StopsFor (among (F.told files.old)
+        (F.told files.new) day_files)) }
 {
     let alloc = resources.alloc;
     let names = WarehouseNames {
@@ -138,8 +143,8 @@ fn summary_of_files<R: Threads + Wait + Sync, F: Files, G: Gate>(
     Ok(text)
 }
 
-/// The output of a make: the summary of the day that is made and planned. What is read of it lies in memory, so no file of the
-/// run is read, and it stops for want of memory alone.
+/// The output of a make: the summary of the day that is made and planned. What is read of it lies in memory, so no file
+/// of the run is read, and it stops for want of memory alone.
 pub fn make_output<R: Threads + Wait + Sync, G: Gate>(
     resources: &Resources<'_, R, G>,
     words: &MakeWords,

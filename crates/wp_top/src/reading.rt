@@ -7,7 +7,8 @@ ghost use Rattle.wp_outside.specs.Outside.{NoneFalls, SameBytes};
 ghost use Rattle.wp_tables.specs.Faults.{wants_memory};
 ghost use Rattle.wp_top.specs.Ends.{ReadsWithin, among};
 ghost use Rattle.wp_top.specs.Stops.{IsRead, IsSaid, StopsFor, lacks_memory, of_file, opening_files, tables_said};
-ghost use Rattle.wp_top.specs.Texts.{HaveSaid, IsHeld, layout_in, opening_with, orders_in, scripts_in, stock_in, text_in};
+ghost use Rattle.wp_top.specs.Texts.{HaveSaid, IsHeld, layout_in, opening_with, orders_in, scripts_in, stock_in};
+ghost use Rattle.wp_top.specs.Texts.{text_in};
 ghost use Rattle.wp_top.specs.declared.complaint.Complaint.TheVariants as complaint;
 ghost use Rattle.wp_top.specs.declared.complaint.Stop.TheVariants as stop;
 ghost use Rattle.wp_top.specs.declared.input.Input.TheVariants as input;
@@ -37,7 +38,8 @@ pub fn read_text<F: Files>(
     file: Input,
 ) -> Result<Vec<u8>, Stop>
     ensures text { IfOk result (λ text. IsRead (F.told files.old).holds name.now text.items) }
-    ensures stops { IfErr result (StopsFor (of_file text_in (F.told files.old) (F.told files.new) name.now file)) }
+    ensures stops { IfErr result (StopsFor (of_file text_in (F.told files.old)
+        (F.told files.new) name.now file)) }
     ensures same { SameBytes (F.told files.old).holds (F.told files.new).holds }
     ensures counts { NoneFalls (F.told files.old).faults (F.told files.new).faults }
     ensures once { OnOk result ((F.told files.new).reads ≡ (F.told files.old).reads + 1) }
@@ -54,7 +56,8 @@ pub fn read_text<F: Files>(
 
 /// Why a run stops at a fault of a layout file.
 fn stop_at_layout(fault: LayoutFault) -> Stop
-    ensures { result ≡ (if lacks_memory fault then stop.Memory else stop.Complaint (complaint.Refused input.Layout (refusal.Layout fault))) }
+    ensures { result ≡ (if lacks_memory fault then stop.Memory
+        else stop.Complaint (complaint.Refused input.Layout (refusal.Layout fault))) }
 {
     match fault {
         LayoutFault::Memory => Stop::Memory,
@@ -64,7 +67,8 @@ fn stop_at_layout(fault: LayoutFault) -> Stop
 
 /// Why a run stops at a fault of a table.
 fn stop_at(file: Input, fault: RowFault) -> Stop
-    ensures { result ≡ (if wants_memory fault.why then stop.Memory else stop.Complaint (complaint.Refused file (refusal.Row fault))) }
+    ensures { result ≡ (if wants_memory fault.why then stop.Memory
+        else stop.Complaint (complaint.Refused file (refusal.Row fault))) }
 {
     match fault.why {
         Why::Memory => Stop::Memory,
@@ -75,7 +79,8 @@ fn stop_at(file: Input, fault: RowFault) -> Stop
 /// The layout that a layout file says.
 pub fn layout_from<F: Files>(alloc: Global, files: &mut F, name: &str) -> Result<Layout, Stop>
     ensures said { IfOk result (IsSaid layout_in (F.told files.old).holds name.now) }
-    ensures stops { IfErr result (StopsFor (of_file layout_in (F.told files.old) (F.told files.new) name.now Input.Layout)) }
+    ensures stops { IfErr result (StopsFor (of_file layout_in (F.told files.old)
+        (F.told files.new) name.now Input.Layout)) }
     ensures same { SameBytes (F.told files.old).holds (F.told files.new).holds }
     ensures counts { NoneFalls (F.told files.old).faults (F.told files.new).faults }
     ensures once { OnOk result ((F.told files.new).reads ≡ (F.told files.old).reads + 1) }
@@ -97,7 +102,8 @@ fn stock_from<F: Files>(
     ensures said { IfOk result (IsSaid (stock_in layout.now) (F.told files.old).holds name.now) }
     ensures read { IfOk result IsReadStock }
     ensures lies { IfOk result (LiesIn layout.now) }
-    ensures stops { IfErr result (StopsFor (of_file (stock_in layout.now) (F.told files.old) (F.told files.new) name.now Input.Stock)) }
+    ensures stops { IfErr result (StopsFor (of_file (stock_in layout.now) (F.told files.old)
+        (F.told files.new) name.now Input.Stock)) }
     ensures same { SameBytes (F.told files.old).holds (F.told files.new).holds }
     ensures counts { NoneFalls (F.told files.old).faults (F.told files.new).faults }
     ensures once { OnOk result ((F.told files.new).reads ≡ (F.told files.old).reads + 1) }
@@ -118,7 +124,8 @@ fn orders_from<F: Files>(
 ) -> Result<Orders, Stop>
     ensures said { IfOk result (IsSaid (orders_in stock.now) (F.told files.old).holds name.now) }
     ensures read { IfOk result (AreReadOrders stock.now.articles) }
-    ensures stops { IfErr result (StopsFor (of_file (orders_in stock.now) (F.told files.old) (F.told files.new) name.now Input.Orders)) }
+    ensures stops { IfErr result (StopsFor (of_file (orders_in stock.now) (F.told files.old)
+        (F.told files.new) name.now Input.Orders)) }
     ensures same { SameBytes (F.told files.old).holds (F.told files.new).holds }
     ensures counts { NoneFalls (F.told files.old).faults (F.told files.new).faults }
     ensures once { OnOk result ((F.told files.new).reads ≡ (F.told files.old).reads + 1) }
@@ -135,7 +142,8 @@ fn orders_from<F: Files>(
 pub fn scripts_from<F: Files>(alloc: Global, files: &mut F, name: &str) -> Result<Scripts, Stop>
     ensures said { IfOk result (IsSaid scripts_in (F.told files.old).holds name.now) }
     ensures read { IfOk result AreReadScripts }
-    ensures stops { IfErr result (StopsFor (of_file scripts_in (F.told files.old) (F.told files.new) name.now Input.Desks)) }
+    ensures stops { IfErr result (StopsFor (of_file scripts_in (F.told files.old)
+        (F.told files.new) name.now Input.Desks)) }
     ensures same { SameBytes (F.told files.old).holds (F.told files.new).holds }
     ensures counts { NoneFalls (F.told files.old).faults (F.told files.new).faults }
     ensures once { OnOk result ((F.told files.new).reads ≡ (F.told files.old).reads + 1) }
@@ -157,8 +165,8 @@ pub struct Warehouse {
     pub ghost lies: { LiesIn layout opening.stock },
 }
 
-/// The names of the files that say a warehouse, and how many units its carts hold, 1 to 40,000,000, or none where they hold any
-/// number.
+/// The names of the files that say a warehouse, and how many units its carts hold, 1 to 40,000,000, or none where they
+/// hold any number.
 #[derive(Clone, Copy)]
 pub struct WarehouseNames<'a> {
     pub layout: &'a str,
@@ -187,7 +195,8 @@ pub fn read_warehouse<F: Files>(
     names: &WarehouseNames<'_>,
 ) -> Result<Warehouse, Stop>
     ensures said { IfOk result (λ warehouse. HaveSaid (IsHeld (F.told files.old).holds)
-        (opening_files names.now.layout.now names.now.stock.now names.now.orders.now) (tables_said warehouse.layout warehouse.opening)) }
+        (opening_files names.now.layout.now names.now.stock.now names.now.orders.now)
+        (tables_said warehouse.layout warehouse.opening)) }
     ensures units { IfOk result (λ warehouse. warehouse.opening.units ≡ names.now.units) }
     ensures stops { IfErr result (StopsFor (among (F.told files.old) (F.told files.new)
         (opening_files names.now.layout.now names.now.stock.now names.now.orders.now))) }

@@ -50,8 +50,8 @@ impl Parts for JournalLines<'_, '_> {
     }
 }
 
-/// The sheets of the waves that went out on a day, each with a good plan: the opening and the terms of their plans, and the machine at
-/// its end.
+/// The sheets of the waves that went out on a day, each with a good plan: the opening and the terms of their plans, and
+/// the machine at its end.
 #[derive(Drop)]
 pub struct DaySheets<'a, 'b> {
     pub opening: &'a Opening,
@@ -79,7 +79,8 @@ fn print_one(
     one: &Planned<Option<WavePlan>>,
 ) -> Result<(), Memory>
     requires { (layout : Block) × IsPlanned layout day.now.opening.now day.now.terms.now one.now }
-    ensures { IfOk result (λ _. GrowsBy (IsSentSheet day.now.machine.now day.now.terms.now one.now) text.old.items text.new.items) }
+    ensures { IfOk result (λ _. GrowsBy (IsSentSheet day.now.machine.now day.now.terms.now one.now)
+        text.old.items text.new.items) }
 {
     let sent = SentWave {
         opening: day.opening,
@@ -119,7 +120,8 @@ impl Parts for RefillLines<'_> {
 
     ghost says = { λ lines. IsTextAt (refill_lines lines.stock.now) lines.refills.now };
 
-    ghost can_print = { λ lines. All (λ refill. All (λ hold. hold.row < length lines.stock.now.rows) refill.holds) lines.refills.now };
+    ghost can_print = { λ lines. All (λ refill. All (λ hold. hold.row < length lines.stock.now.rows) refill.holds)
+        lines.refills.now };
 
     fn count(&self) -> usize {
         self.refills.len()
@@ -184,7 +186,8 @@ impl Parts for StockRows<'_, '_> {
 
     ghost says = { λ rows. IsTextAt (row_line rows.stock.now) (state_after rows.machine.now).rows };
 
-    ghost can_print = { λ rows. All (λ row. row.article < length rows.stock.now.articles) (state_after rows.machine.now).rows };
+    ghost can_print = { λ rows. All (λ row. row.article < length rows.stock.now.articles)
+        (state_after rows.machine.now).rows };
 
     fn count(&self) -> usize {
         self.machine.rows() as usize

@@ -1,9 +1,10 @@
 //! The store of a day: the history with which the day begins, and its entries afterwards.
 //!
-//! The store is opened, and a machine is stepped through what it has. Then the desks run and their waves are planned, and
-//! only when all that is done are the new entries added, in their order, each acknowledged before the next. Nothing of the
-//! text is written before.
-ghost use Rattle.std.specs.Prelude.{◌≡◌, ◌+◌, ◌*◌, ◌<◌, ◌≤◌, ℕ, List, [], ◌∷◌, drop, false, length, map, IsTrue, IfOk, IfErr, IsErrOf, OnOk};
+//! The store is opened, and a machine is stepped through what it has. Then the desks run and their waves are planned,
+//! and only when all that is done are the new entries added, in their order, each acknowledged before the next. Nothing
+//! of the text is written before.
+ghost use Rattle.std.specs.Prelude.{◌≡◌, ◌+◌, ◌*◌, ◌<◌, ◌≤◌, ℕ, List, [], ◌∷◌, drop, false, length, map, IsTrue, IfOk};
+ghost use Rattle.std.specs.Prelude.{IfErr, IsErrOf, OnOk};
 ghost use Rattle.std.specs.List.{All};
 ghost use Rattle.wp_journal.specs.Grammar.{is_line_entry};
 ghost use Rattle.wp_journal.specs.Replays.{LinesBegin, MayGoOn};
@@ -15,7 +16,8 @@ ghost use Rattle.wp_store.specs.Store.{HasRecords, IsSettledAt};
 ghost use Rattle.wp_top.specs.Planned.{IsDayOver};
 ghost use Rattle.wp_top.specs.Runs.{AreNewOf, command_count};
 ghost use Rattle.wp_top.specs.Stops.{StopsFor, of_appends, of_records, of_store, store_stop};
-ghost use Rattle.wp_top.specs.Stores.{Appends, AreImagesOfRecords, AreSomeKept, HasAdded, DiskStands, disk_course, entry_calls, entry_syncs};
+ghost use Rattle.wp_top.specs.Stores.{Appends, AreImagesOfRecords, AreSomeKept, HasAdded, DiskStands, disk_course};
+ghost use Rattle.wp_top.specs.Stores.{entry_calls, entry_syncs};
 
 use crate::complaint::{Complaint, Stop, StoreFinding, refused_store};
 use crate::day::{DayFiles, DayPlans, Resources, plan_day};
@@ -33,10 +35,12 @@ use wp_tables::Scripts;
 // Steps a machine through the record of the next number.
 fn replay_record(alloc: Global, machine: &mut Machine<'_>, body: &[u8]) -> Result<(), Stop>
     requires few { length machine.old.entries < 4294967295 }
-    ensures leads { (lines others : List (List ℕ)) → LinesBegin machine.old.opening lines machine.old (body.now ∷ others)
+    ensures leads { (lines others : List (List ℕ))
+        → LinesBegin machine.old.opening lines machine.old (body.now ∷ others)
         → OnOk result (LinesBegin machine.old.opening lines machine.new others) }
     ensures next { IfOk result (λ _. MayGoOn machine.old machine.new) }
-    ensures stops { (lines others : List (List ℕ)) (commands : ℕ) → LinesBegin machine.old.opening lines machine.old (body.now ∷ others)
+    ensures stops { (lines others : List (List ℕ)) (commands : ℕ)
+        → LinesBegin machine.old.opening lines machine.old (body.now ∷ others)
         → IfErr result (StopsFor (of_records machine.old.opening lines commands)) }
 {
     let place = machine.count();
@@ -65,7 +69,8 @@ fn replay_records<'a>(
     records: &Bodies,
 ) -> Result<Machine<'a>, Stop>
     ensures replayed { IfOk result (λ machine. LinesBegin opening.now records.now machine []) }
-    ensures stops { (commands : ℕ) → IfErr result (StopsFor (of_records opening.now records.now commands)) }
+    ensures stops { (commands : ℕ) → IfErr result
+        (StopsFor (of_records opening.now records.now commands)) }
 {
     let mut machine = Machine::open(alloc, opening)?;
     for number in 0..records.len() {
@@ -92,9 +97,12 @@ fn machine_from<'a>(
     files: &'a DayFiles,
     records: &Bodies,
 ) -> Result<Machine<'a>, Stop>
-    ensures replayed { IfOk result (λ machine. LinesBegin files.now.warehouse.opening records.now machine []) }
-    ensures few { OnOk result (length records.now + command_count files.now.scripts ≤ most_entries) }
-    ensures stops { IfErr result (StopsFor (of_records files.now.warehouse.opening records.now (command_count files.now.scripts))) }
+    ensures replayed { IfOk result (λ machine.
+        LinesBegin files.now.warehouse.opening records.now machine []) }
+    ensures few { OnOk result (length records.now + command_count files.now.scripts
+        ≤ most_entries) }
+    ensures stops { IfErr result (StopsFor (of_records files.now.warehouse.opening records.now
+        (command_count files.now.scripts))) }
 {
     let machine = replay_records(alloc, &files.warehouse.opening, records)?;
     let entries = u64::from(records.len()) + count_of(&files.scripts);
@@ -104,7 +112,8 @@ fn machine_from<'a>(
     Ok(machine)
 }
 
-// Adds the lines of entries to a store, one after the other, each acknowledged before the next. What is there before is on the disk.
+// Adds the lines of entries to a store, one after the other, each acknowledged before the next. What is there before is
+// on the disk.
 fn append_each<D: Disk>(
     alloc: Global,
     store: &mut Store<'_, D>,
@@ -115,12 +124,17 @@ fn append_each<D: Disk>(
     requires within { All (λ entry. IsTrue (is_line_entry entry.now)) entries.now }
     requires durable { AreImagesOfRecords (D.told store.old.disk.now) }
     ensures same_reference { store.new.disk.ghost_name ≡ store.old.disk.ghost_name }
-    ensures some { WhereTold (D.told store.old.disk.now).holds (λ told. (n : ℕ) × Appends (D.told store.old.disk.now) (D.told store.new.disk.now)
+    ensures some { WhereTold (D.told store.old.disk.now).holds
+        (λ told. (n : ℕ) × Appends (D.told store.old.disk.now) (D.told store.new.disk.now)
         (records_of told) (map (λ entry. entry.now) entries.now) n) }
-    ensures all { OnOk result (HasAdded (D.told store.old.disk.now) (D.told store.new.disk.now) (map (λ entry. entry.now) entries.now)) }
-    ensures course { GoesOn (entry_calls * length entries.now) (entry_syncs * length entries.now) (D.told store.old.disk.now) (D.told store.new.disk.now) }
-    ensures stops { IfErr result (StopsFor (of_appends (disk_course (D.told store.old.disk.now) (D.told store.new.disk.now)))) }
-    ensures sound { (IsErrOf result store_stop → ⊥) → DiskStands (disk_course (D.told store.old.disk.now) (D.told store.new.disk.now)) }
+    ensures all { OnOk result (HasAdded (D.told store.old.disk.now) (D.told store.new.disk.now)
+        (map (λ entry. entry.now) entries.now)) }
+    ensures course { GoesOn (entry_calls * length entries.now) (entry_syncs * length entries.now)
+        (D.told store.old.disk.now) (D.told store.new.disk.now) }
+    ensures stops { IfErr result (StopsFor (of_appends
+        (disk_course (D.told store.old.disk.now) (D.told store.new.disk.now)))) }
+    ensures sound { (IsErrOf result store_stop → ⊥)
+        → DiskStands (disk_course (D.told store.old.disk.now) (D.told store.new.disk.now)) }
 {
     for entry in entries {
         let line = print_entry(alloc, entry)?;
@@ -142,12 +156,17 @@ fn append_all<D: Disk>(
     requires same { HasRecords (D.told disk.old) recovered.bodies }
     requires room { length recovered.bodies + length entries.now ≤ most_records }
     requires within { All (λ entry. IsTrue (is_line_entry entry.now)) entries.now }
-    ensures some { WhereTold (D.told disk.old).holds (λ told. (n : ℕ) × Appends (D.told disk.old) (D.told disk.new)
+    ensures some { WhereTold (D.told disk.old).holds
+        (λ told. (n : ℕ) × Appends (D.told disk.old) (D.told disk.new)
         (records_of told) (map (λ entry. entry.now) entries.now) n) }
-    ensures all { OnOk result (HasAdded (D.told disk.old) (D.told disk.new) (map (λ entry. entry.now) entries.now)) }
-    ensures course { GoesOn (entry_calls * length entries.now) (entry_syncs * length entries.now) (D.told disk.old) (D.told disk.new) }
-    ensures stops { IfErr result (StopsFor (of_appends (disk_course (D.told disk.old) (D.told disk.new)))) }
-    ensures sound { (IsErrOf result store_stop → ⊥) → DiskStands (disk_course (D.told disk.old) (D.told disk.new)) }
+    ensures all { OnOk result (HasAdded (D.told disk.old) (D.told disk.new)
+        (map (λ entry. entry.now) entries.now)) }
+    ensures course { GoesOn (entry_calls * length entries.now) (entry_syncs * length entries.now)
+        (D.told disk.old) (D.told disk.new) }
+    ensures stops { IfErr result (StopsFor (of_appends
+        (disk_course (D.told disk.old) (D.told disk.new)))) }
+    ensures sound { (IsErrOf result store_stop → ⊥)
+        → DiskStands (disk_course (D.told disk.old) (D.told disk.new)) }
 {
     let mut store = recovered.into_store(disk);
     let added = append_each(alloc, &mut store, entries);
@@ -158,7 +177,8 @@ fn append_all<D: Disk>(
 // The entries after so many.
 fn entries_after<'b, 'c>(entries: &'b [&'c Entry], count: usize) -> &'b [&'c Entry]
     requires { count ≤ length entries.now }
-    ensures { map (λ entry. entry.now) result.now ≡ drop count (map (λ entry. entry.now) entries.now) }
+    ensures { map (λ entry. entry.now) result.now
+        ≡ drop count (map (λ entry. entry.now) entries.now) }
 {
     &entries[count..]
 }
@@ -175,13 +195,19 @@ fn add_new<D: Disk>(
     requires there { length recovered.bodies ≤ length machine.now.entries }
     requires few { length machine.now.entries ≤ most_records }
     requires within { All (λ entry. IsTrue (is_line_entry entry)) machine.now.entries }
-    ensures some { WhereTold (D.told disk.old).holds (λ told. (n : ℕ) × Appends (D.told disk.old) (D.told disk.new)
+    ensures some { WhereTold (D.told disk.old).holds
+        (λ told. (n : ℕ) × Appends (D.told disk.old) (D.told disk.new)
         (records_of told) (drop (length recovered.bodies) machine.now.entries) n) }
-    ensures all { OnOk result (HasAdded (D.told disk.old) (D.told disk.new) (drop (length recovered.bodies) machine.now.entries)) }
-    ensures course { GoesOn (entry_calls * length (drop (length recovered.bodies) machine.now.entries))
-        (entry_syncs * length (drop (length recovered.bodies) machine.now.entries)) (D.told disk.old) (D.told disk.new) }
-    ensures stops { IfErr result (StopsFor (of_appends (disk_course (D.told disk.old) (D.told disk.new)))) }
-    ensures sound { (IsErrOf result store_stop → ⊥) → DiskStands (disk_course (D.told disk.old) (D.told disk.new)) }
+    ensures all { OnOk result (HasAdded (D.told disk.old) (D.told disk.new)
+        (drop (length recovered.bodies) machine.now.entries)) }
+    ensures course { GoesOn (entry_calls * length
+        (drop (length recovered.bodies) machine.now.entries))
+        (entry_syncs * length (drop (length recovered.bodies) machine.now.entries)) (D.told disk.old)
+        (D.told disk.new) }
+    ensures stops { IfErr result (StopsFor (of_appends
+        (disk_course (D.told disk.old) (D.told disk.new)))) }
+    ensures sound { (IsErrOf result store_stop → ⊥)
+        → DiskStands (disk_course (D.told disk.old) (D.told disk.new)) }
 {
     let entries = machine.journal(alloc)?;
     let old = recovered.bodies().len() as usize;
@@ -193,9 +219,10 @@ fn add_new<D: Disk>(
     )
 }
 
-/// Opens the store, runs a day after what it has, plans the waves that go out and deals their batches; then adds the new
-/// entries to the store. With `Ok` all of them are there, whatever a crash leaves. It stops where the disk fails, where what
-/// the store has is refused, and where memory runs out; then the store has what it had, and a beginning of the new entries.
+/// Opens the store, runs a day after what it has, plans the waves that go out and deals their batches; then adds the
+/// new entries to the store. With `Ok` all of them are there, whatever a crash leaves. It stops where the disk fails,
+/// where what the store has is refused, and where memory runs out; then the store has what it had, and a beginning of
+/// the new entries.
 pub fn stored_day<'a, R: Threads + Wait + Sync, G: Gate, D: Disk>(
     resources: &Resources<'_, R, G>,
     files: &'a DayFiles,
@@ -206,11 +233,13 @@ pub fn stored_day<'a, R: Threads + Wait + Sync, G: Gate, D: Disk>(
     ensures day { (store : ℕ) → store ≡ 1 → IfOk result (IsDayOver
         (disk_course (D.told disk.old) (D.told disk.new)) store files.now.warehouse.layout files.now.warehouse.opening
         terms.now files.now.scripts) }
-    ensures stops { IfErr result (StopsFor (of_store (disk_course (D.told disk.old) (D.told disk.new))
+    ensures stops { IfErr result (StopsFor (of_store
+        (disk_course (D.told disk.old) (D.told disk.new))
         files.now.warehouse.opening (command_count files.now.scripts))) }
     ensures kept { AreSomeKept (disk_course (D.told disk.old) (D.told disk.new))
         (AreNewOf (D.told disk.old).holds files.now.warehouse.opening files.now.scripts) }
-    ensures sound { (IsErrOf result store_stop → ⊥) → DiskStands (disk_course (D.told disk.old) (D.told disk.new)) }
+    ensures sound { (IsErrOf result store_stop → ⊥)
+        → DiskStands (disk_course (D.told disk.old) (D.told disk.new)) }
 {
     let recovered = recover(resources.alloc, disk)?;
     let machine = machine_from(resources.alloc, files, recovered.bodies())?;

@@ -3,7 +3,8 @@ ghost use Rattle.std.specs.Prelude.{◌≡◌, ◌<◌, ◌≤◌, ◌+◌, ◌-
 ghost use Rattle.wp_machine.specs.Outcome.{released_of};
 ghost use Rattle.wp_model.specs.History.{IsLegal, state_after};
 ghost use Rattle.wp_planner.specs.Sent.{plans_of, waves_of};
-ghost use Rattle.wp_top.specs.Summaries.{commands_line, held_units, is_proven, made_line, plans_line, proven_plans, releases, size_words, summary_of, total_bound, total_cost};
+ghost use Rattle.wp_top.specs.Summaries.{commands_line, held_units, is_proven, made_line, plans_line, proven_plans};
+ghost use Rattle.wp_top.specs.Summaries.{releases, size_words, summary_of, total_bound, total_cost};
 ghost use Rattle.wp_words.specs.Reading.{make_numbers};
 
 use crate::make::size_of;
@@ -108,7 +109,8 @@ fn print_size(text: &mut String, size: Size) -> Result<(), Memory>
 }
 
 fn print_made(text: &mut String, number: u64, size: Size) -> Result<(), Memory>
-    ensures { IfOk result (λ _. string_bytes text.new ≡ string_bytes text.old ++ made_line number size) }
+    ensures { IfOk result (λ _. string_bytes text.new
+        ≡ string_bytes text.old ++ made_line number size) }
 {
     write!(text, "made number {number}")?;
     print_size(text, size)
@@ -116,7 +118,8 @@ fn print_made(text: &mut String, number: u64, size: Size) -> Result<(), Memory>
 
 fn print_commands(text: &mut String, machine: &Machine<'_>, released: usize) -> Result<(), Memory>
     requires { released ≡ releases machine.now.entries }
-    ensures { IfOk result (λ _. string_bytes text.new ≡ string_bytes text.old ++ commands_line machine.now) }
+    ensures { IfOk result (λ _. string_bytes text.new
+        ≡ string_bytes text.old ++ commands_line machine.now) }
 {
     let commands = machine.count();
     let units = held_units(machine);
@@ -128,7 +131,8 @@ fn print_commands(text: &mut String, machine: &Machine<'_>, released: usize) -> 
 }
 
 fn print_plans(text: &mut String, planned: &[Planned<Option<WavePlan>>]) -> Result<(), Memory>
-    ensures { IfOk result (λ _. string_bytes text.new ≡ string_bytes text.old ++ plans_line (plans_of planned.now)) }
+    ensures { IfOk result (λ _. string_bytes text.new
+        ≡ string_bytes text.old ++ plans_line (plans_of planned.now)) }
 {
     let Totals {
         cost,
@@ -139,8 +143,8 @@ fn print_plans(text: &mut String, planned: &[Planned<Option<WavePlan>>]) -> Resu
     Ok(())
 }
 
-/// The summary of a made day: what was made; how many commands there were, how many waves were released, and how many units
-/// are held at the end; and what the plans cost, the sum of their bounds, and how many are proven.
+/// The summary of a made day: what was made; how many commands there were, how many waves were released, and how many
+/// units are held at the end; and what the plans cost, the sum of their bounds, and how many are proven.
 pub fn summary_text(
     alloc: Global,
     words: &MakeWords,
@@ -148,7 +152,8 @@ pub fn summary_text(
 ) -> Result<Vec<u8>, Memory>
     requires legal { IsLegal day.now.machine }
     requires waves { waves_of day.now.plans.items ≡ released_of day.now.machine }
-    ensures { IfOk result (λ text. text.items ≡ summary_of (make_numbers words.now) day.now.machine (plans_of day.now.plans.items)) }
+    ensures { IfOk result (λ text. text.items
+        ≡ summary_of (make_numbers words.now) day.now.machine (plans_of day.now.plans.items)) }
 {
     let planned = day.plans.as_slice();
     let mut text = String::new(alloc);

@@ -19,8 +19,8 @@ use wp_model::Entry;
 use wp_outside::{Section, Sink, SinkFault, room, write_rest, write_section};
 use wp_planner::{DayCrew, Terms, WavePlan};
 
-/// A day that is over: the opening from which it went on, the terms of its plans, what the desks give, and the crew to which all batches
-/// are dealt, where the terms have pickers.
+/// A day that is over: the opening from which it went on, the terms of its plans, what the desks give, and the crew to
+/// which all batches are dealt, where the terms have pickers.
 #[derive(Drop)]
 pub struct PlannedDay<'a, 'b> {
     pub opening: &'a Opening,
@@ -37,8 +37,10 @@ fn write_stock<K: Sink>(
     waiting: &mut Vec<u8>,
     day: &PlannedDay<'_, '_>,
 ) -> Result<(), SinkFault>
-    ensures writes { OnOk result (Writes (K.told out.old) (K.told out.new) waiting.old.items [] (stock_and_end day.now.run.now.machine)) }
-    ensures fails { IfErr result (λ fault. Fails fault (K.told out.old) (K.told out.new) (waiting.old.items ++ stock_and_end day.now.run.now.machine)) }
+    ensures writes { OnOk result (Writes (K.told out.old) (K.told out.new) waiting.old.items []
+        (stock_and_end day.now.run.now.machine)) }
+    ensures fails { IfErr result (λ fault. Fails fault (K.told out.old) (K.told out.new)
+        (waiting.old.items ++ stock_and_end day.now.run.now.machine)) }
 {
     let rows = StockRows {
         stock: day.opening.stock(),
@@ -83,12 +85,14 @@ fn write_refills<K: Sink>(
     waiting: &mut Vec<u8>,
     day: &PlannedDay<'_, '_>,
 ) -> Result<(), SinkFault>
-    requires told { (layout : Block) × (start : History) × IsToldOf layout day.now.terms.now start day.now.run.now }
+    requires told { (layout : Block) × (start : History)
+        × IsToldOf layout day.now.terms.now start day.now.run.now }
     requires dealt { HasCrew day.now.terms.now day.now.run.now day.now.crew.now }
     ensures writes { OnOk result (Writes (K.told out.old) (K.told out.new) waiting.old.items []
         (refills_and_end day.now.run.now.machine day.now.run.now.refills.items (crew_text day.now.crew.now))) }
     ensures fails { IfErr result (λ fault. Fails fault (K.told out.old) (K.told out.new)
-        (waiting.old.items ++ refills_and_end day.now.run.now.machine day.now.run.now.refills.items (crew_text day.now.crew.now))) }
+        (waiting.old.items ++ refills_and_end day.now.run.now.machine day.now.run.now.refills.items
+        (crew_text day.now.crew.now))) }
 {
     let lines = RefillLines {
         stock: day.opening.stock(),
@@ -110,16 +114,21 @@ fn write_sheets<K: Sink>(
     waiting: &mut Vec<u8>,
     day: &PlannedDay<'_, '_>,
 ) -> Result<(), SinkFault>
-    requires told { (layout : Block) × (start : History) × IsToldOf layout day.now.terms.now start day.now.run.now }
+    requires told { (layout : Block) × (start : History)
+        × IsToldOf layout day.now.terms.now start day.now.run.now }
     requires dealt { HasCrew day.now.terms.now day.now.run.now day.now.crew.now }
-    ensures writes { OnOk result ((sheets : List ℕ) × AreSheets day.now.run.now.machine day.now.terms.now (waves_of day.now.run.now.plans.items)
+    ensures writes { OnOk result ((sheets : List ℕ)
+        × AreSheets day.now.run.now.machine day.now.terms.now (waves_of day.now.run.now.plans.items)
         (plans_of day.now.run.now.plans.items) sheets
         × Writes (K.told out.old) (K.told out.new) waiting.old.items []
-        (sheets ++ refills_and_end day.now.run.now.machine day.now.run.now.refills.items (crew_text day.now.crew.now))) }
-    ensures fails { IfErr result (λ fault. (sheets : List ℕ) × AreSheets day.now.run.now.machine day.now.terms.now
+        (sheets ++ refills_and_end day.now.run.now.machine day.now.run.now.refills.items
+        (crew_text day.now.crew.now))) }
+    ensures fails { IfErr result (λ fault. (sheets : List ℕ)
+        × AreSheets day.now.run.now.machine day.now.terms.now
         (waves_of day.now.run.now.plans.items) (plans_of day.now.run.now.plans.items) sheets
         × Fails fault (K.told out.old) (K.told out.new)
-        (waiting.old.items ++ (sheets ++ refills_and_end day.now.run.now.machine day.now.run.now.refills.items (crew_text day.now.crew.now)))) }
+        (waiting.old.items ++ (sheets ++ refills_and_end day.now.run.now.machine day.now.run.now.refills.items
+        (crew_text day.now.crew.now)))) }
 {
     let sheets = DaySheets {
         opening: day.opening,
@@ -145,13 +154,19 @@ fn write_entries<K: Sink>(
     entries: &[&Entry],
 ) -> Result<(), SinkFault>
     requires none { waiting.old.items ≡ [] }
-    requires told { (layout : Block) × (start : History) × IsToldOf layout day.now.terms.now start day.now.run.now }
+    requires told { (layout : Block) × (start : History)
+        × IsToldOf layout day.now.terms.now start day.now.run.now }
     requires all { map (λ entry. entry.now) entries.now ≡ day.now.run.now.machine.entries }
     requires dealt { HasCrew day.now.terms.now day.now.run.now day.now.crew.now }
-    ensures writes { (layout : Block) (start : History) → IsToldOf layout day.now.terms.now start day.now.run.now → OnOk result ((text : List ℕ)
-        × IsTextOf day.now.terms.now (day_told start day.now.run.now) text × Writes (K.told out.old) (K.told out.new) [] [] text) }
-    ensures fails { (layout : Block) (start : History) → IsToldOf layout day.now.terms.now start day.now.run.now → IfErr result (λ fault. (text : List ℕ)
-        × IsTextOf day.now.terms.now (day_told start day.now.run.now) text × Fails fault (K.told out.old) (K.told out.new) text) }
+    ensures writes { (layout : Block) (start : History)
+        → IsToldOf layout day.now.terms.now start day.now.run.now → OnOk result ((text : List ℕ)
+        × IsTextOf day.now.terms.now (day_told start day.now.run.now) text
+        × Writes (K.told out.old) (K.told out.new) [] [] text) }
+    ensures fails { (layout : Block) (start : History)
+        → IsToldOf layout day.now.terms.now start day.now.run.now
+        → IfErr result (λ fault. (text : List ℕ)
+        × IsTextOf day.now.terms.now (day_told start day.now.run.now) text
+        × Fails fault (K.told out.old) (K.told out.new) text) }
 {
     let lines = JournalLines { entries };
     let section = Section {
@@ -163,20 +178,27 @@ fn write_entries<K: Sink>(
     write_sheets(alloc, out, waiting, day)
 }
 
-/// Writes the output of a day: the journal of all that was ever asked, in the order in which it was answered, a sheet for each wave that
-/// went out on this day, its refills, the crew where there is one, and the stock as it stands at the end. The room in which parts wait is taken before the first is written. After
-/// an `Err` the sink took a beginning of such an output: `Failed` comes from the sink, and `Memory` from it or from a want of memory.
+/// Writes the output of a day: the journal of all that was ever asked, in the order in which it was answered, a sheet
+/// for each wave that went out on this day, its refills, the crew where there is one, and the stock as it stands at the
+/// end. The room in which parts wait is taken before the first is written. After an `Err` the sink took a beginning of
+/// such an output: `Failed` comes from the sink, and `Memory` from it or from a want of memory.
 pub fn write_day<K: Sink>(
     alloc: Global,
     out: &mut K,
     day: &PlannedDay<'_, '_>,
 ) -> Result<(), SinkFault>
-    requires told { (layout : Block) × (start : History) × IsToldOf layout day.now.terms.now start day.now.run.now }
+    requires told { (layout : Block) × (start : History)
+        × IsToldOf layout day.now.terms.now start day.now.run.now }
     requires dealt { HasCrew day.now.terms.now day.now.run.now day.now.crew.now }
-    ensures writes { (layout : Block) (start : History) → IsToldOf layout day.now.terms.now start day.now.run.now → OnOk result ((text : List ℕ)
-        × IsTextOf day.now.terms.now (day_told start day.now.run.now) text × Writes (K.told out.old) (K.told out.new) [] [] text) }
-    ensures fails { (layout : Block) (start : History) → IsToldOf layout day.now.terms.now start day.now.run.now → IfErr result (λ fault. (text : List ℕ)
-        × IsTextOf day.now.terms.now (day_told start day.now.run.now) text × Fails fault (K.told out.old) (K.told out.new) text) }
+    ensures writes { (layout : Block) (start : History)
+        → IsToldOf layout day.now.terms.now start day.now.run.now → OnOk result ((text : List ℕ)
+        × IsTextOf day.now.terms.now (day_told start day.now.run.now) text
+        × Writes (K.told out.old) (K.told out.new) [] [] text) }
+    ensures fails { (layout : Block) (start : History)
+        → IsToldOf layout day.now.terms.now start day.now.run.now
+        → IfErr result (λ fault. (text : List ℕ)
+        × IsTextOf day.now.terms.now (day_told start day.now.run.now) text
+        × Fails fault (K.told out.old) (K.told out.new) text) }
 {
     let mut waiting = room(alloc)?;
     let entries = day.run.machine.journal(alloc)?;

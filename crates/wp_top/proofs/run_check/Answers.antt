@@ -16,5 +16,7 @@ returns g c =
     let went = course old (sink c.args.out.now) new (sink c.end_job.new.out) no_disk in
     let read = c.check_output.ensures in
     subst (Keeps asked went nothing nothing) (sym c.number.ensures)
-    (run_keeps asked went nothing nothing c.end_job.result (record { same = read.same; counts = read.counts; reads = read.reads; no_more = c.end_job.ensures.early; stored = λ asks. absurd asks }) (record { untouched = λ none. refl; unopened = λ of. refl })
+    (run_keeps asked went nothing nothing c.end_job.result
+    (record { same = read.same; counts = read.counts; reads = read.reads; no_more = c.end_job.ensures.early; stored = λ asks. absurd asks })
+    (record { untouched = λ none. refl; unopened = λ of. refl })
     (job_ended asked no_disk old new _ _ c.check_output.result c.end_job.result c.end_job.ensures.ended read.output read.stops))

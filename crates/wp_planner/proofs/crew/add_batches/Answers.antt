@@ -9,7 +9,8 @@ loop-place-init c = λ before are. no_wave_batches before c.args.name c.args.pla
 
 pub batch_length-length-requires : goal.batch_length-length-requires
 batch_length-length-requires c =
-    All-at (All (λ (order : ℕ). order < length c.args.plan.now.wave.orders)) c.args.plan.now.planned.batching c.loop-place.place c.at.result.now c.requires.places
+    All-at (All (λ (order : ℕ). order < length c.args.plan.now.wave.orders)) c.args.plan.now.planned.batching c.loop-place.place c.at.result.now
+    c.requires.places
     c.at.ensures
 
 pub loop-place-preserved : goal.loop-place-preserved

@@ -9,5 +9,6 @@ loop-place-preserved c =
     let sent = c.args.sent.now in
     let more = one_more_item sent.plan.now.planned.batching c.loop-place.place c.at-batch.result.now c.at-batch.ensures in
     subst (λ (batches : List (List ℕ)).
-    GrowsBy (AreParts sent.opening.now.stock sent.released.now sent.plan.now.wave sent.terms.now.rules 1 batches) c.args.text.now.items c.print_part.new.text.items) (sym more.0)
+    GrowsBy (AreParts sent.opening.now.stock sent.released.now sent.plan.now.wave sent.terms.now.rules 1 batches) c.args.text.now.items
+    c.print_part.new.text.items) (sym more.0)
     (grown_more _ _ _ _ _ _ _ _ _ _ more.1 c.loop-place.invariant c.in_ok-print_part.ensures)

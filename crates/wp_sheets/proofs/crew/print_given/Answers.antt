@@ -23,7 +23,8 @@ loop-place-preserved c =
     elim c.if-owner-picker.branch [
       | then-owner-picker+in_ok-or w ↦
           grown_by_own picker place owners names numbers old text new w.index-names-place.result c.requires.names c.requires.numbers c.loop-place-test.true
-          c.loop-place.invariant w.if-owner-picker.true w.index-names-place.is (rw w.text-is (written w.write.result _ _ w.in_ok-or.ensures w.write.ensures.bytes))
+          c.loop-place.invariant w.if-owner-picker.true w.index-names-place.is
+          (rw w.text-is (written w.write.result _ _ w.in_ok-or.ensures w.write.ensures.bytes))
       | else-owner-picker w ↦
           same_at_other picker place owners names numbers old text new c.requires.names c.requires.numbers c.loop-place-test.true c.loop-place.invariant
           w.if-owner-picker.false (ap (λ v. v.items) w.text-is)

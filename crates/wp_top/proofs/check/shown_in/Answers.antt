@@ -9,7 +9,8 @@ returns-in_err-certificate-clause-stops g c =
 
 pub returns-clause-stops : goal.returns-clause-stops
 returns-clause-stops g c = IfErr-weaker c.check_text.result _ _
-    (λ s wrong. inr (c.in_ok-certificate.certificate.items, c.in_ok-certificate.ensures.text, c.in_ok-certificate.ensures.once, wrong)) c.check_text.ensures.wrong
+    (λ s wrong. inr (c.in_ok-certificate.certificate.items, c.in_ok-certificate.ensures.text, c.in_ok-certificate.ensures.once, wrong))
+    c.check_text.ensures.wrong
 
 pub returns-clause-shown : goal.returns-clause-shown
 returns-clause-shown g c = IfOk-weaker c.check_text.result _ _

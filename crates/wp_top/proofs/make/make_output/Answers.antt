@@ -9,7 +9,12 @@ use Rattle.wp_top.specs.Stops.{day_files}
 pub returns-clause-stops : goal.returns-clause-stops
 returns-clause-stops g c =
     let held = c.in_ok-files.ensures in
-    let old : FilesTold = record { holds = λ name. Some (bytes_or_empty c.in_ok-files.files.files name); faults = λ name. 0; reads = c.in_ok-files.files.reads } in
+    let old : FilesTold = record {
+      holds = λ name. Some
+          (bytes_or_empty c.in_ok-files.files.files name);
+      faults = λ name. 0;
+      reads = c.in_ok-files.files.reads;
+    } in
     let after = c.summary_of_files.new.files in
     let new : FilesTold = record { holds = λ name. Some (bytes_or_empty after.files name); faults = λ name. 0; reads = after.reads } in
     IfErr-weaker c.summary_of_files.result _ _

@@ -15,7 +15,8 @@ use Rattle.wp_words.specs.Reading.{make_numbers}
 pub summary_text-requires-clause-waves : goal.summary_text-requires-clause-waves
 summary_text-requires-clause-waves g c =
     let run = c.in_ok-day.day in
-    subst (λ (start : History). waves_of run.plans.items ≡ released_after start (new_entries start run.machine)) c.in_ok-machine.ensures c.in_ok-day.ensures.told.waves
+    subst (λ (start : History). waves_of run.plans.items ≡ released_after start (new_entries start run.machine)) c.in_ok-machine.ensures
+    c.in_ok-day.ensures.told.waves
     ∙ released_from_opening c.args.warehouse.now.opening run.machine c.in_ok-day.ensures.history.starts
 
 pub returns : goal.returns

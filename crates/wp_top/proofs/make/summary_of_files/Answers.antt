@@ -40,7 +40,8 @@ summary_of_day-requires-clause-made g c κs met =
     let found = c.in_ok-warehouse.warehouse in
     let was = c.in_ok-warehouse.ensures in
     let scripts = c.in_ok-scripts.ensures in
-    subst (λ (o : Opening). IsMadeDay (make_numbers c.args.words.now) (day_said found.layout o c.in_ok-scripts.scripts)) (with_units found.opening None was.units)
+    subst (λ (o : Opening). IsMadeDay (make_numbers c.args.words.now) (day_said found.layout o c.in_ok-scripts.scripts))
+    (with_units found.opening None was.units)
     (made_day_read (told c.args.files.now) (told c.read_warehouse.new.files) (told c.scripts_from.new.files) (make_numbers c.args.words.now)
     found.layout (opening_with found.opening None) c.in_ok-scripts.scripts c.requires.held
     (record { accepted = was.said; same = was.same; counts = was.counts; reads = was.all })

@@ -43,7 +43,8 @@ pub returns-in-Ok-clause-early : goal.returns-in-Ok-clause-early
 returns-in-Ok-clause-early g c =
     let over = c.in-Ok.ensures.day in
     let layout = c.args.files.now.warehouse.layout in
-    written_early _ _ c.write_plans.result _ (c.write_plans.ensures.writes layout over.start over.told) (c.write_plans.ensures.fails layout over.start over.told)
+    written_early _ _ c.write_plans.result _ (c.write_plans.ensures.writes layout over.start over.told)
+    (c.write_plans.ensures.fails layout over.start over.told)
 
 pub returns-in-Err-clause-ended : goal.returns-in-Err-clause-ended
 returns-in-Err-clause-ended g c = λ old new read.
@@ -52,7 +53,8 @@ returns-in-Err-clause-ended g c = λ old new read.
     let files = c.args.files.now in
     let names = plan_names c.args.words.now in
     let why = c.in-Err.ensures in
-    stopped_ended (Ok (plan_job c.args.words.now)) disk old new _ _ c.in-Err.why c.end_stopped.result c.end_stopped.ensures.ended (elim (cases_eq names.store 1) [
+    stopped_ended (Ok (plan_job c.args.words.now)) disk old new _ _ c.in-Err.why c.end_stopped.result c.end_stopped.ensures.ended
+    (elim (cases_eq names.store 1) [
       | inl uses ↦ stop_at_store disk old new names files.warehouse.layout files.warehouse.opening files.scripts c.in-Err.why uses read (why.stops uses)
       | inr other ↦ subst (StopsFor (of_run (Ok (plan_job c.args.words.now)) disk old new)) (sym (why.memory other)) tt
     ])

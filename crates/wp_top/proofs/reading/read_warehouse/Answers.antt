@@ -13,7 +13,8 @@ returns-in_err-layout-clause-stops g c =
     let p = err_from_is_err_and c.from_residual.result c.from_residual.ensures.1 in
     rw (p.1, p.2)
     (stops_there layout_in (told c.args.files.now) (told c.args.files.now) (told c.layout_from.new.files) []
-    (file_of input.Stock c.args.names.now.stock.now ∷ file_of input.Orders c.args.names.now.orders.now ∷ []) nothing_said input.Layout c.args.names.now.layout.now
+    (file_of input.Stock c.args.names.now.stock.now ∷ file_of input.Orders c.args.names.now.orders.now ∷ []) nothing_said input.Layout
+    c.args.names.now.layout.now
     c.in_err-layout.field-0.0 (λ text why none. rw none refl) (nothing_read (told c.args.files.now)) c.in_err-layout.ensures.stops)
 
 pub returns-in_err-stock-clause-stops : goal.returns-in_err-stock-clause-stops

@@ -41,7 +41,8 @@ append_all-requires-clause-within g c =
     let new = listed _ c.entries_after.result.now c.args.machine.now.entries _ n c.entries_after.ensures
     (ap (map lent) c.as_slice.ensures.value ∙ c.in_ok-entries.ensures) (c.len-old.ensures.len ∙ ap length c.bodies.ensures) in
     each_by_reference (λ (e : Entry). IsTrue (is_line_entry e)) c.entries_after.result.now
-    (subst (All (λ (e : Entry). IsTrue (is_line_entry e))) (sym new) (All-drop (λ (e : Entry). IsTrue (is_line_entry e)) n c.args.machine.now.entries c.requires.within))
+    (subst (All (λ (e : Entry). IsTrue (is_line_entry e))) (sym new)
+    (All-drop (λ (e : Entry). IsTrue (is_line_entry e)) n c.args.machine.now.entries c.requires.within))
 
 pub returns-clause-some : goal.returns-clause-some
 returns-clause-some g c = λ bytes told.

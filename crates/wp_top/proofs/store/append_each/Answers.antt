@@ -74,7 +74,8 @@ pub returns-in_err-line-clause-course : goal.returns-in_err-line-clause-course
 returns-in_err-line-clause-course g c =
     let n = c.loop-entry.entry-index in
     let m = length c.args.entries.now in
-    course_within (entry_calls * n) (entry_calls * m) (entry_syncs * n) (entry_syncs * m) _ _ (omega (arith, c.loop-entry.invariant.4)) (omega (arith, c.loop-entry.invariant.4))
+    course_within (entry_calls * n) (entry_calls * m) (entry_syncs * n) (entry_syncs * m) _ _ (omega (arith, c.loop-entry.invariant.4))
+    (omega (arith, c.loop-entry.invariant.4))
     c.loop-entry.invariant.0.course
 
 pub returns-in_err-line-clause-sound : goal.returns-in_err-line-clause-sound
@@ -93,7 +94,8 @@ returns-then-is_err-clause-some g c =
     let line = c.as_slice.ensures.value ∙ c.in_ok-line.ensures in
     let so_far = c.loop-entry.invariant in
     one_lost (told c.args.store.now.disk.now) (told c.loop-entry.store.disk.now) (told c.append.new.self.disk.now) listed i c.entry-item.result.now
-    c.as_slice.result.now (g.met.D.Disk.is_disk _) next there line so_far.0 (record { leaves = c.append.ensures.any_moment so_far.1; course = c.append.ensures.course })
+    c.as_slice.result.now (g.met.D.Disk.is_disk _) next there line so_far.0
+    (record { leaves = c.append.ensures.any_moment so_far.1; course = c.append.ensures.course })
     (if_failed c.append.result (sym c.is_err.ensures.value ∙ c.if-is_err.true) c.append.ensures.unsynced)
 
 pub returns-then-is_err-clause-course : goal.returns-then-is_err-clause-course

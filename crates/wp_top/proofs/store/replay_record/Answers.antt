@@ -37,7 +37,8 @@ returns-in-Err-NotNext-clause-stops c = λ lines others commands begins.
         next = c.args.body.now;
         others = others;
         begins = begins;
-        bad = not_next Unit before c.replay_line.new.machine c.args.body.now c.in-Err-NotNext.field-0 c.in-Err-NotNext.field-0-is c.in-Err-NotNext.ensures.replays;
+        bad = not_next Unit before c.replay_line.new.machine c.args.body.now c.in-Err-NotNext.field-0 c.in-Err-NotNext.field-0-is
+            c.in-Err-NotNext.ensures.replays;
         numbered = c.count-place.ensures.count;
       },
     )

@@ -51,5 +51,6 @@ pub returns-clause-replayed : goal.returns-clause-replayed
 returns-clause-replayed c =
     let records = c.args.records.now in
     let n = c.loop-number.number in
-    subst (LinesBegin c.args.opening.now records c.loop-number.machine) (drop_all n records (omega (arith, c.loop-number-test.false, c.len-number-end.ensures.len)))
+    subst (LinesBegin c.args.opening.now records c.loop-number.machine)
+    (drop_all n records (omega (arith, c.loop-number-test.false, c.len-number-end.ensures.len)))
     c.loop-number.invariant.0

@@ -75,7 +75,8 @@ add_new-requires-clause-few g c =
     let start = c.in_ok-machine.machine in
     let begins = c.in_ok-machine.ensures.replayed in
     let few = c.in_ok-machine.ensures.few in
-    let day = stored_is_day files.warehouse.opening files.scripts c.bodies.result.now start c.in_ok-day.day.run.machine files.warehouse.read c.requires begins few
+    let day = stored_is_day files.warehouse.opening files.scripts c.bodies.result.now start c.in_ok-day.day.run.machine files.warehouse.read c.requires begins
+    few
     c.in_ok-day.ensures.history in
     omega (arith, day.1, lines_count files.warehouse.opening c.bodies.result.now start [] begins, few)
 
@@ -101,11 +102,13 @@ returns-in_err-add_new-clause-kept g c =
     let told = g.D.Disk.told in
     let files = c.args.files.now in
     let ok = c.in_ok-recovered.ensures in
-    some_added (told c.args.disk.now) (told c.recover.new.disk) (told c.add_new.new.disk) (drop (length c.in_ok-recovered.recovered.bodies) c.in_ok-day.day.run.machine.entries)
+    some_added (told c.args.disk.now) (told c.recover.new.disk) (told c.add_new.new.disk)
+    (drop (length c.in_ok-recovered.recovered.bodies) c.in_ok-day.day.run.machine.entries)
     (AreNewOf (told c.args.disk.now).holds files.warehouse.opening files.scripts) (g.met.D.Disk.is_disk _) (g.met.D.Disk.is_disk _)
     (is_recovered _ _ c.recover.ensures.any_moment c.recover.ensures.since_syncs c.recover.ensures.course ok.synced ok.same) c.add_new.ensures.course
     c.add_new.ensures.some
-    (are_new_of _ files.warehouse.opening files.scripts c.in_ok-recovered.recovered.bodies c.bodies.result.now c.in_ok-machine.machine c.in_ok-day.day.run.machine
+    (are_new_of _ files.warehouse.opening files.scripts c.in_ok-recovered.recovered.bodies c.bodies.result.now c.in_ok-machine.machine
+    c.in_ok-day.day.run.machine
     c.bodies.ensures ok.records c.in_ok-machine.ensures.replayed c.in_ok-machine.ensures.few ok.short c.in_ok-day.ensures.history)
 
 -- where all are
@@ -114,11 +117,13 @@ returns-clause-kept g c =
     let told = g.D.Disk.told in
     let files = c.args.files.now in
     let ok = c.in_ok-recovered.ensures in
-    some_added (told c.args.disk.now) (told c.recover.new.disk) (told c.add_new.new.disk) (drop (length c.in_ok-recovered.recovered.bodies) c.in_ok-day.day.run.machine.entries)
+    some_added (told c.args.disk.now) (told c.recover.new.disk) (told c.add_new.new.disk)
+    (drop (length c.in_ok-recovered.recovered.bodies) c.in_ok-day.day.run.machine.entries)
     (AreNewOf (told c.args.disk.now).holds files.warehouse.opening files.scripts) (g.met.D.Disk.is_disk _) (g.met.D.Disk.is_disk _)
     (is_recovered _ _ c.recover.ensures.any_moment c.recover.ensures.since_syncs c.recover.ensures.course ok.synced ok.same) c.add_new.ensures.course
     c.add_new.ensures.some
-    (are_new_of _ files.warehouse.opening files.scripts c.in_ok-recovered.recovered.bodies c.bodies.result.now c.in_ok-machine.machine c.in_ok-day.day.run.machine
+    (are_new_of _ files.warehouse.opening files.scripts c.in_ok-recovered.recovered.bodies c.bodies.result.now c.in_ok-machine.machine
+    c.in_ok-day.day.run.machine
     c.bodies.ensures ok.records c.in_ok-machine.ensures.replayed c.in_ok-machine.ensures.few ok.short c.in_ok-day.ensures.history)
 
 pub returns-clause-day : goal.returns-clause-day
@@ -129,13 +134,15 @@ returns-clause-day g c = λ store uses.
     let opening = files.warehouse.opening in
     let ok = c.in_ok-recovered.ensures in
     stored_over disk store files.warehouse.layout opening c.args.terms.now files.scripts c.in_ok-machine.machine c.in_ok-day.day uses
-    (from_recovered disk.old.holds opening (command_count files.scripts) c.in_ok-recovered.recovered.bodies c.bodies.result.now c.in_ok-machine.machine c.bodies.ensures
+    (from_recovered disk.old.holds opening (command_count files.scripts) c.in_ok-recovered.recovered.bodies c.bodies.result.now c.in_ok-machine.machine
+    c.bodies.ensures
     ok.records c.in_ok-machine.ensures.replayed c.in_ok-machine.ensures.few ok.short)
     c.in_ok-day.ensures.history c.in_ok-day.ensures.told c.in_ok-day.ensures.dealt
     (subst (AreAllKept disk)
     (after_recovered opening c.in_ok-recovered.recovered.bodies c.bodies.result.now c.in_ok-machine.machine c.in_ok-day.day.run.machine c.bodies.ensures
     c.in_ok-machine.ensures.replayed)
-    (all_added (told c.args.disk.now) (told c.recover.new.disk) (told c.add_new.new.disk) (drop (length c.in_ok-recovered.recovered.bodies) c.in_ok-day.day.run.machine.entries)
+    (all_added (told c.args.disk.now) (told c.recover.new.disk) (told c.add_new.new.disk)
+    (drop (length c.in_ok-recovered.recovered.bodies) c.in_ok-day.day.run.machine.entries)
     (g.met.D.Disk.is_disk _) (g.met.D.Disk.is_disk _)
     (is_recovered _ _ c.recover.ensures.any_moment c.recover.ensures.since_syncs c.recover.ensures.course ok.synced ok.same) c.add_new.ensures.course
     c.in_ok-add_new.ensures.all (c.in_ok-add_new.ensures.sound (λ failed. cc failed) ∙ ok.sound (λ failed. cc failed))))

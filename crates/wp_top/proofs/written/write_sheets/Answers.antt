@@ -12,14 +12,16 @@ returns-in_err-write_section-clause-fails g c =
     let p = err_from_is_err_and c.from_residual.result c.from_residual.ensures.1 in
     let run = c.args.day.now.run.now in
     rw (p.1, p.2)
-    (sheets_fail run.machine c.args.day.now.terms.now c.as_slice.result.now run.plans.items _ (refills_and_end run.machine run.refills.items (crew_text c.args.day.now.crew.now)) c.args.waiting.now.items _ _ _
+    (sheets_fail run.machine c.args.day.now.terms.now c.as_slice.result.now run.plans.items _
+    (refills_and_end run.machine run.refills.items (crew_text c.args.day.now.crew.now)) c.args.waiting.now.items _ _ _
     refl c.as_slice.ensures.value c.in_err-write_section.ensures.fails)
 
 pub returns-clause-writes : goal.returns-clause-writes
 returns-clause-writes g c =
     let run = c.args.day.now.run.now in
     IfOk-weaker c.write_refills.result _ _
-    (λ done rest. sheets_then run.machine c.args.day.now.terms.now c.as_slice.result.now run.plans.items _ (refills_and_end run.machine run.refills.items (crew_text c.args.day.now.crew.now))
+    (λ done rest. sheets_then run.machine c.args.day.now.terms.now c.as_slice.result.now run.plans.items _
+    (refills_and_end run.machine run.refills.items (crew_text c.args.day.now.crew.now))
     c.args.waiting.now.items _ _ _ _ _ refl c.as_slice.ensures.value c.in_ok-write_section.ensures.writes rest)
     c.write_refills.ensures.writes
 
@@ -27,7 +29,8 @@ pub returns-clause-fails : goal.returns-clause-fails
 returns-clause-fails g c =
     let run = c.args.day.now.run.now in
     IfErr-weaker c.write_refills.result _ _
-    (λ fault rest. sheets_then_fail run.machine c.args.day.now.terms.now c.as_slice.result.now run.plans.items _ (refills_and_end run.machine run.refills.items (crew_text c.args.day.now.crew.now))
+    (λ fault rest. sheets_then_fail run.machine c.args.day.now.terms.now c.as_slice.result.now run.plans.items _
+    (refills_and_end run.machine run.refills.items (crew_text c.args.day.now.crew.now))
     c.args.waiting.now.items _ _ _ _ _ refl c.as_slice.ensures.value c.in_ok-write_section.ensures.writes rest)
     c.write_refills.ensures.fails
 
