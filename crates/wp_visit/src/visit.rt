@@ -86,7 +86,8 @@ impl Visit<'_> {
         ensures at { IfSome result (IsAt self.now) }
         ensures from { IfSome result (λ child. child.from ≡ order + 1) }
         ensures item { IfSome result (λ child. IsItem self.now.pairing order) }
-        ensures adds { IfSome result (λ child. AddsItem self.now.pairing place.now.batch order child.batch) }
+        ensures adds { IfSome result (λ child. AddsItem self.now.pairing place.now.batch order
+            child.batch) }
         ensures permitted { IfSome result (λ child. IsPermitted self.now.pairing child.batch) }
         ensures none { IfNone result (IsNoChild self.now.pairing place.now.batch order) }
     {
@@ -183,7 +184,8 @@ impl Visit<'_> {
     /// The orders that are joined to an order.
     pub fn joined_to(&self, order: u32) -> Batch
         requires { order < self.now.pairing.orders }
-        ensures orders { (other : ℕ) → Contains result other ↔ AreJoined self.now.pairing.pairs order other }
+        ensures orders { (other : ℕ) → Contains result other
+            ↔ AreJoined self.now.pairing.pairs order other }
         ensures valid { IsPairing self.now.pairing }
     {
         let _pairs = &self.pairs;

@@ -17,7 +17,8 @@ impl Visit<'_> {
         requires at { IsAt self.now place.now }
         requires fits { V.fits visitor.old self.now }
         ensures fits { V.fits visitor.new self.now }
-        ensures course { HasVisited self.now.pairing (V.enters self.now) (Children place.now.batch place.now.from)
+        ensures course { HasVisited self.now.pairing (V.enters self.now)
+            (Children place.now.batch place.now.from)
             visitor.old result visitor.new }
     {
         for order in place.from..self.orders() {
@@ -36,9 +37,11 @@ impl Visit<'_> {
         requires at { IsAt self.now place.now }
         requires fits { V.fits visitor.old self.now }
         ensures fits { V.fits visitor.new self.now }
-        ensures course { HasVisited self.now.pairing (V.enters self.now) (PlaceDue place.now.batch place.now.from)
+        ensures course { HasVisited self.now.pairing (V.enters self.now)
+            (PlaceDue place.now.batch place.now.from)
             visitor.old result visitor.new }
-        ensures met { OnOk result ((batch : List ℕ) → Extends self.now.pairing place.now.batch place.now.from batch
+        ensures met { OnOk result ((batch : List ℕ)
+            → Extends self.now.pairing place.now.batch place.now.from batch
             → IsMet self.now.pairing (V.enters self.now) batch) }
     {
         match visitor.enter(self, place)? {

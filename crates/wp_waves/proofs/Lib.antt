@@ -1,0 +1,12 @@
+pub mod OrderNames
+pub mod Marks
+pub mod OpenRecords
+pub mod Demands
+pub mod Shortages
+pub mod FreeUnits
+pub mod TakenTurns
+pub mod ServedOrders
+pub mod Weights
+pub mod Filling
+pub mod AsFew
+pub mod KeptWaves

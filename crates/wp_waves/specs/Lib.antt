@@ -1,0 +1,10 @@
+pub mod Faults
+pub mod Reading
+pub mod OpenFile
+pub mod OpenOrders
+pub mod Standing
+pub mod Turns
+pub mod Shortages
+pub mod Weights
+pub mod Waves
+pub mod Filling
