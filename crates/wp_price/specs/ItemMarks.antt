@@ -2,7 +2,7 @@
 use Rattle.std.specs.Prelude.{◌≡◌, ℕ, ◌+◌, ◌<◌, Bool, List, [], ◌++◌, Contains, Option, None, Result, IfNone, IfOk, IfSome, IsOkAnd, length, slice_index_or}
 use Rattle.wp_pairs.specs.Permitted.{IsPermitted}
 use Rattle.wp_lengths.specs.Visits.{AddsItem, Children, IsItem, Place}
-use Rattle.wp_visit.specs.Places.{IsNoChild, Task}
+use Rattle.wp_price.specs.Searches.{IsNoChild, Task}
 use Rattle.wp_price.specs.ShortMarks.{AreShort}
 
 -- the short marks of the subtree of the first item that an order names

@@ -1,5 +1,6 @@
 pub mod Slacks
 pub mod ShortMarks
+pub mod Items
 pub mod Bests
 pub mod Shares
 pub mod Searches

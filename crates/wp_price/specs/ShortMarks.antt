@@ -1,13 +1,10 @@
 -- Short marks: those of the visit that enters a place only where its reach is too much.
-use Rattle.std.specs.Prelude.{◌≡◌, ℕ, ◌+◌, ◌<◌, ◌≤◌, Bool, true, false, List, [], ◌∷◌, ◌++◌, Result, Ok, Err, not, ⊤}
+use Rattle.std.specs.Prelude.{◌≡◌, ℕ, ◌+◌, ◌<◌, ◌≤◌, Bool, true, false, List, [], ◌∷◌, ◌++◌}
 use Rattle.wp_pairs.specs.Permitted.{IsPermitted, Pairing}
 use Rattle.wp_lengths.specs.Lengths.{IsLengthOf}
 use Rattle.wp_lengths.specs.Waves.{WavePicks}
 use Rattle.wp_lengths.specs.Duals.{duals_of, sixtieths_of}
 use Rattle.wp_lengths.specs.Visits.{AddsItem, Children, Due, IsItem, IsReach, Place}
-use Rattle.wp_visit.specs.declared.step.Step.{Step}
-use Rattle.wp_visit.specs.declared.step.Step.TheVariants as step
-use Rattle.wp_visit.specs.Places.{Task}
 
 -- The short marks of what is due. A place is marked as not to be entered exactly where its reach doesn't make it too much; else it is entered, and the places
 -- with one more item follow in the order of the items. An item that with the place makes no permitted batch is passed over.
@@ -42,16 +39,3 @@ pub record IsMarked (wave : WavePicks) (duals place : List ℕ) (reach : ℕ) (c
   pub long : IsLengthOf wave place total
   pub within : closed ≡ true → duals_of duals place + reach ≤ sixtieths_of total
   pub above : closed ≡ false → sixtieths_of total < duals_of duals place + reach
-
--- the mark of a place, put behind others: false where the visit goes past what extends it, and true where it goes deeper
-pub record AddsMark (task : Task) (old : List Bool) (place : List ℕ) (from : ℕ) (closed : Bool) (new : List Bool) : Type 0 where
-  pub reach : ℕ
-  pub reaches : IsReach task.pairing task.duals place from reach
-  pub marked : IsMarked task.wave task.duals place reach closed
-  pub is : new ≡ old ++ not closed ∷ []
-
--- what is done where a place is entered
-abbrev pub EntersMarks : {E : Type 0} → Task → List Bool → List ℕ → ℕ → Result Step E → List Bool → Type 0
-EntersMarks task old place from (Ok step.Past) new = AddsMark task old place from true new
-EntersMarks task old place from (Ok step.Deeper) new = AddsMark task old place from false new
-EntersMarks task old place from (Err fault) new = ⊤

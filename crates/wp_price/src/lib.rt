@@ -2,8 +2,10 @@
 #![tactic(auto)]
 
 mod best;
+mod item;
 mod least;
 mod marking;
+mod place;
 mod priced;
 mod pricing;
 mod search;

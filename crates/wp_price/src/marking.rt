@@ -1,8 +1,7 @@
 //! Short marks, found by workers that run beside each other.
 ghost use Rattle.std.specs.Prelude.{◌≡◌, ◌<◌, ◌≤◌, ◌++◌, ℕ, [], Contains, IfNone, IfOk, IfSome, OnOk, length, slice_index_or};
 ghost use Rattle.wp_price.specs.ItemMarks.{AddsAllItems, AddsItemMarks, AreItemMarks, AreMarksAt, AreMarksFound, AreNoMarksFound, AreShareMarks};
-ghost use Rattle.wp_visit.specs.Places.{IsNoChild};
-ghost use Rattle.wp_price.specs.Searches.{AreSharesOf};
+ghost use Rattle.wp_price.specs.Searches.{AreSharesOf, IsNoChild};
 ghost use Rattle.wp_price.specs.ShortMarks.{AreShortMarks};
 
 use crate::search::SlackSearch;
@@ -51,7 +50,9 @@ impl SlackSearch<'_> {
         let Some(child) = self.child_of(&self.root(), order) else {
             return Ok(None);
         };
-        let marks = self.push_marks(&child, Marks::new(alloc))?;
+        let reach = self.reach_after(order, &child);
+        let mut marks = Marks::new(alloc);
+        self.push_marks(&child, order + 1, reach, &mut marks)?;
         Ok(Some(marks))
     }
 
@@ -166,7 +167,8 @@ impl SlackSearch<'_> {
         ensures { IfOk result (AreShortMarks self.now.wave self.now.pairing self.now.duals) }
     {
         let mut marks = Marks::new(workers.alloc);
-        if self.is_root_closed() {
+        let root = self.root();
+        if self.is_closed(&root, self.whole_reach()) {
             marks.push(false)?;
             return Ok(marks);
         }

@@ -1,10 +1,10 @@
 //! A search by workers that run beside each other.
 ghost use Rattle.std.specs.Prelude.{◌≡◌, ◌<◌, ◌≤◌, ℕ, [], Contains, IfOk, length, slice_index_or};
 ghost use Rattle.wp_pairs.specs.Permitted.{IsPermitted};
-ghost use Rattle.wp_visit.specs.Places.{IsAt, IsNoChild};
-ghost use Rattle.wp_price.specs.Searches.{AreItemsSearched, AreSharesOf, AreSharesSearched, InShare, IsBeaten, IsSearched};
+ghost use Rattle.wp_price.specs.Searches.{AreItemsSearched, AreSharesOf, AreSharesSearched, InShare, IsAt, IsBeaten, IsNoChild, IsSearched};
 
 use crate::best::{LeastBatch, best_of};
+use crate::place::Place;
 use crate::search::SlackSearch;
 use crate::share::deal;
 use std::alloc::Global;
@@ -13,7 +13,6 @@ use std::thread::Threads;
 use wp_model::Memory;
 use wp_outside::{Gate, Moment};
 use wp_pairs::Batch;
-use wp_visit::Place;
 
 /// Who searches: up to so many workers, 1 to 16, each in a thread of its own but for one, and the gate that they pass. The
 /// allocator gives the memory for what they make.
@@ -74,19 +73,6 @@ impl SlackSearch<'_> {
             }
         }
         firsts
-    }
-
-    // The best of the best batch so far and all batches that extend a place with the item that an order names, and with items of
-    // later orders.
-    fn search_item(&self, place: &Place, order: u32, best: Option<LeastBatch>) -> Option<LeastBatch>
-        requires known { order < self.now.pairing.orders }
-        requires place { IsAt self.now place.now }
-        ensures { AreItemsSearched self.now place.now.batch (λ item. item ≡ order) best result }
-    {
-        match self.child_of(place, order) {
-            Some(child) => self.search_from(&child, best),
-            None => best,
-        }
     }
 
     // Searches the items of a worker's share, one after the other, and passes the gate before each.
