@@ -9,7 +9,7 @@ use Rattle.wp_model.specs.Opening.{Opening, is_known_order}
 use Rattle.wp_model.specs.Sound.{IsSoundWave}
 use Rattle.wp_model.specs.State.{Wave}
 use Rattle.wp_tables.specs.Orders.{name_of}
-use Rattle.wp_floor.specs.Floor.{AreNumbersOf, IsAt, number_of, state_at, wave_of}
+use Rattle.wp_floor.specs.Floor.{IsAt, IsNumbered, number_of, state_at, wave_of}
 use Rattle.wp_floor.specs.HeldUnits.{KnowsOrder}
 use Rattle.wp_floor.specs.declared.held.Claim.{Claim}
 use Rattle.wp_floor.specs.declared.waves.KeptWave.{KeptWave}
@@ -17,18 +17,18 @@ use Rattle.wp_model.specs.Book.{Book}
 use Rattle.wp_floor.proofs.OrderFaults.{found_within, unknown}
 use Rattle.wp_floor.proofs.OrderNames.{name_at, no_order}
 
--- the order at a place, which has this number
-pub record IsNamedAt (opening : Opening) (orders : List (List ℕ)) (place : ℕ) (number : Option ℕ) : Type 0 where
+-- the order at a place of a wave, which has this number
+pub record IsNamedAt (opening : Opening) (kept : KeptWave) (place : ℕ) (number : Option ℕ) : Type 0 where
   pub name : List ℕ
-  pub there : slice_get orders place ≡ Some name
+  pub there : slice_get kept.orders place ≡ Some name
   pub is : number_of opening name ≡ number
 
 -- the order that has the number at a place
-pub named_at : (opening : Opening) (orders : List (List ℕ)) (numbers : List (Option ℕ)) (place : ℕ) (number : Option ℕ)
-    → AreNumbersOf opening orders numbers → slice_get numbers place ≡ Some number → IsNamedAt opening orders place number
-named_at opening orders numbers place number numbered there =
-    option_map_some (slice_get orders place) (number_of opening) number
-    (sym (slice_get-map (number_of opening) orders place) ∙ (ap (λ (numbers : List (Option ℕ)). slice_get numbers place) (sym numbered) ∙ there))
+pub named_at : (opening : Opening) (kept : KeptWave) (place : ℕ) (number : Option ℕ) → IsNumbered opening kept
+    → slice_get kept.numbers.items place ≡ Some number → IsNamedAt opening kept place number
+named_at opening kept place number numbered there =
+    option_map_some (slice_get kept.orders place) (number_of opening) number
+    (sym (slice_get-map (number_of opening) kept.orders place) ∙ (ap (λ (numbers : List (Option ℕ)). slice_get numbers place) (sym numbered) ∙ there))
     (λ name at is. record { name = name; there = at; is = is })
 
 -- a number is below the count of the orders
@@ -66,7 +66,7 @@ self_number None = refl
 self_number (Some n) = grind (arith)
 
 -- at a place where the number is that of a claim's order, the wave has this order
-pub claims_at : (opening : Opening) (kept : KeptWave) (claim : Claim) (place : ℕ) (number : Option ℕ) (at : IsNamedAt opening kept.orders place number)
+pub claims_at : (opening : Opening) (kept : KeptWave) (claim : Claim) (place : ℕ) (number : Option ℕ) (at : IsNamedAt opening kept place number)
     → KnowsOrder opening kept claim → option_eq nat_eq number claim.number ≡ true → bytes_eq at.name claim.order ≡ true
 claims_at opening kept claim place number at knows same =
     (bytes_eq-Decides at.name claim.order).1 (one_order opening at.name claim.order claim.number
@@ -78,7 +78,7 @@ is_false true to = absurd (to refl)
 is_false false to = refl
 
 -- and another order where it is another number
-pub claims_other : (opening : Opening) (kept : KeptWave) (claim : Claim) (place : ℕ) (number : Option ℕ) (at : IsNamedAt opening kept.orders place number)
+pub claims_other : (opening : Opening) (kept : KeptWave) (claim : Claim) (place : ℕ) (number : Option ℕ) (at : IsNamedAt opening kept place number)
     → KnowsOrder opening kept claim → option_eq nat_eq number claim.number ≡ false → bytes_eq at.name claim.order ≡ false
 claims_other opening kept claim place number at knows other =
     is_false (bytes_eq at.name claim.order) (λ same.

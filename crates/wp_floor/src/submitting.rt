@@ -7,7 +7,7 @@ ghost use Rattle.wp_model.specs.TableLines.{article_in};
 ghost use Rattle.wp_model.specs.Tables.{IsReadOpening};
 ghost use Rattle.wp_model.specs.declared.command.Command.TheVariants as command;
 ghost use Rattle.wp_tables.specs.Orders.{name_of};
-ghost use Rattle.wp_floor.specs.Floor.{AreNeedsOf, AreNumbersOf, AreTakers, HasStepped, IsFloor, number_of, wave_count};
+ghost use Rattle.wp_floor.specs.Floor.{AreNeedsOf, AreTakers, HasStepped, IsFloor, number_of, wave_count};
 ghost use Rattle.wp_floor.specs.NewWaves.{IsPrepared, size_fault, submit_of, wave_of_new};
 
 use crate::floor::{Floor, put_takers};
@@ -41,19 +41,13 @@ pub fn size_fault(orders: &Names) -> Option<Reply>
     None
 }
 
-// What a wave of these orders, which have these numbers, needs to go out.
-fn needs_of(
-    alloc: Global,
-    opening: &Opening,
-    orders: &Names,
-    numbers: &[Option<u32>],
-) -> Result<Needs, Memory>
+// What a wave of these orders needs to go out.
+fn needs_of(alloc: Global, opening: &Opening, orders: &Names) -> Result<Needs, Memory>
     requires read { IsReadOpening opening.now }
     requires size { size_fault orders.now ≡ None }
-    requires numbered { AreNumbersOf opening.now orders.now numbers.now }
     ensures { IfOk result (AreNeedsOf opening.now orders.now) }
 {
-    let wants = wants_of_orders(alloc, opening, numbers)?;
+    let wants = wants_of_orders(alloc, opening, orders.as_slice())?;
     let rooms = Rooms::for_wants(alloc, opening.stock(), wants.as_slice())?;
     Ok(Needs {
         orders: orders.copy(alloc)?,
@@ -64,7 +58,7 @@ fn needs_of(
 
 // The numbers of orders in the opening, none for one that isn't there.
 fn numbers_of(alloc: Global, opening: &Opening, orders: &[Name]) -> Result<Vec<Option<u32>>, Memory>
-    ensures { IfOk result (λ numbers. AreNumbersOf opening.now orders.now numbers.items) }
+    ensures { IfOk result (λ numbers. numbers.items ≡ map (number_of opening.now) orders.now) }
 {
     let mut numbers = Vec::with_capacity(alloc, orders.len())?;
     for order in orders {
@@ -87,7 +81,7 @@ impl NewWave {
         ensures prepared { IfOk result (IsPrepared opening.now) }
     {
         let numbers = numbers_of(alloc, opening, orders.as_slice())?;
-        let needs = needs_of(alloc, opening, orders, &numbers)?;
+        let needs = needs_of(alloc, opening, orders)?;
         let cell = Cell::new(alloc)?;
         Ok(NewWave {
             name: *name,
@@ -188,7 +182,7 @@ pub fn first_order_fault(
     numbers: &[Option<u32>],
 ) -> Option<Reply>
     requires read { IsReadOpening opening.now }
-    requires numbered { AreNumbersOf opening.now orders.now numbers.now }
+    requires numbered { numbers.now ≡ map (number_of opening.now) orders.now }
     requires count { length takers.now ≡ length opening.now.orders }
     ensures { (waves : List Wave) → AreTakers opening.now waves takers.now
         → result ≡ first_order_fault opening.now waves [] orders.now }
