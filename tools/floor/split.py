@@ -171,11 +171,10 @@ def main(words):
     made, told = divided(orders, left, asked.units, not asked.no_back_orders)
     test_count(len(made))
     test_names(made, {order.name for order in orders})
-    for line in told:
-        print(line, file=sys.stderr)
-    print('%d orders, of %d' % (len(made), len(orders)), file=sys.stderr)
     if asked.output:
         whole_files.write(asked.output, table_of(made))
     else:
-        print(table_of(made), end='')
+        print(table_of(made), end='', flush=True)
+    for line in [*told, '%d orders, of %d' % (len(made), len(orders))]:
+        print(line, file=sys.stderr)
     return RIGHT

@@ -285,7 +285,8 @@ class Floor(unittest.TestCase):
         self.assertIn(status, (due,) if due else (endings.RIGHT, endings.WRONG, endings.REFUSED, endings.UNWRITTEN),
                       (name, words, told[:500]))
         is_help = status == endings.REFUSED and told.startswith(entry.module_of(name).__doc__[:40])
-        is_list = name == 'import' and status in (endings.RIGHT, endings.WRONG, endings.REFUSED)
+        is_list = (name == 'import' and status in (endings.RIGHT, endings.WRONG, endings.REFUSED)
+                   or name == 'split' and status == endings.RIGHT)
         self.assertTrue(is_help or is_list or told.count('\n')
                         == (status in (endings.REFUSED, *range(endings.UNWRITTEN, 200))), (name, words, told[:500]))
         self.assertNotIn('Traceback', told)
