@@ -10,5 +10,3 @@ pub mod Bounds
 pub mod ShareDuals
 pub mod FewRounds
 pub mod Covered
-pub mod Within
-pub mod Scaled

@@ -19,8 +19,7 @@ use Rattle.wp_lp.proofs.Wholes.{times_most}
 use Rattle.wp_lp.specs.Covers.{has}
 use Rattle.wp_lp.specs.Parts.{IsCapped, IsPart, cost_of, cover_of, weighed, weight_for}
 use Rattle.std.proofs.lemmas.List.{get_or-map, length-map}
-use Rattle.std.proofs.lemmas.Nat.{mul-le}
-use Rattle.wp_lengths.specs.Batchings.{IsCost, batch_at}
+use Rattle.wp_lengths.specs.Batchings.{batch_at}
 use Rattle.wp_lp.specs.Runs.{IsBatchingUnder, IsPermittedPool}
 use Rattle.wp_lp.specs.declared.part.Part.{Part}
 
@@ -147,45 +146,25 @@ cost_ends pool weights duals count parts all equal most =
     let whole = subst (λ (k : ℕ). pos (cost_of parts) ≤ℤ (pos 60 *ℤ weighed_before pool weights k)) all most in
     omega (arith, ints, whole, equal)
 
--- the parts of a batching, each of a whole weight, give each order that weight
-pub batching_exact : (pairing : Pairing) (batches : List (List ℕ)) (parts : List Part) (order whole : ℕ) → IsBatchingUnder pairing batches
-    → map (λ (part : Part). part.batch) parts ≡ batches → All (λ (part : Part). part.weight ≡ whole) parts → order < pairing.orders → cover_of parts order ≡ whole
-batching_exact pairing batches parts order whole batching are weights low =
+-- the parts of a batching, each of a weight of 60, give each order that weight
+pub batching_exact : (pairing : Pairing) (batches : List (List ℕ)) (parts : List Part) (order : ℕ) → IsBatchingUnder pairing batches
+    → map (λ (part : Part). part.batch) parts ≡ batches → All (λ (part : Part). part.weight ≡ 60) parts → order < pairing.orders → cover_of parts order ≡ 60
+batching_exact pairing batches parts order batching are sixty low =
     let blank : Part = record { batch = []; length = 0; weight = 0 } in
     let count : length batches ≡ length parts = ap (λ (xs : List (List ℕ)). length xs) (sym are) ∙ length-map parts (λ (part : Part). part.batch) in
     let at = λ (k : ℕ) (within : k < length parts). ap (λ (xs : List (List ℕ)). batch_at xs k) (sym are)
     ∙ get_or-map (λ (part : Part). part.batch) parts k blank [] within in
     let held = batching.covered order low in
     let inside : held.0 < length parts = omega (arith, held.1, count) in
-    one_cover parts order held.0 whole blank weights inside (subst (λ (b : List ℕ). Contains b order) (at held.0 inside) held.2)
+    one_cover parts order held.0 60 blank sixty inside (subst (λ (b : List ℕ). Contains b order) (at held.0 inside) held.2)
     (λ j within is. batching.once order j held.0 (omega (arith, within, count)) held.1 (subst (λ (b : List ℕ). Contains b order) (sym (at j within)) is) held.2)
 
--- what they come to fits, where that weight is at most 60
-pub batching_cost : (parts : List Part) (whole : ℕ) → whole ≤ 60 → All (λ (part : Part). part.weight ≡ whole) parts
-    → All (λ (part : Part). part.length < 2 ^ 28) parts → length parts < 2 ^ 64 → cost_of parts < 2 ^ 127
-batching_cost parts whole most weights small few =
+-- what they come to fits
+pub batching_cost : (parts : List Part) → All (λ (part : Part). part.weight ≡ 60) parts → All (λ (part : Part). part.length < 2 ^ 28) parts
+    → length parts < 2 ^ 64 → cost_of parts < 2 ^ 127
+batching_cost parts sixty small few =
     let each : All (λ (part : Part). weighed part ≤ 16106127360) parts = λ k d low.
-    let part = slice_index_or parts k d in
-    let weight = weights k d low in
-    let product = mul-le part.weight part.length 60 268435456 (omega (arith, weight, most)) (omega (arith, small k d low)) in
-    omega (arith, product) in
+    let weight = sixty k d low in
+    let product = ap (λ (w : ℕ). w * (slice_index_or parts k d).length) weight in
+    omega (arith, product, small k d low) in
     omega (arith, sum_by-le weighed 16106127360 parts each, few)
-
-parts_priced : (wave : WavePicks) (pairing : Pairing) (parts : List Part) (whole : ℕ) → All (λ (part : Part). part.weight ≡ whole) parts
-    → All (IsPart wave pairing) parts
-    → (cost : ℕ) × IsCost wave (map (λ (part : Part). part.batch) parts) cost × (cost_of parts ≡ whole * cost)
-parts_priced wave pairing [] whole weights each = (0, refl, omega arith)
-parts_priced wave pairing (part ∷ parts) whole weights each =
-    let rest = parts_priced wave pairing parts whole (All-tail (λ (p : Part). p.weight ≡ whole) part parts weights)
-    (All-tail (IsPart wave pairing) part parts each) in
-    let own = All-head (IsPart wave pairing) part parts each in
-    let weight = ap (λ (n : ℕ). n * part.length) (All-head (λ (p : Part). p.weight ≡ whole) part parts weights) in
-    (part.length + rest.0, (part.length, rest.0, own.long, rest.1, refl), omega (arith, sum_by-cons weighed part parts, rest.2, weight))
-
--- they come to that weight times the cost of the batching
-pub batching_priced : (wave : WavePicks) (pairing : Pairing) (batches : List (List ℕ)) (parts : List Part) (whole : ℕ)
-    → map (λ (part : Part). part.batch) parts ≡ batches → All (λ (part : Part). part.weight ≡ whole) parts → All (IsPart wave pairing) parts
-    → (cost : ℕ) × IsCost wave batches cost × (cost_of parts ≡ whole * cost)
-batching_priced wave pairing batches parts whole are weights each =
-    let priced = parts_priced wave pairing parts whole weights each in
-    (priced.0, subst (λ (bs : List (List ℕ)). IsCost wave bs priced.0) are priced.1, priced.2)

@@ -3,9 +3,7 @@
 #![tactic(auto)]
 
 mod bracket;
-mod cover;
 mod halt;
-mod known;
 mod open_wave;
 mod part;
 mod root;
@@ -14,10 +12,8 @@ mod sixtieths;
 mod start;
 mod trim;
 mod whole;
-mod wide;
 
-pub use bracket::{root_after, root_pair};
+pub use bracket::root_pair;
 pub use halt::Halt;
-pub use known::Known;
 pub use root::{Root, RootState};
 pub use round::{scalable, solved};

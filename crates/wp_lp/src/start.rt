@@ -1,6 +1,5 @@
 //! The pool with which a search begins, and the parts with which a cover begins.
 ghost use Rattle.std.specs.Prelude.{◌≡◌, ◌≤◌, ◌<◌, ◌^◌, ◌*◌, ℕ, All, IfOk, length, pos, ◌*ℤ◌, ◌<ℤ◌, ◌≤ℤ◌};
-ghost use Rattle.wp_lengths.specs.Batchings.{IsCost};
 ghost use Rattle.wp_lengths.specs.Waves.{WavePicks};
 ghost use Rattle.wp_pairs.specs.Permitted.{Pairing};
 ghost use Rattle.wp_master.specs.Pairs.{number_of, sum_of};
@@ -11,7 +10,7 @@ ghost use Rattle.wp_lp.specs.Runs.{IsAnswer, IsBatchingUnder, IsPermittedPool};
 
 use crate::open_wave::OpenWave;
 use crate::part::Part;
-use crate::whole::{high_of, natural};
+use crate::whole::natural;
 use std::alloc::Global;
 use wp_lengths::SIXTIETHS;
 use wp_master::{Pair, Pool};
@@ -83,17 +82,15 @@ pub(crate) fn solved_parts(alloc: Global, pool: &Pool, pair: &Pair) -> Result<Ve
     Ok(parts)
 }
 
-/// The parts of a batching, each of a weight.
+/// The parts of a batching, each of a weight of 60.
 pub(crate) fn batching_parts(
     alloc: Global,
     given: &OpenWave<'_>,
     batches: &[Batch],
-    weight: u128,
 ) -> Result<Vec<Part>, Memory>
     requires { IsBatchingUnder given.now.pairs.now batches.now }
-    ensures exact { IfOk result (λ parts. AreExact (length given.now.wave.now.orders) weight parts.items) }
-    ensures cost { IfOk result (λ parts. (cost : ℕ) × IsCost given.now.wave.now batches.now cost × (cost_of parts.items ≡ weight * cost)) }
-    ensures small { weight ≤ 60 → IfOk result (λ parts. cost_of parts.items < 2 ^ 127) }
+    ensures exact { IfOk result (λ parts. AreExact (length given.now.wave.now.orders) 60 parts.items) }
+    ensures cost { IfOk result (λ parts. cost_of parts.items < 2 ^ 127) }
     ensures each { IfOk result (λ parts. All (IsPart given.now.wave.now given.now.pairs.now) parts.items) }
 {
     let mut parts = Vec::new(alloc);
@@ -101,21 +98,8 @@ pub(crate) fn batching_parts(
         parts.push(Part {
             batch: *batch,
             length: given.wave.batch_length(*batch),
-            weight,
+            weight: 60,
         })?;
     }
     Ok(parts)
-}
-
-/// What a batching costs, in units of length.
-pub(crate) fn batching_cost(
-    alloc: Global,
-    given: &OpenWave<'_>,
-    batches: &[Batch],
-) -> Result<u128, Memory>
-    requires { IsBatchingUnder given.now.pairs.now batches.now }
-    ensures { IfOk result (IsCost given.now.wave.now batches.now) }
-{
-    let parts = batching_parts(alloc, given, batches, 1)?;
-    Ok(high_of(parts.as_slice()))
 }

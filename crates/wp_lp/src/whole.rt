@@ -49,8 +49,8 @@ fn weights_of(alloc: Global, parts: &[Part]) -> Result<Vec<i128>, Memory>
     Ok(weights)
 }
 
-/// What the weights of parts come to, each times its length.
-pub(crate) fn high_of(parts: &[Part]) -> u128
+// What the weights of parts come to, each times its length.
+fn high_of(parts: &[Part]) -> u128
     requires { cost_of parts.now < 2 ^ 127 }
     ensures { result ≡ cost_of parts.now }
 {
@@ -74,8 +74,8 @@ fn duals_of(alloc: Global, sixtieths: &[u64], over: u128) -> Result<Vec<i128>, M
     Ok(duals)
 }
 
-/// The sum of duals in sixtieths, times a number.
-pub(crate) fn low_of(sixtieths: &[u64], over: u128) -> u128
+// The sum of duals in sixtieths, times a number.
+fn low_of(sixtieths: &[u64], over: u128) -> u128
     requires count { length sixtieths.now ≤ 64 }
     requires small { All (λ dual. dual < 2 ^ 34) sixtieths.now }
     requires over { over < 2 ^ 86 }

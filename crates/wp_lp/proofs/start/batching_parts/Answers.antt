@@ -5,7 +5,7 @@ use Rattle.wp_pairs.specs.Permitted.{IsPermitted}
 use Rattle.wp_lp.specs.Parts.{IsPart}
 use Rattle.wp_lp.specs.declared.part.Part.{Part}
 use Rattle.wp_lp.proofs.Pools.{taken_more}
-use Rattle.wp_lp.proofs.Starts.{batching_cost, batching_exact, batching_priced}
+use Rattle.wp_lp.proofs.Starts.{batching_cost, batching_exact}
 use Rattle.wp_lp.proofs.start.batching_parts.Goals as goal
 
 pub loop-batch-preserved : goal.loop-batch-preserved
@@ -18,8 +18,7 @@ loop-batch-preserved c =
     record {
       are = ap (map (λ (part : Part). part.batch)) items ∙ map_push (λ (part : Part). part.batch) c.loop-batch.parts.items _
           ∙ ap (λ (xs : List (List ℕ)). xs ++ c.batch-item.result ∷ []) before.are ∙ sym taken;
-      weights = All-same (λ (part : Part). part.weight ≡ c.args.weight) _ _ items
-          (All-push (λ (part : Part). part.weight ≡ c.args.weight) _ _ before.weights refl);
+      sixty = All-same (λ (part : Part). part.weight ≡ 60) _ _ items (All-push (λ (part : Part). part.weight ≡ 60) _ _ before.sixty refl);
       small = All-same (λ (part : Part). part.length < 2 ^ 28) _ _ items (All-push (λ (part : Part). part.length < 2 ^ 28) _ _ before.small
           c.batch_length.ensures.small);
       each = All-same (IsPart c.args.given.now.wave.now c.args.given.now.pairs.now) _ _ items
@@ -29,17 +28,11 @@ loop-batch-preserved c =
 
 pub returns-clause-exact : goal.returns-clause-exact
 returns-clause-exact c = λ order low.
-    batching_exact c.args.given.now.pairs.now c.args.batches.now c.loop-batch.parts.items order c.args.weight c.requires
-    (c.loop-batch.invariant.are ∙ take_all c.loop-batch.batch-index c.args.batches.now c.loop-batch-test.false) c.loop-batch.invariant.weights
+    batching_exact c.args.given.now.pairs.now c.args.batches.now c.loop-batch.parts.items order c.requires
+    (c.loop-batch.invariant.are ∙ take_all c.loop-batch.batch-index c.args.batches.now c.loop-batch-test.false) c.loop-batch.invariant.sixty
     (omega (arith, low, c.args.given.now.as_many))
 
 pub returns-clause-cost : goal.returns-clause-cost
 returns-clause-cost c =
-    batching_priced c.args.given.now.wave.now c.args.given.now.pairs.now c.args.batches.now c.loop-batch.parts.items c.args.weight
-    (c.loop-batch.invariant.are ∙ take_all c.loop-batch.batch-index c.args.batches.now c.loop-batch-test.false) c.loop-batch.invariant.weights
-    c.loop-batch.invariant.each
-
-pub returns-clause-small : goal.returns-clause-small
-returns-clause-small c = λ most.
     let few : length c.loop-batch.parts.items < 2 ^ 64 = search rules in
-    batching_cost c.loop-batch.parts.items c.args.weight most c.loop-batch.invariant.weights c.loop-batch.invariant.small few
+    batching_cost c.loop-batch.parts.items c.loop-batch.invariant.sixty c.loop-batch.invariant.small few
