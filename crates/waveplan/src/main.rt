@@ -54,7 +54,9 @@ fn after_name(alloc: Global, given: Args) -> Result<Vec<String>, AllocError>
 fn words_given(alloc: Global, given: io::Result<Args>) -> Result<Vec<String>, AllocError>
     ensures given { IfOk given (λ given. IfOk result
         (λ words. words.items ≡ drop 1 (into_iter_items given))) }
-    ensures fault { IfErr given (λ fault. IfOk result (λ words. (error_kind fault ≡ InvalidData) × (map string_bytes words.items ≡ codes "plan" ∷ []))) }
+    ensures fault { IfErr given (λ fault. IfOk result
+        (λ words. (error_kind fault ≡ InvalidData)
+        × (map string_bytes words.items ≡ codes "plan" ∷ []))) }
 {
     match given {
         Ok(given) => after_name(alloc, given),

@@ -17,7 +17,7 @@ use Rattle.wp_book.specs.ArticleRows.{rows_of}
 use Rattle.wp_book.specs.Room.{Content}
 use Rattle.wp_allot.proofs.ArticleOffers.{offer-none, rows_counted}
 use Rattle.wp_allot.proofs.OrderIntervals.{units_of-other, units_of-own, wanted_more}
-use Rattle.wp_allot.specs.DealtUnits.{AreDealt, CanDeal, IsDealt, share_among, units_among, wants_of}
+use Rattle.wp_allot.specs.DealtUnits.{AreDealtUnits, CanDeal, IsDealt, share_among, units_among, wants_of}
 use Rattle.wp_allot.specs.Wants.{AreInTurn, IsEnough, is_wanted, most_holds, units_in, units_of, wanted_for, wanted_of, wanted_rows}
 use Rattle.wp_allot.specs.declared.want.Want.{Want}
 
@@ -196,7 +196,7 @@ share_none rows wants except count order k article none offered = elim (slice_ge
 
 -- the article of a want can be dealt where no want before it is of that article
 pub can_deal : (rows : List Row) (wants : List Want) (except : Option ℕ) (place : ℕ) (want : Want) (room : Content) → AreInTurn wants
-    → ((article : ℕ) → IsEnough rows wants except article) → AreDealt rows wants except place room
+    → ((article : ℕ) → IsEnough rows wants except article) → AreDealtUnits rows wants except place room
     → slice_get wants place ≡ Some want → place < length wants → wanted_of (take place wants) want.article ≡ 0 → CanDeal rows wants want.article except room
 can_deal rows wants except place want room turn enough is there within none =
     let first = first_is wants place want turn there within none in
@@ -257,9 +257,9 @@ share_more rows wants except place want order k first = elim (slice_get_cases ro
 
 -- and once it was dealt, the articles of one want more are dealt
 pub first_dealt : (rows : List Row) (wants : List Want) (except : Option ℕ) (place : ℕ) (want : Want) (room room' : Content) → AreInTurn wants
-    → AreDealt rows wants except place room
+    → AreDealtUnits rows wants except place room
     → slice_get wants place ≡ Some want → place < length wants → wanted_of (take place wants) want.article ≡ 0
-    → IsDealt rows wants want.article except room room' → AreDealt rows wants except (place + 1) room'
+    → IsDealt rows wants want.article except room room' → AreDealtUnits rows wants except (place + 1) room'
 first_dealt rows wants except place want room room' turn is there within none dealt =
     let first = first_is wants place want turn there within none in
     record {
@@ -272,8 +272,10 @@ first_dealt rows wants except place want room room' turn is there within none de
     }
 
 -- where a want before it is of its article, the articles of one want more are dealt already
-pub later_dealt : (rows : List Row) (wants : List Want) (except : Option ℕ) (place : ℕ) (want : Want) (room : Content) → AreDealt rows wants except place room
-    → slice_get wants place ≡ Some want → place < length wants → wanted_of (take place wants) want.article ≢ 0 → AreDealt rows wants except (place + 1) room
+pub later_dealt : (rows : List Row) (wants : List Want) (except : Option ℕ) (place : ℕ) (want : Want) (room : Content)
+    → AreDealtUnits rows wants except place room
+    → slice_get wants place ≡ Some want → place < length wants → wanted_of (take place wants) want.article ≢ 0
+    → AreDealtUnits rows wants except (place + 1) room
 later_dealt rows wants except place want room is there within some =
     let later : IsLater wants place want = record { there = there; within = within; later = some } in
     let same = λ (article : ℕ). later_same wants place want article later in
@@ -308,7 +310,7 @@ later_dealt rows wants except place want room is there within some =
     ]
 
 -- what was dealt is at most one hold a wanted row and one a want, and no more than one a unit
-pub few_dealt : (rows : List Row) (wants : List Want) (except : Option ℕ) (count : ℕ) (room : Content) → AreDealt rows wants except count room
+pub few_dealt : (rows : List Row) (wants : List Want) (except : Option ℕ) (count : ℕ) (room : Content) → AreDealtUnits rows wants except count room
     → length room.holds ≤ most_holds rows wants
 few_dealt rows wants except count room is =
     omega (

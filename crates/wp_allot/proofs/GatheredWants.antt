@@ -11,7 +11,7 @@ use Rattle.wp_allot.proofs.FilledRoom.{first_dealt, later_dealt}
 use Rattle.wp_allot.proofs.FirstShortArticle.{short_from_all}
 use Rattle.wp_allot.proofs.OrderIntervals.{units_of-other, units_of-own, wanted_more}
 use Rattle.wp_allot.specs.Cover.{IsFirstAmong, IsLess}
-use Rattle.wp_allot.specs.DealtUnits.{AreDealt, IsDealt}
+use Rattle.wp_allot.specs.DealtUnits.{AreDealtUnits, IsDealt}
 use Rattle.wp_allot.specs.Gathered.{AreOfArticle, IsBorder}
 use Rattle.wp_allot.specs.Wants.{AreGathered, AreInTurn, IsEnough, IsShort, units_of, wanted_of}
 use Rattle.wp_allot.specs.declared.gathered.ArticleWants.{ArticleWants}
@@ -191,10 +191,11 @@ short_here rows wants except start of short gathered is each same less =
 
 -- an article that was dealt is dealt for each of its wants
 dealt_upto : (rows : List Row) (wants : List Want) (except : Option ℕ) (start : ℕ) (of : ArticleWants) (room : Content) (n : ℕ) → AreOfArticle wants start of
-    → 0 < wanted_of (take (start + 1) wants) of.article → AreDealt rows wants except (start + 1) room → start + 1 + n ≤ of.end
-    → AreDealt rows wants except (start + 1 + n) room × (0 < wanted_of (take (start + 1 + n) wants) of.article)
+    → 0 < wanted_of (take (start + 1) wants) of.article → AreDealtUnits rows wants except (start + 1) room → start + 1 + n ≤ of.end
+    → AreDealtUnits rows wants except (start + 1 + n) room × (0 < wanted_of (take (start + 1 + n) wants) of.article)
 dealt_upto rows wants except start of room zero is some dealt within =
-    subst (λ k. AreDealt rows wants except k room × (0 < wanted_of (take k wants) of.article)) {x = start + 1} {y = start + 1 + 0} (omega arith) (dealt, some)
+    subst (λ k. AreDealtUnits rows wants except k room × (0 < wanted_of (take k wants) of.article)) {x = start + 1} {y = start + 1 + 0} (omega arith)
+    (dealt, some)
 dealt_upto rows wants except start of room (suc n) is some dealt within =
     let before = dealt_upto rows wants except start of room n is some dealt (omega (arith, within)) in
     let place = start + 1 + n in
@@ -202,15 +203,15 @@ dealt_upto rows wants except start of room (suc n) is some dealt within =
     let own : want.0.article ≡ of.article = is.own place want.0 (omega arith) (omega (arith, within)) want.1 in
     let known : 0 < wanted_of (take place wants) want.0.article = subst (λ a. 0 < wanted_of (take place wants) a) (sym own) before.1 in
     let more = wanted_more wants of.article place want.0 want.1 (omega (arith, within, is.within)) in
-    subst (λ k. AreDealt rows wants except k room × (0 < wanted_of (take k wants) of.article)) {x = place + 1} {y = start + 1 + suc n} (omega arith) (
+    subst (λ k. AreDealtUnits rows wants except k room × (0 < wanted_of (take k wants) of.article)) {x = place + 1} {y = start + 1 + suc n} (omega arith) (
       later_dealt rows wants except place want.0 room before.0 want.1 (omega (arith, within, is.within)) (λ e. absurd (omega (arith, known, e))),
       omega (arith, more, before.1),
     )
 
 -- so the articles of the wants before the end are dealt
 pub article_dealt : (rows : List Row) (wants : List Want) (except : Option ℕ) (start : ℕ) (of : ArticleWants) (room room' : Content) → AreInTurn wants
-    → AreOfArticle wants start of → AreDealt rows wants except start room → IsDealt rows wants of.article except room room'
-    → AreDealt rows wants except of.end room'
+    → AreOfArticle wants start of → AreDealtUnits rows wants except start room → IsDealt rows wants of.article except room room'
+    → AreDealtUnits rows wants except of.end room'
 article_dealt rows wants except start of room room' turn is dealt now =
     let within : start < length wants = omega (arith, is.after, is.within) in
     let first = first_dealt rows wants except start is.first room room' turn dealt is.there within
@@ -225,5 +226,5 @@ article_dealt rows wants except start of room room' turn is dealt now =
       All-at (λ (want : Want). 0 < want.quantity) wants start is.first turn.some
           is.there,
     ) in
-    subst (λ k. AreDealt rows wants except k room') {x = start + 1 + (of.end - (start + 1))} {y = of.end} (omega (arith, is.after))
+    subst (λ k. AreDealtUnits rows wants except k room') {x = start + 1 + (of.end - (start + 1))} {y = of.end} (omega (arith, is.after))
     (dealt_upto rows wants except start of room' (of.end - (start + 1)) is some first (omega (arith, is.after))).0

@@ -24,7 +24,7 @@ use Rattle.wp_book.specs.Room.{AreInOrder, ComesFirst, Content, IsInOrder}
 use Rattle.wp_allot.proofs.FilledRoom.{few_dealt, share_at, share_past}
 use Rattle.wp_allot.proofs.SingleHolds.{counts}
 use Rattle.wp_allot.proofs.WantSums.{wanted_for-le}
-use Rattle.wp_allot.specs.DealtUnits.{AreDealt, AreSingle, is_hold, share_among}
+use Rattle.wp_allot.specs.DealtUnits.{AreDealtUnits, AreSingle, is_hold, share_among}
 use Rattle.wp_allot.specs.Wants.{HasOverlaps, IsRoomFor, WantsBelow, is_wanted, wanted_for, wanted_of}
 use Rattle.wp_allot.specs.declared.want.Want.{Want}
 
@@ -106,7 +106,8 @@ share_beyond rows wants except orders order k below beyond = elim (slice_get_cas
     le_zero p q = omega arith
 
 -- nothing was dealt at first
-pub nothing_dealt : (rows : List Row) (wants : List Want) (except : Option ℕ) (room : Content) → IsRoomFor rows wants room → AreDealt rows wants except 0 room
+pub nothing_dealt : (rows : List Row) (wants : List Want) (except : Option ℕ) (room : Content) → IsRoomFor rows wants room
+    → AreDealtUnits rows wants except 0 room
 nothing_dealt rows wants except room is = record {
   single = subst (AreSingle rows) (sym is.empty) (record {
     some = λ k d within. absurd (omega arith);
@@ -129,7 +130,7 @@ nothing_dealt rows wants except room is = record {
 
 -- all that was dealt, in order, is what the orders take by overlap
 pub has_overlaps : (rows : List Row) (wants : List Want) (except : Option ℕ) (count : ℕ) (room room' room'' : Content) → length wants ≤ count
-    → room'.size ≡ room.size → AreDealt rows wants except count room' → IsInOrder room' room''
+    → room'.size ≡ room.size → AreDealtUnits rows wants except count room' → IsInOrder room' room''
     → HasOverlaps rows wants except room room''
 has_overlaps rows wants except count room room' room'' all size is sorted = record {
   size = sorted.size ∙ size;

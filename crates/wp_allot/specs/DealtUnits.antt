@@ -107,7 +107,7 @@ units_among wants count = sum_by (λ (want : Want). if is_wanted (take count wan
     else 0) wants
 
 -- the articles of the first wants were dealt
-pub record AreDealt (rows : List Row) (wants : List Want) (except : Option ℕ) (count : ℕ)
+pub record AreDealtUnits (rows : List Row) (wants : List Want) (except : Option ℕ) (count : ℕ)
     (room : Content) : Type 0 where
   pub single : AreSingle rows room.holds
   pub size : most_holds rows wants ≤ room.size

@@ -2,7 +2,7 @@
 ghost use Rattle.std.specs.Prelude.{◌≡◌, ◌+◌, ◌<◌, None, length};
 ghost use Rattle.wp_book.specs.Calls.{KeepsOthers};
 ghost use Rattle.wp_book.specs.Room.{Content};
-ghost use Rattle.wp_allot.specs.DealtUnits.{AreDealt, CanDeal, IsDealt};
+ghost use Rattle.wp_allot.specs.DealtUnits.{AreDealtUnits, CanDeal, IsDealt};
 ghost use Rattle.wp_allot.specs.UntouchedStock.{KeepsEarlier, KeepsExcepted, KeepsOtherArticles};
 ghost use Rattle.wp_allot.specs.Wants.{AreRegular, HasOverlaps, IsAllotted, IsRoomFor, IsShort};
 
@@ -36,9 +36,9 @@ fn deal_first(book: &StockBook, wants: &[Want], place: usize, except: Option<u32
     requires place { place < length wants.now }
     requires regular { AreRegular wants.now }
     requires covered { IsShort book.now.rows wants.now except None }
-    requires dealt { AreDealt book.now.rows wants.now except place room.old }
+    requires dealt { AreDealtUnits book.now.rows wants.now except place room.old }
     ensures size { room.new.size ≡ room.old.size }
-    ensures dealt { AreDealt book.now.rows wants.now except (place + 1) room.new }
+    ensures dealt { AreDealtUnits book.now.rows wants.now except (place + 1) room.new }
 {
     let article = wants[place].article;
     if wanted_units(&wants[..place], article) == 0 {

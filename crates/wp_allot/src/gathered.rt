@@ -5,7 +5,7 @@ ghost use Rattle.std.specs.List.{All};
 ghost use Rattle.std.specs.List.Sorted.{IsPermutation};
 ghost use Rattle.wp_model.specs.Tables.{IsReadStock};
 ghost use Rattle.wp_book.specs.Calls.{KeepsOthers};
-ghost use Rattle.wp_allot.specs.DealtUnits.{AreDealt, CanDeal, IsDealt};
+ghost use Rattle.wp_allot.specs.DealtUnits.{AreDealtUnits, CanDeal, IsDealt};
 ghost use Rattle.wp_allot.specs.Gathered.{AreOfArticle, IsBorder};
 ghost use Rattle.wp_allot.specs.UntouchedStock.{KeepsEarlier, KeepsExcepted, KeepsOtherArticles};
 ghost use Rattle.wp_allot.specs.Wants.{AreGathered, AreRegular, HasOverlaps, IsAllotted, IsRoomFor, IsShort};
@@ -105,9 +105,9 @@ fn deal_article(
     requires covered { IsShort book.now.rows wants.now except None }
     requires within { start < length wants.now }
     requires border { IsBorder wants.now start }
-    requires dealt { AreDealt book.now.rows wants.now except start room.old }
+    requires dealt { AreDealtUnits book.now.rows wants.now except start room.old }
     ensures size { room.new.size ≡ room.old.size }
-    ensures dealt { AreDealt book.now.rows wants.now except result room.new }
+    ensures dealt { AreDealtUnits book.now.rows wants.now except result room.new }
     ensures border { IsBorder wants.now result }
     ensures after { start < result }
     ensures within { result ≤ length wants.now }

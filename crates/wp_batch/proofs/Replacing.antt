@@ -40,7 +40,8 @@ module _ (wave : WavePicks) (capacity : ℕ) (batches : List (List ℕ)) (i j : 
       (permitted_alone wave capacity split.left h.left_fit.is (omega (arith, h.left_fit.filled)) h.left_fit.fits h.left_fit.light (λ o has. known o (inl has))))
       (λ (ni : place ≢ i). ⊎_elim
       (λ (e : place ≡ j). subst (IsPermitted (no_pairs wave capacity)) (sym (ap (batch_at (set (set batches i split.left) j split.right)) e ∙ at_right))
-      (permitted_alone wave capacity split.right h.right_fit.is (omega (arith, h.right_fit.filled)) h.right_fit.fits h.right_fit.light (λ o has. known o (inr has))))
+      (permitted_alone wave capacity split.right h.right_fit.is (omega (arith, h.right_fit.filled)) h.right_fit.fits h.right_fit.light
+      (λ o has. known o (inr has))))
       (λ (nj : place ≢ j). subst (IsPermitted (no_pairs wave capacity)) (sym (at_other place ni nj)) (is.each place within))
       (cases_eq place j))
       (cases_eq place i)

@@ -20,7 +20,8 @@ NoGain wave capacity left right =
 -- no two batches gain by joining
 abbrev pub NoJoinGains : WavePicks → ℕ → List (List ℕ) → Type 0
 NoJoinGains wave capacity batches =
-    (left right : ℕ) → left < right → right < length batches → NoGain wave capacity (batch_at batches left) (batch_at batches right)
+    (left right : ℕ) → left < right → right < length batches
+    → NoGain wave capacity (batch_at batches left) (batch_at batches right)
 
 -- two batches cost so much more than one of the orders of both
 pub record JoinSaves (wave : WavePicks) (left right : List ℕ) (saving : ℕ) : Type 0 where
@@ -40,7 +41,8 @@ SavesAtMost wave capacity left right most =
 
 -- whatever batches cost after a change, they cost no less before it
 abbrev pub CostNoMore : WavePicks → List (List ℕ) → List (List ℕ) → Type 0
-CostNoMore wave before after = (less : ℕ) → IsCost wave after less → (cost : ℕ) × IsCost wave before cost × (less ≤ cost)
+CostNoMore wave before after = (less : ℕ) → IsCost wave after less → (cost : ℕ) × IsCost wave before cost
+    × (less ≤ cost)
 
 -- batches cost less after a change than before it
 abbrev pub CostLess : WavePicks → List (List ℕ) → List (List ℕ) → Type 0
@@ -61,14 +63,19 @@ pub record CanJoin (wave : WavePicks) (capacity : ℕ) (batches : List (List ℕ
 
 -- all orders of all batches are orders of the wave
 abbrev pub AreKnown : WavePicks → List (List ℕ) → Type 0
-AreKnown wave batches = (place : ℕ) → place < length batches → All (λ order. order < length wave.orders) (batch_at batches place)
+AreKnown wave batches = (place : ℕ) → place < length batches
+    → All (λ order. order < length wave.orders) (batch_at batches place)
 
 -- a join with a saving is possible, and no batch before this place saves more by joining that one
-pub record IsBestWith (wave : WavePicks) (capacity : ℕ) (batches : List (List ℕ)) (place right : ℕ) (best : Join) : Type 0 where
+pub record IsBestWith (wave : WavePicks) (capacity : ℕ) (batches : List (List ℕ)) (place right : ℕ)
+    (best : Join) : Type 0 where
   pub can : 0 < best.saving → CanJoin wave capacity batches best
-  pub most : (left : ℕ) → left < place → SavesAtMost wave capacity (batch_at batches left) (batch_at batches right) best.saving
+  pub most : (left : ℕ) → left < place → SavesAtMost wave capacity (batch_at batches left)
+      (batch_at batches right) best.saving
 
 -- a join with a saving is possible, and no two batches before this place save more by joining
-pub record IsBestBelow (wave : WavePicks) (capacity : ℕ) (batches : List (List ℕ)) (place : ℕ) (best : Join) : Type 0 where
+pub record IsBestBelow (wave : WavePicks) (capacity : ℕ) (batches : List (List ℕ)) (place : ℕ)
+    (best : Join) : Type 0 where
   pub can : 0 < best.saving → CanJoin wave capacity batches best
-  pub most : (left right : ℕ) → left < right → right < place → SavesAtMost wave capacity (batch_at batches left) (batch_at batches right) best.saving
+  pub most : (left right : ℕ) → left < right → right < place
+      → SavesAtMost wave capacity (batch_at batches left) (batch_at batches right) best.saving

@@ -1,4 +1,5 @@
--- The batching by savings (Clarke and Wright, 1964), which a start costs no more than: orders that begin alone are joined, each time by a join that saves most.
+-- The batching by savings (Clarke and Wright, 1964), which a start costs no more than: orders that begin alone are
+-- joined, each time by a join that saves most.
 use Rattle.std.specs.Prelude.{◌≡◌, ℕ, ◌<◌, ◌⊎◌, ◌↔◌, List, Contains, length, remove, set}
 use Rattle.wp_batch.specs.declared.merge.Join.{Join}
 use Rattle.wp_batch.specs.Joins.{CanJoin, CostNoMore, NoJoinGains, SavesAtMost}
@@ -20,13 +21,15 @@ pub record IsGreatestJoin (wave : WavePicks) (capacity : ℕ) (batches : List (L
 -- two batches are one: the orders of the later one go to the earlier
 pub record IsJoined (before : List (List ℕ)) (join : Join) (after : List (List ℕ)) : Type 0 where
   pub union : List ℕ
-  pub of_both : (order : ℕ) → Contains union order ↔ (Contains (batch_at before join.left) order ⊎ Contains (batch_at before join.right) order)
+  pub of_both : (order : ℕ) → Contains union order
+      ↔ (Contains (batch_at before join.left) order ⊎ Contains (batch_at before join.right) order)
   pub is : after ≡ remove (set before join.left union) join.right
 
 -- batches to which such joins lead, each of which saves most
 pub data AreMerged (wave : WavePicks) (capacity : ℕ) (first : List (List ℕ)) : List (List ℕ) → Type 0 where
   begun : AreMerged wave capacity first first
-  onward : {before after : List (List ℕ)} → AreMerged wave capacity first before → (join : Join) → IsGreatestJoin wave capacity before join
+  onward : {before after : List (List ℕ)} → AreMerged wave capacity first before → (join : Join)
+      → IsGreatestJoin wave capacity before join
       → IsJoined before join after → AreMerged wave capacity first after
 
 -- a batching by savings: joins that save most lead to it from orders that are alone, and no further join saves
@@ -38,4 +41,5 @@ pub record IsBySavings (wave : WavePicks) (capacity : ℕ) (batches : List (List
 
 -- batches cost no more than some batching by savings
 abbrev pub CostNoMoreThanSavings : WavePicks → ℕ → List (List ℕ) → Type 0
-CostNoMoreThanSavings wave capacity batches = (plain : List (List ℕ)) × IsBySavings wave capacity plain × CostNoMore wave plain batches
+CostNoMoreThanSavings wave capacity batches
+    = (plain : List (List ℕ)) × IsBySavings wave capacity plain × CostNoMore wave plain batches

@@ -32,10 +32,12 @@ pub record DividesInto (union left right rest : List ℕ) : Type 0 where
   pub right_rest : (p : ℕ) → Contains right p → Contains rest p → ⊥
 
 -- two batches of a list, the earlier first, and their orders put into two batches that fit
-pub record CanReplace (wave : WavePicks) (capacity : ℕ) (batches : List (List ℕ)) (left right : ℕ) (split : Split) : Type 0 where
+pub record CanReplace (wave : WavePicks) (capacity : ℕ) (batches : List (List ℕ)) (left right : ℕ)
+    (split : Split) : Type 0 where
   pub order : left < right
   pub within : right < length batches
-  pub of_both : (p : ℕ) → (Contains split.left p ⊎ Contains split.right p) ↔ (Contains (batch_at batches left) p ⊎ Contains (batch_at batches right) p)
+  pub of_both : (p : ℕ) → (Contains split.left p ⊎ Contains split.right p)
+      ↔ (Contains (batch_at batches left) p ⊎ Contains (batch_at batches right) p)
   pub apart : (p : ℕ) → Contains split.left p → Contains split.right p → ⊥
   pub left_fit : IsFit wave capacity split.left
   pub right_fit : IsFit wave capacity split.right

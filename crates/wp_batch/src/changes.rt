@@ -4,8 +4,8 @@ ghost use Rattle.wp_batch.specs.Changes.{HasChanged};
 /// How many batches a batching has at most.
 const MOST_BATCHES: usize = 64;
 
-/// In which round each batch changed last, while all pairs of batches are gone through again and again. Before the first round
-/// all have.
+/// In which round each batch changed last, while all pairs of batches are gone through again and again. Before the
+/// first round all have.
 #[derive(Clone, Copy)]
 pub struct Changes {
     round: u32,

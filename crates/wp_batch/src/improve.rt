@@ -5,7 +5,7 @@ ghost use Rattle.wp_batch.specs.Splits.{CanReplace, DividesInto, IsDivided, IsFi
 
 use crate::changes::Changes;
 use crate::instance::Instance;
-use crate::moves::{Pair, best_move};
+use crate::moves::{BatchPair, best_move};
 use crate::seen::SeenLengths;
 use crate::split::{Split, replace, split_of};
 use wp_pairs::Batch;
@@ -33,7 +33,8 @@ struct Halves {
 
 // The least order of the rest goes to one side.
 fn moved(halves: Halves, to_left: bool) -> Halves
-    ensures { (union : List ℕ) → DividesInto union halves.left halves.right halves.rest → DividesInto union result.left result.right result.rest }
+    ensures { (union : List ℕ) → DividesInto union halves.left halves.right halves.rest
+        → DividesInto union result.left result.right result.rest }
 {
     match halves.rest.least() {
         Some(order) if order < 64 => placed(halves, order, to_left),
@@ -45,7 +46,8 @@ fn moved(halves: Halves, to_left: bool) -> Halves
 fn placed(halves: Halves, order: u32, to_left: bool) -> Halves
     requires known { order < 64 }
     requires rest { Contains halves.rest order }
-    ensures { (union : List ℕ) → DividesInto union halves.left halves.right halves.rest → DividesInto union result.left result.right result.rest }
+    ensures { (union : List ℕ) → DividesInto union halves.left halves.right halves.rest
+        → DividesInto union result.left result.right result.rest }
 {
     let rest = halves.rest.without(order);
     if to_left {
@@ -103,7 +105,8 @@ fn costing_less(instance: &Instance<'_>, union: Batch, split: Split, least: u64)
     requires known { All (λ order. order < length instance.now.wave.now.orders) union }
     requires split { IsSplit instance.now.wave.now instance.now.capacity union split }
     ensures split { IfSome result (IsSplit instance.now.wave.now instance.now.capacity union) }
-    ensures total { IfSome result (λ split. IsCost instance.now.wave.now (split.left ∷ split.right ∷ []) split.total) }
+    ensures total { IfSome result (λ split. IsCost instance.now.wave.now
+        (split.left ∷ split.right ∷ []) split.total) }
     ensures less { IfSome result (λ split. split.total < least) }
 {
     let total = instance
@@ -124,7 +127,8 @@ fn costing_less(instance: &Instance<'_>, union: Batch, split: Split, least: u64)
 fn lesser_split(instance: &Instance<'_>, union: Batch, choice: u32, least: u64) -> Option<Split>
     requires { All (λ order. order < length instance.now.wave.now.orders) union }
     ensures split { IfSome result (IsSplit instance.now.wave.now instance.now.capacity union) }
-    ensures total { IfSome result (λ split. IsCost instance.now.wave.now (split.left ∷ split.right ∷ []) split.total) }
+    ensures total { IfSome result (λ split. IsCost instance.now.wave.now
+        (split.left ∷ split.right ∷ []) split.total) }
     ensures less { IfSome result (λ split. split.total < least) }
 {
     let split = fitting_split(instance, union, choice)?;
@@ -143,7 +147,8 @@ fn count_choices(orders: u32) -> u32 {
 fn best_split(instance: &Instance<'_>, union: Batch, most: u64) -> Option<Split>
     requires { All (λ order. order < length instance.now.wave.now.orders) union }
     ensures split { IfSome result (IsSplit instance.now.wave.now instance.now.capacity union) }
-    ensures total { IfSome result (λ split. IsCost instance.now.wave.now (split.left ∷ split.right ∷ []) split.total) }
+    ensures total { IfSome result (λ split. IsCost instance.now.wave.now
+        (split.left ∷ split.right ∷ []) split.total) }
     ensures less { IfSome result (λ split. split.total < most) }
 {
     let mut least = most;
@@ -157,12 +162,14 @@ fn best_split(instance: &Instance<'_>, union: Batch, most: u64) -> Option<Split>
     best
 }
 
-// The orders of two batches put into two anew, if that costs less than this: the cheapest division of all where they have at most
-// ten orders together, or else that to which the cheapest move leads.
-fn cheaper_split(improver: &mut Improver<'_>, pair: &Pair<'_>, most: u64) -> Option<Split>
+// The orders of two batches put into two anew, if that costs less than this: the cheapest division of all where they
+// have at most ten orders together, or else that to which the cheapest move leads.
+fn cheaper_split(improver: &mut Improver<'_>, pair: &BatchPair<'_>, most: u64) -> Option<Split>
     requires { All (λ order. order < length pair.now.instance.wave.now.orders) pair.now.union }
-    ensures split { IfSome result (IsSplit pair.now.instance.wave.now pair.now.instance.capacity pair.now.union) }
-    ensures total { IfSome result (λ split. IsCost pair.now.instance.wave.now (split.left ∷ split.right ∷ []) split.total) }
+    ensures split { IfSome result (IsSplit pair.now.instance.wave.now pair.now.instance.capacity
+        pair.now.union) }
+    ensures total { IfSome result (λ split. IsCost pair.now.instance.wave.now
+        (split.left ∷ split.right ∷ []) split.total) }
     ensures less { IfSome result (λ split. split.total < most) }
 {
     if pair.union.len() <= MOST_IN_TWO {
@@ -199,7 +206,7 @@ fn improve_pair(
         .wave
         .batch_length(one)
         .saturating_add(instance.wave.batch_length(other));
-    let pair = Pair {
+    let pair = BatchPair {
         instance: *instance,
         union: one.union(other),
         left: one,
@@ -248,9 +255,9 @@ fn improve_once(improver: &mut Improver<'_>, instance: &Instance<'_>, batches: &
     }
 }
 
-/// Puts the orders of two batches into two anew as long as that costs less, for all pairs, 16 times at most. Where two have at
-/// most ten orders together, all divisions of these are tried; or else one order goes to the other batch, two change places, or
-/// two of one batch and one of the other do.
+/// Puts the orders of two batches into two anew as long as that costs less, for all pairs, 16 times at most. Where two
+/// have at most ten orders together, all divisions of these are tried; or else one order goes to the other batch, two
+/// change places, or two of one batch and one of the other do.
 pub fn improve(seen: SeenLengths<'_>, instance: &Instance<'_>, batches: &mut Vec<Batch>)
     requires batching { IsBatching instance.now.wave.now instance.now.capacity batches.old.items }
     ensures batching { IsBatching instance.now.wave.now instance.now.capacity batches.new.items }

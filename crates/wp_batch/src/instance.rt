@@ -5,8 +5,8 @@ ghost use Rattle.wp_batch.specs.Splits.{IsFit};
 use wp_lengths::Wave;
 use wp_pairs::Batch;
 
-/// What is to be put into batches: the orders of a wave, so many to a batch at most, 1 to 8, and no more than fits the wave's
-/// cart, if it has one.
+/// What is to be put into batches: the orders of a wave, so many to a batch at most, 1 to 8, and no more than fits the
+/// wave's cart, if it has one.
 #[derive(Clone, Copy)]
 pub struct Instance<'a> {
     pub wave: &'a Wave,

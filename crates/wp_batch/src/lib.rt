@@ -1,5 +1,5 @@
-//! The start of a plan: a first way to put a wave's orders into batches, by merging and moves that are drawn, and the moves and
-//! joins that save in any batching. What a wave, its batches and their lengths are stands in `wp_lengths`.
+//! The start of a plan: a first way to put a wave's orders into batches, by merging and moves that are drawn, and the
+//! moves and joins that save in any batching. What a wave, its batches and their lengths are stands in `wp_lengths`.
 #![tactic(auto)]
 
 mod changes;

@@ -16,7 +16,8 @@ fn begins_with(batch: Batch, order: u32) -> bool
 
 // The place of the batch with this least order.
 fn place_of(batches: &[Batch], order: u32) -> Option<usize>
-    ensures none { IfNone result ((place : ℕ) → place < length batches.now → slice_get (batch_at batches.now place) 0 ≢ Some order) }
+    ensures none { IfNone result ((place : ℕ) → place < length batches.now
+        → slice_get (batch_at batches.now place) 0 ≢ Some order) }
     ensures within { IfSome result (λ place. place < length batches.now) }
     ensures least { IfSome result (λ place. slice_get (batch_at batches.now place) 0 ≡ Some order) }
 {
@@ -35,10 +36,12 @@ pub fn listed(
     batches: &[Batch],
 ) -> Result<Vec<Batch>, Memory>
     requires batching { IsBatching instance.now.wave.now instance.now.capacity batches.now }
-    ensures batching { IfOk result (λ listed. IsBatching instance.now.wave.now instance.now.capacity listed.items) }
+    ensures batching { IfOk result (λ listed.
+        IsBatching instance.now.wave.now instance.now.capacity listed.items) }
     ensures listed { IfOk result (λ listed. IsListedByLeast listed.items) }
     ensures few { IfOk result (λ listed. length listed.items ≤ 64) }
-    ensures no_dearer { IfOk result (λ listed. CostNoMore instance.now.wave.now batches.now listed.items) }
+    ensures no_dearer { IfOk result (λ listed.
+        CostNoMore instance.now.wave.now batches.now listed.items) }
 {
     let mut listed = Vec::new(alloc);
     for order in 0..instance.wave.orders() {

@@ -1,7 +1,9 @@
 ghost use Rattle.std.specs.Prelude.{◌≡◌, ◌+◌, ◌≤◌, ◌<◌, ◌^◌, ◌⊎◌, All, IfNone, IfOk, IfSome, length, vec_len, ℕ};
-ghost use Rattle.wp_batch.specs.Joins.{AreKnown, CanJoin, CostNoMore, FitInOne, IsBestBelow, IsBestWith, JoinSaves, NoJoinGains, SavesAtMost};
+ghost use Rattle.wp_batch.specs.Joins.{AreKnown, CanJoin, CostNoMore, FitInOne, IsBestBelow, IsBestWith, JoinSaves};
+ghost use Rattle.wp_batch.specs.Joins.{NoJoinGains, SavesAtMost};
 ghost use Rattle.wp_lengths.specs.Batchings.{IsBatching, IsListedByLeast};
-ghost use Rattle.wp_batch.specs.Savings.{AreAlone, AreMerged, CostNoMoreThanSavings, IsBySavings, IsGreatestJoin, IsJoined};
+ghost use Rattle.wp_batch.specs.Savings.{AreAlone, AreMerged, CostNoMoreThanSavings, IsBySavings, IsGreatestJoin};
+ghost use Rattle.wp_batch.specs.Savings.{IsJoined};
 
 use crate::improve::improve;
 use crate::instance::Instance;
@@ -64,7 +66,8 @@ fn better_of(first: Join, second: Join) -> Join
 fn best_with(instance: &Instance<'_>, batches: &[Batch], right: usize) -> Join
     requires known { AreKnown instance.now.wave.now batches.now }
     requires within { right < length batches.now }
-    ensures { IsBestWith instance.now.wave.now instance.now.capacity batches.now right right result }
+    ensures { IsBestWith instance.now.wave.now instance.now.capacity batches.now right right
+        result }
 {
     let mut best = Join {
         left: 0,
@@ -88,8 +91,10 @@ fn best_with(instance: &Instance<'_>, batches: &[Batch], right: usize) -> Join
 // The join of two batches that saves most. None comes exactly where no two gain by joining.
 fn best_join(instance: &Instance<'_>, batches: &[Batch]) -> Option<Join>
     requires { AreKnown instance.now.wave.now batches.now }
-    ensures none { IfNone result (NoJoinGains instance.now.wave.now instance.now.capacity batches.now) }
-    ensures some { IfSome result (IsGreatestJoin instance.now.wave.now instance.now.capacity batches.now) }
+    ensures none { IfNone result (NoJoinGains instance.now.wave.now instance.now.capacity
+        batches.now) }
+    ensures some { IfSome result (IsGreatestJoin instance.now.wave.now instance.now.capacity
+        batches.now) }
 {
     let mut best = Join {
         left: 0,
@@ -129,7 +134,8 @@ pub fn merge(instance: &Instance<'_>, batches: &mut Vec<Batch>)
     ensures listed { IsListedByLeast batches.new.items }
     ensures joined { NoJoinGains instance.now.wave.now instance.now.capacity batches.new.items }
     ensures fewer { vec_len batches.new ≤ vec_len batches.old }
-    ensures merged { AreMerged instance.now.wave.now instance.now.capacity batches.old.items batches.new.items }
+    ensures merged { AreMerged instance.now.wave.now instance.now.capacity batches.old.items
+        batches.new.items }
     ensures no_dearer { CostNoMore instance.now.wave.now batches.old.items batches.new.items }
 {
     while let Some(join) = best_join(instance, batches.as_slice()) {
@@ -140,10 +146,12 @@ pub fn merge(instance: &Instance<'_>, batches: &mut Vec<Batch>)
 // Each order by itself.
 fn singles(alloc: Global, instance: &Instance<'_>) -> Result<Vec<Batch>, Memory>
     requires { 1 ≤ instance.now.capacity }
-    ensures batching { IfOk result (λ batches. IsBatching instance.now.wave.now instance.now.capacity batches.items) }
+    ensures batching { IfOk result (λ batches.
+        IsBatching instance.now.wave.now instance.now.capacity batches.items) }
     ensures listed { IfOk result (λ batches. IsListedByLeast batches.items) }
     ensures count { IfOk result (λ batches. vec_len batches ≡ length instance.now.wave.now.orders) }
-    ensures alone { IfOk result (λ batches. AreAlone (length instance.now.wave.now.orders) batches.items) }
+    ensures alone { IfOk result (λ batches. AreAlone
+        (length instance.now.wave.now.orders) batches.items) }
 {
     let mut batches = Vec::new(alloc);
     for order in 0..instance.wave.orders() {
@@ -152,8 +160,8 @@ fn singles(alloc: Global, instance: &Instance<'_>) -> Result<Vec<Batch>, Memory>
     Ok(batches)
 }
 
-/// A batching of a wave that costs no more than another one, in which no two batches that fit into one cost less as one: as
-/// long as some join saves, the join of the greatest saving is made. Batches are listed by their least orders.
+/// A batching of a wave that costs no more than another one, in which no two batches that fit into one cost less as
+/// one: as long as some join saves, the join of the greatest saving is made. Batches are listed by their least orders.
 pub fn joined(
     alloc: Global,
     wave: &Wave,
@@ -174,22 +182,25 @@ pub fn joined(
     Ok(Batching::of(start))
 }
 
-// The batching by savings: orders that begin alone are joined by the greatest saving, as long as some join saves (Clarke and
-// Wright, 1964).
+// The batching by savings: orders that begin alone are joined by the greatest saving, as long as some join saves
+// (Clarke and Wright, 1964).
 fn savings(alloc: Global, instance: &Instance<'_>) -> Result<Vec<Batch>, Memory>
     requires { 1 ≤ instance.now.capacity }
-    ensures batching { IfOk result (λ batches. IsBatching instance.now.wave.now instance.now.capacity batches.items) }
-    ensures savings { IfOk result (λ batches. IsBySavings instance.now.wave.now instance.now.capacity batches.items) }
+    ensures batching { IfOk result (λ batches.
+        IsBatching instance.now.wave.now instance.now.capacity batches.items) }
+    ensures savings { IfOk result (λ batches.
+        IsBySavings instance.now.wave.now instance.now.capacity batches.items) }
 {
     let mut batches = singles(alloc, instance)?;
     merge(instance, &mut batches);
     Ok(batches)
 }
 
-/// A batching of a wave's orders with at most so many in each batch, 1 to 8, in which no two batches that fit into one cost
-/// less as one. Batches are listed by their least orders. It costs no more than a batching by savings, in which orders that
-/// begin alone are joined by the greatest saving, as long as some join saves (Clarke and Wright, 1964). From there moves between two batches are drawn in one round, in the same way on
-/// every call, and the cheapest batching that they come past is improved by moves and joins that save.
+/// A batching of a wave's orders with at most so many in each batch, 1 to 8, in which no two batches that fit into one
+/// cost less as one. Batches are listed by their least orders. It costs no more than a batching by savings, in which
+/// orders that begin alone are joined by the greatest saving, as long as some join saves (Clarke and Wright, 1964).
+/// From there moves between two batches are drawn in one round, in the same way on every call, and the cheapest
+/// batching that they come past is improved by moves and joins that save.
 pub fn merged_start(alloc: Global, wave: &Wave, capacity: u32) -> Result<Batching, Memory>
     requires some { 1 ≤ capacity }
     requires most { capacity ≤ 8 }
@@ -201,8 +212,8 @@ pub fn merged_start(alloc: Global, wave: &Wave, capacity: u32) -> Result<Batchin
     start_after(alloc, wave, capacity, 1)
 }
 
-/// The batching of a wave to which batches of a batching lead by moves between two of them, and joins, that save: it costs no
-/// more than they do. Batches are listed by their least orders, and no two that fit into one cost less as one.
+/// The batching of a wave to which batches of a batching lead by moves between two of them, and joins, that save: it
+/// costs no more than they do. Batches are listed by their least orders, and no two that fit into one cost less as one.
 pub fn improved(
     alloc: Global,
     wave: &Wave,

@@ -11,7 +11,7 @@ const MOST_IN_BATCH: u32 = 8;
 
 /// Two batches between which orders are moved, the orders of both, and what is to be put into batches.
 #[derive(Clone, Copy)]
-pub struct Pair<'a> {
+pub struct BatchPair<'a> {
     pub instance: Instance<'a>,
     pub union: Batch,
     pub left: Batch,
@@ -67,7 +67,7 @@ pub fn least_and_rest(batch: Batch) -> Option<(u32, Batch)>
 }
 
 // The cheaper of a division and of two sides, where these are one.
-fn cheaper(seen: &mut SeenLengths<'_>, pair: &Pair<'_>, best: Split, sides: &Sides) -> Split
+fn cheaper(seen: &mut SeenLengths<'_>, pair: &BatchPair<'_>, best: Split, sides: &Sides) -> Split
     requires { IsSplit pair.now.instance.wave.now pair.now.instance.capacity pair.now.union best }
     ensures { IsSplit pair.now.instance.wave.now pair.now.instance.capacity pair.now.union result }
 {
@@ -92,7 +92,7 @@ fn cheaper(seen: &mut SeenLengths<'_>, pair: &Pair<'_>, best: Split, sides: &Sid
 // The cheapest of a division and of those in which one more of some orders goes to the right.
 fn best_giving(
     seen: &mut SeenLengths<'_>,
-    pair: &Pair<'_>,
+    pair: &BatchPair<'_>,
     best: Split,
     sides: &Sides,
     orders: Batch,
@@ -112,11 +112,11 @@ fn best_giving(
     best
 }
 
-// The cheapest of a division and of those in which an order of the right goes to the left, alone or with a second one of what is
-// left of either side.
+// The cheapest of a division and of those in which an order of the right goes to the left, alone or with a second one
+// of what is left of either side.
 fn best_taking(
     seen: &mut SeenLengths<'_>,
-    pair: &Pair<'_>,
+    pair: &BatchPair<'_>,
     best: Split,
     sides: &Sides,
     left: Batch,
@@ -140,7 +140,12 @@ fn best_taking(
 }
 
 // The cheapest of a division and of those in which an order of the left goes to the right, alone or against others.
-fn best_exchange(seen: &mut SeenLengths<'_>, pair: &Pair<'_>, best: Split, sides: &Sides) -> Split
+fn best_exchange(
+    seen: &mut SeenLengths<'_>,
+    pair: &BatchPair<'_>,
+    best: Split,
+    sides: &Sides,
+) -> Split
     requires { IsSplit pair.now.instance.wave.now pair.now.instance.capacity pair.now.union best }
     ensures { IsSplit pair.now.instance.wave.now pair.now.instance.capacity pair.now.union result }
 {
@@ -158,9 +163,9 @@ fn best_exchange(seen: &mut SeenLengths<'_>, pair: &Pair<'_>, best: Split, sides
     best
 }
 
-/// The cheapest of a division of two batches' orders and of those to which a move leads: one order goes to the other batch, two
-/// change places, or two of one batch and one of the other do.
-pub fn best_move(seen: &mut SeenLengths<'_>, pair: &Pair<'_>, best: Split) -> Split
+/// The cheapest of a division of two batches' orders and of those to which a move leads: one order goes to the other
+/// batch, two change places, or two of one batch and one of the other do.
+pub fn best_move(seen: &mut SeenLengths<'_>, pair: &BatchPair<'_>, best: Split) -> Split
     requires { IsSplit pair.now.instance.wave.now pair.now.instance.capacity pair.now.union best }
     ensures { IsSplit pair.now.instance.wave.now pair.now.instance.capacity pair.now.union result }
 {

@@ -9,11 +9,12 @@ use wp_pairs::Batch;
 /// How many orders lie near an order, at most.
 const MOST_NEAR: u32 = 24;
 
-/// How many sixteenths of the mean length the tour of an order counts more, where it is asked how much of it another one saves.
+/// How many sixteenths of the mean length the tour of an order counts more, where it is asked how much of it another
+/// one saves.
 const GROUND: u64 = 9;
 
-/// What one order has to do with another: how much longer a tour past both is than one past the first alone, and which orders
-/// save most of their tours beside it.
+/// What one order has to do with another: how much longer a tour past both is than one past the first alone, and which
+/// orders save most of their tours beside it.
 #[derive(Drop)]
 pub struct Nearness {
     orders: u32,
@@ -68,7 +69,8 @@ fn mean_of(seen: &mut SeenLengths<'_>, orders: u32) -> u64 {
     sum / u64::from(orders.max(1))
 }
 
-// How much of an order's tour is not saved beside another one, in parts of 1,000, where the tour counts for so much more.
+// How much of an order's tour is not saved beside another one, in parts of 1,000, where the tour counts for so much
+// more.
 fn left_over(seen: &mut SeenLengths<'_>, more: u64, added: u64, second: u32) -> u64
     requires { second < 64 }
 {

@@ -12,9 +12,9 @@ const MOST_SEEN: u64 = 65_536;
 /// What a batch counts for that has orders of no wave: more than any tour is long.
 const NO_LENGTH: u64 = 1 << 40;
 
-/// The lengths of a wave's batches, and a table of those that were asked for. A batch has one entry there that it may lie in,
-/// and of the batches that share an entry the last one lies in it. What is told decides which moves are tried, and no promise
-/// rests on it.
+/// The lengths of a wave's batches, and a table of those that were asked for. A batch has one entry there that it may
+/// lie in, and of the batches that share an entry the last one lies in it. What is told decides which moves are tried,
+/// and no promise rests on it.
 #[derive(Drop)]
 pub struct SeenLengths<'a> {
     wave: &'a Wave,
@@ -39,7 +39,8 @@ fn is_below(orders: u32, batch: Batch) -> bool
 
 /// The length of a batch whose orders are of the wave. Of another batch nothing is promised.
 pub fn length_within(wave: &Wave, batch: Batch) -> u64
-    ensures { All (λ order. order < length wave.now.orders) batch → IsLengthOf wave.now batch result }
+    ensures { All (λ order. order < length wave.now.orders) batch
+        → IsLengthOf wave.now batch result }
 {
     if is_below(wave.orders(), batch) {
         wave.batch_length(batch)

@@ -39,10 +39,12 @@ pub fn replace(
     split: Split,
 )
     requires batching { IsBatching instance.now.wave.now instance.now.capacity batches.old.items }
-    requires split { CanReplace instance.now.wave.now instance.now.capacity batches.old.items left right split }
+    requires split { CanReplace instance.now.wave.now instance.now.capacity batches.old.items left
+        right split }
     ensures batching { IsBatching instance.now.wave.now instance.now.capacity batches.new.items }
     ensures count { length batches.new.items ≡ length batches.old.items }
-    ensures items { batches.new.items ≡ set (set batches.old.items left split.left) right split.right }
+    ensures items { batches.new.items ≡ set (set batches.old.items left split.left) right
+        split.right }
 {
     batches[left] = split.left;
     batches[right] = split.right;

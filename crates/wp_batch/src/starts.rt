@@ -22,8 +22,8 @@ const STAGES: u32 = 32;
 /// How many moves are drawn in a stage for each order.
 const MOVES: u32 = 100;
 
-/// Which part of the mean length of the orders' tours the heat is in the first stage of a round: the mean of what a move may
-/// cost more.
+/// Which part of the mean length of the orders' tours the heat is in the first stage of a round: the mean of what a
+/// move may cost more.
 const HEAT_PART: u64 = 18;
 
 /// In how many steps the heat falls to nothing in the last stages of a round.
@@ -73,8 +73,9 @@ fn lengths_alone(alloc: Global, wave: &Wave) -> Result<Vec<u64>, Memory> {
     Ok(lengths)
 }
 
-// What no batching costs less than. A batch is no shorter than the tour of any of its orders. So the batches are together no shorter
-// than the longest tour of one order, the longest of those that are left where a batch has as many as it may, and so on.
+// What no batching costs less than. A batch is no shorter than the tour of any of its orders. So the batches are
+// together no shorter than the longest tour of one order, the longest of those that are left where a batch has as many
+// as it may, and so on.
 fn cost_at_least(alloc: Global, instance: &Instance<'_>) -> Result<u64, Memory> {
     let lengths = lengths_alone(alloc, instance.wave)?;
     let mut sum: u64 = 0;
@@ -86,7 +87,8 @@ fn cost_at_least(alloc: Global, instance: &Instance<'_>) -> Result<u64, Memory> 
     Ok(sum)
 }
 
-// After how many rounds in vain, one after the other, no further one is walked: the more, the more orders a batch may have.
+// After how many rounds in vain, one after the other, no further one is walked: the more, the more orders a batch may
+// have.
 fn most_in_vain(instance: &Instance<'_>) -> u32 {
     instance.capacity.saturating_add(1)
 }
@@ -98,7 +100,8 @@ fn joined_again(
     batches: &[Batch],
 ) -> Result<Vec<Batch>, Memory>
     requires { IsBatching instance.now.wave.now instance.now.capacity batches.now }
-    ensures { IfOk result (λ again. IsBatching instance.now.wave.now instance.now.capacity again.items) }
+    ensures { IfOk result (λ again. IsBatching instance.now.wave.now instance.now.capacity
+        again.items) }
 {
     let mut again = listed(alloc, instance, batches)?;
     merge(instance, &mut again);
@@ -132,7 +135,8 @@ fn best_of_round(
     batches: &[Batch],
 ) -> Result<Vec<Batch>, Memory>
     requires { IsBatching instance.now.wave.now instance.now.capacity batches.now }
-    ensures { IfOk result (λ best. IsBatching instance.now.wave.now instance.now.capacity best.items) }
+    ensures { IfOk result (λ best. IsBatching instance.now.wave.now instance.now.capacity
+        best.items) }
 {
     let mut best = Vec::from_slice(alloc, batches)?;
     let mut at = Vec::from_slice(alloc, batches)?;
@@ -148,10 +152,10 @@ fn best_of_round(
     Ok(best)
 }
 
-/// The cheapest of some batches and of those that a walk comes past, in so many rounds: simulated annealing (Kirkpatrick, Gelatt
-/// and Vecchi, 1983), each round from the best so far on. No further one is walked after one round in vain more, in a row, than a batch
-/// may have orders. The batches stay where none is cheaper, and no round is walked where the lengths of single orders show that. The
-/// draws are the same on every call.
+/// The cheapest of some batches and of those that a walk comes past, in so many rounds: simulated annealing
+/// (Kirkpatrick, Gelatt and Vecchi, 1983), each round from the best so far on. No further one is walked after one round
+/// in vain more, in a row, than a batch may have orders. The batches stay where none is cheaper, and no round is walked
+/// where the lengths of single orders show that. The draws are the same on every call.
 pub fn best_of_walks(
     alloc: Global,
     instance: &Instance<'_>,
@@ -159,9 +163,12 @@ pub fn best_of_walks(
     batches: &[Batch],
 ) -> Result<Vec<Batch>, Memory>
     requires batching { IsBatching instance.now.wave.now instance.now.capacity batches.now }
-    ensures batching { IfOk result (λ best. IsBatching instance.now.wave.now instance.now.capacity best.items) }
-    ensures kept { IfOk result (λ best. (best.items ≡ batches.now) ⊎ CostLess instance.now.wave.now batches.now best.items) }
-    ensures no_dearer { IfOk result (λ best. CostNoMore instance.now.wave.now batches.now best.items) }
+    ensures batching { IfOk result (λ best. IsBatching instance.now.wave.now instance.now.capacity
+        best.items) }
+    ensures kept { IfOk result (λ best. (best.items ≡ batches.now)
+        ⊎ CostLess instance.now.wave.now batches.now best.items) }
+    ensures no_dearer { IfOk result (λ best.
+        CostNoMore instance.now.wave.now batches.now best.items) }
 {
     let mut best = Vec::from_slice(alloc, batches)?;
     let mut least = cost_of(instance.wave, best.as_slice());

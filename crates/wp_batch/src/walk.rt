@@ -16,8 +16,8 @@ use wp_pairs::Batch;
 /// How much of what single orders tell a move is held to add, in parts of 100.
 const HELD_TO_ADD: u64 = 85;
 
-/// By how much a move may cost more: one of these, drawn, in thousandths of the heat. They are the middles of 64 equal parts of
-/// an exponential distribution, -ln((k + 1/2) / 64).
+/// By how much a move may cost more: one of these, drawn, in thousandths of the heat. They are the middles of 64 equal
+/// parts of an exponential distribution, -ln((k + 1/2) / 64).
 const ALLOWANCES: [u64; 64] = [
     4852, 3753, 3243, 2906, 2655, 2454, 2287, 2144, 2019, 1908, 1808, 1717, 1633, 1556, 1485, 1418,
     1356, 1297, 1241, 1188, 1138, 1091, 1045, 1002, 960, 920, 882, 845, 809, 774, 741, 709, 678,
@@ -25,8 +25,8 @@ const ALLOWANCES: [u64; 64] = [
     198, 179, 161, 143, 125, 107, 90, 73, 56, 40, 24, 8,
 ];
 
-/// A walk from batching to batching by moves: the batching where it is, and the cheapest that it came past, each with what it
-/// costs by the lengths that were seen.
+/// A walk from batching to batching by moves: the batching where it is, and the cheapest that it came past, each with
+/// what it costs by the lengths that were seen.
 #[derive(Drop)]
 pub struct Walk {
     pub batches: Vec<Batch>,
@@ -35,7 +35,8 @@ pub struct Walk {
     pub least: u64,
 }
 
-/// What moves are drawn and weighed with: lengths, what orders have to do with each other, draws, and where orders were found last.
+/// What moves are drawn and weighed with: lengths, what orders have to do with each other, draws, and where orders were
+/// found last.
 #[derive(Drop)]
 pub struct Mover<'a> {
     pub seen: SeenLengths<'a>,
@@ -44,7 +45,8 @@ pub struct Mover<'a> {
     pub found: LastPlaces,
 }
 
-/// A move between the batches at two places: an order of the first goes to the second, and one of the second goes back, or none.
+/// A move between the batches at two places: an order of the first goes to the second, and one of the second goes back,
+/// or none.
 #[derive(Clone, Copy)]
 struct Move {
     first: usize,
@@ -187,8 +189,8 @@ impl Mover<'_> {
         })
     }
 
-    // What the two batches of a move cost after it, if that is no more than a limit. Where single orders tell that it would be
-    // more, no length is asked for.
+    // What the two batches of a move cost after it, if that is no more than a limit. Where single orders tell that it
+    // would be more, no length is asked for.
     fn cost_within(&mut self, drawn: &Move, limit: u64) -> Option<u64> {
         let kept = self.seen.length_of(drawn.kept);
         let least = self.seen.length_of(drawn.fewer).saturating_add(kept);

@@ -37,7 +37,7 @@ fn is_added(pool: &mut Pool, pairs: &Pairs, batch: Batch, long: u64) -> bool {
 }
 
 /// The pool of all permitted batches of a wave of up to eight orders, each with its length.
-fn whole_pool(alloc: Global, wave: &Wave, pairs: &Pairs) -> Option<Pool> {
+pub fn whole_pool(alloc: Global, wave: &Wave, pairs: &Pairs) -> Option<Pool> {
     let mut pool = Pool::new(alloc, wave.orders()).ok()?;
     for word in 1..256 {
         let batch = batch_in(word);
@@ -53,13 +53,13 @@ fn whole_pool(alloc: Global, wave: &Wave, pairs: &Pairs) -> Option<Pool> {
 
 /// The least cost of weights that cover each order, over a denominator.
 #[derive(Clone, Copy)]
-struct Optimum {
+pub struct Optimum {
     cost: i128,
     denominator: i128,
 }
 
 /// What the weights of a pool's solution come to, each times its length: no weights that cover the orders come to less.
-fn optimum_of(alloc: Global, pool: &Pool) -> Option<Optimum> {
+pub fn optimum_of(alloc: Global, pool: &Pool) -> Option<Optimum> {
     let pair = solve(alloc, pool, 100_000).ok()?;
     let mut cost: i128 = 0;
     for (place, weight) in pair.weights.iter().enumerate() {
@@ -76,7 +76,7 @@ fn optimum_of(alloc: Global, pool: &Pool) -> Option<Optimum> {
 }
 
 /// Whether a bracket lies around an optimum.
-fn is_around(root: &Root, optimum: Optimum) -> Option<bool> {
+pub fn is_around(root: &Root, optimum: Optimum) -> Option<bool> {
     let low = root.low.checked_mul(optimum.denominator)?;
     let high = root.high.checked_mul(optimum.denominator)?;
     let cost = optimum.cost.checked_mul(root.denominator)?;
@@ -84,7 +84,7 @@ fn is_around(root: &Root, optimum: Optimum) -> Option<bool> {
 }
 
 /// Whether no permitted batch of a wave of up to eight orders has too much in duals.
-fn are_feasible(wave: &Wave, pairs: &Pairs, root: &Root) -> bool {
+pub fn are_feasible(wave: &Wave, pairs: &Pairs, root: &Root) -> bool {
     for word in 1..256 {
         let batch = batch_in(word);
         if pairs.permits(batch) && !is_within(wave, pairs, root, batch) {

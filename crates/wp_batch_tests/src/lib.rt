@@ -45,6 +45,8 @@ mod master;
 #[cfg(test)]
 mod meetings;
 #[cfg(test)]
+mod open_brackets;
+#[cfg(test)]
 mod pairs;
 #[cfg(test)]
 mod places;

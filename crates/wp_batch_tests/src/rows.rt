@@ -72,8 +72,6 @@ const NARROW: RootState = RootState::Narrow;
 
 const NONE_MADE: RootState = RootState::Rounds { made: 0 };
 
-const ONE_MADE: RootState = RootState::Rounds { made: 1 };
-
 /// What is asked, the state, and a length that is the linear bound.
 const ROWS: &[(Asked, RootState, i128)] = &[
     (THREE, NARROW, 51),
@@ -81,7 +79,7 @@ const ROWS: &[(Asked, RootState, i128)] = &[
     (ONE, NARROW, 34),
     (MANY, NARROW, 2176),
     (NO_ROUND, NONE_MADE, 51),
-    (ONE_ROUND, ONE_MADE, 51),
+    (ONE_ROUND, NARROW, 51),
 ];
 
 /// The bracket of a wave, with a capacity of 1 to 8 and 1 to 16 workers.

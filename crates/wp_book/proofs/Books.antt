@@ -12,14 +12,14 @@ use Rattle.wp_model.specs.declared.row.Hold.{Hold}
 use Rattle.wp_model.specs.declared.row.Row.{Row}
 use Rattle.wp_book.specs.Calls.{CanHold, HasHeld, HoldsNone}
 use Rattle.wp_book.specs.Chains.{all_units, chain_units, node_units}
-use Rattle.wp_book.specs.Kept.{IsKept, book_of, chain_count}
+use Rattle.wp_book.specs.Kept.{AreChained, book_of, chain_count}
 use Rattle.wp_book.specs.declared.room.KeptHolds.{KeptHolds}
 use Rattle.wp_book.proofs.HoldSums.{other_wave-for, other_wave-of, same_wave-for, sum_by-within}
 use Rattle.wp_book.proofs.Totals.{IsRow, book_moved, chain_for, chain_most, chain_place, is_for-of, nowhere_else, placed_moved, row_is, total_is, total_moved}
 use Rattle.wp_book.proofs.Totals.{wave_held}
 
 -- the units of a wave's chain are among those of all
-pub chain-le-all : (rows : List Row) (chains : List (List KeptHolds)) (wave : ℕ) (passes : Where) → IsKept rows chains
+pub chain-le-all : (rows : List Row) (chains : List (List KeptHolds)) (wave : ℕ) (passes : Where) → AreChained rows chains
     → chain_units passes (chain_for chains wave) ≤ all_units passes chains
 chain-le-all rows chains wave passes kept = get_or-le-sum_by (chain_units passes) chains (wave % chain_count) [] (omega (arith, kept.count, chain_place wave))
 
@@ -85,12 +85,12 @@ chain_at_row wave row nodes =
     parts false false q = omega arith
 
 -- what a wave holds at a row is within all that is held there
-pub wave_in_row : (rows : List Row) (chains : List (List KeptHolds)) (wave row : ℕ) → IsKept rows chains
+pub wave_in_row : (rows : List Row) (chains : List (List KeptHolds)) (wave row : ℕ) → AreChained rows chains
     → chain_units (is_for_wave wave row) (chain_for chains wave) ≤ all_units (is_at row) chains
 wave_in_row rows chains wave row kept = omega (arith, chain_wave-le-row wave row (chain_for chains wave), chain-le-all rows chains wave (is_at row) kept)
 
 -- a wave holds nothing at a place that is no row
-pub wave_nowhere : (rows : List Row) (chains : List (List KeptHolds)) (wave row : ℕ) → IsKept rows chains → length rows ≤ row
+pub wave_nowhere : (rows : List Row) (chains : List (List KeptHolds)) (wave row : ℕ) → AreChained rows chains → length rows ≤ row
     → chain_units (is_for_wave wave row) (chain_for chains wave) ≡ 0
 wave_nowhere rows chains wave row kept past = omega (arith, wave_in_row rows chains wave row kept, nowhere_else rows chains row kept.book past)
 
@@ -101,7 +101,7 @@ pub record HasUnits (units : ℕ) (r : Row) : Type 0 where
   pub fits : r.free + r.held < 2 ^ 32
 
 -- a row of a book has what a wave holds there among what is held and what is on hand, and its units fit
-pub row_has : (rows : List Row) (chains : List (List KeptHolds)) (wave row : ℕ) (r : Row) → IsKept rows chains → slice_get rows row ≡ Some r
+pub row_has : (rows : List Row) (chains : List (List KeptHolds)) (wave row : ℕ) (r : Row) → AreChained rows chains → slice_get rows row ≡ Some r
     → HasUnits (chain_units (is_for_wave wave row) (chain_for chains wave)) r
 row_has rows chains wave row r kept there =
     let is = row_is rows chains row r kept.book there in
@@ -113,7 +113,7 @@ row_has rows chains wave row r kept there =
     }
 
 -- what an order holds fits
-pub order_fits : (rows : List Row) (chains : List (List KeptHolds)) (wave order row : ℕ) → IsKept rows chains
+pub order_fits : (rows : List Row) (chains : List (List KeptHolds)) (wave order row : ℕ) → AreChained rows chains
     → chain_units (is_for wave order row) (chain_for chains wave) < 2 ^ 32
 order_fits rows chains wave order row kept = elim (cases_lt row (length rows)) [
   | inl within ↦
@@ -125,7 +125,7 @@ order_fits rows chains wave order row kept = elim (cases_lt row (length rows)) [
 
 -- one more call's holds can go into the chain of their wave
 pub record CanAdd (rows : List Row) (chains : List (List KeptHolds)) (wave : ℕ) (node : KeptHolds) : Type 0 where
-  pub kept : IsKept rows chains
+  pub kept : AreChained rows chains
   pub can : CanHold (book_of rows chains) node.holds
   pub own : node.wave ≡ wave
 
@@ -148,7 +148,7 @@ no_units_past rows holds row within past = none holds (λ k h at. All-at (λ (ho
         let here = cond-false (h.row == row) h.quantity 0 (ne_eqb h.row row (λ e. absurd (omega (arith, each 0 h refl)))) in
         omega (arith, sum_by-cons (hold_at row) h hs, here, none hs (λ k g at. each (suc k) g at))
 
-total_added : (rows : List Row) (chains : List (List KeptHolds)) (wave : ℕ) (node : KeptHolds) (passes : Where) → IsKept rows chains
+total_added : (rows : List Row) (chains : List (List KeptHolds)) (wave : ℕ) (node : KeptHolds) (passes : Where) → AreChained rows chains
     → all_units passes (with_node chains wave node) ≡ all_units passes chains + node_units passes node
 total_added rows chains wave node passes kept =
     omega (arith, total_moved rows chains wave (chain_for chains wave ++ node ∷ []) passes kept, sum_by_push (node_units passes) (chain_for chains wave) node)
@@ -164,7 +164,7 @@ hold_row rows chains wave node add k r there is =
 
 -- after one more call's holds the rows and the chains keep a book
 pub hold_keeps : (rows : List Row) (chains : List (List KeptHolds)) (wave : ℕ) (node : KeptHolds) → CanAdd rows chains wave node
-    → IsKept (rows_held rows node.holds) (with_node chains wave node)
+    → AreChained (rows_held rows node.holds) (with_node chains wave node)
 hold_keeps rows chains wave node add = record {
   book = book_moved _ rows chains (with_node chains wave node) add.kept.book (hold_row rows chains wave node add) (λ k past.
       omega (
@@ -233,13 +233,14 @@ chain_of_none wave (node ∷ nodes) none =
     omega (arith, sum_by-cons (node_units (is_of wave)) node nodes, here, rest)
 
 -- a wave that holds nothing has no unit in its chain
-pub holds_none_from : (rows : List Row) (chains : List (List KeptHolds)) (wave : ℕ) → IsKept rows chains → HoldsNone (book_of rows chains) wave
+pub holds_none_from : (rows : List Row) (chains : List (List KeptHolds)) (wave : ℕ) → AreChained rows chains → HoldsNone (book_of rows chains) wave
     → chain_units (is_of wave) (chain_for chains wave) ≡ 0
 holds_none_from rows chains wave kept none =
     chain_of_none wave (chain_for chains wave) (λ o r. sym (wave_held rows chains wave (is_for wave o r) kept (is_for-of wave o r)) ∙ none o r)
 
 -- and a wave that has no unit in its chain holds nothing
-pub holds_none_to : (rows : List Row) (chains : List (List KeptHolds)) (wave : ℕ) → IsKept rows chains → chain_units (is_of wave) (chain_for chains wave) ≡ 0
+pub holds_none_to : (rows : List Row) (chains : List (List KeptHolds)) (wave : ℕ) → AreChained rows chains
+    → chain_units (is_of wave) (chain_for chains wave) ≡ 0
     → HoldsNone (book_of rows chains) wave
 holds_none_to rows chains wave kept none o r =
     let P = is_for wave o r in

@@ -11,7 +11,7 @@ use Rattle.wp_model.specs.State.{opening_row}
 use Rattle.wp_model.specs.declared.row.Row.{Row}
 use Rattle.wp_model.specs.declared.row.StockRow.{StockRow}
 use Rattle.wp_book.specs.Chains.{all_units, chain_units, holdings_in}
-use Rattle.wp_book.specs.Kept.{IsKept, book_of, chain_count}
+use Rattle.wp_book.specs.Kept.{AreChained, book_of, chain_count}
 use Rattle.wp_book.specs.declared.room.KeptHolds.{KeptHolds}
 use Rattle.wp_book.proofs.Totals.{total_is}
 
@@ -53,7 +53,7 @@ known_articles stock rows articles are same count =
     (subst (λ (rows : List Row). All (λ (row : Row). row.article < length stock.articles) rows) (sym same) (known stock are))
 
 -- the rows of a file, with empty chains, are a book
-pub opens : (stock : Stock) → All (IsStockRow stock.articles) stock.rows → IsKept (map opening_row stock.rows) (replicate chain_count [])
+pub opens : (stock : Stock) → All (IsStockRow stock.articles) stock.rows → AreChained (map opening_row stock.rows) (replicate chain_count [])
 opens stock rows = record {
   book = record {
     rows = balanced stock rows;

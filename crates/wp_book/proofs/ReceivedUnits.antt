@@ -6,13 +6,13 @@ use Rattle.wp_model.proofs.Rows.{at_place-other, at_place-same}
 use Rattle.wp_model.specs.Change.{at_place, change_rows, receive_units}
 use Rattle.wp_model.specs.Limits.{most_on_hand}
 use Rattle.wp_model.specs.declared.row.Row.{Row}
-use Rattle.wp_book.specs.Kept.{IsKept}
+use Rattle.wp_book.specs.Kept.{AreChained}
 use Rattle.wp_book.specs.declared.room.KeptHolds.{KeptHolds}
 use Rattle.wp_book.proofs.Totals.{IsRow, book_moved, nowhere_else}
 
 -- a row of a kept book has room for units that come to it
 pub record MayReceive (rows : List Row) (chains : List (List KeptHolds)) (row units : ℕ) : Type 0 where
-  pub kept : IsKept rows chains
+  pub kept : AreChained rows chains
   pub room : IfSome (slice_get rows row) (λ r. r.on_hand + units ≤ most_on_hand)
 
 receive_row : (rows : List Row) (chains : List (List KeptHolds)) (row units : ℕ) → MayReceive rows chains row units
@@ -27,7 +27,7 @@ receive_row rows chains row units may k r there is = elim (cases_eq k row) [
 
 -- after a row has received units the rows and the chains keep a book
 pub receive_keeps : (rows : List Row) (chains : List (List KeptHolds)) (row units : ℕ) → MayReceive rows chains row units
-    → IsKept (change_rows (at_place row (receive_units units)) 0 rows) chains
+    → AreChained (change_rows (at_place row (receive_units units)) 0 rows) chains
 receive_keeps rows chains row units may = record {
   book = book_moved _ rows chains chains may.kept.book (receive_row rows chains row units may) (λ k past. nowhere_else rows chains k may.kept.book past);
   count = may.kept.count;

@@ -8,7 +8,7 @@ use Rattle.wp_model.specs.Change.{change_rows, free_held_units}
 use Rattle.wp_model.specs.declared.row.Row.{Row}
 use Rattle.wp_book.specs.Calls.{HasGivenBack}
 use Rattle.wp_book.specs.Chains.{all_units, chain_units, node_units}
-use Rattle.wp_book.specs.Kept.{IsKept, book_of, chain_count}
+use Rattle.wp_book.specs.Kept.{AreChained, book_of, chain_count}
 use Rattle.wp_book.specs.declared.room.KeptHolds.{KeptHolds}
 use Rattle.wp_book.proofs.Books.{chain_at_row, row_has}
 use Rattle.wp_book.proofs.HoldSums.{freed_same, sum_by-none, sum_by-same, sum_by-within}
@@ -71,7 +71,7 @@ but_same wave w passes nodes other of =
 
 -- the wave's chain after it has given all back
 pub record IsBack (rows : List Row) (chains : List (List KeptHolds)) (wave : ℕ) (new : List KeptHolds) : Type 0 where
-  pub kept : IsKept rows chains
+  pub kept : AreChained rows chains
   pub others : (passes : Where) → chain_units passes new ≡ chain_units (but_of wave passes) (chain_for chains wave)
 
 -- the rows after it
@@ -99,7 +99,7 @@ back_row rows chains wave new back k r there is =
 
 -- after a wave has given all back, the rows and the chains keep a book
 pub back_keeps : (rows : List Row) (chains : List (List KeptHolds)) (wave : ℕ) (new : List KeptHolds) → IsBack rows chains wave new
-    → IsKept (rows_back rows chains wave) (with_chain chains wave new)
+    → AreChained (rows_back rows chains wave) (with_chain chains wave new)
 back_keeps rows chains wave new back = record {
   book = book_moved _ rows chains (with_chain chains wave new) back.kept.book (back_row rows chains wave new back) (λ k past.
       omega (

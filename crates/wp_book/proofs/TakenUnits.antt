@@ -8,7 +8,7 @@ use Rattle.wp_model.specs.Change.{at_place, change_rows, take_units}
 use Rattle.wp_model.specs.declared.row.Row.{Row}
 use Rattle.wp_book.specs.Calls.{HasTaken}
 use Rattle.wp_book.specs.Chains.{all_units, chain_units}
-use Rattle.wp_book.specs.Kept.{IsKept, book_of, chain_count}
+use Rattle.wp_book.specs.Kept.{AreChained, book_of, chain_count}
 use Rattle.wp_book.specs.declared.room.KeptHolds.{KeptHolds}
 use Rattle.wp_book.proofs.ReturnedUnits.{with_chain}
 use Rattle.wp_book.proofs.RowChanges.{change_none}
@@ -17,7 +17,7 @@ use Rattle.wp_book.proofs.Totals.{IsRow, book_moved, chain_for, chain_place, is_
 
 -- the wave's chain after units of it were taken
 pub record IsTaken (rows : List Row) (chains : List (List KeptHolds)) (wave order row units : ℕ) (new : List KeptHolds) : Type 0 where
-  pub kept : IsKept rows chains
+  pub kept : AreChained rows chains
   pub enough : units ≤ chain_units (is_for wave order row) (chain_for chains wave)
   pub taken : (passes : Where) → chain_units passes new + (if passes wave order row then units else 0) ≡ chain_units passes (chain_for chains wave)
 
@@ -37,7 +37,7 @@ units_stopped : (b : Bool) (units : ℕ) → b ≡ false → (if b then units el
 units_stopped b units e = cond-false b units 0 e
 
 -- a row has the units that an order holds there among what is held and what is on hand, and its units fit
-pub row_has_units : (rows : List Row) (chains : List (List KeptHolds)) (wave order row units : ℕ) (r : Row) → IsKept rows chains
+pub row_has_units : (rows : List Row) (chains : List (List KeptHolds)) (wave order row units : ℕ) (r : Row) → AreChained rows chains
     → units ≤ chain_units (is_for wave order row) (chain_for chains wave) → slice_get rows row ≡ Some r → HasUnits units r
 row_has_units rows chains wave order row units r kept enough there =
     let has = row_has rows chains wave row r kept there in
@@ -69,7 +69,7 @@ take_row rows chains wave order row units new take k r there is = elim (cases_eq
 -- after units were taken the rows and the chains keep a book
 pub take_keeps : (rows : List Row) (chains : List (List KeptHolds)) (wave order row units : ℕ) (new : List KeptHolds)
     → IsTaken rows chains wave order row units new
-    → IsKept (rows_taken rows row units) (with_chain chains wave new)
+    → AreChained (rows_taken rows row units) (with_chain chains wave new)
 take_keeps rows chains wave order row units new take = record {
   book = book_moved _ rows chains (with_chain chains wave new) take.kept.book (take_row rows chains wave order row units new take) (λ k past.
       omega (arith, total_taken rows chains wave order row units new (is_at k) take, nowhere_else rows chains k take.kept.book past));

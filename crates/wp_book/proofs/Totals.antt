@@ -14,7 +14,7 @@ use Rattle.wp_model.specs.Sound.{IsBalanced}
 use Rattle.wp_model.specs.declared.row.Hold.{Hold}
 use Rattle.wp_model.specs.declared.row.Row.{Row}
 use Rattle.wp_book.specs.Chains.{all_units, chain_units, holdings_of, node_units}
-use Rattle.wp_book.specs.Kept.{IsKept, book_of, chain_count}
+use Rattle.wp_book.specs.Kept.{AreChained, book_of, chain_count}
 use Rattle.wp_book.specs.declared.room.KeptHolds.{KeptHolds}
 use Rattle.wp_book.proofs.HoldSums.{sum_by-within, sum_by-zeros}
 
@@ -84,25 +84,25 @@ pub chain_place : (wave : ℕ) → wave % chain_count < chain_count
 chain_place wave = omega arith
 
 -- the chain of a wave has all units of all chains that are held for the wave
-pub wave_total : (rows : List Row) (chains : List (List KeptHolds)) (wave : ℕ) (passes : Where) → IsKept rows chains → IsOfWave wave passes
+pub wave_total : (rows : List Row) (chains : List (List KeptHolds)) (wave : ℕ) (passes : Where) → AreChained rows chains → IsOfWave wave passes
     → all_units passes chains ≡ chain_units passes (chain_for chains wave)
 wave_total rows chains wave passes kept of =
     sum_by-one (chain_units passes) chains (wave % chain_count) [] (omega (arith, kept.count, chain_place wave)) (λ k below other.
     omega (arith, chain_most wave passes (get_or chains k []) of, kept.placed k wave (omega (arith, kept.count)) (λ e. other (sym e))))
 
 -- the chain of a wave has all that a book holds for it
-pub wave_held : (rows : List Row) (chains : List (List KeptHolds)) (wave : ℕ) (passes : Where) → IsKept rows chains → IsOfWave wave passes
+pub wave_held : (rows : List Row) (chains : List (List KeptHolds)) (wave : ℕ) (passes : Where) → AreChained rows chains → IsOfWave wave passes
     → held_where passes (book_of rows chains) ≡ chain_units passes (chain_for chains wave)
 wave_held rows chains wave passes kept of = total_is passes rows chains ∙ wave_total rows chains wave passes kept of
 
 -- a chain that is written over changes the units of all chains by its old and its new units
-pub total_moved : (rows : List Row) (chains : List (List KeptHolds)) (wave : ℕ) (new : List KeptHolds) (passes : Where) → IsKept rows chains
+pub total_moved : (rows : List Row) (chains : List (List KeptHolds)) (wave : ℕ) (new : List KeptHolds) (passes : Where) → AreChained rows chains
     → all_units passes (set chains (wave % chain_count) new) + chain_units passes (chain_for chains wave) ≡ all_units passes chains + chain_units passes new
 total_moved rows chains wave new passes kept =
     sum_by-set (chain_units passes) chains (wave % chain_count) new [] (omega (arith, kept.count, chain_place wave))
 
 -- what is held stays in the chain of its wave where the chain that is written over has nothing of other chains' waves
-pub placed_moved : (rows : List Row) (chains : List (List KeptHolds)) (wave : ℕ) (new : List KeptHolds) → IsKept rows chains
+pub placed_moved : (rows : List Row) (chains : List (List KeptHolds)) (wave : ℕ) (new : List KeptHolds) → AreChained rows chains
     → ((other : ℕ) → other % chain_count ≢ wave % chain_count → chain_units (is_of other) new ≡ 0)
     → (i other : ℕ) → i < chain_count → other % chain_count ≢ i → chain_units (is_of other) (get_or (set chains (wave % chain_count) new) i []) ≡ 0
 placed_moved rows chains wave new kept none i other within elsewhere = elim (cases_eq i (wave % chain_count)) [

@@ -14,7 +14,7 @@ abbrev pub book_of : List Row → List (List KeptHolds) → Book
 book_of rows chains = record { rows = rows; holdings = holdings_in chains }
 
 -- a book is kept so: what is held for a wave stands in the chain that its number gives
-pub record IsKept (rows : List Row) (chains : List (List KeptHolds)) : Type 0 where
+pub record AreChained (rows : List Row) (chains : List (List KeptHolds)) : Type 0 where
   pub book : IsBook (book_of rows chains)
   pub count : length chains ≡ chain_count
   pub placed : (i wave : ℕ) → i < chain_count → wave % chain_count ≢ i

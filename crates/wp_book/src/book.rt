@@ -33,11 +33,11 @@ impl Model for StockBook {
 
     ghost Value = { book.Book };
 
-    ghost use Rattle.wp_book.specs.Kept.{IsKept, book_of};
+    ghost use Rattle.wp_book.specs.Kept.{AreChained, book_of};
 
     ghost view = { λ b. book_of b.rows b.chains.items };
 
-    ghost invariant = { λ b. IsKept b.rows b.chains.items };
+    ghost invariant = { λ b. AreChained b.rows b.chains.items };
 }
 
 // So many chains of nothing.

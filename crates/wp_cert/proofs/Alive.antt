@@ -31,7 +31,8 @@ told_of_none = λ a b. ⊎_elim (λ (e : a ≡ b). inl (subst (λ (x : ℕ). Are
     same a b (onward {next} t p) = absurd (omega (arith, t.added.1))
 
 -- with a further apart pair, it is known still
-told_apart : (pairs : List OrderPair) (new : OrderPair) → new.together ≡ false → AreTold pairs → ((a b : ℕ) → AreJoined pairs a b → AreJoined (pairs ++ new ∷ []) a b)
+told_apart : (pairs : List OrderPair) (new : OrderPair) → new.together ≡ false → AreTold pairs
+    → ((a b : ℕ) → AreJoined pairs a b → AreJoined (pairs ++ new ∷ []) a b)
     → AreTold (pairs ++ new ∷ [])
 told_apart pairs new kind told more = λ a b. ⊎_elim (λ j. inl (more a b j)) (λ none. inr (λ j. none (joined_before pairs new a b kind j))) (told a b)
 

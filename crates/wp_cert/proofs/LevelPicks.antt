@@ -15,7 +15,8 @@ more_picked : (wave : WavePicks) (fewer more : List ℕ) → ((order : ℕ) → 
     → Contains (batch_picks wave fewer) p → Contains (batch_picks wave more) p
 more_picked wave fewer more within p has =
     let source = flat_map_source (picks_of wave) fewer p (among_from_Contains _ p has) in
-    Contains-from_among _ p (among-flat_map (picks_of wave) more source.0 p (among_from_Contains _ _ (within source.0 (Contains-from_among fewer source.0 source.1))) source.2)
+    Contains-from_among _ p (among-flat_map (picks_of wave) more source.0 p
+    (among_from_Contains _ _ (within source.0 (Contains-from_among fewer source.0 source.1))) source.2)
 
 -- what the orders of two batches pick is what each of them picks
 pub both_picked : (wave : WavePicks) (one other both : List ℕ) → ((order : ℕ) → Contains both order ↔ (Contains one order ⊎ Contains other order)) → (p : Point)
@@ -30,18 +31,21 @@ both_picked wave one other both orders p = (
 )
 
 -- a tour past what two batches pick is one of both
-pub length_of_both : (wave : WavePicks) (one other both : List ℕ) (total : ℕ) → ((order : ℕ) → Contains both order ↔ (Contains one order ⊎ Contains other order))
+pub length_of_both : (wave : WavePicks) (one other both : List ℕ) (total : ℕ)
+    → ((order : ℕ) → Contains both order ↔ (Contains one order ⊎ Contains other order))
     → IsShortest wave.layout (batch_picks wave one ++ batch_picks wave other) total → IsLengthOf wave both total
 length_of_both wave one other both total orders shortest =
     same_shortest wave.layout (batch_picks wave one ++ batch_picks wave other) (batch_picks wave both) total
     (λ p. (
       λ has. (both_picked wave one other both orders p).1 (Contains-append_cases (batch_picks wave one) (batch_picks wave other) p has),
-      λ has. ⊎_elim (Contains-append_left (batch_picks wave one) (batch_picks wave other) p) (Contains-append_right (batch_picks wave one) (batch_picks wave other) p)
+      λ has. ⊎_elim (Contains-append_left (batch_picks wave one) (batch_picks wave other) p)
+          (Contains-append_right (batch_picks wave one) (batch_picks wave other) p)
           ((both_picked wave one other both orders p).0 has),
     )) shortest
 
 -- a tour past the slots of a level and of a set of what is added is one past what both batches pick
-pub past_level : (wave : WavePicks) (one other : List ℕ) (kept more : List Point) (total : ℕ) → ((p : Point) → Contains kept p ↔ Contains (batch_picks wave one) p)
+pub past_level : (wave : WavePicks) (one other : List ℕ) (kept more : List Point) (total : ℕ)
+    → ((p : Point) → Contains kept p ↔ Contains (batch_picks wave one) p)
     → ((p : Point) → Contains more p ↔ Contains (batch_picks wave other) p) → IsShortest wave.layout (kept ++ more) total
     → IsShortest wave.layout (batch_picks wave one ++ batch_picks wave other) total
 past_level wave one other kept more total first second shortest =
@@ -60,13 +64,17 @@ only_one (x ∷ []) order first one = ap (λ (o : ℕ). o ∷ []) (same_Some x o
 only_one (x ∷ y ∷ rest) order first one = absurd (omega (arith, one))
 
 -- what a batch of one order picks is what that order picks
-pub one_picked : (wave : WavePicks) (batch : List ℕ) (order : ℕ) (points : List Point) → slice_get batch 0 ≡ Some order → length batch ≡ 1 → points ≡ picks_of wave order
+pub one_picked : (wave : WavePicks) (batch : List ℕ) (order : ℕ) (points : List Point) → slice_get batch 0 ≡ Some order → length batch ≡ 1
+    → points ≡ picks_of wave order
     → (p : Point) → Contains points p ↔ Contains (batch_picks wave batch) p
 one_picked wave batch order points first one is p =
     let alone = only_one batch order first one in
     subst (λ (xs : List ℕ). Contains points p ↔ Contains (batch_picks wave xs) p) (sym alone)
-    (subst (λ (xs : List Point). Contains xs p ↔ Contains (batch_picks wave (order ∷ [])) p) (sym is)
-    (Contains-append_left (picks_of wave order) [] p, λ has. ⊎_elim (λ h. h) (λ none. absurd (omega (arith, none.1))) (Contains-append_cases (picks_of wave order) [] p has)))
+    (subst (λ (xs : List Point). Contains xs p ↔ Contains (batch_picks wave (order ∷ [])) p) (sym is) (
+      Contains-append_left (picks_of wave order) [] p,
+      λ has. ⊎_elim (λ h. h) (λ none. absurd (omega (arith, none.1)))
+          (Contains-append_cases (picks_of wave order) [] p has),
+    ))
 
 -- no order picks nowhere
 pub none_picked : (wave : WavePicks) (batch : List ℕ) (points : List Point) → batch ≡ [] → points ≡ [] → (p : Point)

@@ -1,6 +1,9 @@
 pub mod Costs
 pub mod BoundsHold
 pub mod MarkSteps
+pub mod Limits
+pub mod Testing
+pub mod Entering
 pub mod TreeNodes
 pub mod TreeSteps
 pub mod PathSteps

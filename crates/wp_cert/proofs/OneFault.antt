@@ -11,7 +11,8 @@ use Rattle.wp_cert.specs.declared.tree.CertWhy.TheVariants as why
 use Rattle.wp_cert.specs.declared.tree.Node.{Node}
 use Rattle.wp_cert.specs.declared.tree.Own.{Own}
 use Rattle.wp_cert.specs.Bounds.{TreesBreakOneRuleFirst}
-use Rattle.wp_cert.specs.Refusals.{AreRefused, IsBroken, IsBrokenOwn, IsFirstBroken, IsFirstSlack, apart, bad_pair, cut, in_tree, kept_split, low, marks, nodes_left}
+use Rattle.wp_cert.specs.Refusals.{AreRefused, IsBroken, IsBrokenOwn, IsFirstBroken, IsFirstSlack, apart, bad_pair, cut, in_tree, kept_split, low, marks}
+use Rattle.wp_cert.specs.Refusals.{nodes_left}
 use Rattle.wp_cert.specs.Refusals.{not_all, not_dead, not_tight, own_leaf, own_split, together}
 use Rattle.wp_cert.specs.Trees.{IsRight, with_pair}
 use Rattle.wp_lengths.specs.Visits.{IsVisitOfAll, Passed, Place, TooMuch, Visit, Wrong}
@@ -89,12 +90,14 @@ module _ (wave : WavePicks) where
       record { nodes = refl; whys = one_own pairing above own one other broken also }
   one_broken pairing above _ _ _ one _ (own_split {own} broken) (bad_pair right never) = absurd (own_not_broken wave pairing above own one right broken)
   one_broken pairing above _ _ _ one _ (own_split {own} broken) (together right parts more) = absurd (own_not_broken wave pairing above own one right broken)
-  one_broken pairing above _ _ _ one _ (own_split {own} broken) (apart right parts passed more) = absurd (own_not_broken wave pairing above own one right broken)
+  one_broken pairing above _ _ _ one _ (own_split {own} broken) (apart right parts passed more)
+      = absurd (own_not_broken wave pairing above own one right broken)
   one_broken pairing above _ _ _ _ other (bad_pair {own} right never) (own_split broken) = absurd (own_not_broken wave pairing above own other right broken)
   one_broken pairing above _ _ _ _ _ (bad_pair right never) (bad_pair right_too never_too) = record { nodes = refl; whys = refl }
   one_broken pairing above _ _ _ _ _ (bad_pair right never) (together right_too parts more) = absurd (never parts)
   one_broken pairing above _ _ _ _ _ (bad_pair right never) (apart right_too parts passed more) = absurd (never parts)
-  one_broken pairing above _ _ _ _ other (together {own} right parts more) (own_split broken) = absurd (own_not_broken wave pairing above own other right broken)
+  one_broken pairing above _ _ _ _ other (together {own} right parts more) (own_split broken)
+      = absurd (own_not_broken wave pairing above own other right broken)
   one_broken pairing above _ _ _ _ _ (together right parts more) (bad_pair right_too never) = absurd (never parts)
   one_broken pairing above _ left others one other (together {first} {second} {own} {nodes} right parts more) (together right_too parts_too more_too) =
       one_broken (with_pair pairing first second true) (sum own.duals) nodes left others one other more more_too
@@ -131,11 +134,13 @@ one_fault = λ wave capacity nodes one other first second. once wave capacity no
         let both = one_broken wave pairing shares nodes left others one.why other.why broken
         (subst (λ (s : ℕ). IsBroken wave pairing s nodes others other.why) (same_shares wave capacity sums shares are_too are) broken_too) in
         same_fault wave nodes left others one other both.nodes both.whys here there
-    once wave capacity nodes one other (in_tree {shares} {left} are broken here) (nodes_left {shares = sums} {left = others} {bound} are_too right some there is) =
+    once wave capacity nodes one other (in_tree {shares} {left} are broken here)
+        (nodes_left {shares = sums} {left = others} {bound} are_too right some there is) =
         let pairing = no_pairs wave capacity in
         absurd (right_not_broken wave pairing shares nodes others left bound one.why
         (subst (λ (s : ℕ). IsRight wave pairing s nodes others bound) (same_shares wave capacity sums shares are_too are) right) broken)
-    once wave capacity nodes one other (nodes_left {shares} {left} {bound} are right some here is) (in_tree {shares = sums} {left = others} are_too broken there) =
+    once wave capacity nodes one other (nodes_left {shares} {left} {bound} are right some here is)
+        (in_tree {shares = sums} {left = others} are_too broken there) =
         let pairing = no_pairs wave capacity in
         absurd (right_not_broken wave pairing sums nodes left others bound other.why
         (subst (λ (s : ℕ). IsRight wave pairing s nodes left bound) (same_shares wave capacity shares sums are are_too) right) broken)

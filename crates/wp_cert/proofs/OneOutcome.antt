@@ -17,7 +17,8 @@ use Rattle.wp_lengths.specs.Duals.{IsSumOfShares}
 use Rattle.wp_cert.specs.Refusals.{AreRefused, IsBroken, IsBrokenOwn, IsFirstBroken, apart, bad_pair, in_tree, low, marks, nodes_left}
 use Rattle.wp_cert.specs.Refusals.{not_all, not_dead, not_tight, own_leaf, own_split, together}
 use Rattle.wp_cert.specs.Trees.{IsBoundOf, IsRight, IsRightOwn, dead, kept, leaf, lower_of, split, with_pair}
-use Rattle.wp_lengths.specs.Visits.{AddsItem, Children, Due, IsReach, IsVisit, Passed, Place, TooMuch, Visit, Wrong, all_added, entered, no_item, not_permitted, onward, pruned, refused_batch, refused_mark, too_much, unsound}
+use Rattle.wp_lengths.specs.Visits.{AddsItem, Children, Due, IsReach, IsVisit, Passed, Place, TooMuch, Visit, Wrong, all_added, entered, no_item, not_permitted}
+use Rattle.wp_lengths.specs.Visits.{onward, pruned, refused_batch, refused_mark, too_much, unsound}
 use Rattle.wp_lengths.proofs.FewerOrders.{same_length}
 use Rattle.wp_lengths.proofs.OrderSums.{same_below, sum_below, sum_of_places}
 

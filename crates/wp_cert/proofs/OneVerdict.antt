@@ -26,7 +26,8 @@ use Rattle.wp_cert.specs.Refusals.{not_all, not_dead, not_tight, own_leaf, own_s
 use Rattle.wp_cert.specs.Text.{IsSame, Tells, certificate_said}
 use Rattle.wp_cert.specs.Bounds.{TellsBound}
 use Rattle.wp_cert.specs.Trees.{IsBoundOf, IsRight, IsRightOwn, dead, kept, leaf, split, with_pair}
-use Rattle.wp_lengths.specs.Visits.{AddsItem, Children, Due, IsItem, IsReach, IsVisit, IsVisitOfAll, IsWithin, Passed, Place as PlaceDue, TooMuch, Visit, Wrong, all_added, entered, missing, no_item, not_permitted, onward, pruned, refused_batch, refused_mark, too_much, unsound}
+use Rattle.wp_lengths.specs.Visits.{AddsItem, Children, Due, IsItem, IsReach, IsVisit, IsVisitOfAll, IsWithin, Passed, Place as PlaceDue, TooMuch, Visit, Wrong}
+use Rattle.wp_lengths.specs.Visits.{all_added, entered, missing, no_item, not_permitted, onward, pruned, refused_batch, refused_mark, too_much, unsound}
 use Rattle.wp_lengths.proofs.FewerOrders.{same_length}
 use Rattle.wp_cert.proofs.TextBatches.{same_ascending}
 use Rattle.wp_cert.proofs.OneOutcome.{right_agree, same_number}

@@ -1,5 +1,6 @@
 -- Orders that are put into batches: in ascending order the batches are a batching, and a batching puts its orders so.
-use Rattle.std.proofs.Common.{◌≡◌, ◌≢◌, ℕ, zero, suc, ◌+◌, ◌<◌, ◌≤◌, ◌↔◌, cond, List, [], ◌∷◌, length, get_or, arith, refl, ap, sym, ◌∙◌, subst, inl, inr, ⊎_elim}
+use Rattle.std.proofs.Common.{◌≡◌, ◌≢◌, ℕ, zero, suc, ◌+◌, ◌<◌, ◌≤◌, ◌↔◌, cond, List, [], ◌∷◌, length, get_or, arith, refl, ap, sym, ◌∙◌, subst, inl, inr}
+use Rattle.std.proofs.Common.{⊎_elim}
 use Rattle.std.proofs.Common.{All, Contains, Option, None, Some}
 use Rattle.std.proofs.lemmas.Bool.{cases_eq, cases_lt, eq-eqb, ne_eqb}
 use Rattle.std.proofs.lemmas.List.{get_or_default}
@@ -105,7 +106,16 @@ pub record IsAscending (xs ys : List ℕ) : Type 0 where
   pub weight : (f : ℕ → ℕ) → sum_by f ys ≤ sum_by f xs
 
 pub sorted : (xs : List ℕ) → (ys : List ℕ) × IsAscending xs ys
-sorted [] = ([], record { ascending = λ k within. absurd (omega (arith, within)); same = λ x. (λ has. has, λ has. has); count = omega arith; weight = λ f. omega arith })
+sorted [] = (
+  [],
+  record {
+    ascending = λ k within. absurd (omega (arith, within));
+    same = λ x.
+        (λ has. has, λ has. has);
+    count = omega arith;
+    weight = λ f. omega arith;
+  },
+)
 sorted (x ∷ xs) =
     let rest = sorted xs in
     let all = one_in x rest.0 rest.1.ascending in (

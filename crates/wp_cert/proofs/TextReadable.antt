@@ -1,5 +1,6 @@
 -- The compact text of a certificate's value is text, and is read as that value.
-use Rattle.std.proofs.Common.{◌≡◌, ◌∙◌, refl, sym, ap, ap₂, subst, ℕ, suc, ◌<◌, ◌≤◌, ◌^◌, max, Bool, true, false, List, [], ◌∷◌, map, All, arith, append-nil, IsUtf8}
+use Rattle.std.proofs.Common.{◌≡◌, ◌∙◌, refl, sym, ap, ap₂, subst, ℕ, suc, ◌<◌, ◌≤◌, ◌^◌, max, Bool, true, false, List, [], ◌∷◌, map, All, arith, append-nil}
+use Rattle.std.proofs.Common.{IsUtf8}
 use Rattle.std.specs.Prelude.{Option, Some, None, codes, option_and_then, option_map}
 use Rattle.std.specs.Fmt.{decimal}
 use Rattle.std.proofs.lemmas.Fmt.{IsAscii-decimal}

@@ -17,7 +17,8 @@ use Rattle.wp_graph.specs.Required.{has_point}
 use Rattle.wp_pairs.specs.Carts.{IsCartFor, LoadedCart}
 use Rattle.wp_cert.specs.declared.text.form.WrittenCart.{WrittenCart}
 use Rattle.wp_cert.specs.declared.tree.Node.{Node}
-use Rattle.wp_cert.specs.Text.{PickAt, PicksAt, Tells, form_said, is_any_cart_for, is_order_of, is_slot_of, is_up_to, is_within, loaded_cart, place_of, value_says}
+use Rattle.wp_cert.specs.Text.{PickAt, PicksAt, Tells, form_said, is_any_cart_for, is_order_of, is_slot_of, is_up_to, is_within, loaded_cart, place_of}
+use Rattle.wp_cert.specs.Text.{value_says}
 use Rattle.wp_cert.specs.Text.{version_of}
 use Rattle.wp_cert.specs.TextData.{HaveDualsWithin, HaveSlots, IsKeptNode, certificate_data, order_places, wave_places}
 use Rattle.wp_cert.proofs.TextJson.{value_read-text}

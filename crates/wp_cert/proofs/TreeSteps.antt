@@ -12,7 +12,7 @@ use Rattle.wp_cert.specs.declared.tree.CertWhy.TheVariants as why
 use Rattle.wp_cert.specs.declared.tree.Node.{Node}
 use Rattle.wp_cert.specs.declared.tree.Node.TheVariants as node
 use Rattle.wp_cert.specs.declared.tree.Own.{Own}
-use Rattle.wp_cert.specs.Paths.{IsBrokenHere, IsRefusedFrom, IsRightSplit}
+use Rattle.wp_cert.specs.Paths.{ButForMemory, IsBrokenHere, IsRefusedFrom, IsRightSplit}
 use Rattle.wp_cert.specs.Refusals.{IsBroken, apart, cut, together}
 use Rattle.wp_cert.specs.Trees.{IsRight, lower_of, split, with_pair}
 
@@ -30,12 +30,13 @@ left_from nodes at within = omega (arith, length-drop at nodes)
 
 -- a node that breaks a rule is refused
 pub here_refused : (wave : WavePicks) (pairing : Pairing) (above : ℕ) (nodes : List Node) (at : ℕ) (here : Node) (fault : CertWhy) (result : CertFault)
-    → slice_get nodes at ≡ Some here → IsBrokenHere wave pairing above here fault → result.node ≡ at → result.why ≡ fault
+    → slice_get nodes at ≡ Some here → ButForMemory (IsBrokenHere wave pairing above here) fault → result.node ≡ at → result.why ≡ fault
     → IsRefusedFrom wave pairing above nodes at result
-here_refused wave pairing above nodes at here fault result is broken numbered because = λ _. (
+here_refused wave pairing above nodes at here fault result is broken numbered because = λ named. (
   drop at nodes,
   subst (λ (w : CertWhy). IsBroken wave pairing above (drop at nodes) (drop at nodes) w) (sym because)
-      (subst (λ (ns : List Node). IsBroken wave pairing above ns ns fault) (sym (node_first nodes at here is)) (broken (drop (at + 1) nodes))),
+      (subst (λ (ns : List Node). IsBroken wave pairing above ns ns fault) (sym (node_first nodes at here is))
+      (broken (λ e. named (because ∙ e)) (drop (at + 1) nodes))),
   omega (arith, numbered, left_from nodes at (omega (arith, slice_get_within nodes at here is))),
 )
 

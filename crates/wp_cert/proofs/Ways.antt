@@ -33,7 +33,8 @@ module _ (wave : WavePicks) (capacity : ℕ) (nodes : List Node) (shares : ℕ) 
       (longer_path wave capacity path pair.first pair.second pair.together (way_path path notes above at way) split.right.parts)
 
   -- each has a note
-  pub way_even : (pairs : List OrderPair) (notes : List Note) (above at : ℕ) → IsWay wave capacity nodes shares pairs notes above at → length pairs ≡ length notes
+  pub way_even : (pairs : List OrderPair) (notes : List Note) (above at : ℕ) → IsWay wave capacity nodes shares pairs notes above at
+      → length pairs ≡ length notes
   way_even _ _ _ _ at_root = refl
   way_even _ _ _ _ (in_first {path} {notes} {pair} {above} {at} note way here split side same also) =
       omega (arith, way_even path notes above at way, ap length same, ap length also, length_push path pair, length_push notes note)
@@ -65,7 +66,8 @@ module _ (wave : WavePicks) (capacity : ℕ) (nodes : List Node) (shares : ℕ) 
         → kept ≡ others ++ record { total = note.total; first = bound } ∷ [] → IsWay wave capacity nodes shares pairs notes above at
         → IsRight wave (pairing_of wave capacity pairs) above (drop at nodes) (drop next nodes) bound
         → IsWay wave capacity nodes shares onward kept note.total next
-    second_due _ _ _ _ onward kept ends noted is turned told at_root right = absurd (omega (arith, ap (λ (ps : List OrderPair). length ps) ends, length_push path pair))
+    second_due _ _ _ _ onward kept ends noted is turned told at_root right
+        = absurd (omega (arith, ap (λ (ps : List OrderPair). length ps) ends, length_push path pair))
     second_due _ _ above at onward kept ends noted is turned told
         (in_first {path = before} {notes = told_before} {pair = last} said way here split side same also) right =
         let p = same_from_push before path last pair (sym same ∙ ends) in

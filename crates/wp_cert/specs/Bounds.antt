@@ -17,22 +17,26 @@ use Rattle.wp_cert.specs.Walks.{ArePutIntoBatches, NoWalksAreShorter}
 
 -- no batching of the wave within the capacity costs less than this
 abbrev pub NoBatchingCostsLess : WavePicks → ℕ → ℕ → Type 0
-NoBatchingCostsLess wave capacity bound = (batches : List (List ℕ)) (cost : ℕ) → IsBatching wave capacity batches → IsCost wave batches cost
+NoBatchingCostsLess wave capacity bound = (batches : List (List ℕ)) (cost : ℕ) → IsBatching wave capacity batches
+    → IsCost wave batches cost
     → bound ≤ cost
 
 -- the bound of a right tree is such a number
 abbrev pub BoundsHold : Type 0
-BoundsHold = (wave : WavePicks) (capacity : ℕ) (nodes : List Node) (bound : ℕ) → 1 ≤ capacity → IsBoundOf wave capacity nodes bound
+BoundsHold = (wave : WavePicks) (capacity : ℕ) (nodes : List Node) (bound : ℕ) → 1 ≤ capacity
+    → IsBoundOf wave capacity nodes bound
     → NoBatchingCostsLess wave capacity bound
 
 -- orders that are put into batches, each in ascending order, are a batching
 abbrev pub PutBatchesAreBatchings : Type 0
-PutBatchesAreBatchings = (wave : WavePicks) (capacity : ℕ) (batches : List (List ℕ)) → ArePutIntoBatches wave capacity batches
+PutBatchesAreBatchings = (wave : WavePicks) (capacity : ℕ) (batches : List (List ℕ))
+    → ArePutIntoBatches wave capacity batches
     → All IsStrictlyIncreasing batches → IsBatching wave capacity batches
 
 -- carts walk no less than the bound of a right tree
 abbrev pub WalksAreNoShorter : Type 0
-WalksAreNoShorter = (wave : WavePicks) (capacity : ℕ) (nodes : List Node) (bound : ℕ) → 1 ≤ capacity → IsBoundOf wave capacity nodes bound
+WalksAreNoShorter = (wave : WavePicks) (capacity : ℕ) (nodes : List Node) (bound : ℕ) → 1 ≤ capacity
+    → IsBoundOf wave capacity nodes bound
     → NoWalksAreShorter wave capacity bound
 
 -- where carts walk no less than a number, no batching costs less
@@ -42,17 +46,20 @@ CostsAreWalked = (wave : WavePicks) (capacity bound : ℕ) → NoWalksAreShorter
 
 -- a tree that is right has no broken rule
 abbrev pub RightTreesBreakNoRule : Type 0
-RightTreesBreakNoRule = (wave : WavePicks) (capacity : ℕ) (nodes : List Node) (bound : ℕ) (fault : CertFault) → IsBoundOf wave capacity nodes bound
+RightTreesBreakNoRule = (wave : WavePicks) (capacity : ℕ) (nodes : List Node) (bound : ℕ) (fault : CertFault)
+    → IsBoundOf wave capacity nodes bound
     → IsFirstBroken wave capacity nodes fault → ⊥
 
 -- and it has one bound
 abbrev pub RightTreesHaveOneBound : Type 0
-RightTreesHaveOneBound = (wave : WavePicks) (capacity : ℕ) (nodes : List Node) (one other : ℕ) → IsBoundOf wave capacity nodes one
+RightTreesHaveOneBound = (wave : WavePicks) (capacity : ℕ) (nodes : List Node) (one other : ℕ)
+    → IsBoundOf wave capacity nodes one
     → IsBoundOf wave capacity nodes other → one ≡ other
 
 -- a tree breaks one rule first, at one node
 abbrev pub TreesBreakOneRuleFirst : Type 0
-TreesBreakOneRuleFirst = (wave : WavePicks) (capacity : ℕ) (nodes : List Node) (one other : CertFault) → IsFirstBroken wave capacity nodes one
+TreesBreakOneRuleFirst = (wave : WavePicks) (capacity : ℕ) (nodes : List Node) (one other : CertFault)
+    → IsFirstBroken wave capacity nodes one
     → IsFirstBroken wave capacity nodes other → one ≡ other
 
 -- each batch of a wave, some orders of it, has a length, where each order picks at slots of the layout
@@ -71,20 +78,24 @@ pub record TellsBound (layout : Layout) (text : List ℕ) (bound : ℕ) : Type 0
 -- of two waves that pick at the same slots and have the same cart, capacity and tree, the bounds are the same
 abbrev pub SameWavesHaveOneBound : Type 0
 SameWavesHaveOneBound = (wave other : WavePicks) (capacity further : ℕ) (nodes more : List Node) (bound found : ℕ)
-    → IsSame wave other capacity further nodes more → IsBoundOf wave capacity nodes bound → IsBoundOf other further more found → bound ≡ found
+    → IsSame wave other capacity further nodes more → IsBoundOf wave capacity nodes bound
+    → IsBoundOf other further more found → bound ≡ found
 
 -- a text tells one bound
 abbrev pub TextsTellOneBound : Type 0
-TextsTellOneBound = (layout : Layout) (text : List ℕ) (bound found : ℕ) → TellsBound layout text bound → TellsBound layout text found → bound ≡ found
+TextsTellOneBound = (layout : Layout) (text : List ℕ) (bound found : ℕ) → TellsBound layout text bound
+    → TellsBound layout text found → bound ≡ found
 
 -- a text that tells a bound is read, and the tree that it tells breaks no rule
 abbrev pub TextsWithABoundAreAccepted : Type 0
 TextsWithABoundAreAccepted = (layout : Layout) (text : List ℕ) (bound : ℕ) → TellsBound layout text bound
     → ((why : CertWhy) → certificate_said layout text ≡ Err why → ⊥)
-    × ((wave : WavePicks) (capacity : ℕ) (nodes : List Node) (fault : CertFault) → Tells layout text wave capacity nodes → IsFirstBroken wave capacity nodes fault → ⊥)
+    × ((wave : WavePicks) (capacity : ℕ) (nodes : List Node) (fault : CertFault) → Tells layout text wave capacity nodes
+    → IsFirstBroken wave capacity nodes fault → ⊥)
 
 -- the text that is printed of a wave, a capacity and a right tree tells the tree's bound
 abbrev pub PrintedTextsTellTheBound : Type 0
-PrintedTextsTellTheBound = (wave : WavePicks) (capacity : ℕ) (nodes : List Node) (bound : ℕ) → IsWave wave → HaveSlots wave.layout wave.orders → 1 ≤ capacity
+PrintedTextsTellTheBound = (wave : WavePicks) (capacity : ℕ) (nodes : List Node) (bound : ℕ) → IsWave wave
+    → HaveSlots wave.layout wave.orders → 1 ≤ capacity
     → capacity ≤ 8 → HaveDualsWithin nodes → IsBoundOf wave capacity nodes bound
     → TellsBound wave.layout (certificate_text (wave_places wave) wave.cart capacity nodes) bound

@@ -41,4 +41,5 @@ is_at_node why.Memory = false
 -- a fault: where it is at a node, the node's number comes first
 abbrev pub cert_fault_text : CertFault → List ℕ
 cert_fault_text fault =
-    if is_at_node fault.why then codes "node" ++ number_after_space fault.node ++ after_space (cert_why_text fault.why) else cert_why_text fault.why
+    if is_at_node fault.why then codes "node" ++ number_after_space fault.node ++ after_space (cert_why_text fault.why)
+    else cert_why_text fault.why

@@ -4,9 +4,9 @@ use Rattle.std.specs.Option.{ForSome}
 use Rattle.wp_model.specs.declared.point.Point.{Point}
 use Rattle.wp_lengths.specs.Lengths.{batch_picks}
 use Rattle.wp_lengths.specs.Waves.{WavePicks}
+use Rattle.wp_visit.specs.declared.place.Place.{Place}
 use Rattle.wp_cert.specs.declared.levels.Level.{Level}
 use Rattle.wp_cert.specs.declared.levels.Levels.{Levels}
-use Rattle.wp_cert.specs.declared.levels.Reached.{Reached}
 
 -- a level keeps the slots at which the orders of its batch pick
 pub record IsLevel (wave : WavePicks) (level : Level) : Type 0 where
@@ -18,5 +18,6 @@ abbrev pub AreLevels : WavePicks → Levels → Type 0
 AreLevels wave levels = All (λ (kept : Option Level). ForSome kept (IsLevel wave)) levels.kept
 
 -- a place has the orders of the place before it and those of the item that was added
-abbrev pub IsBoth : Reached → Type 0
-IsBoth reached = (order : ℕ) → Contains reached.batch order ↔ (Contains reached.before order ⊎ Contains reached.added order)
+abbrev pub IsBoth : Place → Type 0
+IsBoth place = (order : ℕ) → Contains place.batch order
+    ↔ (Contains place.before order ⊎ Contains place.added order)

@@ -9,3 +9,5 @@ pub mod TextData
 pub mod FaultTexts
 pub mod Visited
 pub mod Levels
+pub mod Known
+pub mod MarkTests

@@ -1,5 +1,6 @@
 -- What a value of JSON says: the form of a certificate, and which numbers it may have.
-use Rattle.std.specs.Prelude.{◌≡◌, ℕ, ◌+◌, ◌^◌, ◌==◌, ◌&&◌, ◌↔◌, Bool, true, false, List, [], ◌∷◌, Contains, Option, Some, None, option_map}
+use Rattle.std.specs.Prelude.{◌≡◌, ℕ, ◌+◌, ◌^◌, ◌==◌, ◌&&◌, ◌↔◌, Bool, true, false, List, [], ◌∷◌, Contains, Option}
+use Rattle.std.specs.Prelude.{Some, None, option_map}
 use Rattle.std.specs.Prelude.{option_and_then}
 use Rattle.std.specs.Prelude.{Result, Ok, Err, if◌then◌else◌, is_none, nat_le, nat_lt, length, codes, bytes_eq}
 use Rattle.std.specs.List.{AllZip, list_all}
@@ -38,7 +39,8 @@ each_of read (x ∷ xs) = option_and_then (λ y. option_map (λ ys. y ∷ ys) (e
 -- what each item says, where each says something
 abbrev pub each_said : {A : Type 0} → (Data → Option A) → Items → Option (List A)
 each_said said no_items = Some []
-each_said said (item value values) = option_and_then (λ x. option_map (λ xs. x ∷ xs) (each_said said values)) (said value)
+each_said said (item value values) = option_and_then (λ x. option_map (λ xs. x ∷ xs) (each_said said values))
+    (said value)
 
 -- a list of values, each of which says something
 abbrev pub list_said : {A : Type 0} → (Data → Option A) → Data → Option (List A)
@@ -79,7 +81,8 @@ place_said value =
 abbrev pub orders_from : ℕ → Items → Option (List ℕ)
 orders_from least no_items = Some []
 orders_from least (item value values) =
-    option_and_then (λ order. option_map (λ orders. order ∷ orders) (orders_from (order + 1) values)) (option_and_then (within least 64) (number_said value))
+    option_and_then (λ order. option_map (λ orders. order ∷ orders) (orders_from (order + 1) values))
+    (option_and_then (within least 64) (number_said value))
 
 -- a batch: orders in ascending order
 abbrev pub batch_said : Data → Option (List ℕ)
@@ -96,7 +99,8 @@ marks_said value = option_and_then (each_of mark_said) (as_str value)
 -- the duals, the marks and the tight batches of a node
 abbrev pub own_said : Data → Option Own
 own_said value =
-    option_and_then (λ duals. option_and_then (λ marks. option_map (λ tight. record { duals = duals; marks = marks; tight = tight })
+    option_and_then (λ duals. option_and_then
+    (λ marks. option_map (λ tight. record { duals = duals; marks = marks; tight = tight })
     (said_at (list_said batch_said) (codes "tight") value)) (said_at marks_said (codes "marks") value))
     (said_at (list_said number_said) (codes "duals") value)
 
@@ -110,17 +114,20 @@ leaf_said value = if has_keys 4 value then option_map (λ own. node.Leaf (Some o
 
 -- what a split has of its own: all of it or nothing
 abbrev pub split_own_said : Data → Option (Option Own)
-split_own_said value = if has_keys 3 value then Some None else (if has_keys 6 value then option_map (λ own. Some own) (own_said value) else None)
+split_own_said value = if has_keys 3 value then Some None
+    else (if has_keys 6 value then option_map (λ own. Some own) (own_said value) else None)
 
 -- a split on a pair of orders
 abbrev pub split_said : Data → Option Node
 split_said value =
     option_and_then (λ first. option_and_then (λ second. option_map (λ own. node.Split first second own)
-    (split_own_said value)) (said_at position_said (codes "second") value)) (said_at position_said (codes "first") value)
+    (split_own_said value)) (said_at position_said (codes "second") value))
+    (said_at position_said (codes "first") value)
 
 -- a leaf with an order that no permitted batch holds
 abbrev pub dead_said : Data → Option Node
-dead_said value = if has_keys 2 value then option_map (λ order. node.Dead order) (said_at position_said (codes "order") value) else None
+dead_said value = if has_keys 2 value then option_map (λ order. node.Dead order)
+    (said_at position_said (codes "order") value) else None
 
 -- a node of this kind
 abbrev pub node_of_kind : Data → List ℕ → Option Node
@@ -144,7 +151,8 @@ cart_said value =
 -- the cart of a certificate: none where it has no more keys than its four parts, and one where it has two keys more
 abbrev pub any_cart_said : Data → Option (Option WrittenCart)
 any_cart_said value =
-    if has_keys 4 value then Some None else (if has_keys 6 value then option_map (λ cart. Some cart) (cart_said value) else None)
+    if has_keys 4 value then Some None else (if has_keys 6 value then option_map (λ cart. Some cart) (cart_said value)
+    else None)
 
 -- the four parts of a certificate that has this cart or none
 abbrev pub parts_said : Option WrittenCart → Data → Option Form
@@ -156,7 +164,8 @@ parts_said cart value =
     (said_at number_said (codes "capacity") value))
     (said_at number_said (codes "version") value)
 
--- the form of a certificate: an object with its four parts, with both keys of a cart or with neither, and with no other key
+-- the form of a certificate: an object with its four parts, with both keys of a cart or with neither, and with no other
+-- key
 abbrev pub form_said : Data → Option Form
 form_said value = option_and_then (λ cart. parts_said cart value) (any_cart_said value)
 
@@ -193,7 +202,8 @@ version_of (Some cart) = 2
 -- whether the units are those of a cart, each of so many orders has a load, and none loads more than the cart holds
 abbrev pub is_cart_for : ℕ → WrittenCart → Bool
 is_cart_for orders cart =
-    is_up_to most_cart_units cart.units && ((length cart.loads == orders) && list_all (λ load. nat_le load cart.units) cart.loads)
+    is_up_to most_cart_units cart.units && ((length cart.loads == orders) && list_all
+    (λ load. nat_le load cart.units) cart.loads)
 
 -- whether the cart, where there is one, is a cart for so many orders
 abbrev pub is_any_cart_for : ℕ → Option WrittenCart → Bool
@@ -204,7 +214,8 @@ is_any_cart_for orders (Some cart) = is_cart_for orders cart
 abbrev pub is_within : Layout → Form → Bool
 is_within layout form =
     (form.version == version_of form.cart) && (is_up_to 8 form.capacity && (is_up_to 64 (length form.orders)
-    && (list_all (is_order_of layout) form.orders && (list_all is_node_within form.nodes && is_any_cart_for (length form.orders) form.cart))))
+    && (list_all (is_order_of layout) form.orders &&
+    (list_all is_node_within form.nodes && is_any_cart_for (length form.orders) form.cart))))
 
 -- ---- the whole text
 
@@ -220,7 +231,8 @@ value_read bytes = ok_or (if is_utf8 bytes then read bytes else None) why.NotJso
 -- the form comes first, and then the ranges
 abbrev pub value_says : Layout → Data → Result Form CertWhy
 value_says layout value =
-    and_then (ok_or (form_said value) why.BadShape) (λ form. if is_within layout form then Ok form else Err why.OutOfRange)
+    and_then (ok_or (form_said value) why.BadShape) (λ form. if is_within layout form then Ok form
+    else Err why.OutOfRange)
 
 -- what the bytes of a certificate say, or why they say none
 abbrev pub certificate_said : Layout → List ℕ → Result Form CertWhy
@@ -242,7 +254,8 @@ PickAt orders places = AllZip PicksAt orders places
 abbrev pub loaded_cart : WrittenCart → LoadedCart
 loaded_cart cart = record { units = cart.units; loads = cart.loads }
 
--- the bytes of a certificate tell this wave of the layout, with its cart, if it has one, this capacity, and a tree of these nodes
+-- the bytes of a certificate tell this wave of the layout, with its cart, if it has one, this capacity, and a tree of
+-- these nodes
 pub record Tells (layout : Layout) (bytes : List ℕ) (wave : WavePicks) (capacity : ℕ) (nodes : List Node) : Type 0 where
   pub form : Form
   pub said : certificate_said layout bytes ≡ Ok form

@@ -67,7 +67,8 @@ split_data first second (Some own) = object
 
 -- a leaf with an order that no permitted batch holds
 abbrev pub dead_data : ℕ → Data
-dead_data order = object (member (codes "kind") (string (codes "dead")) (member (codes "order") (number_data order) no_members))
+dead_data order = object (member (codes "kind") (string (codes "dead"))
+    (member (codes "order") (number_data order) no_members))
 
 -- a node
 abbrev pub node_data : Node → Data
@@ -143,7 +144,8 @@ aisle_points points aisle slots = points_in aisle (filter (has_point points aisl
 
 -- the slots in the first aisles at which an order picks
 abbrev pub aisles_points : Layout → List Point → ℕ → List Point
-aisles_points layout points aisles = flat_map (λ aisle. points_in aisle (slots_where layout (has_point points) aisle)) (range_with_len 1 aisles)
+aisles_points layout points aisles = flat_map (λ aisle. points_in aisle (slots_where layout (has_point points) aisle))
+    (range_with_len 1 aisles)
 
 -- all orders pick at slots of the layout
 abbrev pub HaveSlots : Layout → List PickSet → Type 0

@@ -8,13 +8,15 @@ use Rattle.wp_lengths.specs.Visits.{IsReach}
 
 -- each batch of a wave's orders has a length
 abbrev pub HasEachLength : WavePicks → Type 0
-HasEachLength wave = (batch : List ℕ) → All (λ order. order < length wave.orders) batch → (total : ℕ) × IsLengthOf wave batch total
+HasEachLength wave = (batch : List ℕ) → All (λ order. order < length wave.orders) batch
+    → (total : ℕ) × IsLengthOf wave batch total
 
 -- the length of a batch is no less than a known number
 abbrev pub IsNoLess : WavePicks → List ℕ → ℕ → Type 0
 IsNoLess wave batch known = (total : ℕ) → IsLengthOf wave batch total → known ≤ total
 
--- a place stands for all batches that have more orders after it: with its reach it has no more in duals than its length in sixtieths
+-- a place stands for all batches that have more orders after it: with its reach it has no more in duals than its length
+-- in sixtieths
 pub record StandsForMore (wave : WavePicks) (pairing : Pairing) (duals place : List ℕ) (from : ℕ) : Type 0 where
   pub total : ℕ
   pub reach : ℕ

@@ -1,15 +1,15 @@
 ghost use Rattle.std.specs.Prelude.{◌≡◌, ◌+◌, ◌<◌, ◌≤◌, [], ℕ, IfErr, IfOk, drop, length};
 ghost use Rattle.wp_cert.specs.declared.tree.CertWhy.TheVariants as why;
 ghost use Rattle.wp_cert.specs.Bounds.{NoBatchingCostsLess};
-ghost use Rattle.wp_cert.specs.Paths.{IsBrokenHere, IsPath, IsRefusedFrom, pairing_of};
+ghost use Rattle.wp_cert.specs.Paths.{ButForMemory, IsBrokenHere, IsPath, IsRefusedFrom, pairing_of};
 ghost use Rattle.wp_cert.specs.Refusals.{IsFirstBroken};
 ghost use Rattle.wp_cert.specs.Trees.{IsBoundOf, IsRight};
 ghost use Rattle.wp_cert.specs.Ways.{IsMet, IsStep, IsWay};
 
-use crate::node::{test_dead, test_leaf, test_split};
+use crate::node::{DueNode, test_dead, test_leaf, test_split};
 use crate::nodes::Nodes;
 use crate::tree::{CertFault, CertWhy, Node, Tree};
-use crate::way::{Met, NodeStep, Way};
+use crate::way::{Met, NodeStep, SplitWay};
 use std::alloc::Global;
 use wp_lengths::{Wave, shares_of};
 use wp_pairs::{Capacity, OrderPair};
@@ -21,6 +21,14 @@ struct Shown {
     next: u64,
 }
 
+/// The nodes of a tree that is checked for a wave and a capacity.
+#[derive(Clone, Copy)]
+struct CheckedNodes<'a> {
+    wave: &'a Wave,
+    capacity: Capacity,
+    nodes: &'a Nodes,
+}
+
 // A fault at a node.
 fn fault_at(at: u64, why: CertWhy) -> CertFault
     ensures node { result.node ≡ at }
@@ -30,22 +38,25 @@ fn fault_at(at: u64, why: CertWhy) -> CertFault
 }
 
 // Tests a node, whose subtrees aren't looked at, and tells what it leads to.
-fn test_node(wave: &Wave, capacity: Capacity, way: &Way, node: &Node) -> Result<NodeStep, CertWhy>
-    requires { IsPath wave.now capacity.most way.now.path.items }
-    ensures ok { IfOk result (IsStep wave.now (pairing_of wave.now capacity.most way.now.path.items) way.now.above node.now) }
-    ensures err { IfErr result (IsBrokenHere wave.now (pairing_of wave.now capacity.most way.now.path.items) way.now.above node.now) }
+fn test_node(alloc: Global, due: &DueNode<'_>, node: &Node) -> Result<NodeStep, CertWhy>
+    ensures ok { IfOk result (IsStep due.now.wave.now
+        (pairing_of due.now.wave.now due.now.capacity.most due.now.path.now.items) due.now.above
+        node.now) }
+    ensures err { IfErr result (ButForMemory (IsBrokenHere due.now.wave.now
+        (pairing_of due.now.wave.now due.now.capacity.most due.now.path.now.items) due.now.above
+        node.now)) }
 {
     match node {
         Node::Leaf(own) => {
-            let bound = test_leaf(wave, capacity, &way.path, way.above, own)?;
+            let bound = test_leaf(alloc, due, own)?;
             Ok(NodeStep::Out(Some(bound)))
         }
         Node::Dead(order) => {
-            test_dead(wave, capacity, &way.path, way.above, *order)?;
+            test_dead(due, *order)?;
             Ok(NodeStep::Out(None))
         }
         Node::Split { first, second, own } => {
-            let total = test_split(wave, capacity, &way.path, way.above, *first, *second, own)?;
+            let total = test_split(alloc, due, *first, *second, own)?;
             let pair = OrderPair {
                 first: *first as u8,
                 second: *second as u8,
@@ -58,20 +69,30 @@ fn test_node(wave: &Wave, capacity: Capacity, way: &Way, node: &Node) -> Result<
 
 // Tests the node that is due, and goes on from it. After an error nothing is said of the way.
 fn check_node(
-    wave: &Wave,
-    capacity: Capacity,
-    nodes: &Nodes,
-    way: &mut Way,
+    alloc: Global,
+    tree: &CheckedNodes<'_>,
+    way: &mut SplitWay,
     at: u64,
 ) -> Result<Met, CertFault>
-    requires at { at < length nodes.now }
-    requires path { IsPath wave.now capacity.most way.old.path.items }
+    requires at { at < length tree.now.nodes.now }
+    requires path { IsPath tree.now.wave.now tree.now.capacity.most way.old.path.items }
     requires even { length way.old.path.items ≡ length way.old.notes.items }
-    ensures ok { IfOk result (λ met. (shares : ℕ) → IsWay wave.now capacity.most nodes.now shares way.old.path.items way.old.notes.items way.old.above at
-        → IsMet wave.now capacity.most nodes.now shares (at + 1) way.new met) }
-    ensures err { IfErr result (IsRefusedFrom wave.now (pairing_of wave.now capacity.most way.old.path.items) way.old.above nodes.now at) }
+    ensures ok { IfOk result (λ met. (shares : ℕ)
+        → IsWay tree.now.wave.now tree.now.capacity.most tree.now.nodes.now shares
+        way.old.path.items way.old.notes.items way.old.above at
+        → IsMet tree.now.wave.now tree.now.capacity.most tree.now.nodes.now shares (at + 1)
+        way.new met) }
+    ensures err { IfErr result (IsRefusedFrom tree.now.wave.now
+        (pairing_of tree.now.wave.now tree.now.capacity.most way.old.path.items) way.old.above
+        tree.now.nodes.now at) }
 {
-    let gone = match test_node(wave, capacity, way, nodes.at(at)) {
+    let due = DueNode {
+        wave: tree.wave,
+        capacity: tree.capacity,
+        path: &way.path,
+        above: way.above,
+    };
+    let gone = match test_node(alloc, &due, tree.nodes.at(at)) {
         Ok(step) => way.go_on(step),
         Err(why) => return Err(fault_at(at, why)),
     };
@@ -82,45 +103,49 @@ fn check_node(
 }
 
 // Checks the tree at the root, above which stand duals that come to this, node by node.
-fn check_root(
-    alloc: Global,
-    wave: &Wave,
-    capacity: Capacity,
-    nodes: &Nodes,
-    above: u128,
-) -> Result<Shown, CertFault>
-    ensures ok { IfOk result (λ shown. IsRight wave.now (pairing_of wave.now capacity.most []) above nodes.now
-        (drop shown.next nodes.now) shown.bound) }
-    ensures err { IfErr result (IsRefusedFrom wave.now (pairing_of wave.now capacity.most []) above nodes.now 0) }
+fn check_root(alloc: Global, tree: &CheckedNodes<'_>, above: u128) -> Result<Shown, CertFault>
+    ensures ok { IfOk result (λ shown. IsRight tree.now.wave.now
+        (pairing_of tree.now.wave.now tree.now.capacity.most []) above tree.now.nodes.now
+        (drop shown.next tree.now.nodes.now) shown.bound) }
+    ensures err { IfErr result (IsRefusedFrom tree.now.wave.now
+        (pairing_of tree.now.wave.now tree.now.capacity.most []) above tree.now.nodes.now 0) }
 {
-    let mut way = Way::to_root(alloc, above);
-    for at in 0..nodes.len() {
-        if let Met::Whole(bound) = check_node(wave, capacity, nodes, &mut way, at)? {
+    let mut way = SplitWay::to_root(alloc, above);
+    for at in 0..tree.nodes.len() {
+        if let Met::Whole(bound) = check_node(alloc, tree, &mut way, at)? {
             return Ok(Shown {
                 bound,
                 next: at + 1,
             });
         }
     }
-    Err(fault_at(nodes.len(), CertWhy::Cut))
+    Err(fault_at(tree.nodes.len(), CertWhy::Cut))
 }
 
 /// Checks a tree for a wave and a capacity, 1 to 8, and tells its bound, the least over its leaves that aren't dead: no
-/// batching of the wave within the capacity costs less. Otherwise the first broken rule is told, in preorder of the nodes and
-/// within a node in the order of its tests, with the number of the node; where the list of nodes is cut, with their number,
-/// and where nodes are left after the tree is whole, with the number of the first of them. `Memory` is answered where memory
-/// runs out, or a bound doesn't fit a u64. The method is branch and price (Ryan and Foster, 1981).
+/// batching of the wave within the capacity costs less. Otherwise the first broken rule is told, in preorder of the
+/// nodes and within a node in the order of its tests, with the number of the node; where the list of nodes is cut, with
+/// their number, and where nodes are left after the tree is whole, with the number of the first of them. `Memory` is
+/// answered where memory runs out, or a bound doesn't fit a u64. The method is branch and price (Ryan and Foster,
+/// 1981).
 pub fn check(alloc: Global, wave: &Wave, capacity: u32, tree: &Tree) -> Result<u64, CertFault>
     requires some { 1 ≤ capacity }
     requires most { capacity ≤ 8 }
     ensures right { IfOk result (IsBoundOf wave.now capacity tree.now.nodes) }
     ensures bound { IfOk result (NoBatchingCostsLess wave.now capacity) }
-    ensures refused { IfErr result (λ fault. (fault.why ≡ why.Memory → ⊥) → IsFirstBroken wave.now capacity tree.now.nodes fault) }
+    ensures refused { IfErr result (λ fault. (fault.why ≡ why.Memory → ⊥)
+        → IsFirstBroken wave.now capacity tree.now.nodes fault) }
 {
     let _orders = wave.orders();
     let capacity = Capacity { most: capacity };
     let above = shares_of(wave, capacity);
-    let shown = check_root(alloc, wave, capacity, &tree.nodes, above)?;
+    let nodes = &tree.nodes;
+    let checked = CheckedNodes {
+        wave,
+        capacity,
+        nodes,
+    };
+    let shown = check_root(alloc, &checked, above)?;
     if shown.next < tree.nodes.len() {
         return Err(fault_at(shown.next, CertWhy::Cut));
     }

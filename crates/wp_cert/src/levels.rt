@@ -1,14 +1,13 @@
-ghost use Rattle.std.specs.Prelude.{◌≡◌, ◌<◌, ◌++◌, ◌⊎◌, ◌↔◌, [], ℕ, All, Contains, IfSome, IsTrue, length};
-ghost use Rattle.std.specs.Option.{ForSome};
+ghost use Rattle.std.specs.Prelude.{◌≡◌, ◌<◌, ◌^◌, ◌++◌, ◌⊎◌, ℕ, All, Contains, length};
 ghost use Rattle.wp_model.specs.Tours.{IsShortest};
 ghost use Rattle.wp_lengths.specs.Lengths.{IsLengthOf, batch_picks};
-ghost use Rattle.wp_lengths.specs.Waves.{WavePicks};
 ghost use Rattle.wp_cert.specs.Levels.{AreLevels, IsBoth, IsLevel};
 
 use wp_fast::KeptWays;
 use wp_graph::{Layout, Picks};
 use wp_lengths::Wave;
 use wp_pairs::Batch;
+use wp_visit::Place;
 
 /// The most orders that a place has to which one more item is added.
 const MOST_BEFORE: u32 = 7;
@@ -23,56 +22,13 @@ pub(crate) struct Level {
     pub kept: KeptWays,
 }
 
-/// For each number of orders, 0 to 7, the level of the last place of so many after which others were measured. A visit goes from
-/// a place to those after it, so these are mostly the places on the way to the one that it has reached.
+/// For each number of orders, 0 to 7, the level of the last place of so many after which others were measured. A visit
+/// goes from a place to those after it, so these are mostly the places on the way to the one that it has place.
 #[derive(Drop)]
 pub struct Levels {
     // the orders that pick in many aisles
     wide: Batch,
     kept: [Option<Level>; 8],
-}
-
-/// A place that a visit has reached: the orders of the place before it and those of one more item, and both. Further items
-/// begin from an order on. The length of the place is no less than a known number.
-#[derive(Clone, Copy)]
-pub struct Reached {
-    pub before: Batch,
-    pub added: Batch,
-    pub batch: Batch,
-    pub from: u32,
-    pub known: u64,
-}
-
-impl Reached {
-    /// The place of no order, from which a visit begins.
-    pub fn first() -> Reached
-        ensures batch { result.batch ≡ [] }
-        ensures from { result.from ≡ 0 }
-        ensures known { result.known ≡ 0 }
-        ensures both { IsBoth result }
-    {
-        let none = Batch::empty();
-        Reached {
-            before: none,
-            added: none,
-            batch: none,
-            from: 0,
-            known: 0,
-        }
-    }
-
-    /// The same place, with another known number.
-    pub fn known_as(&self, known: u64) -> Reached
-        ensures { result ≡ record { before = self.now.before; added = self.now.added; batch = self.now.batch; from = self.now.from; known = known } }
-    {
-        Reached {
-            before: self.before,
-            added: self.added,
-            batch: self.batch,
-            from: self.from,
-            known,
-        }
-    }
 }
 
 // Where the level of a place is kept.
@@ -85,7 +41,8 @@ fn level_of(place: Batch) -> usize
 // The orders of a batch that aren't in another.
 fn missing_in(batch: Batch, other: Batch) -> Batch
     ensures within { (order : ℕ) → Contains result order → Contains batch order }
-    ensures all { (order : ℕ) → Contains batch order → Contains other order ⊎ Contains result order }
+    ensures all { (order : ℕ) → Contains batch order
+        → Contains other order ⊎ Contains result order }
 {
     let mut missing = batch;
     for order in 0..64 {
@@ -100,7 +57,9 @@ fn missing_in(batch: Batch, other: Batch) -> Batch
 fn length_with(wave: &Wave, level: &Level, added: Batch) -> u64
     requires level { IsLevel wave.now level.now }
     requires orders { All (λ order. order < length wave.now.orders) added }
-    ensures { IsShortest wave.now.layout (batch_picks wave.now level.now.batch ++ batch_picks wave.now added) result }
+    ensures is { IsShortest wave.now.layout (batch_picks wave.now level.now.batch
+        ++ batch_picks wave.now added) result }
+    ensures small { result < 2 ^ 28 }
 {
     match added.least() {
         Some(order) if added.len() == 1 => level.kept.length_with(wave.order(order)),
@@ -204,35 +163,35 @@ impl Levels {
     }
 
     // The length of a place that is reached, where the level of the place before it is kept by what was added to it.
-    fn measured(&self, wave: &Wave, reached: &Reached) -> u64
+    fn measured(&self, wave: &Wave, place: &Place) -> u64
         requires levels { AreLevels wave.now self.now }
-        requires orders { All (λ order. order < length wave.now.orders) reached.now.batch }
-        requires both { IsBoth reached.now }
-        ensures { IsLengthOf wave.now reached.now.batch result }
+        requires orders { All (λ order. order < length wave.now.orders) place.now.batch }
+        requires both { IsBoth place.now }
+        ensures is { IsLengthOf wave.now place.now.batch result }
+        ensures small { result < 2 ^ 28 }
     {
-        match &self.kept[level_of(reached.before)] {
-            Some(level) if level.batch.is(reached.before) => {
-                length_with(wave, level, reached.added)
-            }
-            _ => wave.batch_length(reached.batch),
+        match &self.kept[level_of(place.before)] {
+            Some(level) if level.batch.is(place.before) => { length_with(wave, level, place.added) }
+            _ => wave.batch_length(place.batch),
         }
     }
 
-    /// The length of a place that is reached. Where an order of the place before it picks in many aisles, a level of that place is
-    /// kept from then on, and only what was added is counted; else that would be no less work.
-    pub fn length_of(&mut self, wave: &Wave, reached: &Reached) -> u64
+    /// The length of a place that is place. Where an order of the place before it picks in many aisles, a level of
+    /// that place is kept from then on, and only what was added is counted; else that would be no less work.
+    pub fn length_of(&mut self, wave: &Wave, place: &Place) -> u64
         requires levels { AreLevels wave.now self.old }
-        requires orders { All (λ order. order < length wave.now.orders) reached.now.batch }
-        requires both { IsBoth reached.now }
-        ensures is { IsLengthOf wave.now reached.now.batch result }
+        requires orders { All (λ order. order < length wave.now.orders) place.now.batch }
+        requires both { IsBoth place.now }
+        ensures is { IsLengthOf wave.now place.now.batch result }
+        ensures small { result < 2 ^ 28 }
         ensures levels { AreLevels wave.now self.new }
     {
-        if !reached.before.meets(self.wide) {
-            return wave.batch_length(reached.batch);
+        if !place.before.meets(self.wide) {
+            return wave.batch_length(place.batch);
         }
-        if !self.has(reached.before) {
-            self.keep(wave, reached.before);
+        if !self.has(place.before) {
+            self.keep(wave, place.before);
         }
-        self.measured(wave, reached)
+        self.measured(wave, place)
     }
 }

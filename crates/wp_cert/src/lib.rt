@@ -4,12 +4,14 @@
 
 mod checking;
 mod fault;
+mod known;
 mod laws;
 mod levels;
 mod node;
 mod nodes;
 mod own;
 mod path;
+mod tested;
 mod text;
 mod tree;
 mod visit;

@@ -1,150 +1,152 @@
-ghost use Rattle.std.specs.Prelude.{◌≡◌, ◌<◌, ◌≤◌, ◌+◌, ◌⊎◌, List, ℕ, All, IfErr, IfNone, IfOk, IfSome, IsTrue, drop, false, length};
-ghost use Rattle.wp_pairs.specs.Permitted.{IsPermitted};
+ghost use Rattle.std.specs.Prelude.{◌≡◌, ◌<◌, ◌≤◌, ◌^◌, All, IfErr, IfOk, IsTrue, [], drop, false, length};
+ghost use Rattle.wp_lengths.specs.Duals.{sixtieths_of};
 ghost use Rattle.wp_lengths.specs.Lengths.{IsLengthOf};
+ghost use Rattle.wp_lengths.specs.Visits.{IsVisitOfAll, Passed, Place as PlaceDue};
+ghost use Rattle.wp_visit.specs.Places.{IsAt};
+ghost use Rattle.wp_cert.specs.Known.{AreKnown, IsKnown};
 ghost use Rattle.wp_cert.specs.Levels.{AreLevels, IsBoth};
+ghost use Rattle.wp_cert.specs.MarkTests.{IsTestOf};
 ghost use Rattle.wp_cert.specs.Refusals.{IsRefusedVisit};
-ghost use Rattle.wp_cert.specs.Visited.{HasEachLength, IsNoLess, ReachesTooMuch, StandsForMore};
-ghost use Rattle.wp_lengths.specs.Duals.{duals_of, sixtieths_of};
-ghost use Rattle.wp_lengths.specs.Visits.{AddsItem, IsItem, IsVisit, Passed, Place};
+ghost use Rattle.wp_cert.specs.Visited.{HasEachLength, ReachesTooMuch, StandsForMore};
 
-use crate::levels::{Levels, Reached};
-use crate::own::TestedOwn;
+use crate::known::KnownLengths;
+use crate::levels::Levels;
+use crate::tested::TestedOwn;
 use crate::tree::CertWhy;
-use wp_lengths::{SIXTIETHS, Wave, is_later, reach_of, sum_of};
-use wp_pairs::{Batch, Pairs};
+use wp_lengths::{SIXTIETHS, Wave, reach_of};
+use wp_visit::{Place, Step, Visit, Visitor};
 
-// A place and one more item, where this order names one and both together are permitted.
-fn child_of(pairs: &Pairs, place: Batch, item: u32) -> Option<Batch>
-    requires { item < pairs.now.orders }
-    ensures item { IfSome result (λ batch. IsItem pairs.now item) }
-    ensures adds { IfSome result (λ batch. AddsItem pairs.now place item batch) }
-    ensures permitted { IfSome result (λ batch. IsPermitted pairs.now batch) }
-    ensures none { IfNone result ((IsItem pairs.now item → ⊥) ⊎ ((batch : List ℕ) × AddsItem pairs.now place item batch × (IsPermitted pairs.now batch → ⊥))) }
-{
-    if !is_later(pairs, item, item) {
-        return None;
-    }
-    let batch = place.union(pairs.joined_to(item));
-    if pairs.permits(batch) {
-        Some(batch)
-    } else {
-        None
-    }
+/// The visitor that tests the marks of a node, one by one.
+#[derive(Drop)]
+pub struct MarkTest<'a> {
+    pub tested: TestedOwn<'a>,
+    pub levels: Levels,
+    pub known: KnownLengths,
+    pub next: u64,
 }
 
-// Whether a length in sixtieths is no less than a sum of duals and what is added to it.
-fn covers(length: u64, sum: u128, more: u128) -> bool
-    ensures yes { IsTrue result → sum + more ≤ sixtieths_of length }
-    ensures no { result ≡ false → sixtieths_of length < sum + more }
+// Whether a length in sixtieths is no less than a sum of duals.
+fn covers(length: u64, sum: u64) -> bool
+    requires { length < 2 ^ 28 }
+    ensures yes { IsTrue result → sum ≤ sixtieths_of length }
+    ensures no { result ≡ false → sixtieths_of length < sum }
 {
-    let most = u128::from(SIXTIETHS) * u128::from(length);
-    sum <= most && more <= most - sum
+    sum <= SIXTIETHS * length
 }
 
-// A number that the length of a place is no less than: the known one where it covers a sum of duals and what is added to it,
-// else the length itself. Only there the place is measured.
-fn length_for(wave: &Wave, levels: &mut Levels, reached: &Reached, sum: u128, more: u128) -> u64
+// A number that the length of a place is no less than: what is known of the place before it.
+fn known_of(wave: &Wave, known: &KnownLengths, place: &Place) -> u64
+    requires known { AreKnown wave.now known.now }
+    requires lengths { HasEachLength wave.now }
+    requires orders { All (λ order. order < length wave.now.orders) place.now.batch }
+    requires both { IsBoth place.now }
+    ensures { IsKnown wave.now place.now.batch result }
+{
+    let _orders = wave.orders();
+    known.of(place.before)
+}
+
+// A number that the length of a place is no less than: the known one where it covers a sum of duals, else the length
+// itself. Only there the place is measured.
+fn length_for(wave: &Wave, levels: &mut Levels, place: &Place, known: u64, sum: u64) -> u64
     requires levels { AreLevels wave.now levels.old }
-    requires orders { All (λ order. order < length wave.now.orders) reached.now.batch }
-    requires both { IsBoth reached.now }
-    requires least { IsNoLess wave.now reached.now.batch reached.now.known }
+    requires orders { All (λ order. order < length wave.now.orders) place.now.batch }
+    requires both { IsBoth place.now }
+    requires known { IsKnown wave.now place.now.batch known }
     ensures levels { AreLevels wave.now levels.new }
-    ensures least { IsNoLess wave.now reached.now.batch result }
-    ensures enough { sum + more ≤ sixtieths_of reached.now.known → result ≡ reached.now.known }
-    ensures exact { sixtieths_of result < sum + more → IsLengthOf wave.now reached.now.batch result }
+    ensures known { IsKnown wave.now place.now.batch result }
+    ensures enough { sum ≤ sixtieths_of known → result ≡ known }
+    ensures exact { sixtieths_of result < sum → IsLengthOf wave.now place.now.batch result }
 {
-    if covers(reached.known, sum, more) {
-        reached.known
+    if covers(known, sum) {
+        known
     } else {
-        levels.length_of(wave, reached)
+        levels.length_of(wave, place)
     }
 }
 
-// Whether a place of this sum of duals, which isn't entered, stands for all batches that have more orders after it.
+// Whether a place that isn't entered stands for all batches that have more orders after it. Where it doesn't, its reach
+// is told by the node's own duals.
 fn stands_for_more(
     tested: &TestedOwn<'_>,
     levels: &mut Levels,
-    reached: &Reached,
-    sum: u128,
+    visit: &Visit<'_>,
+    place: &Place,
+    known: u64,
 ) -> bool
     requires levels { AreLevels tested.now.wave.now levels.old }
-    requires lengths { HasEachLength tested.now.wave.now }
-    requires orders { All (λ order. order < length tested.now.wave.now.orders) reached.now.batch }
-    requires both { IsBoth reached.now }
-    requires fits { length reached.now.batch ≤ tested.now.pairs.now.capacity }
-    requires sum { sum ≡ duals_of tested.now.own.now.duals reached.now.batch }
-    requires least { IsNoLess tested.now.wave.now reached.now.batch reached.now.known }
+    requires test { IsTestOf visit.now tested.now }
+    requires at { IsAt visit.now place.now }
+    requires known { IsKnown tested.now.wave.now place.now.batch known }
     ensures levels { AreLevels tested.now.wave.now levels.new }
     ensures yes { IsTrue result
-        → StandsForMore tested.now.wave.now tested.now.pairs.now tested.now.own.now.duals reached.now.batch reached.now.from }
+        → StandsForMore tested.now.wave.now visit.now.pairing tested.now.own.now.duals
+        place.now.batch place.now.from }
     ensures no { result ≡ false
-        → ReachesTooMuch tested.now.wave.now tested.now.pairs.now tested.now.own.now.duals reached.now.batch reached.now.from }
+        → ReachesTooMuch tested.now.wave.now visit.now.pairing tested.now.own.now.duals
+        place.now.batch place.now.from }
 {
-    let reach = reach_of(
-        tested.pairs,
-        tested.own.duals.as_slice(),
-        reached.batch,
-        reached.from,
-    );
-    covers(
-        length_for(tested.wave, levels, reached, sum, reach),
-        sum,
-        reach,
-    )
+    let _room = visit.room_at(place);
+    let sum = place.sum + visit.reach_of(place);
+    let length = length_for(tested.wave, levels, place, known, sum);
+    if covers(length, sum) {
+        return true;
+    }
+    let duals = tested.own.duals.as_slice();
+    let _reach = reach_of(tested.pairs, duals, place.batch, place.from);
+    false
 }
 
-/// Visits a place whose later items begin from an order on, with the marks from this place of them on. The answer is where
-/// the marks go on; or the first refusal, `NotFeasible` with a batch that has too much in duals, or `BadMarks`. The
-/// length of the place is no less than a known number, and the place is measured only where that number isn't enough.
-pub fn visit(
-    tested: &TestedOwn<'_>,
-    levels: &mut Levels,
-    reached: &Reached,
-    next: u64,
-) -> Result<u64, CertWhy>
-    requires levels { AreLevels tested.now.wave.now levels.old }
-    requires lengths { HasEachLength tested.now.wave.now }
-    requires known { All (λ order. order < tested.now.pairs.now.orders) reached.now.batch }
-    requires both { IsBoth reached.now }
-    requires fits { length reached.now.batch ≤ tested.now.pairs.now.capacity }
-    requires from { reached.now.from ≤ tested.now.pairs.now.orders }
-    requires next { next ≤ length tested.now.own.now.marks }
-    requires least { IsNoLess tested.now.wave.now reached.now.batch reached.now.known }
-    ensures levels { AreLevels tested.now.wave.now levels.new }
-    ensures ok { IfOk result (λ end. IsVisit tested.now.wave.now tested.now.pairs.now tested.now.own.now.duals
-        (Place reached.now.batch reached.now.from) (drop next tested.now.own.now.marks) (Passed (drop end tested.now.own.now.marks))) }
-    ensures within { IfOk result (λ end. end ≤ length tested.now.own.now.marks) }
-    ensures err { IfErr result (IsRefusedVisit tested.now.wave.now tested.now.pairs.now tested.now.own.now.duals
-        (Place reached.now.batch reached.now.from) (drop next tested.now.own.now.marks)) }
-{
-    let TestedOwn { wave, pairs, own } = *tested;
-    let place = reached.batch;
-    let sum = sum_of(own.duals.as_slice(), place);
-    let length = length_for(wave, levels, reached, sum, 0);
-    if !covers(length, sum, 0) {
-        return Err(CertWhy::NotFeasible(place));
-    }
-    if next == own.marks.len() {
-        return Err(CertWhy::BadMarks);
-    }
-    if !own.marks.at(next) {
-        if !stands_for_more(tested, levels, &reached.known_as(length), sum) {
+impl Visitor for MarkTest<'_> {
+    type Fault = CertWhy;
+
+    ghost use Rattle.wp_cert.specs.MarkTests.{EntersTest, FitsTest};
+
+    ghost fits = { λ test task. FitsTest task test };
+
+    ghost enters = { λ task old place from answer new. EntersTest task old place from answer new };
+
+    fn enter(&mut self, visit: &Visit<'_>, place: &Place) -> Result<Step, CertWhy> {
+        let tested = self.tested;
+        let known = known_of(tested.wave, &self.known, place);
+        let least = length_for(tested.wave, &mut self.levels, place, known, place.sum);
+        if !covers(least, place.sum) {
+            return Err(CertWhy::NotFeasible(place.batch));
+        }
+        let next = self.next;
+        if next == tested.own.marks.len() {
             return Err(CertWhy::BadMarks);
         }
-        return Ok(next + 1);
-    }
-    let mut after = next + 1;
-    for item in reached.from..pairs.orders() {
-        if let Some(batch) = child_of(pairs, place, item) {
-            let child = Reached {
-                before: place,
-                added: pairs.joined_to(item),
-                batch,
-                from: item + 1,
-                known: length,
-            };
-            after = visit(tested, levels, &child, after)?;
+        self.next = next + 1;
+        if tested.own.marks.at(next) {
+            self.known.keep(place.batch, least);
+            return Ok(Step::Deeper);
+        }
+        if stands_for_more(&tested, &mut self.levels, visit, place, least) {
+            Ok(Step::Past)
+        } else {
+            Err(CertWhy::BadMarks)
         }
     }
-    Ok(after)
+}
+
+/// Goes through the marks of a node from the first on, along a visit of its permitted batches. The answer is where the
+/// marks end; or the first refusal, `NotFeasible` with a batch that has too much in duals, or `BadMarks`. The length of
+/// a place is no less than a known number, and the place is measured only where that number isn't enough.
+pub fn go_through(tested: &TestedOwn<'_>, visit: &Visit<'_>) -> Result<u64, CertWhy>
+    requires { IsTestOf visit.now tested.now }
+    ensures ok { IfOk result (λ end. IsVisitOfAll tested.now.wave.now tested.now.pairs.now
+        tested.now.own.now.duals tested.now.own.now.marks
+        (Passed (drop end tested.now.own.now.marks))) }
+    ensures err { IfErr result (IsRefusedVisit tested.now.wave.now tested.now.pairs.now
+        tested.now.own.now.duals (PlaceDue [] 0) tested.now.own.now.marks) }
+{
+    let mut test = MarkTest {
+        tested: *tested,
+        levels: Levels::none(tested.wave),
+        known: KnownLengths::none(),
+        next: 0,
+    };
+    visit.visit_all(&mut test)?;
+    Ok(test.next)
 }

@@ -7,17 +7,18 @@ use std::alloc::Global;
 use wp_model::Memory;
 use wp_pairs::OrderPair;
 
-/// What a split on the way has shown: what its duals come to; and the bound of its first subtree, where the second is due.
+/// What a split on the way has shown: what its duals come to; and the bound of its first subtree, where the second is
+/// due.
 #[derive(Clone, Copy)]
 pub struct Note {
     pub total: u128,
     pub first: Option<u128>,
 }
 
-/// The splits on the way from the root to the node that is due, each with its pair and with what it has shown. The duals that
-/// stand above that node come to `above`.
+/// The splits on the way from the root to the node that is due, each with its pair and with what it has shown. The
+/// duals that stand above that node come to `above`.
 #[derive(Drop)]
-pub struct Way {
+pub struct SplitWay {
     pub path: Vec<OrderPair>,
     pub notes: Vec<Note>,
     pub above: u128,
@@ -54,14 +55,14 @@ fn lower_bound(left: Option<u128>, right: Option<u128>) -> Option<u128>
     }
 }
 
-impl Way {
+impl SplitWay {
     /// The way to the root, above which stand duals that come to this.
-    pub fn to_root(alloc: Global, above: u128) -> Way
+    pub fn to_root(alloc: Global, above: u128) -> SplitWay
         ensures path { result.path.items ≡ [] }
         ensures notes { result.notes.items ≡ [] }
         ensures above { result.above ≡ above }
     {
-        Way {
+        SplitWay {
             path: Vec::new(alloc),
             notes: Vec::new(alloc),
             above,
@@ -106,8 +107,8 @@ impl Way {
         Ok(Met::Whole(bound))
     }
 
-    /// Goes on from a node with what it leads to. `Memory` comes only where memory is wanting, and then nothing is said of
-    /// the way.
+    /// Goes on from a node with what it leads to. `Memory` comes only where memory is wanting, and then nothing is said
+    /// of the way.
     pub fn go_on(&mut self, step: NodeStep) -> Result<Met, Memory>
         requires even { length self.old.path.items ≡ length self.old.notes.items }
         ensures { IfOk result (GoesTo self.old step self.new) }

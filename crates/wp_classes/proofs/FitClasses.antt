@@ -7,7 +7,7 @@ use Rattle.wp_model.specs.declared.point.Point.{Point}
 use Rattle.wp_model.specs.Warehouse.{end_place}
 use Rattle.wp_graph.specs.Copies.{Copies}
 use Rattle.wp_graph.specs.Sites.{IsOnSite, Site, last_place}
-use Rattle.wp_graph.specs.TourCopies.{AreFew, AreTour, IsKept, IsOnTour}
+use Rattle.wp_graph.specs.TourCopies.{AreFew, AreTour, IsUnwalked, IsOnTour}
 use Rattle.wp_classes.specs.declared.class.Class.{Class}
 use Rattle.wp_classes.specs.declared.class.Class.TheVariants.{UU1, E01, ZE1, EE1, EE2, Z00, Z01}
 
@@ -30,7 +30,7 @@ Agrees j colour other = (a s : ℕ) → a ≤ j → other a s ≡ colour a s
 
 -- what is left of an aisle and in it tells the colour of the depot
 abbrev pub Tells : Toured → ℕ → (ℕ → ℕ → Bool) → Bool → Type 0
-Tells t j colour x = (other : ℕ → ℕ → Bool) → IsKept t.site t.copies other → Agrees j colour other → home t other ≡ x
+Tells t j colour x = (other : ℕ → ℕ → Bool) → IsUnwalked t.site t.copies other → Agrees j colour other → home t other ≡ x
 
 -- a colouring that no walked piece changes left of an aisle and in it
 pub record IsLeft (t : Toured) (j : ℕ) (colour : ℕ → ℕ → Bool) : Type 0 where
@@ -118,7 +118,7 @@ split_three a j = grind arith
 
 -- one colour beyond an aisle, where nothing crosses from the other side
 pub kept_beside : (t : Toured) (j : ℕ) (c : ℕ → ℕ → Bool) (x : Bool) → IsLeft t j c → (0 < t.copies.behind j → c j (last_place t.site) ≡ x)
-    → (0 < t.copies.front j → c j 0 ≡ x) → IsKept t.site t.copies (beside j c (λ s. x))
+    → (0 < t.copies.front j → c j 0 ≡ x) → IsUnwalked t.site t.copies (beside j c (λ s. x))
 kept_beside t j c x left back front = record {
   deep = λ a s some. ⊎_elim
       (λ low. beside_left j c (λ s. x) a s low ∙ left.deep a s low some ∙ sym (beside_left j c (λ s. x) a (suc s) low))

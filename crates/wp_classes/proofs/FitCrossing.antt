@@ -2,7 +2,7 @@
 -- class that fits.
 use Rattle.std.proofs.Common.{◌≡◌, ℕ, ◌+◌, ◌<◌, ◌≤◌, Bool, true, false, Some, not, arith, refl, sym, ap, ◌∙◌, ⊎_elim}
 use Rattle.wp_graph.specs.Sites.{last_place}
-use Rattle.wp_graph.specs.TourCopies.{IsKept}
+use Rattle.wp_graph.specs.TourCopies.{IsUnwalked}
 use Rattle.wp_classes.specs.declared.class.Class.{Class}
 use Rattle.wp_classes.specs.declared.class.Class.TheVariants.{UU1, E01, ZE1, EE1, EE2, Z00, Z01}
 use Rattle.wp_classes.specs.declared.class.Cross.{Cross}
@@ -28,7 +28,7 @@ pub beside_agrees : (t : Toured) (j : ℕ) (c : ℕ → ℕ → Bool) (x : Bool)
 beside_agrees t j c x = λ a s low. beside_left j c (λ s. x) a s low
 
 -- nothing is needed beyond an aisle from which nothing crosses, where what is left tells the other colour
-all_left : (t : Toured) (j : ℕ) (c : ℕ → ℕ → Bool) (x y : Bool) → (x ≡ y → ⊥) → Tells t j c x → IsKept t.site t.copies (beside j c (λ s. y)) → AllLeft t j
+all_left : (t : Toured) (j : ℕ) (c : ℕ → ℕ → Bool) (x y : Bool) → (x ≡ y → ⊥) → Tells t j c x → IsUnwalked t.site t.copies (beside j c (λ s. y)) → AllLeft t j
 all_left t j c x y apart tells kept p on = ⊎_elim (λ low. low)
     (λ high.
     let there = t.are.joined.needed (beside j c (λ s. y)) kept p on in
@@ -43,18 +43,18 @@ behind_tells : (t : Toured) (j : ℕ) (c : ℕ → ℕ → Bool) (x : Bool) → 
 behind_tells t j c x some is = λ other kept agrees. sym (t.are.joined.behind other kept j some) ∙ agrees j (last_place t.site) (omega arith) ∙ is
 
 -- two colours cannot both be the depot's
-pub never_both : (t : Toured) (j : ℕ) (c other : ℕ → ℕ → Bool) → Tells t j c true → Tells t j c false → IsKept t.site t.copies other → Agrees j c other → ⊥
+pub never_both : (t : Toured) (j : ℕ) (c other : ℕ → ℕ → Bool) → Tells t j c true → Tells t j c false → IsUnwalked t.site t.copies other → Agrees j c other → ⊥
 never_both t j c other one two kept agrees = true_false (sym (one other kept agrees) ∙ two other kept agrees)
 
 -- where nothing crosses behind, all beyond may have the colour of the front end
-pub front_alone : (t : Toured) (j : ℕ) (c : ℕ → ℕ → Bool) → t.copies.behind j ≡ 0 → Sides t j c → IsKept t.site t.copies (beside j c (λ s. false))
+pub front_alone : (t : Toured) (j : ℕ) (c : ℕ → ℕ → Bool) → t.copies.behind j ≡ 0 → Sides t j c → IsUnwalked t.site t.copies (beside j c (λ s. false))
 front_alone t j c none sides = kept_beside t j c false sides.left (λ some. absurd (omega (arith, some, none))) (λ some. sides.front)
 
 -- where nothing crosses in front, all beyond may have the colour of the back end
-pub back_alone : (t : Toured) (j : ℕ) (c : ℕ → ℕ → Bool) → t.copies.front j ≡ 0 → Sides t j c → IsKept t.site t.copies (beside j c (λ s. true))
+pub back_alone : (t : Toured) (j : ℕ) (c : ℕ → ℕ → Bool) → t.copies.front j ≡ 0 → Sides t j c → IsUnwalked t.site t.copies (beside j c (λ s. true))
 back_alone t j c none sides = kept_beside t j c true sides.left (λ some. sides.back) (λ some. absurd (omega (arith, some, none)))
 
-kept_not : (t : Toured) (colour : ℕ → ℕ → Bool) → IsKept t.site t.copies colour → IsKept t.site t.copies (λ a s. not (colour a s))
+kept_not : (t : Toured) (colour : ℕ → ℕ → Bool) → IsUnwalked t.site t.copies colour → IsUnwalked t.site t.copies (λ a s. not (colour a s))
 kept_not t colour kept = record {
   deep = λ a s some. ap not (kept.deep a s some);
   behind = λ a some. ap not (kept.behind a some);

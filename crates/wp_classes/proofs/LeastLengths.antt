@@ -124,7 +124,8 @@ least_crosses onward spacing after class is =
     back t h = split t h.0 h.1
 
 -- the least lengths at the end
-pub onward_at_end : (block : Block) (aisle : ℕ) (lengths : OnwardLengths) → ((class : Class) → length_at lengths class ≡ (if is_whole class then Some 0 else None))
+pub onward_at_end : (block : Block) (aisle : ℕ) (lengths : OnwardLengths)
+    → ((class : Class) → length_at lengths class ≡ (if is_whole class then Some 0 else None))
     → AreOnward block 0 aisle lengths
 onward_at_end block aisle lengths are = record {
   least = λ class. subst (λ o. IsLeastOf (λ t. Onward block 0 aisle class t) o) (sym (are class))

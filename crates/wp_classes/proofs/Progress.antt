@@ -127,7 +127,8 @@ progress_done layout picks (suc more) ways crosses class choices some all room r
     )
 
 -- a best first way begins so
-pub progress_first : (block : Block) (all : ℕ) (after : OnwardLengths) (ways : AisleWays) (first : Way) (class : Class) (blank : List Way) (crosses : List Cross)
+pub progress_first : (block : Block) (all : ℕ) (after : OnwardLengths) (ways : AisleWays) (first : Way) (class : Class) (blank : List Way)
+    (crosses : List Cross)
     → AreOnward block (all - 1) 1 after → ways ≡ block.ways 1 →
     by_way ways after Z00 first ≡ least_by_way ways after Z00 → class_after_way Z00 first ≡ Some class → 0 < length blank
     → Progress block all 1 (route_of (record { ways = set blank 0 first; crosses = crosses })) class

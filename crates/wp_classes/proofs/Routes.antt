@@ -154,7 +154,8 @@ some_way_on block left least is =
     no_one ((block.ways 1).double + rest.0) (Double, (EE1, (block.ways 1).double, rest.0, record { allowed = refl; applies = refl }, rest.1, refl)))
 
 -- the least length by the first way is that of all ways to go on
-pub least_first : (block : Block) (left : ℕ) (ways : AisleWays) (lengths : OnwardLengths) (least : Option ℕ) → AreOnward block left 1 lengths → ways ≡ block.ways 1
+pub least_first : (block : Block) (left : ℕ) (ways : AisleWays) (lengths : OnwardLengths) (least : Option ℕ) → AreOnward block left 1 lengths
+    → ways ≡ block.ways 1
     → least ≡ least_by_way ways lengths Z00 → IsLeastFirst block left least
 least_first block left ways lengths least are is by =
     let on : Class → ℕ → Type 0 = λ next rest. Onward block left 1 next rest in

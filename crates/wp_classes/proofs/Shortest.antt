@@ -21,7 +21,8 @@ use Rattle.wp_classes.proofs.Rounds.{tour_of_route}
 -- all that a tour passes lies in the layout
 picks_within : (layout : Layout) (picks : List Point) → AreSlots layout picks → (p : Point) → IsOnTour (site_of layout) picks p → IsOnSite (site_of layout) p
 picks_within layout picks are p on = ⊎_elim
-    (λ (e : depot_point layout ≡ p). subst (λ (q : Point). IsOnSite (site_of layout) q) e (record { aisle = are.ranges.depot; slot = end_within (back_end layout) layout.end }))
+    (λ (e : depot_point layout ≡ p). subst (λ (q : Point). IsOnSite (site_of layout) q) e
+    (record { aisle = are.ranges.depot; slot = end_within (back_end layout) layout.end }))
     (λ (h : Among picks p). let slot = are.slots p (Contains-from_among picks p h) in record { aisle = slot.aisle; slot = omega (arith, slot.slot) })
     on
 

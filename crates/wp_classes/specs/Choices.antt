@@ -33,7 +33,11 @@ pub record Choices : Type 0 where
 
 -- the route that lists of ways and crossings make, aisles being counted from 1
 abbrev pub route_of : Choices → Route
-route_of choices = record { way = λ aisle. slice_index_or choices.ways (aisle - 1) Skip; cross = λ aisle. slice_index_or choices.crosses (aisle - 1) C00 }
+route_of choices = record {
+  way = λ aisle. slice_index_or choices.ways
+      (aisle - 1) Skip;
+  cross = λ aisle. slice_index_or choices.crosses (aisle - 1) C00;
+}
 
 -- a way leads through an aisle from one class to another, and has this length
 pub record TakesWay (ways : AisleWays) (way : Way) (before after : Class) (length : ℕ) : Type 0 where
@@ -50,7 +54,8 @@ pub record TakesCross (spacing : ℕ) (cross : Cross) (before after : Class) (le
 abbrev pub ComesTo : Block → Route → ℕ → Class → ℕ → Type 0
 ComesTo block route zero class total = TakesWay (block.ways 1) (route.way 1) Z00 class total
 ComesTo block route (suc more) class total =
-    (before : Class) × (between : Class) × (so_far : ℕ) × (across : ℕ) × (through : ℕ) × ComesTo block route more before so_far
+    (before : Class) × (between : Class) × (so_far : ℕ) × (across : ℕ) × (through : ℕ)
+    × ComesTo block route more before so_far
     × TakesCross (block.spacing (suc more)) (route.cross (suc more)) before between across
     × TakesWay (block.ways (suc (suc more))) (route.way (suc (suc more))) between class through
     × (total ≡ so_far + across + through)

@@ -34,7 +34,8 @@ lesser (Some left) (Some right) = Some (min left right)
 
 -- the length by a way, and on from the class to which it leads
 abbrev pub by_way : AisleWays → OnwardLengths → Class → Way → Option ℕ
-by_way ways after class way = option_and_then (λ next. sum_of (way_length ways way) (length_at after next)) (class_after_way class way)
+by_way ways after class way = option_and_then (λ next. sum_of (way_length ways way) (length_at after next))
+    (class_after_way class way)
 
 -- the least length by some way
 abbrev pub least_by_way : AisleWays → OnwardLengths → Class → Option ℕ
@@ -44,11 +45,13 @@ least_by_way ways after class =
 
 -- the length by a crossing, and on from the class to which it leads
 abbrev pub by_cross : ℕ → OnwardLengths → Class → Cross → Option ℕ
-by_cross spacing after class cross = option_and_then (λ next. option_map (λ rest. copies cross * spacing + rest) (length_at after next))
+by_cross spacing after class cross = option_and_then
+    (λ next. option_map (λ rest. copies cross * spacing + rest) (length_at after next))
     (class_after_cross class cross)
 
 -- the least length by some crossing
 abbrev pub least_by_cross : ℕ → OnwardLengths → Class → Option ℕ
 least_by_cross spacing after class =
-    lesser (by_cross spacing after class C00) (lesser (by_cross spacing after class C11) (lesser (by_cross spacing after class C20)
+    lesser (by_cross spacing after class C00)
+    (lesser (by_cross spacing after class C11) (lesser (by_cross spacing after class C20)
     (lesser (by_cross spacing after class C02) (by_cross spacing after class C22))))

@@ -11,7 +11,8 @@ use Rattle.wp_classes.specs.Tables.{is_whole}
 
 -- by this way, and then on
 abbrev pub ByWay : (Class → ℕ → Type 0) → AisleWays → Class → Way → ℕ → Type 0
-ByWay onward ways class way total = (next : Class) × (through : ℕ) × (rest : ℕ) × TakesWay ways way class next through × onward next rest
+ByWay onward ways class way total = (next : Class) × (through : ℕ) × (rest : ℕ) × TakesWay ways way class next through
+    × onward next rest
     × (total ≡ through + rest)
 
 -- by some way, and then on
@@ -20,7 +21,8 @@ Through onward ways class total = (way : Way) × ByWay onward ways class way tot
 
 -- by this crossing, and then on
 abbrev pub ByCross : (Class → ℕ → Type 0) → ℕ → Class → Cross → ℕ → Type 0
-ByCross onward spacing class cross total = (next : Class) × (across : ℕ) × (rest : ℕ) × TakesCross spacing cross class next across × onward next rest
+ByCross onward spacing class cross total
+    = (next : Class) × (across : ℕ) × (rest : ℕ) × TakesCross spacing cross class next across × onward next rest
     × (total ≡ across + rest)
 
 -- by some crossing, and then on
@@ -32,7 +34,8 @@ Across onward spacing class total = (cross : Cross) × ByCross onward spacing cl
 abbrev pub Onward : Block → ℕ → ℕ → Class → ℕ → Type 0
 Onward block zero aisle class total = IsTrue (is_whole class) × (total ≡ 0)
 Onward block (suc left) aisle class total =
-    Across (λ between rest. Through (λ next more. Onward block left (suc aisle) next more) (block.ways (suc aisle)) between rest)
+    Across (λ between rest. Through (λ next more. Onward block left (suc aisle) next more)
+    (block.ways (suc aisle)) between rest)
     (block.spacing aisle) class total
 
 -- a number is the least with a property, or there is none

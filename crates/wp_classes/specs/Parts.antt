@@ -25,8 +25,14 @@ abbrev pub with_pass : Layout → ℕ → Class → Part → Part
 with_pass layout aisle UU1 part = record part { second = pass_up layout aisle }
 with_pass layout aisle E01 part = record part { first = part.first ++ pass_down layout aisle }
 with_pass layout aisle ZE1 part = record part { first = pass_down layout aisle ++ part.first }
-with_pass layout aisle EE1 part = record part { first = part.first ++ part.second ++ pass_down layout aisle; second = [] }
-with_pass layout aisle EE2 part = record part { first = part.first ++ pass_down layout aisle ++ part.second; second = [] }
+with_pass layout aisle EE1 part = record part {
+  first = part.first ++ part.second ++ pass_down layout aisle;
+  second = [];
+}
+with_pass layout aisle EE2 part = record part {
+  first = part.first ++ pass_down layout aisle ++ part.second;
+  second = [];
+}
 with_pass layout aisle Z00 part = record part { first = pass_down layout aisle }
 with_pass layout aisle Z01 part = part
 
@@ -74,16 +80,22 @@ abbrev pub with_way : Layout → ℕ → ℕ → ℕ → Class → Way → Part 
 with_way layout aisle near far class Pass part = with_pass layout aisle class part
 with_way layout aisle near far class Back part = with_back layout aisle far class part
 with_way layout aisle near far class Front part = with_front aisle near class part
-with_way layout aisle near far class Gap part = with_front aisle near (class_with_back class) (with_back layout aisle far class part)
-with_way layout aisle near far class Double part = with_pass layout aisle (class_with_pass class) (with_pass layout aisle class part)
+with_way layout aisle near far class Gap part
+    = with_front aisle near (class_with_back class) (with_back layout aisle far class part)
+with_way layout aisle near far class Double part
+    = with_pass layout aisle (class_with_pass class) (with_pass layout aisle class part)
 with_way layout aisle near far class Skip part = part
 
 -- with a crossing from an aisle to the next
 abbrev pub with_cross : Layout → ℕ → Class → Cross → Part → Part
-with_cross layout aisle UU1 cross part = record part { first = at aisle (back_end layout) ∷ part.first ++ at (suc aisle) 0 ∷ [] }
+with_cross layout aisle UU1 cross part = record part {
+  first = at aisle (back_end layout) ∷ part.first ++ at (suc aisle) 0 ∷ [];
+}
 with_cross layout aisle E01 C00 part = record part { start = at aisle (back_end layout) }
 with_cross layout aisle E01 C11 part = part
-with_cross layout aisle E01 C20 part = record part { first = at aisle (back_end layout) ∷ part.first ++ at (suc aisle) (back_end layout) ∷ [] }
+with_cross layout aisle E01 C20 part = record part {
+  first = at aisle (back_end layout) ∷ part.first ++ at (suc aisle) (back_end layout) ∷ [];
+}
 with_cross layout aisle E01 C02 part = part
 with_cross layout aisle E01 C22 part = record part {
   first = at aisle (back_end layout) ∷ part.first ++ at (suc aisle) (back_end layout) ∷ [];
@@ -97,14 +109,21 @@ with_cross layout aisle ZE1 C22 part = record part {
   first = at aisle (back_end layout) ∷ at (suc aisle) (back_end layout) ∷ [];
   second = at aisle 0 ∷ part.first ++ at (suc aisle) 0 ∷ [];
 }
-with_cross layout aisle EE1 C00 part = record { start = at aisle (back_end layout); first = part.first ++ part.second; second = [] }
+with_cross layout aisle EE1 C00 part = record {
+  start = at aisle (back_end layout);
+  first = part.first ++ part.second;
+  second = [];
+}
 with_cross layout aisle EE1 C11 part = part
 with_cross layout aisle EE1 C20 part = record part {
   first = at aisle (back_end layout) ∷ (part.first ++ part.second) ++ at (suc aisle) (back_end layout)
       ∷ [];
   second = [];
 }
-with_cross layout aisle EE1 C02 part = record part { first = at aisle 0 ∷ (part.second ++ part.first) ++ at (suc aisle) 0 ∷ []; second = [] }
+with_cross layout aisle EE1 C02 part = record part {
+  first = at aisle 0 ∷ (part.second ++ part.first) ++ at (suc aisle) 0 ∷ [];
+  second = [];
+}
 with_cross layout aisle EE1 C22 part = record part {
   first = at aisle (back_end layout) ∷ part.first ++ at (suc aisle) 0 ∷ [];
   second = at aisle 0 ∷ part.second ++ at (suc aisle) (back_end layout) ∷ [];
@@ -115,7 +134,9 @@ with_cross layout aisle EE2 cross part = record part {
 }
 with_cross layout aisle Z00 C00 part = part
 with_cross layout aisle Z00 C11 part = part
-with_cross layout aisle Z00 C20 part = record part { first = at aisle (back_end layout) ∷ at (suc aisle) (back_end layout) ∷ [] }
+with_cross layout aisle Z00 C20 part = record part {
+  first = at aisle (back_end layout) ∷ at (suc aisle) (back_end layout) ∷ [];
+}
 with_cross layout aisle Z00 C02 part = record part { first = at aisle 0 ∷ at (suc aisle) 0 ∷ [] }
 with_cross layout aisle Z00 C22 part = record part {
   first = at aisle (back_end layout) ∷ at (suc aisle) (back_end layout) ∷ [];
@@ -134,7 +155,8 @@ pub record AreNeighbours (places : List ℕ) (near far : ℕ) : Type 0 where
 abbrev pub AreTurns : Layout → List Point → ℕ → Way → ℕ → ℕ → Type 0
 AreTurns layout picks aisle Pass near far = Unit {0}
 AreTurns layout picks aisle Back near far = slice_get (required_places layout picks aisle) 0 ≡ Some far
-AreTurns layout picks aisle Front near far = slice_get (required_places layout picks aisle) (length (required_places layout picks aisle) - 1) ≡ Some near
+AreTurns layout picks aisle Front near far
+    = slice_get (required_places layout picks aisle) (length (required_places layout picks aisle) - 1) ≡ Some near
 AreTurns layout picks aisle Gap near far = AreNeighbours (required_places layout picks aisle) near far
     × (distance layout far - distance layout near ≡ largest_gap (required_distances layout picks aisle))
 AreTurns layout picks aisle Double near far = Unit {0}

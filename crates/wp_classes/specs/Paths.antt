@@ -6,7 +6,9 @@ use Rattle.wp_model.specs.Warehouse.{Layout, IsMove, back_end}
 -- from a point by these further points to another, with this length
 abbrev pub Path : Layout → Point → List Point → Point → ℕ → Type 0
 Path layout from [] to total = (from ≡ to) × (total ≡ 0)
-Path layout from (next ∷ points) to total = (step : ℕ) × (rest : ℕ) × (IsMove layout from next step) × (Path layout next points to rest) × (total ≡ step + rest)
+Path layout from (next ∷ points) to total
+    = (step : ℕ) × (rest : ℕ) × (IsMove layout from next step) × (Path layout next points to rest)
+    × (total ≡ step + rest)
 
 -- a point lies on a path that begins here and has these further points
 abbrev pub On : Point → List Point → Point → Type 0
@@ -37,7 +39,8 @@ pass_down layout aisle = behind aisle 0 (back_end layout)
 
 -- from the back end to a place, and back
 abbrev pub from_back : Layout → ℕ → ℕ → List Point
-from_back layout aisle place = behind aisle place (back_end layout - place) ++ ahead aisle place (back_end layout - place)
+from_back layout aisle place = behind aisle place (back_end layout - place)
+    ++ ahead aisle place (back_end layout - place)
 
 -- from the front end to a place, and back
 abbrev pub from_front : ℕ → ℕ → List Point

@@ -11,7 +11,8 @@ use Rattle.wp_classes.specs.Paths.{On, Path, at}
 -- the paths of a part run between the ends of an aisle, as its class says, with this length together
 abbrev pub Shape : Layout → ℕ → Class → Part → ℕ → Type 0
 Shape layout aisle UU1 part total = Path layout (at aisle (back_end layout)) part.first (at aisle 0) total
-Shape layout aisle E01 part total = Path layout (at aisle (back_end layout)) part.first (at aisle (back_end layout)) total
+Shape layout aisle E01 part total = Path layout (at aisle (back_end layout)) part.first
+    (at aisle (back_end layout)) total
 Shape layout aisle ZE1 part total = Path layout (at aisle 0) part.first (at aisle 0) total
 Shape layout aisle EE1 part total =
     (s : ℕ) × (r : ℕ) × Path layout (at aisle (back_end layout)) part.first (at aisle 0) s
@@ -37,11 +38,13 @@ abbrev pub IsNeeded : Layout → List Point → Point → Type 0
 IsNeeded layout picks p = Among (depot_point layout ∷ picks) p
 
 -- the part of a tour up to an aisle, with ends at an aisle
-pub record IsPart (layout : Layout) (picks : List Point) (ends upto : ℕ) (class : Class) (part : Part) (total : ℕ) : Type 0 where
+pub record IsPart (layout : Layout) (picks : List Point) (ends upto : ℕ) (class : Class) (part : Part)
+    (total : ℕ) : Type 0 where
   pub shape : Shape layout ends class part total
   pub serves : (p : Point) → IsNeeded layout picks p → p.aisle ≤ upto → OnPart layout ends class part p
 
 -- a closed path past all that is needed
-pub record IsRound (layout : Layout) (picks : List Point) (start : Point) (points : List Point) (total : ℕ) : Type 0 where
+pub record IsRound (layout : Layout) (picks : List Point) (start : Point) (points : List Point)
+    (total : ℕ) : Type 0 where
   pub path : Path layout start points start total
   pub serves : (p : Point) → IsNeeded layout picks p → On start points p

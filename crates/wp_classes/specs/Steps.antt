@@ -9,7 +9,8 @@ use Rattle.wp_classes.specs.Onward.{IsLeastOf, Onward}
 
 -- A step to an aisle, from a class after the aisle before it, where so many more aisles are left: with a way to go on
 -- it comes to the least length.
-pub record IsBestStep (block : Block) (left aisle : ℕ) (after : OnwardLengths) (before : Class) (step : AisleStep) : Type 0 where
+pub record IsBestStep (block : Block) (left aisle : ℕ) (after : OnwardLengths) (before : Class)
+    (step : AisleStep) : Type 0 where
   pub between : Class
   pub across : ℕ
   pub through : ℕ

@@ -1,6 +1,8 @@
-ghost use Rattle.std.specs.Prelude.{◌≡◌, ◌+◌, ◌*◌, ◌<◌, ◌≤◌, ◌^◌, ℕ, Some, None, IfSome, length, slice_index_or, if◌then◌else◌};
+ghost use Rattle.std.specs.Prelude.{◌≡◌, ◌+◌, ◌*◌, ◌<◌, ◌≤◌, ◌^◌, ℕ, Some, None, IfSome, length, slice_index_or};
+ghost use Rattle.std.specs.Prelude.{if◌then◌else◌};
 ghost use Rattle.wp_model.specs.Limits.{most_aisles};
-ghost use Rattle.wp_classes.specs.Least.{by_cross, by_way, least_by_cross, least_by_way, length_at, lesser as lesser_of, sum_of};
+ghost use Rattle.wp_classes.specs.Least.{by_cross, by_way, least_by_cross, least_by_way, length_at};
+ghost use Rattle.wp_classes.specs.Least.{lesser as lesser_of, sum_of};
 ghost use Rattle.wp_classes.specs.Tables.{is_whole, way_length};
 ghost use Rattle.wp_classes.specs.declared.class.Class.{Class as ClassData};
 ghost use Rattle.wp_classes.specs.declared.class.Way.{Way as WayData};
@@ -50,7 +52,8 @@ fn lesser(left: Option<u64>, right: Option<u64>) -> Option<u64>
 impl OnwardLengths {
     /// No length from any class but the whole ones.
     pub(crate) fn at_the_end() -> OnwardLengths
-        ensures { (class : ClassData) → length_at result class ≡ (if is_whole class then Some 0 else None) }
+        ensures { (class : ClassData) → length_at result class
+            ≡ (if is_whole class then Some 0 else None) }
     {
         OnwardLengths {
             uu1: None,
@@ -178,7 +181,8 @@ pub(crate) fn least_length_by_cross(
 pub(crate) fn before_cross(spacing: u64, after: &OnwardLengths) -> OnwardLengths
     requires spacing { spacing ≤ 2 ^ 38 }
     requires after { (c : ClassData) → IfSome (length_at after.now c) (λ t. t ≤ 2 ^ 40) }
-    ensures { (class : ClassData) → length_at result class ≡ least_by_cross spacing after.now class }
+    ensures { (class : ClassData) → length_at result class
+        ≡ least_by_cross spacing after.now class }
 {
     OnwardLengths {
         uu1: least_length_by_cross(spacing, after, Class::UU1),
@@ -241,7 +245,8 @@ pub(crate) fn best_cross(spacing: u64, after: &OnwardLengths, class: Class) -> C
 /// The lengths at the end, for each aisle.
 pub(crate) fn all_at_the_end() -> [OnwardLengths; MOST_AISLES as usize]
     ensures whole { length result ≡ most_aisles }
-    ensures each { (k : ℕ) (d : LengthsData) (class : ClassData) → k < most_aisles → length_at (slice_index_or result k d) class ≡
+    ensures each { (k : ℕ) (d : LengthsData) (class : ClassData) → k < most_aisles
+        → length_at (slice_index_or result k d) class ≡
         (if is_whole class then Some 0 else None) }
 {
     [OnwardLengths::at_the_end(); MOST_AISLES as usize]

@@ -21,8 +21,10 @@ fn onward_before(layout: &Layout, picks: &Picks, aisle: u32, after: &OnwardLengt
     requires picks { picks.now.layout ≡ layout.now }
     requires first { 2 ≤ aisle }
     requires last { aisle ≤ layout.now.aisles }
-    requires after { AreOnward (block_of layout.now picks.now.points) (layout.now.aisles - aisle) aisle after.now }
-    ensures { AreOnward (block_of layout.now picks.now.points) (layout.now.aisles - (aisle - 1)) (aisle - 1) result }
+    requires after { AreOnward (block_of layout.now picks.now.points)
+        (layout.now.aisles - aisle) aisle after.now }
+    ensures { AreOnward (block_of layout.now picks.now.points) (layout.now.aisles - (aisle - 1))
+        (aisle - 1) result }
 {
     let spacing = u64::from(layout.spacing_after(aisle - 1));
     let through = before_way(&aisle_ways(layout, picks, aisle), after);
@@ -48,9 +50,12 @@ fn best_step(
     requires picks { picks.now.layout ≡ layout.now }
     requires first { 2 ≤ aisle }
     requires last { aisle ≤ layout.now.aisles }
-    requires after { AreOnward (block_of layout.now picks.now.points) (layout.now.aisles - aisle) aisle after.now }
-    requires goes_on { (rest : ℕ) × Onward (block_of layout.now picks.now.points) (layout.now.aisles - (aisle - 1)) (aisle - 1) class rest }
-    ensures { IsBestStep (block_of layout.now picks.now.points) (layout.now.aisles - (aisle - 1)) aisle after.now class result }
+    requires after { AreOnward (block_of layout.now picks.now.points)
+        (layout.now.aisles - aisle) aisle after.now }
+    requires goes_on { (rest : ℕ) × Onward (block_of layout.now picks.now.points)
+        (layout.now.aisles - (aisle - 1)) (aisle - 1) class rest }
+    ensures { IsBestStep (block_of layout.now picks.now.points)
+        (layout.now.aisles - (aisle - 1)) aisle after.now class result }
 {
     let spacing = u64::from(layout.spacing_after(aisle - 1));
     let ways = aisle_ways(layout, picks, aisle);
@@ -86,7 +91,8 @@ fn onward_table(layout: &Layout, picks: &Picks) -> [OnwardLengths; MOST_AISLES a
     ensures valid { IsLayout layout.now }
     ensures whole { length result ≡ most_aisles }
     ensures each { (aisle : ℕ) (d : LengthsData) → IsUpTo layout.now.aisles aisle
-        → AreOnward (block_of layout.now picks.now.points) (layout.now.aisles - aisle) aisle (slice_index_or result (aisle - 1) d) }
+        → AreOnward (block_of layout.now picks.now.points) (layout.now.aisles - aisle) aisle
+        (slice_index_or result (aisle - 1) d) }
 {
     let mut table = all_at_the_end();
     for done in 1..layout.aisles() {
@@ -115,7 +121,8 @@ fn blank_crosses() -> [Cross; MOST_AISLES as usize]
 /// tour.
 pub fn tour_choice(layout: &Layout, picks: &Picks) -> Choice
     requires { picks.now.layout ≡ layout.now }
-    ensures { (total : ℕ) × IsChoiceOf layout.now picks.now.points result total × IsShortest layout.now picks.now.points total }
+    ensures { (total : ℕ) × IsChoiceOf layout.now picks.now.points result total
+        × IsShortest layout.now picks.now.points total }
 {
     let table = onward_table(layout, picks);
     let mut ways = blank_ways();

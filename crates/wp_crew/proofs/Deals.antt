@@ -8,7 +8,7 @@ use Rattle.std.proofs.lemmas.List.Elements.{All-replicate, All-from_get_or}
 use Rattle.std.proofs.lemmas.List.Sums.{sum_by-le}
 use Rattle.wp_crew.specs.Crews.{load}
 use Rattle.wp_crew.specs.Turns.{AreFallingTurns, AreFew, AreTurns, IsBalanced, length_at, place_at}
-use Rattle.wp_crew.specs.declared.turns.Turn.{Turn}
+use Rattle.wp_crew.specs.declared.turns.PlacedLength.{PlacedLength}
 use Rattle.wp_crew.proofs.LoadSums.{load-set_same, load-set_other, load_nobody}
 
 -- few lengths come to no more than fits
@@ -16,7 +16,7 @@ pub sum_of_few : (lengths : List ℕ) → AreFew lengths → sum lengths ≤ 100
 sum_of_few lengths few = omega (arith, few.count, sum_by-le (λ (x : ℕ). x) (2 ^ 40) lengths few.each)
 
 -- the first turns are done: their lengths are dealt, and the others aren't
-pub record IsDealt (lengths : List ℕ) (turns : List Turn) (pickers count : ℕ) (loads picker_of : List ℕ) : Type 0 where
+pub record IsDealt (lengths : List ℕ) (turns : List PlacedLength) (pickers count : ℕ) (loads picker_of : List ℕ) : Type 0 where
   pub loaded : length loads ≡ pickers
   pub each : length picker_of ≡ length lengths
   pub sums : (picker : ℕ) → picker < pickers → get_or loads picker 0 ≡ load lengths picker_of picker
@@ -25,7 +25,7 @@ pub record IsDealt (lengths : List ℕ) (turns : List Turn) (pickers count : ℕ
   pub balanced : (at other : ℕ) → at < count → other < pickers
       → get_or loads (get_or picker_of (place_at turns at) 0) 0 ≤ get_or loads other 0 + length_at turns at
 
-pub none_dealt : (lengths : List ℕ) (turns : List Turn) (pickers : ℕ) → AreTurns lengths turns
+pub none_dealt : (lengths : List ℕ) (turns : List PlacedLength) (pickers : ℕ) → AreTurns lengths turns
     → IsDealt lengths turns pickers 0 (replicate pickers 0) (replicate (length lengths) pickers)
 none_dealt lengths turns pickers are = record {
   loaded = length-replicate pickers 0;
@@ -44,7 +44,7 @@ pub least_load : (loads : List ℕ) (picker other : ℕ) → IsFirstBest nat_lt 
 least_load loads picker other best low = let e = best.1 other 0 low in grind (arith, nat_tests)
 
 -- the picker's load with the length of the turn
-pub load_with : (lengths : List ℕ) (turns : List Turn) (pickers count : ℕ) (loads picker_of : List ℕ) (picker : ℕ)
+pub load_with : (lengths : List ℕ) (turns : List PlacedLength) (pickers count : ℕ) (loads picker_of : List ℕ) (picker : ℕ)
     → AreTurns lengths turns → IsDealt lengths turns pickers count loads picker_of → count < length turns → picker < pickers
     → load lengths (set picker_of (place_at turns count) picker) picker ≡ get_or loads picker 0 + length_at turns count
 load_with lengths turns pickers count loads picker_of picker are is low less =
@@ -56,7 +56,7 @@ load_with lengths turns pickers count loads picker_of picker are is low less =
       are.right count low,
     )
 
-pub one_dealt : (lengths : List ℕ) (turns : List Turn) (pickers count : ℕ) (loads picker_of : List ℕ) (picker : ℕ)
+pub one_dealt : (lengths : List ℕ) (turns : List PlacedLength) (pickers count : ℕ) (loads picker_of : List ℕ) (picker : ℕ)
     → AreFallingTurns lengths turns → IsDealt lengths turns pickers count loads picker_of → count < length turns
     → IsFirstBest nat_lt loads (length loads) picker
     → IsDealt lengths turns pickers (count + 1) (set loads picker (get_or loads picker 0 + length_at turns count))
@@ -117,7 +117,7 @@ one_dealt lengths turns pickers count loads picker_of picker falling is low best
       ];
     }
 
-pub all_dealt : (lengths : List ℕ) (turns : List Turn) (pickers count : ℕ) (loads picker_of : List ℕ) → AreTurns lengths turns
+pub all_dealt : (lengths : List ℕ) (turns : List PlacedLength) (pickers count : ℕ) (loads picker_of : List ℕ) → AreTurns lengths turns
     → length turns ≤ count → IsDealt lengths turns pickers count loads picker_of → IsBalanced lengths pickers picker_of
 all_dealt lengths turns pickers count loads picker_of are all is =
     let below = λ (place : ℕ) (within : place < length lengths).

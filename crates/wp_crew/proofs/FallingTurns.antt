@@ -7,22 +7,22 @@ use Rattle.std.proofs.lemmas.List.Sorted.{IsPermutation-keeps}
 use Rattle.std.specs.List.{swap}
 use Rattle.std.specs.List.Sorted.{IsPermutation, IsNonDecreasingBy}
 use Rattle.wp_crew.specs.Turns.{AreFalling, AreTurns, length_at, no_turn, place_at}
-use Rattle.wp_crew.specs.declared.turns.Turn.{Turn}
+use Rattle.wp_crew.specs.declared.turns.PlacedLength.{PlacedLength}
 
 -- a turn for each of the first lengths of a list, in its order
-pub record AreInOrder (lengths : List ℕ) (turns : List Turn) (count : ℕ) : Type 0 where
+pub record AreInOrder (lengths : List ℕ) (turns : List PlacedLength) (count : ℕ) : Type 0 where
   pub size : length turns ≡ count
   pub places : (at : ℕ) → at < count → place_at turns at ≡ at
   pub right : (at : ℕ) → at < count → length_at turns at ≡ get_or lengths at 0
 
-pub none_in_order : (lengths : List ℕ) (turns : List Turn) → turns ≡ [] → AreInOrder lengths turns 0
+pub none_in_order : (lengths : List ℕ) (turns : List PlacedLength) → turns ≡ [] → AreInOrder lengths turns 0
 none_in_order lengths turns e = record {
   size = ap length e;
   places = λ at low. absurd (omega arith);
   right = λ at low. absurd (omega arith);
 }
 
-pub more_in_order : (lengths : List ℕ) (turns : List Turn) (at : ℕ) (turn : Turn) → AreInOrder lengths turns at → turn.place ≡ at
+pub more_in_order : (lengths : List ℕ) (turns : List PlacedLength) (at : ℕ) (turn : PlacedLength) → AreInOrder lengths turns at → turn.place ≡ at
     → turn.length ≡ get_or lengths at 0 → AreInOrder lengths (turns ++ turn ∷ []) (at + 1)
 more_in_order lengths turns count turn before place is =
     let old = λ (at : ℕ) (low : at < count). get_or_append_left turns (turn ∷ []) no_turn at (omega (arith, before.size)) in
@@ -30,20 +30,20 @@ more_in_order lengths turns count turn before place is =
     record {
       size = omega (arith, length_push turns turn, before.size);
       places = λ at low. elim (cases_lt at count) [
-        | inl less ↦ ap (λ (t : Turn). t.place) (old at less) ∙ before.places at less
+        | inl less ↦ ap (λ (t : PlacedLength). t.place) (old at less) ∙ before.places at less
         | inr more ↦
             let e : at ≡ count = omega arith in
-            ap (λ k. place_at (turns ++ turn ∷ []) k) e ∙ ap (λ (t : Turn). t.place) new ∙ place ∙ sym e
+            ap (λ k. place_at (turns ++ turn ∷ []) k) e ∙ ap (λ (t : PlacedLength). t.place) new ∙ place ∙ sym e
       ];
       right = λ at low. elim (cases_lt at count) [
-        | inl less ↦ ap (λ (t : Turn). t.length) (old at less) ∙ before.right at less
+        | inl less ↦ ap (λ (t : PlacedLength). t.length) (old at less) ∙ before.right at less
         | inr more ↦
             let e : at ≡ count = omega arith in
-            ap (λ k. length_at (turns ++ turn ∷ []) k) e ∙ ap (λ (t : Turn). t.length) new ∙ is ∙ ap (λ k. get_or lengths k 0) (sym e)
+            ap (λ k. length_at (turns ++ turn ∷ []) k) e ∙ ap (λ (t : PlacedLength). t.length) new ∙ is ∙ ap (λ k. get_or lengths k 0) (sym e)
       ];
     }
 
-pub turns_in_order : (lengths : List ℕ) (turns : List Turn) (count : ℕ) → AreInOrder lengths turns count → count ≡ length lengths
+pub turns_in_order : (lengths : List ℕ) (turns : List PlacedLength) (count : ℕ) → AreInOrder lengths turns count → count ≡ length lengths
     → AreTurns lengths turns
 turns_in_order lengths turns count is all = record {
   count = is.size ∙ all;
@@ -66,7 +66,7 @@ other_place i j at = elim (cases_eq at i) [
   ]
 ]
 
-exchanged : (turns : List Turn) (i j : ℕ) → i < length turns → j < length turns → (at : ℕ)
+exchanged : (turns : List PlacedLength) (i j : ℕ) → i < length turns → j < length turns → (at : ℕ)
     → get_or (swap turns i j) at no_turn ≡ get_or turns (other_place i j at).0 no_turn
 exchanged turns i j low high at =
     let is = swapped_from_swap turns (swap turns i j) i j no_turn low high refl in
@@ -103,7 +103,7 @@ back_again i j at =
       ]
     ]
 
-one_exchange : (lengths : List ℕ) (turns : List Turn) (i j : ℕ) → i < length turns → j < length turns → AreTurns lengths turns
+one_exchange : (lengths : List ℕ) (turns : List PlacedLength) (i j : ℕ) → i < length turns → j < length turns → AreTurns lengths turns
     → AreTurns lengths (swap turns i j)
 one_exchange lengths turns i j low high is =
     let size = length-swap turns i j in
@@ -111,32 +111,32 @@ one_exchange lengths turns i j low high is =
     let in_list = λ (k : ℕ) (less : k < length (swap turns i j)). within_other i j k (length turns) low high (omega (arith, less, size)) in
     record {
       count = size ∙ is.count;
-      within = λ k less. subst (λ (t : Turn). t.place < length lengths) (sym (at k)) (is.within _ (in_list k less));
-      right = λ k less. subst (λ (t : Turn). t.length ≡ get_or lengths t.place 0) (sym (at k)) (is.right _ (in_list k less));
+      within = λ k less. subst (λ (t : PlacedLength). t.place < length lengths) (sym (at k)) (is.within _ (in_list k less));
+      right = λ k less. subst (λ (t : PlacedLength). t.length ≡ get_or lengths t.place 0) (sym (at k)) (is.right _ (in_list k less));
       apart = λ k m less less' same.
           let e = is.apart _ _ (in_list k less) (in_list m less')
-          (ap (λ (t : Turn). t.place) (sym (at k)) ∙ same ∙ ap (λ (t : Turn). t.place) (at m)) in
+          (ap (λ (t : PlacedLength). t.place) (sym (at k)) ∙ same ∙ ap (λ (t : PlacedLength). t.place) (at m)) in
           sym (back_again i j k) ∙ ap (λ n. (other_place i j n).0) e ∙ back_again i j m;
       every = λ place less.
           let there = is.every place less in
           let k = (other_place i j there.0).0 in (
             k,
             omega (arith, size, within_other i j there.0 (length turns) low high there.1),
-            ap (λ (t : Turn). t.place) (at k) ∙ ap (λ n. place_at turns n) (back_again i j there.0) ∙ there.2,
+            ap (λ (t : PlacedLength). t.place) (at k) ∙ ap (λ n. place_at turns n) (back_again i j there.0) ∙ there.2,
           );
     }
 
-pub turns_in_another_order : (lengths : List ℕ) (before after : List Turn) → IsPermutation before after → AreTurns lengths before
+pub turns_in_another_order : (lengths : List ℕ) (before after : List PlacedLength) → IsPermutation before after → AreTurns lengths before
     → AreTurns lengths after
 turns_in_another_order lengths before after moved is =
     IsPermutation-keeps before (λ turns. AreTurns lengths turns) is (λ turns i j low high now. one_exchange lengths turns i j low high now) after moved
 
 -- turns that were sorted by their lengths fall from the other end
-pub falling_from_end : (turns : List Turn) → IsNonDecreasingBy (λ (t : Turn). t.length) turns → AreFalling (reverse turns)
+pub falling_from_end : (turns : List PlacedLength) → IsNonDecreasingBy (λ (t : PlacedLength). t.length) turns → AreFalling (reverse turns)
 falling_from_end turns rising at other before within =
     let size = length-reverse turns in
     let low : other < length turns = omega (arith, within, size) in
     let first = get_or-reverse turns at no_turn (omega arith) in
     let then = get_or-reverse turns other no_turn low in
     let order = rising (length turns - 1 - other) (length turns - 1 - at) no_turn (omega arith) (omega arith) in
-    omega (arith, order, ap (λ (t : Turn). t.length) first, ap (λ (t : Turn). t.length) then)
+    omega (arith, order, ap (λ (t : PlacedLength). t.length) first, ap (λ (t : PlacedLength). t.length) then)

@@ -43,8 +43,10 @@ exchange_numbers pickers number_of picker_with picker number other given are low
     let other_low : other < pickers = omega (arith, are.picker_below given less) in
     let of_picker : get_or picker_with number 0 ≡ picker = ap (λ k. get_or picker_with k 0) is_number ∙ are.back picker low in
     let of_other : get_or number_of other 0 ≡ given = ap (λ k. get_or number_of k 0) is_other ∙ are.there given less in
-    let new = swapped_from_swap number_of (swap number_of picker other) picker other 0 (omega (arith, are.number_count)) (omega (arith, are.number_count)) refl in
-    let with = swapped_from_swap picker_with (swap picker_with given number) given number 0 (omega (arith, are.picker_count)) (omega (arith, are.picker_count)) refl in
+    let new = swapped_from_swap number_of (swap number_of picker other) picker other 0 (omega (arith, are.number_count))
+    (omega (arith, are.number_count)) refl in
+    let with = swapped_from_swap picker_with (swap picker_with given number) given number 0 (omega (arith, are.picker_count))
+    (omega (arith, are.picker_count)) refl in
     let at_picker : get_or (swap number_of picker other) picker 0 ≡ given = new.0 ∙ of_other in
     let at_other : get_or (swap number_of picker other) other 0 ≡ number = new.1 ∙ sym is_number in
     let at_given : get_or (swap picker_with given number) given 0 ≡ picker = with.0 ∙ of_picker in
@@ -150,7 +152,8 @@ number_given pickers picker_of number_of picker_with count given picker number o
     let number_low : number < pickers = omega (arith, numbers.number_below picker low) in
     let other_low : other < pickers = omega (arith, numbers.picker_below given (omega arith)) in
     let of_other : get_or number_of other 0 ≡ given = ap (λ k. get_or number_of k 0) is_other ∙ numbers.there given (omega arith) in
-    let now = swapped_from_swap number_of (swap number_of picker other) picker other 0 (omega (arith, numbers.number_count)) (omega (arith, numbers.number_count)) refl in
+    let now = swapped_from_swap number_of (swap number_of picker other) picker other 0 (omega (arith, numbers.number_count))
+    (omega (arith, numbers.number_count)) refl in
     let here : get_or (swap number_of picker other) (get_or picker_of count 0) 0 ≡ given
     = ap (λ k. get_or (swap number_of picker other) k 0) (sym is) ∙ now.0 ∙ of_other in
     let kept = λ (place : ℕ) (less : place < count).

@@ -47,8 +47,10 @@ pub total_of_loads : (lengths owners : List ℕ) (pickers : ℕ) → length owne
 total_of_loads [] owners pickers e below = omega (arith, no_total (load [] owners) pickers (load-nil owners))
 total_of_loads (one ∷ lengths) [] pickers e below = absurd (omega arith)
 total_of_loads (one ∷ lengths) (owner ∷ owners) pickers e below =
-    let here : load (one ∷ lengths) (owner ∷ owners) owner ≡ load lengths owners owner + one = omega (arith, load-cons one lengths owner owners owner, own owner owner one refl) in
-    let there : (k : ℕ) → k ≢ owner → load (one ∷ lengths) (owner ∷ owners) k ≡ load lengths owners k = λ (k : ℕ) (ne : k ≢ owner). omega (arith, load-cons one lengths owner owners k, others owner k one (λ same. ne (sym same))) in
+    let here : load (one ∷ lengths) (owner ∷ owners) owner ≡ load lengths owners owner + one
+    = omega (arith, load-cons one lengths owner owners owner, own owner owner one refl) in
+    let there : (k : ℕ) → k ≢ owner → load (one ∷ lengths) (owner ∷ owners) k ≡ load lengths owners k
+    = λ (k : ℕ) (ne : k ≢ owner). omega (arith, load-cons one lengths owner owners k, others owner k one (λ same. ne (sym same))) in
     omega (
       arith,
       (one_more (load lengths owners) (load (one ∷ lengths) (owner ∷ owners)) owner one pickers here there).0

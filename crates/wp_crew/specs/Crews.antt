@@ -1,5 +1,7 @@
--- Crews: lengths that are dealt to pickers, what each picker then walks, and when the longest load is settled (Graham, 1969).
-use Rattle.std.specs.Prelude.{◌≡◌, ℕ, ◌+◌, ◌-◌, ◌*◌, ◌/◌, ◌<◌, ◌≤◌, ◌==◌, max, sum, List, [], ◌∷◌, length, slice_index, All, if◌then◌else◌}
+-- Crews: lengths that are dealt to pickers, what each picker then walks, and when the longest load is settled (Graham,
+-- 1969).
+use Rattle.std.specs.Prelude.{◌≡◌, ℕ, ◌+◌, ◌-◌, ◌*◌, ◌/◌, ◌<◌, ◌≤◌, ◌==◌, max, sum, List, [], ◌∷◌, length, slice_index}
+use Rattle.std.specs.Prelude.{All, if◌then◌else◌}
 
 -- a picker's load is the sum of the lengths that are given to it
 unfoldable pub load : List ℕ → List ℕ → ℕ → ℕ
@@ -22,12 +24,15 @@ pub record AreLoads (lengths : List ℕ) (pickers : ℕ) (picker_of loads : List
   pub count : length loads ≡ pickers
   pub sums : (picker : ℕ) → picker < pickers → slice_index loads picker ≡ load lengths picker_of picker
 
--- a crew is settled: no length of a picker with the longest load could go to another picker without making that load as long
+-- a crew is settled: no length of a picker with the longest load could go to another picker without making that load as
+-- long
 abbrev pub IsSettled : List ℕ → List ℕ → List ℕ → Type 0
 IsSettled lengths picker_of loads = (place other : ℕ) → place < length lengths → other < length loads
-    → slice_index loads (slice_index picker_of place) ≡ greatest loads → greatest loads ≤ slice_index loads other + slice_index lengths place
+    → slice_index loads (slice_index picker_of place) ≡ greatest loads
+    → greatest loads ≤ slice_index loads other + slice_index lengths place
 
--- pickers are numbered by the place of their first length: before a length goes to a picker, each picker of a lower number has one
+-- pickers are numbered by the place of their first length: before a length goes to a picker, each picker of a lower
+-- number has one
 abbrev pub AreNumberedByFirst : List ℕ → Type 0
 AreNumberedByFirst picker_of = (place lower : ℕ) → place < length picker_of → lower < slice_index picker_of place
     → (before : ℕ) × (before < place) × (slice_index picker_of before ≡ lower)

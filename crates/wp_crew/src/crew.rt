@@ -35,18 +35,21 @@ fn dealt(alloc: Global, lengths: &[u64], pickers: u32) -> Result<Vec<u32>, Memor
     Ok(picker_of)
 }
 
-/// Deals lengths to pickers, so that the longest load is short: the crew is settled, as none of the lengths of a picker with the
-/// longest load could go to another one without making that load as long. The lengths are dealt in falling order, each to the picker
-/// with the least load (Graham, SIAM Journal on Applied Mathematics 17, 1969). Pickers are numbered by the place of their first length,
-/// those without one last. There are 1 to 100 pickers and at most 1,000,000 lengths, each 1 to 2^40. `Memory` comes where memory runs out.
+/// Deals lengths to pickers, so that the longest load is short: the crew is settled, as none of the lengths of a picker
+/// with the longest load could go to another one without making that load as long. The lengths are dealt in falling
+/// order, each to the picker with the least load (Graham, SIAM Journal on Applied Mathematics 17, 1969). Pickers are
+/// numbered by the place of their first length, those without one last. There are 1 to 100 pickers and at most
+/// 1,000,000 lengths, each 1 to 2^40. `Memory` comes where memory runs out.
 pub fn assign(alloc: Global, lengths: &[u64], pickers: u32) -> Result<Crew, Memory>
     requires some { 1 ≤ pickers }
     requires most { pickers ≤ 100 }
     requires count { length lengths.now ≤ 1000000 }
     requires each { All (λ one. (1 ≤ one) × (one ≤ 2 ^ 40)) lengths.now }
-    ensures crew { IfOk result (λ crew. IsCrew lengths.now pickers crew.picker_of.items crew.loads.items crew.longest crew.least) }
+    ensures crew { IfOk result (λ crew. IsCrew lengths.now pickers crew.picker_of.items
+        crew.loads.items crew.longest crew.least) }
     ensures least { IfOk result (λ crew. NoneIsBelow lengths.now pickers crew.least) }
-    ensures near { IfOk result (λ crew. IsNearTheMean lengths.now pickers crew.picker_of.items crew.loads.items crew.longest) }
+    ensures near { IfOk result (λ crew. IsNearTheMean lengths.now pickers crew.picker_of.items
+        crew.loads.items crew.longest) }
 {
     let picker_of = dealt(alloc, lengths, pickers)?;
     let loads = loads_of(alloc, lengths, &picker_of, pickers)?;

@@ -1,10 +1,10 @@
-//! Dealing by Graham's rule: the lengths in falling order, each to a picker with the least load (Graham, SIAM Journal on
-//! Applied Mathematics 17, 1969).
+//! Dealing by Graham's rule: the lengths in falling order, each to a picker with the least load (Graham, SIAM Journal
+//! on Applied Mathematics 17, 1969).
 ghost use Rattle.std.specs.Prelude.{◌≡◌, ◌<◌, ◌≤◌, IfOk, length, nat_lt, replicate};
 ghost use Rattle.std.specs.List.{IsFirstBest};
 ghost use Rattle.wp_crew.specs.Turns.{AreFallingTurns, AreFew, IsBalanced};
 
-use crate::turns::{Turn, falling_turns};
+use crate::turns::{PlacedLength, falling_turns};
 use std::alloc::Global;
 use wp_outside::Memory;
 
@@ -22,8 +22,9 @@ fn least_loaded(loads: &[u64]) -> usize
     best
 }
 
-// Deals each length to a picker. Nobody has one before: the loads are 0, and the number after the last picker's stands in each place.
-fn deal_turns(lengths: &[u64], turns: &[Turn], loads: &mut [u64], picker_of: &mut [u32])
+// Deals each length to a picker. Nobody has one before: the loads are 0, and the number after the last picker's stands
+// in each place.
+fn deal_turns(lengths: &[u64], turns: &[PlacedLength], loads: &mut [u64], picker_of: &mut [u32])
     requires few { AreFew lengths.now }
     requires turns { AreFallingTurns lengths.now turns.now }
     requires some { 0 < length loads.old }

@@ -1,5 +1,5 @@
-//! Batches for pickers: each length is dealt to one of them, so that the longest load is short, and how short it can be at best is
-//! told beside it.
+//! Batches for pickers: each length is dealt to one of them, so that the longest load is short, and how short it can be
+//! at best is told beside it.
 #![tactic(auto)]
 
 mod crew;

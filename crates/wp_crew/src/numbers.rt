@@ -18,7 +18,8 @@ fn numbers_from_0(alloc: Global, pickers: u32) -> Result<Vec<u32>, Memory>
     Ok(numbers)
 }
 
-// Numbers pickers by the place of their first length, and tells the picker with each number. Those without a length have the last.
+// Numbers pickers by the place of their first length, and tells the picker with each number. Those without a length
+// have the last.
 fn number_by_first(picker_of: &[u32], number_of: &mut [u32], picker_with: &mut [u32])
     requires most { length number_of.old ≤ 100 }
     requires own { AreNumbers (length number_of.old) number_of.old picker_with.old }

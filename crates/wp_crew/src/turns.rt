@@ -8,18 +8,18 @@ use wp_outside::Memory;
 
 /// A length that is to be dealt, and its place in the list.
 #[derive(Clone, Copy)]
-pub struct Turn {
+pub struct PlacedLength {
     pub length: u64,
     pub place: usize,
 }
 
 // A turn for each length, in the order of the list.
-fn turns_in_order(alloc: Global, lengths: &[u64]) -> Result<Vec<Turn>, Memory>
+fn turns_in_order(alloc: Global, lengths: &[u64]) -> Result<Vec<PlacedLength>, Memory>
     ensures { IfOk result (λ turns. AreTurns lengths.now turns.items) }
 {
     let mut turns = Vec::new(alloc);
     for place in 0..lengths.len() {
-        turns.push(Turn {
+        turns.push(PlacedLength {
             length: lengths[place],
             place,
         })?;
@@ -28,7 +28,7 @@ fn turns_in_order(alloc: Global, lengths: &[u64]) -> Result<Vec<Turn>, Memory>
 }
 
 // Puts turns into the order in which none is longer than one before it.
-fn sort_falling(turns: &mut [Turn])
+fn sort_falling(turns: &mut [PlacedLength])
     ensures same { IsPermutation turns.old turns.new }
     ensures falling { AreFalling turns.new }
 {
@@ -37,7 +37,7 @@ fn sort_falling(turns: &mut [Turn])
 }
 
 /// A turn for each length, the longest first.
-pub fn falling_turns(alloc: Global, lengths: &[u64]) -> Result<Vec<Turn>, Memory>
+pub fn falling_turns(alloc: Global, lengths: &[u64]) -> Result<Vec<PlacedLength>, Memory>
     ensures { IfOk result (λ turns. AreFallingTurns lengths.now turns.items) }
 {
     let mut turns = turns_in_order(alloc, lengths)?;

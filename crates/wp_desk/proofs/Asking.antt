@@ -3,7 +3,7 @@ use Rattle.std.proofs.Common.{◌≡◌, ◌∙◌, sym, ap, subst, arith, ℕ, 
 use Rattle.std.specs.Result.{is_err}
 use Rattle.wp_desk.proofs.Parts.{asked_later, asked_more, refills_later, refills_more, waves_later, waves_more}
 use Rattle.wp_desk.specs.Parts.{history_of, refills_by, waves_by}
-use Rattle.wp_desk.specs.Work.{HasDone, IsAnswered, IsKept, Seen}
+use Rattle.wp_desk.specs.Work.{HasDone, IsAnswered, IsToldWithPlans, Seen}
 use Rattle.wp_desk.specs.declared.told.Told.{Told}
 use Rattle.wp_machine.specs.Outcome.{refill_in, released_in}
 use Rattle.wp_machine.specs.declared.outcome.Outcome.{Outcome}
@@ -26,7 +26,7 @@ module _ {T : Type 0} where
   -- a desk that has done commands has done one more once that is answered and what its step told is kept
   pub done_more : (start : History) (commands : List Command) (pass after : Seen) (command : Command) (outcome : Outcome) (old new : Told T)
       (Plans : WaveHolds → T → Type 0) → pass.callers ≡ pass.caller ∷ [] → HasDone start commands pass old → IsAnswered start pass after command outcome
-      → IsKept Plans old new outcome → HasDone start (commands ++ command ∷ []) after new
+      → IsToldWithPlans Plans old new outcome → HasDone start (commands ++ command ∷ []) after new
   done_more start commands pass after command outcome old new Plans alone done answered kept =
       let before = answered.before in
       let among : IsAmong pass.caller pass.callers = subst (IsAmong pass.caller) (sym alone) (among_own pass.caller) in

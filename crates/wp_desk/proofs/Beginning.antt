@@ -1,10 +1,12 @@
 -- Desks at the opening, and what a day has once they are back.
-use Rattle.std.proofs.Common.{◌≡◌, ◌≤◌, ℕ, zero, suc, List, length, All, Result, Ok, Err, IfOk, IsOk, ◌∙◌, map, refl, reverse, ap, subst, sym, true≢false}
+use Rattle.std.proofs.Common.{◌≡◌, ◌≤◌, ℕ, zero, suc, List, length, All, Result, Ok, Err, IfOk, ◌∙◌, map, refl, reverse, ap, subst, sym, true≢false}
 use Rattle.std.proofs.Common.{arith}
+use Rattle.wp_desk.specs.Days.{HasDay}
 use Rattle.wp_desk.specs.Work.{AreOfDesks, IsFresh, Seen, desks_of}
 use Rattle.wp_desk.specs.declared.day_run.DayRun.{DayRun}
 use Rattle.wp_desk.specs.declared.shared.Shared.{Shared}
 use Rattle.wp_desk.specs.declared.told.Told.{Told}
+use Rattle.wp_machine.specs.declared.outcome.WaveHolds.{WaveHolds}
 use Rattle.wp_model.specs.History.{History, Script}
 use Rattle.wp_model.specs.declared.memory.Memory.{Memory}
 use Rattle.wp_turn.proofs.Closing.{all_snoc}
@@ -33,8 +35,9 @@ all_back turn first back n are made own =
 module _ {T : Type 0} where
   -- what holds of the history of a machine holds of that of the day that keeps the machine
   pub day_keeps : (P : History → Type 0) (history : History) (day : Result (DayRun T) Memory) (told : Result (Told T) Memory) (Done : Told T → Type 0)
-      → IfOk day (λ _. IsOk told) → IfOk told Done → ((some : Told T) → Done some → P history) → IfOk day (λ d. d.machine ≡ history)
+      (Plans : WaveHolds → T → Type 0)
+      → IfOk day (HasDay Plans history told) → IfOk told Done → ((some : Told T) → Done some → P history)
       → IfOk day (λ d. P d.machine)
-  day_keeps P history (Err lack) told Done there done gives same = tt
-  day_keeps P history (Ok day) (Err lack) Done there done gives same = absurd (true≢false (sym there))
-  day_keeps P history (Ok day) (Ok told) Done there done gives same = subst P (sym same) (gives told done)
+  day_keeps P history (Err lack) told Done Plans is done gives = tt
+  day_keeps P history (Ok day) (Err lack) Done Plans is done gives = absurd (true≢false (sym is.there))
+  day_keeps P history (Ok day) (Ok told) Done Plans is done gives = subst P (sym is.machine) (gives told done)

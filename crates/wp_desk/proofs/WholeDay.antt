@@ -15,7 +15,7 @@ use Rattle.wp_desk.proofs.Parts.{asked_later, refills_later, waves_later}
 use Rattle.wp_desk.proofs.Whole.{all_refills, all_waves, count_up, none_else, once_each, parts_are, scripts_of_others, tagged_once}
 use Rattle.wp_desk.specs.GoingOn.{new_entries, refills_after, released_after}
 use Rattle.wp_desk.specs.Parts.{HasAsked, refills_by, waves_by}
-use Rattle.wp_desk.specs.Work.{AreOfDesks, ArePlanned, EndsWith, HasDone, HaveDone, IsOfDesk, Seen, desks_of, waves_of}
+use Rattle.wp_desk.specs.Work.{AreOfDesks, ArePlanned, EndsWith, HasDone, HaveDone, IsOfDesk, Seen, desks_of, planned_waves}
 use Rattle.wp_desk.specs.declared.day_run.Planned.{Planned}
 use Rattle.wp_desk.specs.declared.shared.Shared.{Shared}
 use Rattle.wp_desk.specs.declared.told.Told.{Told}
@@ -60,9 +60,9 @@ module _ {T : Type 0} where
       let refills_of_pass : Seen → List Refill = λ pass. refills_by start pass.calls pass.caller in
       record {
         asked = all_snoc (λ (pass : Seen). HasAsked pass.calls pass.caller (script_of scripts pass.caller)) passes pass done.asked one.asked;
-        waves = ap waves_of plans
+        waves = ap planned_waves plans
             ∙ (map-append (λ (planned : Planned T). planned.wave) some.plans.items more.plans.items
-            ∙ (ap (λ waves. waves ++ waves_of more.plans.items) done.waves
+            ∙ (ap (λ waves. waves ++ planned_waves more.plans.items) done.waves
             ∙ (ap (λ waves. flat_map waves_of_pass passes ++ waves) one.waves ∙ flat_map_more waves_of_pass [] passes pass)));
         refills = refills
             ∙ (ap (λ refills. refills ++ more.refills.items) done.refills
@@ -202,14 +202,14 @@ module _ {T : Type 0} where
   -- where the desks of a turn have done their scripts and the turn has ended, the waves that they kept are those that new entries sent out
   pub waves_whole : (turn : Begun Shared) (start : History) (scripts : List Script) (passes : List Seen) (history : History) (told : Told T)
       → AreReadScripts scripts → turn.made ≡ length scripts → AreOfDesks turn (desks_of turn) passes → HaveDone start scripts passes told
-      → EndsWith start passes history → IsPermutation (released_after start (new_entries start history)) (waves_of told.plans.items)
+      → EndsWith start passes history → IsPermutation (released_after start (new_entries start history)) (planned_waves told.plans.items)
   waves_whole turn start scripts passes history told read counted of_desks done ends =
       let desks : List ℕ = map (λ (pass : Seen). pass.caller) passes in
-      let kept : waves_of told.plans.items ≡ flat_map (waves_by start ends.calls) desks =
+      let kept : planned_waves told.plans.items ≡ flat_map (waves_by start ends.calls) desks =
       done.waves ∙ gathered_later (waves_by start) (waves_later start) turn passes ends.calls of_desks.1 ends.follow in
       let all : IsPermutation (flat_map (waves_by start ends.calls) desks) (released_after start (entries_of ends.calls)) =
       all_waves start ends.calls desks (called_once turn passes ends.calls of_desks ends.no_others) in
-      IsPermutation-sym (waves_of told.plans.items) (released_after start (new_entries start history))
+      IsPermutation-sym (planned_waves told.plans.items) (released_after start (new_entries start history))
       (subst (λ (waves : List WaveHolds). IsPermutation waves (released_after start (new_entries start history))) (sym kept)
       (subst (λ (entries : List Entry). IsPermutation (flat_map (waves_by start ends.calls) desks) (released_after start entries))
       (sym (new_called start passes history ends)) all))

@@ -66,38 +66,43 @@ pub record IsAnswered (start : History) (pass after : Seen) (command : Command) 
 
 module _ {T : Type 0} where
   -- the waves of plans
-  abbrev pub waves_of : List (Planned T) → List WaveHolds
-  waves_of plans = map (λ planned. planned.wave) plans
+  abbrev pub planned_waves : List (Planned T) → List WaveHolds
+  planned_waves plans = map (λ planned. planned.wave) plans
 
   -- each plan is related to its wave so
   abbrev pub ArePlanned : (WaveHolds → T → Type 0) → List (Planned T) → Type 0
   ArePlanned Plans plans = All (λ planned. Plans planned.wave planned.plan) plans
 
   -- what a step told was kept, with a plan for a wave that went out
-  pub record IsKept (Plans : WaveHolds → T → Type 0) (old new : Told T) (told : Outcome) : Type 0 where
-    pub waves : waves_of new.plans.items ≡ waves_of old.plans.items ++ released_in told
+  pub record IsToldWithPlans (Plans : WaveHolds → T → Type 0) (old new : Told T) (told : Outcome) : Type 0 where
+    pub waves : planned_waves new.plans.items ≡ planned_waves old.plans.items ++ released_in told
     pub refills : new.refills.items ≡ old.refills.items ++ refill_in told
     pub planned : ArePlanned Plans new.plans.items
 
   -- a desk has asked for these commands, and what their steps told is kept
   pub record HasDone (start : History) (commands : List Command) (pass : Seen) (told : Told T) : Type 0 where
     pub asked : HasAsked pass.calls pass.caller commands
-    pub waves : waves_of told.plans.items ≡ waves_by start pass.calls pass.caller
+    pub waves : planned_waves told.plans.items ≡ waves_by start pass.calls pass.caller
     pub refills : told.refills.items ≡ refills_by start pass.calls pass.caller
 
   -- desks have asked for all commands of their scripts, and what their steps told is kept
   pub record HaveDone (start : History) (scripts : List Script) (passes : List Seen) (told : Told T) : Type 0 where
     pub asked : All (λ pass. HasAsked pass.calls pass.caller (script_of scripts pass.caller)) passes
-    pub waves : waves_of told.plans.items ≡ flat_map (λ pass. waves_by start pass.calls pass.caller) passes
+    pub waves : planned_waves told.plans.items ≡ flat_map (λ pass. waves_by start pass.calls pass.caller) passes
     pub refills : told.refills.items ≡ flat_map (λ pass. refills_by start pass.calls pass.caller) passes
 
-  -- what a desk comes back with: its pass and, where there was memory for it, all that it asked for and was told
-  pub record IsDeskWork (turn : Begun Shared) (scripts : List Script) (Plans : WaveHolds → T → Type 0) (desk : ℕ)
+  -- what a desk comes back with after these commands: its pass and, where there was memory for it, all that it asked
+  -- for and was told
+  pub record IsScriptWork (turn : Begun Shared) (commands : List Command) (Plans : WaveHolds → T → Type 0) (desk : ℕ)
       (work : DeskWork T) :
       Type 0 where
     pub own : IsOfDesk turn desk work.desk.pass
-    pub done : IfOk work.told (HasDone (start_of turn) (script_of scripts desk) work.desk.pass)
+    pub done : IfOk work.told (HasDone (start_of turn) commands work.desk.pass)
     pub planned : IfOk work.told (λ told. ArePlanned Plans told.plans.items)
+
+  -- what a desk comes back with after its script
+  abbrev pub IsDeskWork : Begun Shared → List Script → (WaveHolds → T → Type 0) → ℕ → DeskWork T → Type 0
+  IsDeskWork turn scripts Plans desk work = IsScriptWork turn (script_of scripts desk) Plans desk work
 
   -- what desks come back with
   pub record IsDesksWork (turn : Begun Shared) (scripts : List Script) (Plans : WaveHolds → T → Type 0) (desks : List ℕ)

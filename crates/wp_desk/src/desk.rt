@@ -4,8 +4,8 @@
 //! ended.
 ghost use Rattle.std.specs.Prelude.{◌≡◌, ◌≤◌, ◌<◌, [], length, IfOk, IsTrue};
 ghost use Rattle.std.specs.List.{All};
-ghost use Rattle.wp_desk.specs.Work.{ArePlanned, BeginsAt, HasDone, IsAnswered, IsDeskWork, IsFresh, IsKept, IsOfDesk};
-ghost use Rattle.wp_desk.specs.Work.{start_of};
+ghost use Rattle.wp_desk.specs.Work.{ArePlanned, BeginsAt, IsAnswered, IsDeskWork, IsFresh, IsOfDesk, IsScriptWork};
+ghost use Rattle.wp_desk.specs.Work.{IsToldWithPlans, start_of};
 ghost use Rattle.wp_machine.specs.declared.outcome.Outcome.{Outcome as OutcomeData};
 ghost use Rattle.wp_model.specs.Limits.{most_commands};
 ghost use Rattle.wp_model.specs.Plain.{is_plain};
@@ -24,11 +24,12 @@ use wp_outside::{Gate, Moment};
 use wp_tables::Scripts;
 use wp_turn::{Pass, Turn};
 
-/// What all desks share: the opening, and the machine in its turn.
+/// What all desks share: the opening, and the machine in its turn, which began with that opening.
 #[derive(Drop)]
 pub(crate) struct Day<'a> {
     pub(crate) opening: &'a Opening,
     pub(crate) turn: Turn<Shared<'a>>,
+    pub(crate) ghost begins: { BeginsAt opening.now turn },
 }
 
 /// What all desks of a day are run with: their threads, the allocator that gives the memory for what they make, their
@@ -69,7 +70,6 @@ impl<'a> Day<'a> {
 
     // Answers a desk's command in its turn.
     fn call<R: Wait>(&self, rt: &R, desk: Desk<'a>, ready: Ready<'a>) -> (Desk<'a>, Outcome)
-        requires begins { BeginsAt self.now.opening.now self.now.turn }
         requires own { IsOfDesk self.now.turn desk.pass.caller desk.pass }
         requires same { ready.opening ≡ self.now.opening.now }
         requires few { length (own_calls desk.pass) < most_calls }
@@ -89,7 +89,6 @@ impl<'a> Day<'a> {
         told: &mut Told<P::Plan>,
         ready: Ready<'a>,
     ) -> (Desk<'a>, Result<(), Memory>)
-        requires begins { BeginsAt self.now.opening.now self.now.turn }
         requires own { IsOfDesk self.now.turn desk.pass.caller desk.pass }
         requires same { ready.opening ≡ self.now.opening.now }
         requires few { length (own_calls desk.pass) < most_calls }
@@ -97,7 +96,7 @@ impl<'a> Day<'a> {
         ensures own { IsOfDesk self.now.turn desk.entry.pass.caller result.0.pass }
         ensures kept { IfOk result.1 (λ _. (outcome : OutcomeData)
             × IsAnswered (start_of self.now.turn) desk.entry.pass result.0.pass ready.entry.command outcome
-            × IsKept (P.plans run.now.planner.now) told.old told.new outcome) }
+            × IsToldWithPlans (P.plans run.now.planner.now) told.old told.new outcome) }
     {
         let number = desk.pass.caller();
         run.gate.pass(number, Moment::BeforeCommand);
@@ -114,7 +113,6 @@ impl<'a> Day<'a> {
         told: &mut Told<P::Plan>,
         command: &Command,
     ) -> (Desk<'a>, Result<(), Memory>)
-        requires begins { BeginsAt self.now.opening.now self.now.turn }
         requires own { IsOfDesk self.now.turn desk.pass.caller desk.pass }
         requires plain { IsTrue (is_plain command.now) }
         requires few { length (own_calls desk.pass) < most_calls }
@@ -122,7 +120,7 @@ impl<'a> Day<'a> {
         ensures own { IsOfDesk self.now.turn desk.entry.pass.caller result.0.pass }
         ensures kept { IfOk result.1 (λ _. (outcome : OutcomeData)
             × IsAnswered (start_of self.now.turn) desk.entry.pass result.0.pass command.now outcome
-            × IsKept (P.plans run.now.planner.now) told.old told.new outcome) }
+            × IsToldWithPlans (P.plans run.now.planner.now) told.old told.new outcome) }
     {
         match self.prepare(run.alloc, command) {
             Ok(ready) => self.answer(run, desk, told, ready),
@@ -137,16 +135,12 @@ impl<'a> Day<'a> {
         mut desk: Desk<'a>,
         script: &[Command],
     ) -> DeskWork<'a, P::Plan>
-        requires begins { BeginsAt self.now.opening.now self.now.turn }
         requires own { IsOfDesk self.now.turn desk.pass.caller desk.pass }
         requires nothing { desk.pass.calls ≡ [] }
         requires plain { All (λ command. IsTrue (is_plain command)) script.now }
         requires few { length script.now ≤ most_commands }
-        ensures own { IsOfDesk self.now.turn desk.entry.pass.caller result.desk.pass }
-        ensures done { IfOk result.told (HasDone
-            (start_of self.now.turn) script.now result.desk.pass) }
-        ensures planned { IfOk result.told (λ told. ArePlanned
-            (P.plans run.now.planner.now) told.plans.items) }
+        ensures { IsScriptWork self.now.turn script.now (P.plans run.now.planner.now)
+            desk.entry.pass.caller result }
     {
         let mut told = nothing_told::<P>(run.alloc);
         for command in script {
@@ -171,7 +165,6 @@ impl<'a> Day<'a> {
         run: &DeskRun<'_, R, P, G>,
         desk: Desk<'a>,
     ) -> DeskWork<'a, P::Plan>
-        requires begins { BeginsAt self.now.opening.now self.now.turn }
         requires read { AreReadScripts run.now.scripts.now }
         requires fresh { IsFresh self.now.turn run.now.scripts.now desk.pass }
         ensures { IsDeskWork self.now.turn run.now.scripts.now

@@ -3,7 +3,7 @@ ghost use Rattle.std.specs.Prelude.{◌≡◌, ◌<◌, ◌∷◌, ◌++◌, [],
 ghost use Rattle.std.specs.List.{All};
 ghost use Rattle.std.specs.Thread.{IsSend, IsSync};
 ghost use Rattle.wp_model.specs.Tables.{AreReadScripts};
-ghost use Rattle.wp_desk.specs.Work.{BeginsAt, IsDeskWork, IsDesksWork, IsFresh};
+ghost use Rattle.wp_desk.specs.Work.{IsDeskWork, IsDesksWork, IsFresh};
 
 use crate::desk::{Day, Desk, DeskRun, DeskWork};
 use crate::planner::Planner;
@@ -85,7 +85,6 @@ pub(crate) fn run_all<'a, R: Threads + Wait + Sync, P: Planner, G: Gate>(
     mut desks: Desks<'a>,
 ) -> DesksWork<'a, P::Plan>
     requires crossing { IsSync R.row × IsSync P.row × IsSync G.row × IsSend P.Plan.row }
-    requires begins { BeginsAt day.now.opening.now day.now.turn }
     requires read { AreReadScripts run.now.scripts.now }
     requires fresh { All (IsFresh day.now.turn run.now.scripts.now) desks.passes.list }
     ensures work { IsDesksWork day.now.turn run.now.scripts.now (P.plans run.now.planner.now)
@@ -108,8 +107,7 @@ pub(crate) fn run_all<'a, R: Threads + Wait + Sync, P: Planner, G: Gate>(
     let (one, others) = join(
         rt,
         move ||
-            requires { BeginsAt day.now.opening.now day.now.turn × AreReadScripts scripts.now
-                × IsFresh day.now.turn scripts.now desk.pass }
+            requires { AreReadScripts scripts.now × IsFresh day.now.turn scripts.now desk.pass }
             ensures { IsDeskWork day.entry.now.turn scripts.entry.now
                 (P.plans planner.entry.now) desk.entry.pass.caller result }
         {
@@ -123,8 +121,7 @@ pub(crate) fn run_all<'a, R: Threads + Wait + Sync, P: Planner, G: Gate>(
             day.run_script(&run, desk)
         },
         move ||
-            requires { IsSync R.row × IsSync P.row × IsSync G.row
-                × BeginsAt day.now.opening.now day.now.turn × AreReadScripts scripts.now
+            requires { IsSync R.row × IsSync P.row × IsSync G.row × AreReadScripts scripts.now
                 × All (IsFresh day.now.turn scripts.now) desks.passes.list }
             ensures { IsDesksWork day.entry.now.turn scripts.entry.now (P.plans planner.entry.now)
                 (reverse (map (λ pass. pass.caller) desks.entry.passes.list)) result

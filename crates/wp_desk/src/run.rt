@@ -1,10 +1,11 @@
 //! A day: all desks run, and then the machine has what they asked for, after what it had answered before, in one
 //! history.
-ghost use Rattle.std.specs.Prelude.{◌≡◌, ◌<◌, ℕ, List, IfOk, IsOk, length, map};
+ghost use Rattle.std.specs.Prelude.{◌≡◌, ◌<◌, ℕ, List, IfOk, length, map};
 ghost use Rattle.std.specs.List.{All};
 ghost use Rattle.std.specs.List.Sorted.{IsPermutation};
+ghost use Rattle.wp_desk.specs.Days.{HasDay};
 ghost use Rattle.wp_desk.specs.GoingOn.{GoesOnFrom, new_entries, refills_after, released_after};
-ghost use Rattle.wp_desk.specs.Work.{AreOfDesks, ArePlanned, BeginsAt, EndsWith, desks_of, start_of, waves_of};
+ghost use Rattle.wp_desk.specs.Work.{AreOfDesks, ArePlanned, EndsWith, desks_of, start_of, planned_waves};
 ghost use Rattle.wp_model.specs.Sound.{EachStateIsSound};
 ghost use Rattle.wp_model.specs.History.{History, IsLegal, part_of, script_of};
 ghost use Rattle.wp_model.specs.declared.entry.Entry.{Entry as EntryData};
@@ -44,8 +45,8 @@ impl<'a> Day<'a> {
 fn sort_plans<P: Planner>(plans: &mut Vec<Planned<P::Plan>>, planner: &P)
     requires planned { ArePlanned (P.plans planner.now) plans.old.items }
     ensures waves { (start : History) (entries : List EntryData)
-        → IsPermutation (released_after start entries) (waves_of plans.old.items)
-        → waves_of plans.new.items ≡ released_after start entries }
+        → IsPermutation (released_after start entries) (planned_waves plans.old.items)
+        → planned_waves plans.new.items ≡ released_after start entries }
     ensures planned { ArePlanned (P.plans planner.now) plans.new.items }
 {
     plans.sort_unstable_by_key(|planned| planned.wave.number);
@@ -67,19 +68,9 @@ fn day_of<'a, P: Planner>(
     planner: &P,
 ) -> Result<DayRun<'a, P::Plan>, Memory>
     requires planned { IfOk told (λ told. ArePlanned (P.plans planner.now) told.plans.items) }
-    ensures there { IfOk result (λ _. IsOk told) }
-    ensures machine { IfOk result (λ day. day.machine ≡ machine.entry) }
+    ensures day { IfOk result (HasDay (P.plans planner.now) machine.entry told) }
     ensures legal { IfOk result (λ day. IsLegal day.machine) }
     ensures sound { IfOk result (λ day. EachStateIsSound day.machine) }
-    ensures waves { (start : History) → IfOk told
-        (λ told. IsPermutation (released_after start (new_entries start machine.entry))
-        (waves_of told.plans.items))
-        → IfOk result (λ day. waves_of day.plans.items ≡ released_after start (new_entries start day.machine)) }
-    ensures planned { IfOk result (λ day. ArePlanned (P.plans planner.now) day.plans.items) }
-    ensures refills { (start : History) → IfOk told
-        (λ told. IsPermutation (refills_after start (new_entries start machine.entry))
-        told.refills.items)
-        → IfOk result (λ day. day.refills.items ≡ refills_after start (new_entries start day.machine)) }
 {
     let _legal = machine.count();
     let Told {

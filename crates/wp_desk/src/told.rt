@@ -1,5 +1,5 @@
 ghost use Rattle.std.specs.Prelude.{◌≡◌, [], ◌∷◌, ◌++◌, IfOk, IsOk};
-ghost use Rattle.wp_desk.specs.Work.{ArePlanned, waves_of};
+ghost use Rattle.wp_desk.specs.Work.{ArePlanned, planned_waves};
 ghost use Rattle.wp_machine.specs.Outcome.{refill_in, released_in};
 
 use crate::day_run::Planned;
@@ -36,7 +36,8 @@ fn keep_plan<R, P: Planner, G: Gate>(
     wave: WaveHolds,
 ) -> Result<(), Memory>
     requires planned { ArePlanned (P.plans run.now.planner.now) plans.old.items }
-    ensures waves { IfOk result (λ _. waves_of plans.new.items ≡ waves_of plans.old.items ++ wave
+    ensures waves { IfOk result (λ _. planned_waves plans.new.items ≡ planned_waves plans.old.items
+        ++ wave
         ∷ []) }
     ensures planned { IfOk result (λ _. ArePlanned (P.plans run.now.planner.now) plans.new.items) }
 {
@@ -55,7 +56,8 @@ pub(crate) fn keep_outcome<R, P: Planner, G: Gate>(
     outcome: Outcome,
 ) -> Result<(), Memory>
     requires planned { ArePlanned (P.plans run.now.planner.now) told.old.plans.items }
-    ensures waves { IfOk result (λ _. waves_of told.new.plans.items ≡ waves_of told.old.plans.items
+    ensures waves { IfOk result (λ _. planned_waves told.new.plans.items
+        ≡ planned_waves told.old.plans.items
         ++ released_in outcome) }
     ensures planned { IfOk result (λ _. ArePlanned
         (P.plans run.now.planner.now) told.new.plans.items) }

@@ -3,8 +3,8 @@ ghost use Rattle.wp_draws.specs.Draws.{draw_at, next_state as state_behind};
 
 use std::marker::Model;
 
-/// The state after a state, by the linear congruential generator of 64 bits with the factor and the increment of MMIX (Knuth,
-/// The Art of Computer Programming, volume 2).
+/// The state after a state, by the linear congruential generator of 64 bits with the factor and the increment of MMIX
+/// (Knuth, The Art of Computer Programming, volume 2).
 pub fn next_state(state: u64) -> u64
     ensures { result ≡ state_behind state }
 {

@@ -33,7 +33,8 @@ pub record IsEven (whole : ℕ) (block : Block) : Type 0 where
   pub spare : (aisle nothing : ℕ) → (block.ways aisle).skip ≡ Some nothing → IsSpare (block.ways aisle)
 
 -- a way through an aisle in which nothing is required
-pub plain_way : (whole : ℕ) (ways : AisleWays) → IsLong whole ways → IsSpare ways → (way : Way) (long : ℕ) → way_length ways way ≡ Some long → IsPlain whole way long
+pub plain_way : (whole : ℕ) (ways : AisleWays) → IsLong whole ways → IsSpare ways → (way : Way) (long : ℕ) → way_length ways way ≡ Some long
+    → IsPlain whole way long
 plain_way whole ways is spare Pass long e = let same = same_Some _ _ e in omega (arith, is.pass, same)
 plain_way whole ways is spare Back long e = none-some _ (sym spare.back ∙ e)
 plain_way whole ways is spare Front long e = none-some _ (sym spare.front ∙ e)
@@ -106,13 +107,34 @@ record Splits (come on : Class → ℕ → Type 0) (span total : ℕ) : Type 0 w
 
 split_reach : (come on : Class → ℕ → Type 0) (span t g : ℕ) (class : Class) → Reaches come span class t → on class g → Splits come on span (t + g)
 split_reach come on span t g UU1 (so, f, e) h = record { class = UU1; so_far = so; rest = 2 * span + g; comes = f; goes = (g, h, refl); total_is = omega arith }
-split_reach come on span t g E01 (so, inl f, e) h = record { class = E01; so_far = so; rest = 2 * span + g; comes = f; goes = (g, h, refl); total_is = omega arith }
+split_reach come on span t g E01 (so, inl f, e) h = record {
+  class = E01;
+  so_far = so;
+  rest = 2 * span + g;
+  comes = f;
+  goes = (g, h, refl);
+  total_is = omega arith;
+}
 split_reach come on span t g E01 (so, inr f, e) h =
     record { class = EE1; so_far = so; rest = 2 * span + g; comes = f; goes = inl (g, inl h, refl); total_is = omega arith }
-split_reach come on span t g ZE1 (so, inl f, e) h = record { class = ZE1; so_far = so; rest = 2 * span + g; comes = f; goes = (g, h, refl); total_is = omega arith }
+split_reach come on span t g ZE1 (so, inl f, e) h = record {
+  class = ZE1;
+  so_far = so;
+  rest = 2 * span + g;
+  comes = f;
+  goes = (g, h, refl);
+  total_is = omega arith;
+}
 split_reach come on span t g ZE1 (so, inr f, e) h =
     record { class = EE1; so_far = so; rest = 2 * span + g; comes = f; goes = inl (g, inr h, refl); total_is = omega arith }
-split_reach come on span t g EE1 (so, f, e) h = record { class = EE1; so_far = so; rest = 4 * span + g; comes = f; goes = inr (g, h, refl); total_is = omega arith }
+split_reach come on span t g EE1 (so, f, e) h = record {
+  class = EE1;
+  so_far = so;
+  rest = 4 * span + g;
+  comes = f;
+  goes = inr (g, h, refl);
+  total_is = omega arith;
+}
 split_reach come on span t g EE2 (so, f, e) h = record { class = EE2; so_far = so; rest = 4 * span + g; comes = f; goes = (g, h, refl); total_is = omega arith }
 split_reach come on span t g Z00 r h = absurd r
 split_reach come on span t g Z01 r h = absurd r
@@ -145,13 +167,20 @@ closes_before whole come absorbs span t long EE2 Back l r h = absurd l
 closes_before whole come absorbs span t long EE2 Front l r h = absurd l
 closes_before whole come absorbs span t long EE2 Gap l r h = absurd l
 closes_before whole come absorbs span t long EE2 Double l (so, f, e) h =
-    let more = absorbs.double EE2 EE1 so refl f in record { class = EE1; closed = refl; so_far = more.total; comes = more.is; least = omega (arith, more.least) }
+    let more = absorbs.double EE2 EE1 so refl f in record {
+      class = EE1;
+      closed = refl;
+      so_far = more.total;
+      comes = more.is;
+      least = omega (arith, more.least);
+    }
 closes_before whole come absorbs span t long EE2 Skip l r h = absurd (false≢true h)
 closes_before whole come absorbs span t long Z00 way l r h = absurd r
 closes_before whole come absorbs span t long Z01 way l r h = absurd r
 
 -- where a tour is done, no aisle is needed any more
-pub through_done : (on : Class → ℕ → Type 0) (ways : AisleWays) (t : ℕ) → Through on ways Z01 t → (nothing : ℕ) × (ways.skip ≡ Some nothing) × (r : ℕ) × on Z01 r
+pub through_done : (on : Class → ℕ → Type 0) (ways : AisleWays) (t : ℕ) → Through on ways Z01 t
+    → (nothing : ℕ) × (ways.skip ≡ Some nothing) × (r : ℕ) × on Z01 r
 through_done on ways t h = let by = by_from on ways Z01 t h in go by.0 by.1
   where
     go : (way : Way) → By on ways Z01 way t → (nothing : ℕ) × (ways.skip ≡ Some nothing) × (r : ℕ) × on Z01 r
@@ -162,7 +191,8 @@ through_done on ways t h = let by = by_from on ways Z01 t h in go by.0 by.1
     go Double by = absurd by.next
     go Skip by = (by.long, by.applies, by.rest, by.next)
 
-closed_goes : (block : Block) (left aisle span : ℕ) (class : Class) → IsTrue (is_closed class) → (r : ℕ) → Onward block left aisle Z01 r → GoesOver block left aisle span class 0
+closed_goes : (block : Block) (left aisle span : ℕ) (class : Class) → IsTrue (is_closed class) → (r : ℕ) → Onward block left aisle Z01 r
+    → GoesOver block left aisle span class 0
 closed_goes block zero aisle span class closed r h = (closed, refl)
 closed_goes block (suc left) aisle span class closed r h =
     let over = crossed_from On (block.spacing aisle) Z01 r h in
@@ -172,7 +202,8 @@ closed_goes block (suc left) aisle span class closed r h =
     On between rest = ThroughAndOn block left (suc aisle) between rest
 
     go : (cross : Cross) → Crossed On (block.spacing aisle) Z01 cross r →
-        ((u : ℕ) → Onward block left (suc aisle) Z01 u → GoesOver block left (suc aisle) (span + block.spacing aisle) class 0) → GoesOver block (suc left) aisle span class 0
+        ((u : ℕ) → Onward block left (suc aisle) Z01 u → GoesOver block left (suc aisle) (span + block.spacing aisle) class 0)
+        → GoesOver block (suc left) aisle span class 0
     go C00 over further =
         let done = through_done (λ next more. Onward block left (suc aisle) next more) (block.ways (suc aisle)) over.rest over.next in
         when_spared (block.ways (suc aisle)) _ _ done.0 done.1 (further done.2 done.3)
@@ -197,7 +228,8 @@ SparesOn whole block left aisle = (span : ℕ) (come : Class → ℕ → Type 0)
     Spares block left aisle span come (t + long + r)
 
 -- with one more aisle behind
-spares_further : (whole : ℕ) (block : Block) → IsEven whole block → (left aisle : ℕ) → SparesOn whole block left (suc aisle) → SparesOn whole block (suc left) aisle
+spares_further : (whole : ℕ) (block : Block) → IsEven whole block → (left aisle : ℕ) → SparesOn whole block left (suc aisle)
+    → SparesOn whole block (suc left) aisle
 spares_further whole block even left aisle on_further span come absorbs class way t long r plain reaches h = by_need (block.ways (suc aisle)).skip refl
   where
     spacing : ℕ
@@ -279,7 +311,8 @@ spares_further whole block even left aisle on_further span come absorbs class wa
           least = omega (arith, ends.least);
         }
 
-    by_cross : (skip : Option ℕ) → ways.skip ≡ skip → NoMore (Along on spacing next.0) (copies over.0 * spacing + over.1.rest) ⊎ (IsTrue (is_closed next.0) × on Z01 over.1.rest)
+    by_cross : (skip : Option ℕ) → ways.skip ≡ skip
+        → NoMore (Along on spacing next.0) (copies over.0 * spacing + over.1.rest) ⊎ (IsTrue (is_closed next.0) × on Z01 over.1.rest)
         → Spares block (suc left) aisle span come (t + long + r)
     by_cross None none (inl along) = needed none (met along)
     by_cross None none (inr (closed, there)) = let far = through_done after ways over.1.rest there in absurd (none-some _ (sym none ∙ far.1))

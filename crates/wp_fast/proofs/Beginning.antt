@@ -108,7 +108,8 @@ through_anew block left aisle needed = record {
     two t h = one_for_two block left aisle t h
 
     anew : (class : Class) (way : Way) (t : ℕ) (by : By on ways class way t) → OnFrom on (class_after_way Z00 way) by.rest → Through on ways Z00 t
-    anew class way t by next = through_by on ways Z00 way t (record { long = by.long; rest = by.rest; applies = by.applies; next = next; total_is = by.total_is })
+    anew class way t by next = through_by on ways Z00 way t
+        (record { long = by.long; rest = by.rest; applies = by.applies; next = next; total_is = by.total_is })
 
     from_E01 : (t : ℕ) (way : Way) → By on ways E01 way t → Through on ways Z00 t
     from_E01 t Pass by = anew E01 Pass t by by.next
@@ -226,7 +227,8 @@ begins_first whole block even (suc before) more left aisle first t m f none need
 
 -- and a tour that begins there begins before
 pub first_begins : (whole : ℕ) (block : Block) → IsEven whole block → (before more left aisle first t : ℕ) → more ≡ before + left → first ≡ aisle + before →
-    ((a : ℕ) → aisle ≤ a → a < first → (nothing : ℕ) × ((block.ways a).skip ≡ Some nothing)) → ThroughAndOn block left first Z00 t → ThroughAndOn block more aisle Z00 t
+    ((a : ℕ) → aisle ≤ a → a < first → (nothing : ℕ) × ((block.ways a).skip ≡ Some nothing)) → ThroughAndOn block left first Z00 t
+    → ThroughAndOn block more aisle Z00 t
 first_begins whole block even zero more left aisle first t m f none h =
     let is_left : left ≡ more = omega (arith, m) in
     let is_first : first ≡ aisle = omega (arith, f) in
@@ -234,7 +236,8 @@ first_begins whole block even zero more left aisle first t m f none h =
 first_begins whole block even (suc before) more left aisle first t m f none h =
     let is_more : suc (before + left) ≡ more = omega (arith, m) in
     let spare = none aisle (omega arith) (omega (arith, f)) in
-    let later = first_begins whole block even before (before + left) left (suc aisle) first t refl (omega (arith, f)) (λ a low high. none a (omega (arith, low)) high) h in
+    let later = first_begins whole block even before (before + left) left (suc aisle) first t refl (omega (arith, f))
+    (λ a low high. none a (omega (arith, low)) high) h in
     let same : 0 + (0 * block.spacing aisle + t) ≡ t = omega arith in
     subst (λ n. ThroughAndOn block n aisle Z00 t) is_more (subst (λ u. ThroughAndOn block (suc (before + left)) aisle Z00 u) same
     (skip_over block (before + left) aisle 0 (even.spare aisle spare.0 spare.1).skip Z00 Z00 C00 t refl later))

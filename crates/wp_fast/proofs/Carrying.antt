@@ -84,7 +84,8 @@ behind_run layout picks aisle later span carried are last span_is lengths =
     let on : AreCarried (ThroughAndOn block (layout.aisles - later) later) carried =
     record { least = λ class begun. rest_least layout picks later class (on_from carried class) last (lengths.least class begun) } in
     subst (λ (s : ℕ). AreBehind layout picks aisle (on_from (along_run s carried))) (sym span_is) (record {
-      least = λ class. least_rest layout picks aisle class _ here (least_before (aisle_length layout) block (layout_even layout picks) (layout.aisles - aisle) aisle
+      least = λ class. least_rest layout picks aisle class _ here
+          (least_before (aisle_length layout) block (layout_even layout picks) (layout.aisles - aisle) aisle
           are.here _ (least_to_needed block layout.aisles aisle later carried are last on) class);
     })
 
@@ -93,7 +94,8 @@ pub behind_last : (layout : Layout) (picks : List Point) (last : ℕ) → last �
     NoneBetween (block_of layout picks) last (layout.aisles + 1) → AreBehind layout picks last ends
 behind_last layout picks last most none behind = record {
   least = λ class. least_rest layout picks last class _ most (least_before (aisle_length layout) (block_of layout picks) (layout_even layout picks)
-      (layout.aisles - last) last none ends (least_to_end (block_of layout picks) (layout.aisles - last) last (λ a low high. behind a low (omega (arith, high, most)))) class);
+      (layout.aisles - last) last none ends (least_to_end (block_of layout picks) (layout.aisles - last) last
+      (λ a low high. behind a low (omega (arith, high, most)))) class);
 }
 
 -- lengths to the end of a tour are short
@@ -135,7 +137,8 @@ along_short layout picks aisle span carried valid last few are =
 
 -- the least length from the first needed aisle is the least from the first
 pub first_aisle : (layout : Layout) (picks : List Point) (first least : ℕ) (ways : AisleWays) (on : Class → Option ℕ) → 1 ≤ first → first ≤ layout.aisles →
-    NoneBetween (block_of layout picks) 0 first → (ways_of layout picks first).skip ≡ None → ways ≡ ways_of layout picks first → AreBehind layout picks first on →
+    NoneBetween (block_of layout picks) 0 first → (ways_of layout picks first).skip ≡ None → ways ≡ ways_of layout picks first
+    → AreBehind layout picks first on →
     Some least ≡ by_some_way ways on Z00 → IsLeastOf (PastTheRest layout picks 1 Z00) (Some least)
 first_aisle layout picks first least ways on some last before none is behind e =
     let block = block_of layout picks in
@@ -145,7 +148,8 @@ first_aisle layout picks first least ways on some last before none is behind e =
     let count : all ≡ first - 1 + left = omega (arith, some, last) in
     let at : first ≡ 1 + (first - 1) = omega (arith, some) in
     let by : Some least ≡ by_some_way (ways_of layout picks first) on Z00 = e ∙ ap (λ (w : AisleWays). by_some_way w on Z00) is in
-    let here : IsLeastOf (PastTheRest layout picks first Z00) (Some least) = subst (λ o. IsLeastOf (PastTheRest layout picks first Z00) o) (sym by) (behind.least Z00) in
+    let here : IsLeastOf (PastTheRest layout picks first Z00) (Some least)
+    = subst (λ o. IsLeastOf (PastTheRest layout picks first Z00) o) (sym by) (behind.least Z00) in
     least_rest layout picks 1 Z00 (Some least) (omega (arith, some, last))
     (least_between (ThroughAndOn block left first Z00) (ThroughAndOn block all 1 Z00) (Some least)
     (λ t h. itself (ThroughAndOn block all 1 Z00) t
@@ -160,7 +164,8 @@ least_first layout picks total valid is = first_of_run layout picks (layout.aisl
 
 pub shortest_layout : (layout : Layout) (picks : List Point) (total : ℕ) → AreSlots layout picks → IsLeastOf (PastTheRest layout picks 1 Z00) (Some total) →
     IsShortest layout picks total
-shortest_layout layout picks total slots is = shortest layout picks total slots (least_route layout picks total (least_first layout picks total slots.ranges is))
+shortest_layout layout picks total slots is
+    = shortest layout picks total slots (least_route layout picks total (least_first layout picks total slots.ranges is))
 
 pub small_layout : (layout : Layout) (picks : List Point) (total : ℕ) → AreSlots layout picks → IsLeastOf (PastTheRest layout picks 1 Z00) (Some total) →
     total < 2 ^ 28

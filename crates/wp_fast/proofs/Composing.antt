@@ -11,7 +11,8 @@ use Rattle.wp_fast.proofs.NoMore.{NoMore, itself, least_between, least_found, le
 use Rattle.wp_fast.proofs.ToTheEnd.{least_told}
 
 -- what two summaries tell one after the other, and the passages of which they tell the least lengths
-lengths_down : (First Next : Passage) (first next : Summary) (before after : Class) → AreLeast First first → AreLeast Next next → (t : ℕ) → Then First Next before after t
+lengths_down : (First Next : Passage) (first next : Summary) (before after : Class) → AreLeast First first → AreLeast Next next → (t : ℕ)
+    → Then First Next before after t
     → NoMore (Then (Tells first) (Tells next) before after) t
 lengths_down First Next first next before after near far t (between, (one, other, goes, goes_on, total)) =
     let to = least_found (First before between) (length_between first before between) one (near.least before between) goes in

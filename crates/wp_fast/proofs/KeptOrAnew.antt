@@ -9,7 +9,8 @@ use Rattle.wp_fast.specs.KeptWays.{AreWaysElsewhere, AreWaysOfAll}
 use Rattle.wp_fast.proofs.PickedAisles.{ways_kept}
 
 -- ways that are kept are those with further picks too, but for the aisles in which there are any
-pub kept_elsewhere : (layout : Layout) (old more union : List Point) (ways : List AisleWays) → ((p : Point) → Contains union p ↔ (Contains old p ⊎ Contains more p))
+pub kept_elsewhere : (layout : Layout) (old more union : List Point) (ways : List AisleWays)
+    → ((p : Point) → Contains union p ↔ (Contains old p ⊎ Contains more p))
     → AreWaysOfAll layout old ways → AreWaysElsewhere layout union more ways
 kept_elsewhere layout old more union ways both all aisle up none d = all aisle up d ∙ sym (ways_kept layout old more union aisle both none)
 

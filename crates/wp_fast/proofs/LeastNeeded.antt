@@ -20,7 +20,8 @@ use Rattle.wp_fast.proofs.Steps.{ThroughAndOn}
 use Rattle.wp_fast.proofs.Walks.{through_on}
 
 -- the least length by some way, and on
-pub least_by_some : (on : Class → ℕ → Type 0) (ways : AisleWays) (least : Class → Option ℕ) → ((class : Class) → IsLeastOf (on class) (least class)) → (class : Class) →
+pub least_by_some : (on : Class → ℕ → Type 0) (ways : AisleWays) (least : Class → Option ℕ) → ((class : Class) → IsLeastOf (on class) (least class))
+    → (class : Class) →
     IsLeastOf (Through on ways class) (by_some_way ways least class)
 least_by_some on ways least are class = least_ways on ways
     (record { uu1 = least UU1; e01 = least E01; ze1 = least ZE1; ee1 = least EE1; ee2 = least EE2; z00 = least Z00; z01 = least Z01 }) class go
@@ -67,7 +68,8 @@ along_least on span lengths are Z01 = λ t h. h
 -- from one needed aisle to the next
 pub least_to_needed : (block : Block) (all aisle later : ℕ) (lengths : NeededLengths) → AreNeighbours block aisle later → later ≤ all →
     AreCarried (ThroughAndOn block (all - later) later) lengths → (class : Class) →
-    IsLeastOf (λ t. GoesOver block (all - aisle) aisle 0 class t) (on_from (along_run (sum_below later block.spacing - sum_below aisle block.spacing) lengths) class)
+    IsLeastOf (λ t. GoesOver block (all - aisle) aisle 0 class t)
+    (on_from (along_run (sum_below later block.spacing - sum_below aisle block.spacing) lengths) class)
 least_to_needed block all aisle later lengths are last carried class =
     let span : ℕ = sum_below later block.spacing - sum_below aisle block.spacing in
     let between : ℕ = later - aisle - 1 in
@@ -76,7 +78,8 @@ least_to_needed block all aisle later lengths are last carried class =
     let same : 0 + far block.spacing between aisle ≡ span = omega (arith, apart) in
     let runs : (t : ℕ) → GoesOver block (all - aisle) aisle 0 class t ↔ Along (ThroughAndOn block (all - later) later) span class t = λ t.
     subst (λ s. GoesOver block (all - aisle) aisle 0 class t ↔ Along (ThroughAndOn block (all - later) later) s class t) same
-    (to_needed block between (all - aisle) (all - later) aisle later 0 (omega (arith, are.order, last)) (omega (arith, are.order)) are.between are.there class t) in
+    (to_needed block between (all - aisle) (all - later) aisle later 0 (omega (arith, are.order, last))
+    (omega (arith, are.order)) are.between are.there class t) in
     least_like (Along (ThroughAndOn block (all - later) later) span class) (λ t. GoesOver block (all - aisle) aisle 0 class t)
     (on_from (along_run span lengths) class) (λ t h. (runs t).1 h) (λ t h. (runs t).0 h)
     (along_least (ThroughAndOn block (all - later) later) span lengths carried class)

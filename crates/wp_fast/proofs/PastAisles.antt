@@ -11,7 +11,8 @@ use Rattle.wp_fast.specs.Runs.PastAisle.{on, last, behind}
 use Rattle.wp_fast.proofs.Composing.{composed_least, least_alike}
 
 -- past an aisle that isn't the last, by a way and a crossing
-pub past_on : (layout : Layout) (picks : List Point) (aisle : ℕ) (before after : Class) (t : ℕ) → aisle < layout.aisles → PastAisle layout picks aisle before after t
+pub past_on : (layout : Layout) (picks : List Point) (aisle : ℕ) (before after : Class) (t : ℕ) → aisle < layout.aisles
+    → PastAisle layout picks aisle before after t
     → Then (ByWays (ways_of layout picks aisle)) (ByCrossings (spacing_after layout aisle)) before after t
 past_on layout picks aisle before after t less (on more h) = h
 past_on layout picks aisle before after t less (last at h) = absurd (omega (arith, less, at))
@@ -37,7 +38,8 @@ pub least_on : (layout : Layout) (picks : List Point) (aisle : ℕ) (through ove
     → AreLeast (PastAisle layout picks aisle) both
 least_on layout picks aisle through over both less by across composed =
     let ByBoth : Class → Class → ℕ → Type 0 = Then (ByWays (ways_of layout picks aisle)) (ByCrossings (spacing_after layout aisle)) in
-    least_alike ByBoth (PastAisle layout picks aisle) both (λ before after t h. on less h) (λ before after t h. past_on layout picks aisle before after t less h)
+    least_alike ByBoth (PastAisle layout picks aisle) both (λ before after t h. on less h)
+    (λ before after t h. past_on layout picks aisle before after t less h)
     (composed_least (ByWays (ways_of layout picks aisle)) (ByCrossings (spacing_after layout aisle)) through over both by across composed)
 
 pub least_last : (layout : Layout) (picks : List Point) (aisle : ℕ) (through : Summary) → aisle ≡ layout.aisles →

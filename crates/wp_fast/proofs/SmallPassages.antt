@@ -35,7 +35,8 @@ up_to_below most bound summary less are before after = go (length_between summar
 pub by_ways_small : (layout : Layout) (picks : List Point) (aisle : ℕ) → IsLayout layout → (before after : Class) (t : ℕ)
     → ByWays (ways_of layout picks aisle) before after t → t ≤ 4020000
 by_ways_small layout picks aisle valid before after t (way, takes) =
-    through_small (λ class rest. rest ≡ 0) (ways_of layout picks aisle) 0 (ways_small layout picks aisle valid) (λ class rest none. omega (arith, none)) before t
+    through_small (λ class rest. rest ≡ 0) (ways_of layout picks aisle) 0 (ways_small layout picks aisle valid)
+    (λ class rest none. omega (arith, none)) before t
     (way, (after, t, 0, takes, refl, omega arith))
 
 -- no crossing is longer than 40000

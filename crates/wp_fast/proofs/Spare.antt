@@ -114,20 +114,31 @@ through_continues whole on ways is eased = record {
     At class t = Through on ways class t
 
     go_behind : (t : ℕ) (way : Way) → By on ways EE2 way t → Through on ways E01 t
-    go_behind t Pass by = through_by on ways E01 Pass t (record { long = by.long; rest = by.rest; applies = by.applies; next = by.next; total_is = by.total_is })
-    go_behind t Back by = through_by on ways E01 Back t (record { long = by.long; rest = by.rest; applies = by.applies; next = (eased by.rest by.next).0; total_is = by.total_is })
-    go_behind t Front by = through_by on ways E01 Front t (record { long = by.long; rest = by.rest; applies = by.applies; next = by.next; total_is = by.total_is })
+    go_behind t Pass by = through_by on ways E01 Pass t
+        (record { long = by.long; rest = by.rest; applies = by.applies; next = by.next; total_is = by.total_is })
+    go_behind t Back by = through_by on ways E01 Back t
+        (record { long = by.long; rest = by.rest; applies = by.applies; next = (eased by.rest by.next).0; total_is = by.total_is })
+    go_behind t Front by = through_by on ways E01 Front t
+        (record { long = by.long; rest = by.rest; applies = by.applies; next = by.next; total_is = by.total_is })
     go_behind t Gap by = through_by on ways E01 Gap t (record { long = by.long; rest = by.rest; applies = by.applies; next = by.next; total_is = by.total_is })
-    go_behind t Double by = through_by on ways E01 Double t (record { long = by.long; rest = by.rest; applies = by.applies; next = by.next; total_is = by.total_is })
-    go_behind t Skip by = through_by on ways E01 Skip t (record { long = by.long; rest = by.rest; applies = by.applies; next = (eased by.rest by.next).0; total_is = by.total_is })
+    go_behind t Double by = through_by on ways E01 Double t
+        (record { long = by.long; rest = by.rest; applies = by.applies; next = by.next; total_is = by.total_is })
+    go_behind t Skip by = through_by on ways E01 Skip t
+        (record { long = by.long; rest = by.rest; applies = by.applies; next = (eased by.rest by.next).0; total_is = by.total_is })
 
     go_in_front : (t : ℕ) (way : Way) → By on ways EE2 way t → Through on ways ZE1 t
-    go_in_front t Pass by = through_by on ways ZE1 Pass t (record { long = by.long; rest = by.rest; applies = by.applies; next = by.next; total_is = by.total_is })
-    go_in_front t Back by = through_by on ways ZE1 Back t (record { long = by.long; rest = by.rest; applies = by.applies; next = by.next; total_is = by.total_is })
-    go_in_front t Front by = through_by on ways ZE1 Front t (record { long = by.long; rest = by.rest; applies = by.applies; next = (eased by.rest by.next).1; total_is = by.total_is })
-    go_in_front t Gap by = through_by on ways ZE1 Gap t (record { long = by.long; rest = by.rest; applies = by.applies; next = by.next; total_is = by.total_is })
-    go_in_front t Double by = through_by on ways ZE1 Double t (record { long = by.long; rest = by.rest; applies = by.applies; next = by.next; total_is = by.total_is })
-    go_in_front t Skip by = through_by on ways ZE1 Skip t (record { long = by.long; rest = by.rest; applies = by.applies; next = (eased by.rest by.next).1; total_is = by.total_is })
+    go_in_front t Pass by = through_by on ways ZE1 Pass t
+        (record { long = by.long; rest = by.rest; applies = by.applies; next = by.next; total_is = by.total_is })
+    go_in_front t Back by = through_by on ways ZE1 Back t
+        (record { long = by.long; rest = by.rest; applies = by.applies; next = by.next; total_is = by.total_is })
+    go_in_front t Front by = through_by on ways ZE1 Front t
+        (record { long = by.long; rest = by.rest; applies = by.applies; next = (eased by.rest by.next).1; total_is = by.total_is })
+    go_in_front t Gap by = through_by on ways ZE1 Gap t
+        (record { long = by.long; rest = by.rest; applies = by.applies; next = by.next; total_is = by.total_is })
+    go_in_front t Double by = through_by on ways ZE1 Double t
+        (record { long = by.long; rest = by.rest; applies = by.applies; next = by.next; total_is = by.total_is })
+    go_in_front t Skip by = through_by on ways ZE1 Skip t
+        (record { long = by.long; rest = by.rest; applies = by.applies; next = (eased by.rest by.next).1; total_is = by.total_is })
 
 -- a tour comes somewhere before the way through an aisle, and takes it
 abbrev pub Arrives : (Class → ℕ → Type 0) → AisleWays → Class → ℕ → Type 0

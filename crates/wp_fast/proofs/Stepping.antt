@@ -18,7 +18,8 @@ carried_told layout picks aisle behind carried are = (
     least = λ class begun. told_past (PastRun layout picks (layout.aisles + 1 - aisle) aisle) behind class (on_from carried class) are (past.least class begun);
   },
   λ told. record {
-    least = λ class begun. least_past (PastRun layout picks (layout.aisles + 1 - aisle) aisle) behind class (on_from carried class) are (told.least class begun);
+    least = λ class begun. least_past (PastRun layout picks (layout.aisles + 1 - aisle) aisle) behind class (on_from carried class) are
+        (told.least class begun);
   },
 )
 

@@ -47,7 +47,8 @@ pub record Crossed (on : Class → ℕ → Type 0) (spacing : ℕ) (class : Clas
   pub next : OnFrom on (class_after_cross class cross) rest
   pub total_is : total ≡ copies cross * spacing + rest
 
-pub crossed_from : (on : Class → ℕ → Type 0) (spacing : ℕ) (class : Class) (t : ℕ) → Across on spacing class t → (cross : Cross) × Crossed on spacing class cross t
+pub crossed_from : (on : Class → ℕ → Type 0) (spacing : ℕ) (class : Class) (t : ℕ) → Across on spacing class t
+    → (cross : Cross) × Crossed on spacing class cross t
 crossed_from on spacing class t (cross, (next, across, rest, crosses, goes, total)) = (
   cross,
   record {
@@ -57,7 +58,8 @@ crossed_from on spacing class t (cross, (next, across, rest, crosses, goes, tota
   },
 )
 
-pub across_crossed : (on : Class → ℕ → Type 0) (spacing : ℕ) (class : Class) (cross : Cross) (t : ℕ) → Crossed on spacing class cross t → Across on spacing class t
+pub across_crossed : (on : Class → ℕ → Type 0) (spacing : ℕ) (class : Class) (cross : Cross) (t : ℕ) → Crossed on spacing class cross t
+    → Across on spacing class t
 across_crossed on spacing class cross t over =
     let next = on_from_there on (class_after_cross class cross) over.rest over.next in
     (cross, (next.0, copies cross * spacing, over.rest, record { allowed = next.1; length_is = refl }, next.2, over.total_is))

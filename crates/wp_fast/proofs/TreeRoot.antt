@@ -52,7 +52,8 @@ double_spans layout picks tree span is below fits node first d at low high =
     let left : AreLeast (PastRun layout picks span first) (get_or tree (2 * node) d) = below (2 * node) first d (omega (arith, at)) low high in
     let right : AreLeast (PastRun layout picks span (first + span)) (get_or tree (2 * node + 1) d) =
     below (2 * node + 1) (first + span) d (omega (arith, at)) (omega (arith, low)) within.1 in
-    least_alike (Then (PastRun layout picks span first) (PastRun layout picks span (first + span))) (PastRun layout picks (span + span) first) (get_or tree node d)
+    least_alike (Then (PastRun layout picks span first) (PastRun layout picks span (first + span))) (PastRun layout picks (span + span) first)
+    (get_or tree node d)
     (runs_join layout picks span span first) (run_parts layout picks span span first)
     (composed_least (PastRun layout picks span first) (PastRun layout picks span (first + span)) (get_or tree (2 * node) d) (get_or tree (2 * node + 1) d)
     (get_or tree node d) left right (is.composed node within.0 d))

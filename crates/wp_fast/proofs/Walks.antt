@@ -20,7 +20,8 @@ through_map one other to ways class t (way, (next, through, rest, takes, goes, t
 
 -- over an aisle that isn't needed by a crossing
 pub skip_over : (block : Block) → (left aisle nothing : ℕ) → (block.ways aisle).skip ≡ Some nothing → (class next : Class) (cross : Cross) (r : ℕ) →
-    class_after_cross class cross ≡ Some next → ThroughAndOn block left (suc aisle) next r → ThroughAndOn block (suc left) aisle class (nothing + (copies cross * block.spacing aisle + r))
+    class_after_cross class cross ≡ Some next → ThroughAndOn block left (suc aisle) next r
+    → ThroughAndOn block (suc left) aisle class (nothing + (copies cross * block.spacing aisle + r))
 skip_over block left aisle nothing some class next cross r leads h = (
   Skip,
   (
@@ -117,7 +118,8 @@ within whole block even (suc left) aisle span class t h = ⊎_elim (λ n. inl n.
     runs_further block left aisle span 0 is refl class t (within whole block even left (suc aisle) (span + block.spacing aisle) class t s.2))
     (needed_or (block.ways (suc aisle)) _ _ h)
 
-goes_on : (whole : ℕ) (block : Block) → IsEven whole block → (left aisle : ℕ) (class : Class) (t : ℕ) → GoesOver block left aisle 0 class t → Onward block left aisle class t
+goes_on : (whole : ℕ) (block : Block) → IsEven whole block → (left aisle : ℕ) (class : Class) (t : ℕ) → GoesOver block left aisle 0 class t
+    → Onward block left aisle class t
 goes_on whole block even zero aisle class t (closed, e) = ((closed_whole class closed).0, e)
 goes_on whole block even (suc left) aisle class t h = crosses_first block left aisle class t (within whole block even left aisle 0 class t h)
 
@@ -125,4 +127,5 @@ goes_on whole block even (suc left) aisle class t h = crosses_first block left a
 pub through_on : (whole : ℕ) (block : Block) → IsEven whole block → (left aisle : ℕ) (class : Class) (t : ℕ) →
     Through (λ next more. GoesOver block left aisle 0 next more) (block.ways aisle) class t → ThroughAndOn block left aisle class t
 through_on whole block even left aisle class t h =
-    through_map (λ c r. GoesOver block left aisle 0 c r) (λ c r. Onward block left aisle c r) (λ c r. goes_on whole block even left aisle c r) (block.ways aisle) class t h
+    through_map (λ c r. GoesOver block left aisle 0 c r) (λ c r. Onward block left aisle c r) (λ c r. goes_on whole block even left aisle c r)
+    (block.ways aisle) class t h

@@ -46,7 +46,8 @@ pub next_needed : (layout inner : Layout) (picks : List Point) (aisle : ℕ) (fo
 next_needed layout inner picks aisle found same are last = go found (subst (λ (l : Layout). IsLastNeededBefore l picks aisle found) same last)
   where
     skip_of : (other : ℕ) (needed : Bool) → is_needed layout picks other ≡ needed → (ways_of layout picks other).skip ≡ (if needed then None else Some 0)
-    skip_of other needed is = skip_tells layout picks other (subst (λ (l : Layout). AreSlots l picks) same are) ∙ ap (λ (b : Bool). if b then None else Some 0) is
+    skip_of other needed is = skip_tells layout picks other (subst (λ (l : Layout). AreSlots l picks) same are) ∙ ap (λ (b : Bool). if b then None
+        else Some 0) is
 
     go : (found : Option ℕ) → IsLastNeededBefore layout picks aisle found → IsNextNeeded (block_of layout picks) aisle found
     go None none = λ other low high. (0, skip_of other false (none other low high))

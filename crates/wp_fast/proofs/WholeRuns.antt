@@ -54,8 +54,17 @@ goes_on_run layout picks zero aisle beyond before t all (way, (next, through, re
       next,
       whole,
       subst (λ (k : ℕ). PastRun layout picks k aisle before next t) count
-          (first_run layout picks beyond aisle before next t
-          (next, (through, 0, last (omega (arith, all)) (way, takes), behind_run layout picks beyond (suc aisle) next (omega (arith, all)), omega (arith, total, none)))),
+          (first_run layout picks beyond aisle before next t (
+            next,
+            (
+              through,
+              0,
+              last (omega (arith, all)) (way, takes),
+              behind_run layout picks beyond (suc aisle) next (omega (arith, all)),
+              omega
+                  (arith, total, none),
+            ),
+          )),
     )
 goes_on_run layout picks (suc left) aisle beyond before t all (way, (mid, through, rest, takes, (cross, (next, across, far, crosses, onward, some)), total)) =
     let count : suc (suc left + beyond) ≡ suc (suc left) + beyond = omega arith in
@@ -97,5 +106,6 @@ pub first_of_run : (layout : Layout) (picks : List Point) (count : ℕ) (least :
     → IsLeastOf (EndsFrom (PastRun layout picks count 1) Z00) least → IsLeastFirst (block_of layout picks) (layout.aisles - 1) least
 first_of_run layout picks count least fits is = record {
   is = least_like (EndsFrom (PastRun layout picks count 1) Z00) (ThroughAndOn (block_of layout picks) (layout.aisles - 1) 1 Z00) least
-      (λ t h. on_from_run layout picks 1 count Z00 t fits.0 (omega (arith, fits.1)) h) (λ t h. run_from_on layout picks 1 count Z00 t fits.0 (omega (arith, fits.1)) h) is;
+      (λ t h. on_from_run layout picks 1 count Z00 t fits.0 (omega (arith, fits.1)) h)
+      (λ t h. run_from_on layout picks 1 count Z00 t fits.0 (omega (arith, fits.1)) h) is;
 }

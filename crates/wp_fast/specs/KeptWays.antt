@@ -17,11 +17,13 @@ AreWaysOfAll layout picks ways = (aisle : ℕ) → IsUpTo layout.aisles aisle �
 
 -- and those through each aisle in which some picks have no slot
 abbrev pub AreWaysElsewhere : Layout → List Point → List Point → List AisleWays → Type 0
-AreWaysElsewhere layout picks but ways = (aisle : ℕ) → IsUpTo layout.aisles aisle → (HaveSlotIn but aisle → ⊥) → AreWaysAt layout picks ways aisle
+AreWaysElsewhere layout picks but ways = (aisle : ℕ) → IsUpTo layout.aisles aisle → (HaveSlotIn but aisle → ⊥)
+    → AreWaysAt layout picks ways aisle
 
 -- ways that are kept but for the marked aisles
 pub record AreKeptBut (layout : Layout) (picks : List Point) (kept : KeptBut) : Type 0 where
-  pub unmarked : (aisle : ℕ) → IsUpTo layout.aisles aisle → slice_index_or kept.marks.now (aisle - 1) false ≡ false → AreWaysAt layout picks kept.ways.now aisle
+  pub unmarked : (aisle : ℕ) → IsUpTo layout.aisles aisle → slice_index_or kept.marks.now (aisle - 1) false ≡ false
+      → AreWaysAt layout picks kept.ways.now aisle
 
 -- the ways through each aisle of a layout, with the slots of a set
 pub record AreKeptFor (layout : Layout) (picks : PickSet) (ways : List AisleWays) : Type 0 where

@@ -35,7 +35,16 @@ ends Z01 = None
 -- the least length by some way, and on
 abbrev pub by_some_way : AisleWays → (Class → Option ℕ) → Class → Option ℕ
 by_some_way ways on class =
-    least_by_way ways (record { uu1 = on UU1; e01 = on E01; ze1 = on ZE1; ee1 = on EE1; ee2 = on EE2; z00 = on Z00; z01 = on Z01 }) class
+    least_by_way ways (record {
+      uu1 = on UU1;
+      e01 = on E01;
+      ze1 = on ZE1;
+      ee1 = on EE1;
+      ee2 = on EE2;
+      z00 = on
+          Z00;
+      z01 = on Z01;
+    }) class
 
 -- they are short enough that sums of them don't wrap
 pub record AreShort (lengths : NeededLengths) : Type 0 where
@@ -70,7 +79,8 @@ along_run span before = record {
 
 -- from before an aisle, past it and all that are behind it, to the end of a tour
 abbrev pub PastTheRest : Layout → List Point → ℕ → Class → ℕ → Type 0
-PastTheRest layout picks aisle before total = EndsFrom (PastRun layout picks (layout.aisles + 1 - aisle) aisle) before total
+PastTheRest layout picks aisle before total
+    = EndsFrom (PastRun layout picks (layout.aisles + 1 - aisle) aisle) before total
 
 -- something has been passed in these classes, and the tour isn't done
 abbrev pub is_begun : Class → Bool
@@ -88,4 +98,5 @@ pub record AreCarried (on : Class → ℕ → Type 0) (lengths : NeededLengths) 
 
 -- lengths on from behind a needed aisle: by some way through it, and on by them, is the least past it and all behind it
 pub record AreBehind (layout : Layout) (picks : List Point) (aisle : ℕ) (on : Class → Option ℕ) : Type 0 where
-  pub least : (class : Class) → IsLeastOf (PastTheRest layout picks aisle class) (by_some_way (ways_of layout picks aisle) on class)
+  pub least : (class : Class) → IsLeastOf (PastTheRest layout picks aisle class)
+      (by_some_way (ways_of layout picks aisle) on class)

@@ -27,11 +27,14 @@ AreBelow bound summary = (before after : Class) → IfSome (length_between summa
 
 -- the length past two runs by a class between: to it past the first, and on from it past the next
 abbrev pub length_by : Summary → Summary → Class → Class → Class → Option ℕ
-length_by first next before after between = sum_of (length_between first before between) (length_between next between after)
+length_by first next before after between
+    = sum_of (length_between first before between) (length_between next between after)
 
 -- the least length past two runs, over the class between
 abbrev pub least_by : Summary → Summary → Class → Class → Option ℕ
 least_by first next before after =
-    lesser (length_by first next before after UU1) (lesser (length_by first next before after E01) (lesser (length_by first next before after ZE1)
-    (lesser (length_by first next before after EE1) (lesser (length_by first next before after EE2) (lesser (length_by first next before after Z00)
+    lesser (length_by first next before after UU1)
+    (lesser (length_by first next before after E01) (lesser (length_by first next before after ZE1)
+    (lesser (length_by first next before after EE1)
+    (lesser (length_by first next before after EE2) (lesser (length_by first next before after Z00)
     (length_by first next before after Z01))))))

@@ -1,4 +1,5 @@
--- Trees of summaries over 64 aisles: node 1 is the root, nodes 2k and 2k + 1 are below node k, and aisle a is at node 63 + a.
+-- Trees of summaries over 64 aisles: node 1 is the root, nodes 2k and 2k + 1 are below node k, and aisle a is at node
+-- 63 + a.
 use Rattle.std.specs.Prelude.{◌≡◌, ℕ, ◌+◌, ◌*◌, ◌≤◌, Bool, false, List, IfSome, slice_index_or}
 use Rattle.wp_model.specs.declared.point.Point.{Point}
 use Rattle.wp_model.specs.Limits.{most_aisles}
@@ -27,15 +28,16 @@ IsComposedAt tree node = (d : Summary)
 abbrev pub AreComposed : List Summary → Type 0
 AreComposed tree = (node : ℕ) → IsUpTo 63 node → IsComposedAt tree node
 
--- a length times its node's number is at most 128 times the greatest length past an aisle: so a sum of two lengths below a
--- node is small enough for the node
+-- a length times its node's number is at most 128 times the greatest length past an aisle: so a sum of two lengths
+-- below a node is small enough for the node
 abbrev pub AreSmall : List Summary → Type 0
 AreSmall tree = (node : ℕ) (d : Summary) (before after : Class) → IsUpTo 127 node
     → IfSome (length_between (slice_index_or tree node d) before after) (λ t. t * node ≤ 519680000)
 
 -- the summary at an aisle's node is that of the aisle
 abbrev pub IsPastAisleAt : Layout → List Point → List Summary → ℕ → Type 0
-IsPastAisleAt layout picks tree aisle = (d : Summary) → AreLeast (PastAisle layout picks aisle) (slice_index_or tree (63 + aisle) d)
+IsPastAisleAt layout picks tree aisle = (d : Summary)
+    → AreLeast (PastAisle layout picks aisle) (slice_index_or tree (63 + aisle) d)
 
 -- a tree whose aisles have the least lengths past them
 pub record IsTree (layout : Layout) (picks : List Point) (tree : List Summary) : Type 0 where
@@ -47,7 +49,8 @@ pub record IsTree (layout : Layout) (picks : List Point) (tree : List Summary) :
 pub record IsTreeBut (layout : Layout) (picks : List Point) (marks : List Bool) (tree : List Summary) : Type 0 where
   pub composed : AreComposed tree
   pub small : AreSmall tree
-  pub aisles : (aisle : ℕ) → IsUpTo most_aisles aisle → is_marked marks (63 + aisle) ≡ false → IsPastAisleAt layout picks tree aisle
+  pub aisles : (aisle : ℕ) → IsUpTo most_aisles aisle → is_marked marks (63 + aisle) ≡ false
+      → IsPastAisleAt layout picks tree aisle
 
 -- a tree for the slots of a set
 pub record IsTreeFor (layout : Layout) (picks : PickSet) (summaries : List Summary) : Type 0 where

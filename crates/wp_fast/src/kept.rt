@@ -1,4 +1,5 @@
-ghost use Rattle.std.specs.Prelude.{◌≡◌, ◌≢◌, ◌+◌, ◌-◌, ◌<◌, ◌≤◌, ◌^◌, ◌++◌, ◌↔◌, ◌⊎◌, ℕ, [], Contains, false, slice_index_or};
+ghost use Rattle.std.specs.Prelude.{◌≡◌, ◌≢◌, ◌+◌, ◌-◌, ◌<◌, ◌≤◌, ◌^◌, ◌++◌, ◌↔◌, ◌⊎◌, ℕ, [], Contains, false};
+ghost use Rattle.std.specs.Prelude.{slice_index_or};
 ghost use Rattle.wp_model.specs.declared.point.Point.{Point as PointData};
 ghost use Rattle.wp_model.specs.Tours.{IsShortest};
 ghost use Rattle.wp_model.specs.Warehouse.{IsUpTo};
@@ -6,12 +7,12 @@ ghost use Rattle.wp_graph.specs.PickSets.{HaveSlotIn};
 ghost use Rattle.wp_graph.specs.declared.ways.AisleWays.{AisleWays as WaysData};
 ghost use Rattle.wp_fast.specs.KeptWays.{AreWaysAt, AreWaysElsewhere, AreWaysOfAll};
 
-use crate::needed::{Aisles, KeptBut, length_past};
+use crate::needed::{AislesWithPicks, KeptBut, length_past};
 use std::marker::Model;
 use wp_graph::{AisleWays, Layout, Picks, aisle_ways};
 
-/// A set of picks, with the ways through each aisle of its layout. So of further picks only those of the aisles in which they
-/// have a slot are counted anew.
+/// A set of picks, with the ways through each aisle of its layout. So of further picks only those of the aisles in
+/// which they have a slot are counted anew.
 #[derive(Drop)]
 pub struct KeptWays {
     layout: Layout,
@@ -35,7 +36,8 @@ fn joined(layout: &Layout, one: &Picks, other: &Picks) -> Picks
     requires one { one.now.layout ≡ layout.now }
     requires other { other.now.layout ≡ layout.now }
     ensures layout { result.layout ≡ layout.now }
-    ensures points { (p : PointData) → Contains result.points p ↔ (Contains one.now.points p ⊎ Contains other.now.points p) }
+    ensures points { (p : PointData) → Contains result.points p
+        ↔ (Contains one.now.points p ⊎ Contains other.now.points p) }
 {
     let mut both = Picks::new(layout);
     both.join(one);
@@ -46,7 +48,8 @@ fn joined(layout: &Layout, one: &Picks, other: &Picks) -> Picks
 // Marks the aisles in which picks have a slot.
 fn aisles_of(layout: &Layout, picks: &Picks) -> [bool; 64]
     requires { picks.now.layout ≡ layout.now }
-    ensures { (aisle : ℕ) → IsUpTo layout.now.aisles aisle → slice_index_or result (aisle - 1) false ≡ false → HaveSlotIn picks.now.points aisle → ⊥ }
+    ensures { (aisle : ℕ) → IsUpTo layout.now.aisles aisle
+        → slice_index_or result (aisle - 1) false ≡ false → HaveSlotIn picks.now.points aisle → ⊥ }
 {
     let mut marks = [false; 64];
     let mut before = layout.aisles() + 1;
@@ -62,7 +65,8 @@ fn put_ways(ways: &mut [AisleWays; 64], layout: &Layout, picks: &Picks, aisle: u
     requires picks { picks.now.layout ≡ layout.now }
     requires aisle { IsUpTo layout.now.aisles aisle }
     ensures here { AreWaysAt layout.now picks.now.points ways.new aisle }
-    ensures others { (other : ℕ) (d : WaysData) → 1 ≤ other → other ≢ aisle → slice_index_or ways.new (other - 1) d ≡ slice_index_or ways.old (other - 1) d }
+    ensures others { (other : ℕ) (d : WaysData) → 1 ≤ other → other ≢ aisle
+        → slice_index_or ways.new (other - 1) d ≡ slice_index_or ways.old (other - 1) d }
 {
     ways[aisle as usize - 1] = aisle_ways(layout, picks, aisle);
 }
@@ -113,7 +117,8 @@ impl KeptWays {
     pub fn with(&self, more: &Picks) -> KeptWays
         requires { more.now.layout ≡ self.now.layout }
         ensures layout { result.layout ≡ self.now.layout }
-        ensures points { (p : PointData) → Contains result.points p ↔ (Contains self.now.points p ⊎ Contains more.now.points p) }
+        ensures points { (p : PointData) → Contains result.points p
+            ↔ (Contains self.now.points p ⊎ Contains more.now.points p) }
     {
         let picks = joined(&self.layout, &self.picks, more);
         let mut ways = self.ways;
@@ -125,8 +130,8 @@ impl KeptWays {
         }
     }
 
-    /// The length of the shortest tour of the picks and of all slots of a set of the same layout besides: some closed walk from
-    /// the depot past them has this length, and none is shorter. It is below 2 ^ 28.
+    /// The length of the shortest tour of the picks and of all slots of a set of the same layout besides: some closed
+    /// walk from the depot past them has this length, and none is shorter. It is below 2 ^ 28.
     pub fn length_with(&self, more: &Picks) -> u64
         requires { more.now.layout ≡ self.now.layout }
         ensures shortest { IsShortest self.now.layout (self.now.points ++ more.now.points) result }
@@ -134,7 +139,7 @@ impl KeptWays {
     {
         let picks = joined(&self.layout, &self.picks, more);
         let marks = aisles_of(&self.layout, more);
-        length_past(&Aisles {
+        length_past(&AislesWithPicks {
             layout: &self.layout,
             picks: &picks,
             kept: Some(KeptBut {

@@ -5,7 +5,8 @@ ghost use Rattle.wp_fast.specs.Lengths.{AreShort, AreWays, HaveLeast, along_run,
 
 use wp_graph::AisleWays;
 
-/// For each class in which a tour can be between two needed aisles, a least length on from it to the end of a whole tour.
+/// For each class in which a tour can be between two needed aisles, a least length on from it to the end of a whole
+/// tour.
 #[derive(Clone, Copy)]
 pub(crate) struct NeededLengths {
     pub uu1: u64,
@@ -51,8 +52,10 @@ fn least_through(ways: &AisleWays, on: On) -> u64
     requires front { on.front ≤ 2 ^ 40 }
     requires gap { on.gap ≤ 2 ^ 40 }
     requires double { on.double ≤ 2 ^ 40 }
-    ensures { Some result ≡ lesser (Some (ways.now.pass + on.pass)) (lesser (sum_of ways.now.back (Some on.back)) (lesser
-        (sum_of ways.now.front (Some on.front)) (lesser (sum_of ways.now.gap (Some on.gap)) (Some (ways.now.double + on.double))))) }
+    ensures { Some result ≡ lesser (Some (ways.now.pass + on.pass))
+        (lesser (sum_of ways.now.back (Some on.back)) (lesser
+        (sum_of ways.now.front (Some on.front)) (lesser (sum_of ways.now.gap (Some on.gap))
+        (Some (ways.now.double + on.double))))) }
 {
     let twice = ways.double + on.double;
     let left_out = or_by(ways.gap, on.gap, twice);
@@ -87,8 +90,8 @@ pub(crate) fn only_length(ways: &AisleWays) -> u64
     or_by(ways.back, 0, or_by(ways.front, 0, ways.double))
 }
 
-/// The least lengths on from before the way through a needed aisle, from those on from after it. What several classes have in
-/// common is found once.
+/// The least lengths on from before the way through a needed aisle, from those on from after it. What several classes
+/// have in common is found once.
 pub(crate) fn before_way(ways: &AisleWays, after: &NeededLengths) -> NeededLengths
     requires ways { AreWays ways.now }
     requires after { AreShort after.now }
@@ -128,7 +131,14 @@ impl NeededLengths {
     // On after each way in class 000.
     #[inline(always)]
     fn from_nothing(&self) -> On
-        ensures { result ≡ record { pass = self.now.uu1; back = self.now.e01; front = self.now.ze1; gap = self.now.ee2; double = self.now.ee1 } }
+        ensures { result ≡ record {
+          pass = self.now.uu1;
+          back = self.now.e01;
+          front = self.now.ze1;
+          gap
+              = self.now.ee2;
+          double = self.now.ee1;
+        } }
     {
         On {
             pass: self.uu1,
@@ -139,8 +149,8 @@ impl NeededLengths {
         }
     }
 
-    /// The least lengths on from after the way through a needed aisle, from those on from before the way through the next one
-    /// behind it, where the crossings between are so long together.
+    /// The least lengths on from after the way through a needed aisle, from those on from before the way through the
+    /// next one behind it, where the crossings between are so long together.
     pub(crate) fn along(&self, span: u64) -> NeededLengths
         requires lengths { AreShort self.now }
         requires span { span ≤ 2 ^ 30 }

@@ -7,7 +7,8 @@ use wp_classes::Class;
 /// The number that stands for no length.
 pub(crate) const NO_LENGTH: u64 = u64::MAX;
 
-/// For each class after a run of aisles, the least length to it from one class before the run. None where there is none.
+/// For each class after a run of aisles, the least length to it from one class before the run. None where there is
+/// none.
 #[derive(Clone, Copy)]
 pub(crate) struct LengthsAcross {
     pub(crate) uu1: Option<u64>,
@@ -31,8 +32,8 @@ struct Greatest {
     z01: bool,
 }
 
-/// The same lengths, each as one number, so that sums and least ones need no test. The greatest number stands for no length,
-/// unless it is the length itself.
+/// The same lengths, each as one number, so that sums and least ones need no test. The greatest number stands for no
+/// length, unless it is the length itself.
 #[derive(Clone, Copy)]
 pub(crate) struct LengthRow {
     uu1: u64,

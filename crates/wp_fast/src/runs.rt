@@ -8,8 +8,8 @@ use crate::tree::{NODES, Tree, all_marks, marks_of, renew};
 use std::marker::Model;
 use wp_graph::{Layout, Picks};
 
-/// A set of picks, with the summaries of runs of its layout's aisles: of each aisle, of each two neighbours, and so on up
-/// to all aisles. So the length of a shortest tour is at hand, and further picks change few summaries.
+/// A set of picks, with the summaries of runs of its layout's aisles: of each aisle, of each two neighbours, and so on
+/// up to all aisles. So the length of a shortest tour is at hand, and further picks change few summaries.
 #[derive(Drop)]
 pub struct Runs {
     layout: Layout,
@@ -56,20 +56,21 @@ impl Runs {
         runs
     }
 
-    /// Adds all slots of a set of the same layout. Only the aisles in which it has a slot, and the runs that they are in,
-    /// are summed up anew.
+    /// Adds all slots of a set of the same layout. Only the aisles in which it has a slot, and the runs that they are
+    /// in, are summed up anew.
     pub fn join(&mut self, more: &Picks)
         requires { more.now.layout ≡ self.old.layout }
         ensures layout { self.new.layout ≡ self.old.layout }
-        ensures points { (p : PointData) → Contains self.new.points p ↔ (Contains self.old.points p ⊎ Contains more.now.points p) }
+        ensures points { (p : PointData) → Contains self.new.points p
+            ↔ (Contains self.old.points p ⊎ Contains more.now.points p) }
     {
         self.picks.join(more);
         let marks = marks_of(&self.layout, more);
         renew(&mut self.tree, &self.layout, &self.picks, marks);
     }
 
-    /// The length of the shortest tour of the picks: some closed walk from the depot past all picks has this length, and
-    /// none is shorter. It is the least sum over all ways and crossings that the tables allow, and below 2 ^ 28.
+    /// The length of the shortest tour of the picks: some closed walk from the depot past all picks has this length,
+    /// and none is shorter. It is the least sum over all ways and crossings that the tables allow, and below 2 ^ 28.
     pub fn length(&self) -> u64
         ensures least { IsLeastRoute self.now.layout self.now.points result }
         ensures shortest { IsShortest self.now.layout self.now.points result }

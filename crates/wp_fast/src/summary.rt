@@ -11,8 +11,8 @@ use crate::row::{LengthRow, LengthsAcross, NO_LENGTH};
 use wp_classes::Class;
 use wp_graph::AisleWays;
 
-/// For a run of neighbouring aisles, the least length from each class before the run to each class after it. There may be
-/// none.
+/// For a run of neighbouring aisles, the least length from each class before the run to each class after it. There may
+/// be none.
 #[derive(Clone, Copy)]
 pub struct Summary {
     uu1: LengthRow,
@@ -26,7 +26,8 @@ pub struct Summary {
 
 // The lengths from a class by a way through an aisle.
 fn row_by_way(ways: &AisleWays, before: Class) -> LengthRow
-    ensures { (after : ClassData) → IsLeastOf (ByWays ways.now before after) (length_to result after) }
+    ensures { (after : ClassData) → IsLeastOf (ByWays ways.now before after)
+        (length_to result after) }
 {
     LengthRow::of(&LengthsAcross {
         uu1: least_by_way(ways, before, Class::UU1),
@@ -41,7 +42,8 @@ fn row_by_way(ways: &AisleWays, before: Class) -> LengthRow
 
 // The lengths from a class by a crossing.
 fn row_by_cross(spacing: u32, before: Class) -> LengthRow
-    ensures { (after : ClassData) → IsLeastOf (ByCrossings spacing before after) (length_to result after) }
+    ensures { (after : ClassData) → IsLeastOf (ByCrossings spacing before after)
+        (length_to result after) }
 {
     LengthRow::of(&LengthsAcross {
         uu1: least_by_cross(spacing, before, Class::UU1),
@@ -103,7 +105,8 @@ fn least_sum(first: &Summary, next: &Summary, before: Class, after: Class) -> Op
 fn row_past_both(first: &Summary, next: &Summary, before: Class) -> LengthRow
     requires first { AreBelow (2 ^ 62) first.now }
     requires next { AreBelow (2 ^ 62) next.now }
-    ensures { (after : ClassData) → length_to result after ≡ least_by first.now next.now before after }
+    ensures { (after : ClassData) → length_to result after
+        ≡ least_by first.now next.now before after }
 {
     LengthRow::of(&LengthsAcross {
         uu1: least_sum(first, next, before, Class::UU1),
@@ -162,8 +165,8 @@ impl Summary {
         }
     }
 
-    /// The lengths past a run and the next one: for each class before and each class after, the least sum over the class
-    /// between. Composing is associative.
+    /// The lengths past a run and the next one: for each class before and each class after, the least sum over the
+    /// class between. Composing is associative.
     pub fn compose(&self, next: &Summary) -> Summary
         requires first { AreBelow (2 ^ 62) self.now }
         requires next { AreBelow (2 ^ 62) next.now }
@@ -180,8 +183,8 @@ impl Summary {
         }
     }
 
-    /// The least length of a whole tour past the run: from class Z00 to a class in which a tour may end. None exactly where
-    /// there is none.
+    /// The least length of a whole tour past the run: from class Z00 to a class in which a tour may end. None exactly
+    /// where there is none.
     pub fn length(&self) -> Option<u64>
         ensures { IsLeastOf (ToTheEnd self.now) result }
     {

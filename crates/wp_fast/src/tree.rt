@@ -4,14 +4,15 @@ ghost use Rattle.wp_model.specs.Warehouse.{IsLayout, IsUpTo};
 ghost use Rattle.wp_graph.specs.PickSets.{AreSlots, HaveSlotIn};
 ghost use Rattle.wp_fast.specs.Passages.{AreLeast};
 ghost use Rattle.wp_fast.specs.Runs.{PastAisle};
-ghost use Rattle.wp_fast.specs.Trees.{AreComposed, AreSmall, IsComposedAt, IsKeptAt, IsPastAisleAt, IsTree, IsTreeBut, is_marked};
+ghost use Rattle.wp_fast.specs.Trees.{AreComposed, AreSmall, IsComposedAt, IsKeptAt, IsPastAisleAt, IsTree, IsTreeBut};
+ghost use Rattle.wp_fast.specs.Trees.{is_marked};
 
 use crate::summary::Summary;
 use wp_graph::{Layout, Picks, aisle_ways};
 use wp_model::MOST_AISLES;
 
-/// How many nodes a tree has: the root is node 1, nodes 2k and 2k + 1 are below node k, and aisle a is at node 63 + a. Node 0
-/// stands for nothing.
+/// How many nodes a tree has: the root is node 1, nodes 2k and 2k + 1 are below node k, and aisle a is at node 63 + a.
+/// Node 0 stands for nothing.
 pub(crate) const NODES: usize = 128;
 
 /// How many nodes stand before those of the aisles.
@@ -66,7 +67,8 @@ pub(crate) fn marks_of(layout: &Layout, picks: &Picks) -> Marks
 
 /// Marks the nodes of all aisles of a layout.
 pub(crate) fn all_marks(layout: &Layout) -> Marks
-    ensures marked { (aisle : ℕ) → IsUpTo most_aisles aisle → is_marked result (63 + aisle) ≡ false → layout.now.aisles < aisle }
+    ensures marked { (aisle : ℕ) → IsUpTo most_aisles aisle → is_marked result (63 + aisle) ≡ false
+        → layout.now.aisles < aisle }
     ensures valid { IsLayout layout.now }
 {
     let mut marks = [false; NODES];
@@ -94,11 +96,13 @@ fn put_if_marked(tree: &mut Tree, layout: &Layout, picks: &Picks, marks: &Marks,
     requires picks { picks.now.layout ≡ layout.now }
     requires aisle { IsUpTo most_aisles aisle }
     requires small { AreSmall tree.old }
-    requires past { is_marked marks.now (63 + aisle) ≡ false → IsPastAisleAt layout.now picks.now.points tree.old aisle }
+    requires past { is_marked marks.now (63 + aisle) ≡ false
+        → IsPastAisleAt layout.now picks.now.points tree.old aisle }
     ensures past { IsPastAisleAt layout.now picks.now.points tree.new aisle }
     ensures small { AreSmall tree.new }
     ensures others { (other : ℕ) → other ≢ 63 + aisle → IsKeptAt tree.old tree.new other }
-    ensures unmarked { is_marked marks.now (63 + aisle) ≡ false → IsKeptAt tree.old tree.new (63 + aisle) }
+    ensures unmarked { is_marked marks.now (63 + aisle) ≡ false
+        → IsKeptAt tree.old tree.new (63 + aisle) }
 {
     if marks[node_of(aisle)] {
         put_aisle(tree, layout, picks, aisle);
@@ -109,10 +113,12 @@ fn put_if_marked(tree: &mut Tree, layout: &Layout, picks: &Picks, marks: &Marks,
 fn put_aisles(tree: &mut Tree, layout: &Layout, picks: &Picks, marks: &Marks)
     requires picks { picks.now.layout ≡ layout.now }
     requires but { IsTreeBut layout.now picks.now.points marks.now tree.old }
-    ensures past { (aisle : ℕ) → IsUpTo most_aisles aisle → IsPastAisleAt layout.now picks.now.points tree.new aisle }
+    ensures past { (aisle : ℕ) → IsUpTo most_aisles aisle
+        → IsPastAisleAt layout.now picks.now.points tree.new aisle }
     ensures small { AreSmall tree.new }
     ensures inner { (node : ℕ) → node < 64 → IsKeptAt tree.old tree.new node }
-    ensures unmarked { (node : ℕ) → is_marked marks.now node ≡ false → IsKeptAt tree.old tree.new node }
+    ensures unmarked { (node : ℕ) → is_marked marks.now node ≡ false
+        → IsKeptAt tree.old tree.new node }
 {
     for aisle in 1..MOST_AISLES + 1 {
         put_if_marked(tree, layout, picks, marks, aisle);
@@ -134,12 +140,14 @@ fn compose_at(tree: &mut Tree, node: usize)
 fn compose_if_marked(tree: &mut Tree, marks: &mut Marks, node: usize)
     requires node { IsUpTo 63 node }
     requires small { AreSmall tree.old }
-    requires composed { is_marked marks.old (2 * node) ≡ false → is_marked marks.old (2 * node + 1) ≡ false → IsComposedAt tree.old node }
+    requires composed { is_marked marks.old (2 * node) ≡ false
+        → is_marked marks.old (2 * node + 1) ≡ false → IsComposedAt tree.old node }
     ensures composed { IsComposedAt tree.new node }
     ensures small { AreSmall tree.new }
     ensures others { (other : ℕ) → other ≢ node → IsKeptAt tree.old tree.new other }
     ensures unmarked { is_marked marks.new node ≡ false → IsKeptAt tree.old tree.new node }
-    ensures marks { (other : ℕ) → is_marked marks.new other ≡ false → is_marked marks.old other ≡ false }
+    ensures marks { (other : ℕ) → is_marked marks.new other ≡ false
+        → is_marked marks.old other ≡ false }
 {
     if marks[2 * node] || marks[2 * node + 1] {
         compose_at(tree, node);
@@ -150,7 +158,8 @@ fn compose_if_marked(tree: &mut Tree, marks: &mut Marks, node: usize)
 // Composes the nodes above marked ones.
 fn compose_above(tree: &mut Tree, mut marks: Marks)
     requires small { AreSmall tree.old }
-    requires composed { (node : ℕ) → IsUpTo 63 node → is_marked marks (2 * node) ≡ false → is_marked marks (2 * node + 1) ≡ false
+    requires composed { (node : ℕ) → IsUpTo 63 node → is_marked marks (2 * node) ≡ false
+        → is_marked marks (2 * node + 1) ≡ false
         → IsComposedAt tree.old node }
     ensures composed { AreComposed tree.new }
     ensures small { AreSmall tree.new }

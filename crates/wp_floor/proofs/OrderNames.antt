@@ -15,7 +15,7 @@ use Rattle.wp_model.specs.TableLines.{article_in}
 use Rattle.wp_model.specs.Tables.{AreReadOrders}
 use Rattle.wp_tables.specs.Orders.{name_of}
 use Rattle.std.specs.Option.{MatchOption}
-use Rattle.wp_floor.specs.Floor.{number_of}
+use Rattle.wp_floor.specs.Floor.{order_number}
 use Rattle.wp_floor.specs.Takers.{HasPut, IsPutAt}
 
 -- the order that is found has the name
@@ -114,7 +114,7 @@ put_one opening names i n name taker old now read long within is found put =
 -- after one more name
 pub put_more : (opening : Opening) (names : List (List ℕ)) (i : ℕ) (name : List ℕ) (taker : Option (List ℕ)) (old now new : List (Option (List ℕ)))
     → AreReadOrders opening.stock.articles opening.orders → length old ≡ length opening.orders → i < length names → name ≡ get_or names i name
-    → IsPutAt (number_of opening name) taker now new → HasPut opening (take i names) taker old now → HasPut opening (take (i + 1) names) taker old new
+    → IsPutAt (order_number opening name) taker now new → HasPut opening (take i names) taker old now → HasPut opening (take (i + 1) names) taker old new
 put_more opening names i name taker old now new read long within is at put = by (article_in (map name_of opening.orders) name) refl at
   where
     by : (found : Option ℕ) → article_in (map name_of opening.orders) name ≡ found → MatchOption found (new ≡ now) (λ number. new ≡ set now number taker)

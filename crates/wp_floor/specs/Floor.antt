@@ -87,12 +87,16 @@ HasPapers opening stage.Cancelled book number kept = ⊤
 HasPapers opening stage.Done book number kept = ⊤
 
 -- the number of the order with a name, None where the opening has none
-abbrev pub number_of : Opening → List ℕ → Option ℕ
-number_of opening name = article_in (map name_of opening.orders) name
+abbrev pub order_number : Opening → List ℕ → Option ℕ
+order_number opening name = article_in (map name_of opening.orders) name
+
+-- these are the numbers of orders
+abbrev pub AreNumbersOf : Opening → List (List ℕ) → List (Option ℕ) → Type 0
+AreNumbersOf opening orders numbers = numbers ≡ map (order_number opening) orders
 
 -- a wave has the numbers of its orders
 abbrev pub IsNumbered : Opening → KeptWave → Type 0
-IsNumbered opening kept = kept.numbers.items ≡ map (number_of opening) kept.orders
+IsNumbered opening kept = AreNumbersOf opening kept.orders kept.numbers.items
 
 -- a wave is kept as it should be
 pub record IsKeptWave (opening : Opening) (book : Book) (number : ℕ) (kept : KeptWave) : Type 0 where

@@ -13,7 +13,7 @@ use Rattle.wp_model.specs.declared.reply.Reply.TheVariants as reply
 use Rattle.wp_model.specs.declared.reply.WaveState.{WaveState}
 use Rattle.wp_model.specs.declared.reply.WaveState.TheVariants as wave
 use Rattle.wp_model.specs.declared.row.Row.{Row}
-use Rattle.wp_floor.specs.Floor.{IsNumbered, number_of, state_at, state_in, wave_of}
+use Rattle.wp_floor.specs.Floor.{IsNumbered, order_number, state_at, state_in, wave_of}
 use Rattle.wp_floor.specs.declared.held.Claim.{Claim}
 use Rattle.wp_floor.specs.declared.held.HeldUnits.{HeldUnits}
 use Rattle.wp_floor.specs.declared.waves.KeptWave.{KeptWave}
@@ -31,7 +31,7 @@ pub record KnowsOrder (opening : Opening) (kept : KeptWave) (claim : Claim) : Ty
   pub numbered : IsNumbered opening kept
   pub known : All (λ order. IsTrue (is_known_order opening.orders order)) kept.orders
   pub most : length kept.orders ≤ most_wave_orders
-  pub number : claim.number ≡ number_of opening claim.order
+  pub number : claim.number ≡ order_number opening claim.order
 
 -- what a wave holds for an order at a location
 abbrev pub held_there : Book → ℕ → KeptWave → List ℕ → Location → Option step.Held

@@ -1,7 +1,8 @@
 //! Pick: units that are gone, and waves of which nothing is left.
 ghost use Rattle.std.specs.Prelude.{◌≡◌, ◌≤◌, ◌<◌, true, List, length};
 ghost use Rattle.wp_book.specs.Calls.{HoldsNone};
-ghost use Rattle.wp_floor.specs.Floor.{HasAnswered, HasStepped, IsAt, IsFloor, number_of, state_at, state_in, state_of};
+ghost use Rattle.wp_floor.specs.Floor.{HasAnswered, HasStepped, IsAt, IsFloor, order_number, state_at, state_in};
+ghost use Rattle.wp_floor.specs.Floor.{state_of};
 ghost use Rattle.wp_floor.specs.Floor.{wave_of};
 ghost use Rattle.wp_floor.specs.HeldUnits.{IsRowAt, KnowsOrder, held_of};
 ghost use Rattle.wp_model.specs.Book.{held_for};
@@ -77,7 +78,7 @@ impl Floor {
     pub fn pick(&mut self, opening: &Opening, name: &Name, claim: &Claim) -> Reply
         requires floor { IsFloor opening.now self.old }
         requires row { IsRowAt (state_of self.old).rows claim.now.location claim.now.row }
-        requires order { claim.now.number ≡ number_of opening.now claim.now.order }
+        requires order { claim.now.number ≡ order_number opening.now claim.now.order }
         ensures { HasStepped opening.now (command.Pick name.now claim.now.order claim.now.location
             claim.now.quantity) self.old self.new result }
     {

@@ -7,7 +7,8 @@ ghost use Rattle.wp_model.specs.Step.{at_released, is_live, says_refilled, write
 ghost use Rattle.wp_model.specs.declared.command.Command.TheVariants as command;
 ghost use Rattle.wp_model.specs.declared.reply.Reply.TheVariants as replies;
 ghost use Rattle.wp_model.specs.declared.reply.WaveState.TheVariants as states;
-ghost use Rattle.wp_floor.specs.Floor.{HasAnswered, HasStepped, IsAt, IsFloor, number_of, state_at, state_in, state_of};
+ghost use Rattle.wp_floor.specs.Floor.{HasAnswered, HasStepped, IsAt, IsFloor, order_number, state_at, state_in};
+ghost use Rattle.wp_floor.specs.Floor.{state_of};
 ghost use Rattle.wp_floor.specs.Floor.{wave_of};
 ghost use Rattle.wp_floor.specs.HeldUnits.{IsRowAt, KnowsOrder, held_of};
 ghost use Rattle.wp_floor.specs.ReceivedUnits.{AllHaveArticles};
@@ -147,7 +148,7 @@ impl Floor {
     pub fn missing(&mut self, opening: &Opening, name: &Name, claim: &Claim, rooms: Rooms) -> Missed
         requires floor { IsFloor opening.now self.old }
         requires row { IsRowAt (state_of self.old).rows claim.now.location claim.now.row }
-        requires order { claim.now.number ≡ number_of opening.now claim.now.order }
+        requires order { claim.now.number ≡ order_number opening.now claim.now.order }
         requires quantity { 0 < claim.now.quantity }
         requires rooms { HaveRoomsAt (state_of self.old).rows claim.now.row claim.now.quantity
             rooms }

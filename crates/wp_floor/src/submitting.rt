@@ -7,7 +7,8 @@ ghost use Rattle.wp_model.specs.TableLines.{article_in};
 ghost use Rattle.wp_model.specs.Tables.{IsReadOpening};
 ghost use Rattle.wp_model.specs.declared.command.Command.TheVariants as command;
 ghost use Rattle.wp_tables.specs.Orders.{name_of};
-ghost use Rattle.wp_floor.specs.Floor.{AreNeedsOf, AreTakers, HasStepped, IsFloor, number_of, wave_count};
+ghost use Rattle.wp_floor.specs.Floor.{AreNeedsOf, AreNumbersOf, AreTakers, HasStepped, IsFloor, order_number};
+ghost use Rattle.wp_floor.specs.Floor.{wave_count};
 ghost use Rattle.wp_floor.specs.NewWaves.{IsPrepared, size_fault, submit_of, wave_of_new};
 
 use crate::floor::{Floor, put_takers};
@@ -41,13 +42,19 @@ pub fn size_fault(orders: &Names) -> Option<Reply>
     None
 }
 
-// What a wave of these orders needs to go out.
-fn needs_of(alloc: Global, opening: &Opening, orders: &Names) -> Result<Needs, Memory>
+// What a wave of these orders, which have these numbers, needs to go out.
+fn needs_of(
+    alloc: Global,
+    opening: &Opening,
+    orders: &Names,
+    numbers: &[Option<u32>],
+) -> Result<Needs, Memory>
     requires read { IsReadOpening opening.now }
     requires size { size_fault orders.now ≡ None }
+    requires numbered { AreNumbersOf opening.now orders.now numbers.now }
     ensures { IfOk result (AreNeedsOf opening.now orders.now) }
 {
-    let wants = wants_of_orders(alloc, opening, orders.as_slice())?;
+    let wants = wants_of_orders(alloc, opening, numbers)?;
     let rooms = Rooms::for_wants(alloc, opening.stock(), wants.as_slice())?;
     Ok(Needs {
         orders: orders.copy(alloc)?,
@@ -58,7 +65,7 @@ fn needs_of(alloc: Global, opening: &Opening, orders: &Names) -> Result<Needs, M
 
 // The numbers of orders in the opening, none for one that isn't there.
 fn numbers_of(alloc: Global, opening: &Opening, orders: &[Name]) -> Result<Vec<Option<u32>>, Memory>
-    ensures { IfOk result (λ numbers. numbers.items ≡ map (number_of opening.now) orders.now) }
+    ensures { IfOk result (λ numbers. AreNumbersOf opening.now orders.now numbers.items) }
 {
     let mut numbers = Vec::with_capacity(alloc, orders.len())?;
     for order in orders {
@@ -81,7 +88,7 @@ impl NewWave {
         ensures prepared { IfOk result (IsPrepared opening.now) }
     {
         let numbers = numbers_of(alloc, opening, orders.as_slice())?;
-        let needs = needs_of(alloc, opening, orders)?;
+        let needs = needs_of(alloc, opening, orders, &numbers)?;
         let cell = Cell::new(alloc)?;
         Ok(NewWave {
             name: *name,
@@ -152,7 +159,7 @@ fn order_fault(
     number: Option<u32>,
 ) -> Option<Reply>
     requires read { IsReadOpening opening.now }
-    requires numbered { number ≡ number_of opening.now order.now }
+    requires numbered { number ≡ order_number opening.now order.now }
     requires count { length takers.now ≡ length opening.now.orders }
     ensures { (waves : List Wave) → AreTakers opening.now waves takers.now
         → result ≡ order_fault opening.now waves before.now order.now }
@@ -182,7 +189,7 @@ pub fn first_order_fault(
     numbers: &[Option<u32>],
 ) -> Option<Reply>
     requires read { IsReadOpening opening.now }
-    requires numbered { numbers.now ≡ map (number_of opening.now) orders.now }
+    requires numbered { AreNumbersOf opening.now orders.now numbers.now }
     requires count { length takers.now ≡ length opening.now.orders }
     ensures { (waves : List Wave) → AreTakers opening.now waves takers.now
         → result ≡ first_order_fault opening.now waves [] orders.now }

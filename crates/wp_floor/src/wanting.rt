@@ -1,19 +1,19 @@
 //! What the orders of a wave want.
-ghost use Rattle.std.specs.Prelude.{◌≡◌, ◌+◌, ◌<◌, ◌≤◌, ◌^◌, ◌==◌, ◌∷◌, [], length, IfOk};
+ghost use Rattle.std.specs.Prelude.{◌≡◌, ℕ, ◌+◌, ◌<◌, ◌≤◌, ◌^◌, ◌==◌, ◌∷◌, [], List, length, IfOk};
 ghost use Rattle.std.specs.List.{All, position};
 ghost use Rattle.wp_allot.specs.Wants.{units_in};
 ghost use Rattle.wp_allot.specs.declared.want.Want.{Want as WantData};
 ghost use Rattle.wp_model.specs.Opening.{IsLine, line_units, lines_of};
 ghost use Rattle.wp_model.specs.Limits.{most_lines, most_wave_orders};
 ghost use Rattle.wp_model.specs.Tables.{IsReadOpening};
-ghost use Rattle.wp_floor.specs.Floor.{AreWantsOf};
+ghost use Rattle.wp_floor.specs.Floor.{AreNumbersOf, AreWantsOf, order_number};
 ghost use Rattle.wp_floor.specs.WantLists.{AreBefore, AreListedWants, AreSome, AreSplit, HaveAdded, KeepArticles};
 
 use crate::opening::Opening;
 use std::alloc::Global;
 use wp_allot::Want;
 use wp_allot::gathered::gather;
-use wp_model::{Line, Memory, Name};
+use wp_model::{Line, Memory};
 
 // The place of the first want of an article.
 fn find_article(wants: &[Want], article: u32) -> Option<usize>
@@ -64,46 +64,56 @@ fn add_order(wants: &mut Vec<Want>, place: u32, lines: &[Line]) -> Result<(), Me
     Ok(())
 }
 
-// The lines of the order with a name, none where it isn't known.
-fn order_lines<'a>(opening: &'a Opening, order: &Name) -> &'a [Line]
-    requires { IsReadOpening opening.now }
-    ensures lines { result.now ≡ lines_of opening.now.orders order.now }
+// The lines of an order by its number, none where it isn't known.
+fn order_lines(opening: &Opening, number: Option<u32>) -> &[Line]
+    requires read { IsReadOpening opening.now }
+    requires named { (order : List ℕ) × (number ≡ order_number opening.now order) }
+    ensures lines { (order : List ℕ) → number ≡ order_number opening.now order
+        → result.now ≡ lines_of opening.now.orders order }
     ensures each { All (IsLine opening.now.stock.articles) result.now }
     ensures few { length result.now ≤ most_lines }
 {
-    let known = opening.orders();
-    match known.find(order) {
-        Some(number) => known.lines(number),
+    match number {
+        Some(number) => opening.orders().lines(number),
         None => &[],
     }
 }
 
-// What the orders of a wave want, order by order, each in its place: for an order one want an article that its lines
-// are of, of the units of these lines. An order that isn't known wants nothing.
-fn list_wants(alloc: Global, opening: &Opening, orders: &[Name]) -> Result<Vec<Want>, Memory>
+// What the orders of a wave, which have these numbers, want, order by order, each in its place: for an order one want
+// an article that its lines are of, of the units of these lines. An order that isn't known wants nothing.
+fn list_wants(
+    alloc: Global,
+    opening: &Opening,
+    numbers: &[Option<u32>],
+) -> Result<Vec<Want>, Memory>
     requires read { IsReadOpening opening.now }
-    requires few { length orders.now ≤ most_wave_orders }
-    ensures { IfOk result (λ wants. AreListedWants opening.now orders.now wants.items) }
+    requires few { length numbers.now ≤ most_wave_orders }
+    requires named { (orders : List (List ℕ)) × AreNumbersOf opening.now orders numbers.now }
+    ensures { IfOk result (λ wants. (orders : List (List ℕ))
+        → AreNumbersOf opening.now orders numbers.now
+        → AreListedWants opening.now orders wants.items) }
 {
     let mut wants = Vec::new(alloc);
-    for (place, order) in orders.iter().enumerate() {
-        add_order(&mut wants, place as u32, order_lines(opening, order))?;
+    for (place, number) in numbers.iter().enumerate() {
+        add_order(&mut wants, place as u32, order_lines(opening, *number))?;
     }
     Ok(wants)
 }
 
-/// What the orders of a wave want, article by article: for an order one want an article that its lines are of, of the
-/// units of these lines. An order that isn't known wants nothing.
+/// What the orders of a wave, which have these numbers, want, article by article: for an order one want an article that
+/// its lines are of, of the units of these lines. An order that isn't known wants nothing.
 pub fn wants_of_orders(
     alloc: Global,
     opening: &Opening,
-    orders: &[Name],
+    numbers: &[Option<u32>],
 ) -> Result<Vec<Want>, Memory>
     requires read { IsReadOpening opening.now }
-    requires few { length orders.now ≤ most_wave_orders }
-    ensures { IfOk result (λ wants. AreWantsOf opening.now orders.now wants.items) }
+    requires few { length numbers.now ≤ most_wave_orders }
+    requires named { (orders : List (List ℕ)) × AreNumbersOf opening.now orders numbers.now }
+    ensures { IfOk result (λ wants. (orders : List (List ℕ))
+        → AreNumbersOf opening.now orders numbers.now → AreWantsOf opening.now orders wants.items) }
 {
-    let mut wants = list_wants(alloc, opening, orders)?;
+    let mut wants = list_wants(alloc, opening, numbers)?;
     gather(&mut wants);
     Ok(wants)
 }

@@ -1,5 +1,6 @@
 -- How far the aisles lie from the first one, word by word, and what follows of the lengths between them.
-use Rattle.std.proofs.Common.{◌≡◌, ℕ, zero, suc, ◌+◌, ◌-◌, ◌*◌, ◌<◌, ◌≤◌, List, [], ◌∷◌, ◌++◌, All, length, replicate, set, slice_index, take, arith, refl, sym, ap, ◌∙◌, subst}
+use Rattle.std.proofs.Common.{◌≡◌, ℕ, zero, suc, ◌+◌, ◌-◌, ◌*◌, ◌<◌, ◌≤◌, List, [], ◌∷◌, ◌++◌, All, length, replicate, set, slice_index, take, arith, refl, sym}
+use Rattle.std.proofs.Common.{ap, ◌∙◌, subst}
 use Rattle.std.proofs.Math.Seq.{take-length}
 use Rattle.std.proofs.lemmas.List.{length-take, take_more}
 use Rattle.wp_model.specs.Limits.{greatest_length, most_aisles}
@@ -51,7 +52,8 @@ differences_kept spacings =
     ∙ taken_differences 0 spacings (replicate (most_aisles - (length spacings + 1)) 0)
 
 -- the words of these lengths keep them
-pub keeps_offsets : (spacings words : List ℕ) (count : ℕ) → length spacings < most_aisles → All (IsUpTo greatest_length) spacings → words ≡ offset_words spacings →
+pub keeps_offsets : (spacings words : List ℕ) (count : ℕ) → length spacings < most_aisles → All (IsUpTo greatest_length) spacings
+    → words ≡ offset_words spacings →
     count ≡ length spacings + 1 → KeepsOffsets count words × (differences (take count words) ≡ spacings)
 keeps_offsets spacings words count few are is counts =
     let kept : differences (take count words) ≡ spacings = (rw (is, counts) (differences_kept spacings)) in (
@@ -77,7 +79,8 @@ word_is from (w ∷ spacings) rest (suc at) low =
     first w spacings zero = omega arith
     first w spacings (suc at) = let before = first w spacings at in omega (arith, before)
 
-pub word_of_aisle : (spacings : List ℕ) (aisle : ℕ) → IsUpTo (length spacings + 1) aisle → slice_index (offset_words spacings) (aisle - 1) ≡ offset spacings aisle
+pub word_of_aisle : (spacings : List ℕ) (aisle : ℕ) → IsUpTo (length spacings + 1) aisle
+    → slice_index (offset_words spacings) (aisle - 1) ≡ offset spacings aisle
 word_of_aisle spacings zero within = absurd (omega (arith, within))
 word_of_aisle spacings (suc at) within =
     let back : suc at - 1 ≡ at = omega arith in
@@ -90,7 +93,8 @@ written : (from : ℕ) (spacings : List ℕ) (w n : ℕ) →
     ≡ offsets_from from (spacings ++ w ∷ []) ++ replicate n 0
 written from [] w n = ap (λ (x : ℕ). from ∷ x ∷ replicate n 0) (omega arith)
 written from (v ∷ spacings) w n =
-    let far : from + offset (v ∷ spacings) (suc (suc (length spacings))) + w ≡ from + v + offset spacings (suc (length spacings)) + w = omega (arith, first (length spacings)) in
+    let far : from + offset (v ∷ spacings) (suc (suc (length spacings))) + w ≡ from + v + offset spacings (suc (length spacings)) + w
+    = omega (arith, first (length spacings)) in
     ap (λ (x : ℕ). from ∷ set (offsets_from (from + v) spacings ++ replicate (suc n) 0) (suc (length spacings)) x) far
     ∙ ap (λ (ws : List ℕ). from ∷ ws) (written (from + v) spacings w n)
   where
@@ -137,7 +141,8 @@ word_so_far spacings words index is within few are =
     omega (arith, here, small, count, within, few)
 
 -- one more word is written
-pub one_more_taken : (spacings words : List ℕ) (index : ℕ) → words ≡ offset_words (take index spacings) → index < length spacings → length spacings < most_aisles →
+pub one_more_taken : (spacings words : List ℕ) (index : ℕ) → words ≡ offset_words (take index spacings) → index < length spacings
+    → length spacings < most_aisles →
     set words (index + 1) (slice_index words index + slice_index spacings index) ≡ offset_words (take (index + 1) spacings)
 one_more_taken spacings words index is within few =
     let taken = take index spacings in

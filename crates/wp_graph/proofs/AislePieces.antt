@@ -12,7 +12,7 @@ use Rattle.wp_graph.specs.Required.{site_places}
 use Rattle.wp_graph.specs.Sites.{IsOnSite, Site, depot_of, last_place}
 use Rattle.wp_model.specs.Warehouse.End.{at_front, at_back}
 use Rattle.wp_graph.specs.Members.{Among}
-use Rattle.wp_graph.specs.TourCopies.{AreEven, AreJoined, IsKept, IsOnTour}
+use Rattle.wp_graph.specs.TourCopies.{AreEven, AreJoined, IsUnwalked, IsOnTour}
 use Rattle.wp_graph.proofs.EachAisle.{place_on_tour, tour_place}
 
 -- other copies of the pieces of one aisle
@@ -56,7 +56,7 @@ recoloured_end site copies aisle colour column a end is = ⊎_elim
     at at_back = is.back
 
 recoloured_kept : (site : Site) (copies : Copies) (aisle : ℕ) (pieces : ℕ → ℕ) (colour : ℕ → ℕ → Bool) (column : ℕ → Bool)
-    → IsKept site (in_aisle copies aisle pieces) colour → IsColumn site copies aisle colour column → IsKept site copies (recoloured aisle column colour)
+    → IsUnwalked site (in_aisle copies aisle pieces) colour → IsColumn site copies aisle colour column → IsUnwalked site copies (recoloured aisle column colour)
 recoloured_kept site copies aisle pieces colour column kept is = record {
   deep = λ a s some. ⊎_elim
       (λ e. subst (λ b. recoloured aisle column colour b s ≡ recoloured aisle column colour b (suc s)) (sym e)
@@ -82,7 +82,7 @@ pub record IsTold (site : Site) (picks : List Point) (copies : Copies) (aisle : 
 -- where colours that the old pieces keep tell those that the new ones keep, all that was joined is joined still
 pub replaced_joined : (site : Site) (picks : List Point) (copies : Copies) (aisle : ℕ) (pieces : ℕ → ℕ)
     → ((p : Point) → IsOnTour site picks p → IsOnSite site p) →
-    ((colour : ℕ → ℕ → Bool) → IsKept site (in_aisle copies aisle pieces) colour → IsTold site picks copies aisle pieces colour)
+    ((colour : ℕ → ℕ → Bool) → IsUnwalked site (in_aisle copies aisle pieces) colour → IsTold site picks copies aisle pieces colour)
     → AreJoined site copies (IsOnTour site picks) (depot_of site) →
     AreJoined site (in_aisle copies aisle pieces) (IsOnTour site picks) (depot_of site)
 replaced_joined site picks copies aisle pieces within tells joined = record {
@@ -106,15 +106,16 @@ replaced_joined site picks copies aisle pieces within tells joined = record {
       ∙ joined.front _ (old colour kept) a some ∙ home colour kept;
 }
   where
-    old : (colour : ℕ → ℕ → Bool) (kept : IsKept site (in_aisle copies aisle pieces) colour)
-        → IsKept site copies (recoloured aisle (tells colour kept).column colour)
+    old : (colour : ℕ → ℕ → Bool) (kept : IsUnwalked site (in_aisle copies aisle pieces) colour)
+        → IsUnwalked site copies (recoloured aisle (tells colour kept).column colour)
     old colour kept = recoloured_kept site copies aisle pieces colour (tells colour kept).column kept (tells colour kept).is
 
-    home : (colour : ℕ → ℕ → Bool) (kept : IsKept site (in_aisle copies aisle pieces) colour)
-        → recoloured aisle (tells colour kept).column colour site.depot (end_place (last_place site) site.end) ≡ colour site.depot (end_place (last_place site) site.end)
+    home : (colour : ℕ → ℕ → Bool) (kept : IsUnwalked site (in_aisle copies aisle pieces) colour)
+        → recoloured aisle (tells colour kept).column colour site.depot (end_place (last_place site) site.end)
+        ≡ colour site.depot (end_place (last_place site) site.end)
     home colour kept = recoloured_end site copies aisle colour (tells colour kept).column site.depot site.end (tells colour kept).is
 
-    at_places : (colour : ℕ → ℕ → Bool) (kept : IsKept site (in_aisle copies aisle pieces) colour) (r : ℕ) → Among (site_places site picks aisle) r
+    at_places : (colour : ℕ → ℕ → Bool) (kept : IsUnwalked site (in_aisle copies aisle pieces) colour) (r : ℕ) → Among (site_places site picks aisle) r
         → (tells colour kept).column r ≡ colour site.depot (end_place (last_place site) site.end)
     at_places colour kept r h = sym (recoloured_here aisle (tells colour kept).column colour r)
         ∙ joined.needed _ (old colour kept) (record { aisle = aisle; slot = r }) (place_on_tour site picks aisle r h) ∙ home colour kept

@@ -8,11 +8,11 @@ use Rattle.wp_model.specs.Tours.{IsWalk}
 use Rattle.wp_graph.specs.Sites.{site_of}
 use Rattle.wp_graph.specs.Copies.{along_aisle, along_cross, copies_of, sum_moves}
 use Rattle.wp_graph.specs.Members.{Among}
-use Rattle.wp_graph.specs.TourCopies.{AreJoined, IsKept}
+use Rattle.wp_graph.specs.TourCopies.{AreJoined, IsUnwalked}
 
 -- a colouring that no piece of a walk changes is changed by none of the walk without its first move
 pub kept_tail : (layout : Layout) (colour : ℕ → ℕ → Bool) (p q : Point) (points : List Point)
-    → IsKept (site_of layout) (copies_of layout (p ∷ q ∷ points)) colour → IsKept (site_of layout) (copies_of layout (q ∷ points)) colour
+    → IsUnwalked (site_of layout) (copies_of layout (p ∷ q ∷ points)) colour → IsUnwalked (site_of layout) (copies_of layout (q ∷ points)) colour
 kept_tail layout colour p q points kept = record {
   deep = λ a s some. kept.deep a s (omega (arith, some));
   behind = λ a some. kept.behind a (omega (arith, some));
@@ -33,7 +33,7 @@ back_one : (e : ℕ) (p q : Point) → q.slot ≡ e → p.aisle ≡ q.aisle + 1 
 back_one e p q at aisle slot = grind (arith, nat_tests)
 
 kept_step : (layout : Layout) (colour : ℕ → ℕ → Bool) (p q : Point) (points : List Point) (t : ℕ)
-    → IsKept (site_of layout) (copies_of layout (p ∷ q ∷ points)) colour → Step layout p q t → colour p.aisle p.slot ≡ colour q.aisle q.slot
+    → IsUnwalked (site_of layout) (copies_of layout (p ∷ q ∷ points)) colour → Step layout p q t → colour p.aisle p.slot ≡ colour q.aisle q.slot
 kept_step layout colour p q points t kept (deeper is) =
     let next : q.slot ≡ suc p.slot = omega (arith, is.slot) in
     kept.deep p.aisle p.slot (omega (arith, deep_one p q is.aisle is.slot)) ∙ sym (ap (λ x. colour x q.slot) is.aisle ∙ ap (colour p.aisle) next)
@@ -59,7 +59,7 @@ kept_step layout colour p q points t kept (back is) =
 
 -- each point of the walk has the colour of the first
 pub walk_coloured : (layout : Layout) (colour : ℕ → ℕ → Bool) (from : Point) (points : List Point) (total : ℕ) (x : Point)
-    → IsKept (site_of layout) (copies_of layout (from ∷ points)) colour → IsWalk layout (from ∷ points) total → Among (from ∷ points) x →
+    → IsUnwalked (site_of layout) (copies_of layout (from ∷ points)) colour → IsWalk layout (from ∷ points) total → Among (from ∷ points) x →
     colour x.aisle x.slot ≡ colour from.aisle from.slot
 walk_coloured layout colour from points total x kept walk (inl e) = ap (λ (p : Point). colour p.aisle p.slot) (sym e)
 walk_coloured layout colour from [] total x kept walk (inr h) = absurd h
@@ -116,7 +116,7 @@ positive (suc n) = inr (omega arith)
 -- where a walked piece begins, there is the colour of the first point
 pub piece_coloured : (layout : Layout) (colour : ℕ → ℕ → Bool) (each : Point → Point → ℕ) (a s : ℕ) (from : Point) (points : List Point) (total : ℕ) →
     ((p q : Point) (t : ℕ) → 0 < each p q → colour p.aisle p.slot ≡ colour q.aisle q.slot → Step layout p q t → colour a s ≡ colour p.aisle p.slot)
-    → IsKept (site_of layout) (copies_of layout (from ∷ points)) colour → IsWalk layout (from ∷ points) total →
+    → IsUnwalked (site_of layout) (copies_of layout (from ∷ points)) colour → IsWalk layout (from ∷ points) total →
     0 < sum_moves each (from ∷ points) → colour a s ≡ colour from.aisle from.slot
 piece_coloured layout colour each a s from [] total at kept walk some = absurd (omega (arith, some))
 piece_coloured layout colour each a s from (to ∷ points) total at kept (step, rest, move, walk, sum) some =

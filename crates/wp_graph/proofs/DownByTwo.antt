@@ -10,7 +10,7 @@ use Rattle.wp_model.specs.declared.point.Point.{Point}
 use Rattle.wp_model.specs.Warehouse.{IsUpTo}
 use Rattle.wp_graph.specs.Copies.{Copies, aisle_walked, all_walked, cross_walked}
 use Rattle.wp_graph.specs.Sites.{Site, last_place}
-use Rattle.wp_graph.specs.TourCopies.{AreEven, AreFew, AreTour, IsKept}
+use Rattle.wp_graph.specs.TourCopies.{AreEven, AreFew, AreTour, IsUnwalked}
 
 -- a number of copies made smaller by twos: as odd or even as before, and not 0 if it was not
 pub record IsLowered (lower number : ℕ) : Type 0 where
@@ -48,7 +48,8 @@ lowered_even site lower copies less even = record {
   last_front = omega (arith, (less.front site.aisles).least, even.last_front);
 }
 
-lowered_kept : (site : Site) (lower copies : Copies) (colour : ℕ → ℕ → Bool) → AreLowered lower copies → IsKept site lower colour → IsKept site copies colour
+lowered_kept : (site : Site) (lower copies : Copies) (colour : ℕ → ℕ → Bool) → AreLowered lower copies → IsUnwalked site lower colour
+    → IsUnwalked site copies colour
 lowered_kept site lower copies colour less kept = record {
   deep = λ a s some. kept.deep a s ((less.deep a s).used some);
   behind = λ a some. kept.behind a ((less.behind a).used some);

@@ -13,7 +13,7 @@ use Rattle.wp_graph.specs.Required.{has_point, site_places}
 use Rattle.wp_graph.specs.Sites.{Site, depot_of, has_depot, is_end, last_place, site_distance}
 use Rattle.wp_model.specs.Warehouse.End.{at_front, at_back}
 use Rattle.wp_graph.specs.Members.{Among}
-use Rattle.wp_graph.specs.TourCopies.{AreTour, IsKept, IsOnTour}
+use Rattle.wp_graph.specs.TourCopies.{AreTour, IsUnwalked, IsOnTour}
 use Rattle.wp_graph.specs.Cuts.{HasCut}
 use Rattle.wp_graph.proofs.Ends.{end_within}
 use Rattle.wp_graph.proofs.AscendingNumbers.{places_ascend}
@@ -73,7 +73,7 @@ between_end site aisle z y a at_front within = between_front aisle z y a
 between_end site aisle z y a at_back within = between_back aisle z y a (last_place site) within
 
 between_kept : (site : Site) (copies : Copies) (aisle z y : ℕ) → copies.deep aisle z ≡ 0 → copies.deep aisle y ≡ 0 → y < last_place site
-    → IsKept site copies (between aisle z y)
+    → IsUnwalked site copies (between aisle z y)
 between_kept site copies aisle z y low high within = record {
   deep = λ a s some. ⊎_elim
       (λ here. ⊎_elim (λ e. absurd (let at = ap (λ x. copies.deep x s) here ∙ ap (copies.deep aisle) e in omega (arith, at, some, low)))

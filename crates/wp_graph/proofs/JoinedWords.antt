@@ -52,5 +52,6 @@ one_aisle_less {rest} {now} {next} {left} {right} some fits joins before = recor
     below : (at : ℕ) → bit_at (without_lowest rest) (64 - at / 4) ≡ 1 → 64 - at / 4 < 64
     below at on =
         ⊎_elim (λ under. under)
-        (λ over. let off = bit_at_above (without_lowest rest) 64 (64 - at / 4) (omega (arith, fits, lowest_less rest some fits)) over in absurd (omega (arith, on, off)))
+        (λ over. let off = bit_at_above (without_lowest rest) 64 (64 - at / 4) (omega (arith, fits, lowest_less rest some fits)) over in absurd
+        (omega (arith, on, off)))
         (cases_lt (64 - at / 4) 64)

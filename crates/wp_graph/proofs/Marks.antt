@@ -114,7 +114,8 @@ marked_or words left right aisle slot each low high marked =
     (cases_eq (bit_at (get_or left at 0) (slot % 64)) 1)
 
 -- where each word has the bits of both, what is marked in the first of the two is marked
-pub or_marked_left : (words left right : List ℕ) (aisle slot : ℕ) → ((at : ℕ) → at < 260 → HasBitsOfBoth (get_or left at 0) (get_or right at 0) (get_or words at 0))
+pub or_marked_left : (words left right : List ℕ) (aisle slot : ℕ)
+    → ((at : ℕ) → at < 260 → HasBitsOfBoth (get_or left at 0) (get_or right at 0) (get_or words at 0))
     → aisle ≤ 64 → slot < 256 →
     is_marked left aisle slot ≡ true → is_marked words aisle slot ≡ true
 unfolding is_marked
@@ -125,7 +126,8 @@ or_marked_left words left right aisle slot each low high marked =
     eq-eqb _ _ (omega (arith, bit_at-lt (get_or right at 0) (slot % 64)))
 
 -- where each word has the bits of both, what is marked in the second of the two is marked
-pub or_marked_right : (words left right : List ℕ) (aisle slot : ℕ) → ((at : ℕ) → at < 260 → HasBitsOfBoth (get_or left at 0) (get_or right at 0) (get_or words at 0))
+pub or_marked_right : (words left right : List ℕ) (aisle slot : ℕ)
+    → ((at : ℕ) → at < 260 → HasBitsOfBoth (get_or left at 0) (get_or right at 0) (get_or words at 0))
     → aisle ≤ 64 → slot < 256 →
     is_marked right aisle slot ≡ true → is_marked words aisle slot ≡ true
 unfolding is_marked

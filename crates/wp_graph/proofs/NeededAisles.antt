@@ -81,12 +81,14 @@ marks_by {layout} {points} by = record {
 }
 
 -- there is a reason for each bit
-bit_needed : {layout : Layout} {points : List Point} {word : ℕ} → MarksNeeded layout points word → (aisle : ℕ) → IsUpTo 64 aisle → bit_at word (64 - aisle) ≡ 1 →
+bit_needed : {layout : Layout} {points : List Point} {word : ℕ} → MarksNeeded layout points word → (aisle : ℕ) → IsUpTo 64 aisle
+    → bit_at word (64 - aisle) ≡ 1 →
     IsNeeded layout points aisle
 bit_needed {layout} {points} marks aisle within on = needed_cases layout points aisle (sym (marks.bits aisle within) ∙ eq-eqb _ _ on)
 
 -- and for each reason a bit
-needed_bit : {layout : Layout} {points : List Point} {word : ℕ} → MarksNeeded layout points word → (aisle : ℕ) → IsUpTo 64 aisle → IsNeeded layout points aisle →
+needed_bit : {layout : Layout} {points : List Point} {word : ℕ} → MarksNeeded layout points word → (aisle : ℕ) → IsUpTo 64 aisle
+    → IsNeeded layout points aisle →
     bit_at word (64 - aisle) ≡ 1
 needed_bit {layout} {points} marks aisle within why = eqb-true _ _ (marks.bits aisle within ∙ needed_from layout points aisle why)
 
@@ -151,7 +153,8 @@ later_bit word aisle before low high =
     ap (λ (q : ℕ). q % 2) (shr-shr word (65 - aisle) (aisle - 1 - before)) ∙ ap (λ (i : ℕ). bit_at word i) place
 
 -- an aisle without a bit isn't needed
-not_needed : {layout : Layout} {points : List Point} {word : ℕ} → MarksNeeded layout points word → (aisle : ℕ) → IsUpTo 64 aisle → bit_at word (64 - aisle) ≡ 0 →
+not_needed : {layout : Layout} {points : List Point} {word : ℕ} → MarksNeeded layout points word → (aisle : ℕ) → IsUpTo 64 aisle
+    → bit_at word (64 - aisle) ≡ 0 →
     is_needed layout points aisle ≡ false
 not_needed marks aisle within off = sym (marks.bits aisle within) ∙ ne_eqb _ _ (λ on. omega (arith, off, on))
 

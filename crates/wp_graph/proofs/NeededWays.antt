@@ -25,7 +25,8 @@ not_skipped_with depot whole [] d h = absurd h
 not_skipped_with depot whole (near ∷ far) d h = not_skipped depot whole near far
 
 -- an aisle with a required place can't be skipped
-required_not_skipped : (layout : Layout) (points : List Point) (aisle place : ℕ) → place ≤ layout.slots + 1 → has_point (depot_point layout ∷ points) aisle place ≡ true →
+required_not_skipped : (layout : Layout) (points : List Point) (aisle place : ℕ) → place ≤ layout.slots + 1
+    → has_point (depot_point layout ∷ points) aisle place ≡ true →
     (ways_of layout points aisle).skip ≡ None
 unfolding site_ways site_places
 required_not_skipped layout points aisle place within has =
@@ -36,7 +37,8 @@ required_not_skipped layout points aisle place within has =
 -- the depot's aisle can't be skipped
 pub depot_not_skipped : (layout : Layout) (points : List Point) → (ways_of layout points layout.depot).skip ≡ None
 depot_not_skipped layout points =
-    required_not_skipped layout points layout.depot (end_place (back_end layout) layout.end) (end_within (back_end layout) layout.end) (among_has (depot_point layout ∷ points) (depot_point layout) (inl refl))
+    required_not_skipped layout points layout.depot (end_place (back_end layout) layout.end) (end_within (back_end layout) layout.end)
+    (among_has (depot_point layout ∷ points) (depot_point layout) (inl refl))
 
 -- a needed aisle can't be skipped
 needed_not_skipped : (layout : Layout) (points : List Point) (aisle : ℕ) → AreSlots layout points → is_needed layout points aisle ≡ true →
@@ -55,7 +57,8 @@ needed_not_skipped layout points aisle are needed = go (needed_cases layout poin
 spared_skipped : (layout : Layout) (points : List Point) (aisle : ℕ) → is_needed layout points aisle ≡ false → (ways_of layout points aisle).skip ≡ Some 0
 unfolding site_ways site_places is_needed
 spared_skipped layout points aisle spared =
-    let none : required_places layout points aisle ≡ [] = none_passes (is_required layout points aisle) 0 (layout.slots + 2) (λ place low high. false_from_ne_true _
+    let none : required_places layout points aisle ≡ []
+    = none_passes (is_required layout points aisle) 0 (layout.slots + 2) (λ place low high. false_from_ne_true _
     (λ has. false≢true (sym spared ∙ lies_any (depot_point layout ∷ points) (record { aisle = aisle; slot = place })
     (has_among (depot_point layout ∷ points) aisle place has)))) in
     ap (λ (places : List ℕ). (ways_with (has_depot (site_of layout) aisle) (aisle_length layout) (map (distance layout) places)).skip) none

@@ -1,9 +1,11 @@
 -- What adding a slot, joining a set and looking a slot up come to, in points.
-use Rattle.std.proofs.Common.{◌≡◌, ℕ, ◌+◌, ◌*◌, ◌/◌, ◌%◌, ◌<◌, ◌↔◌, true, List, [], length, get_or, replicate, arith, inl, inr, sym, subst, ◌⊎◌, ⊎_elim, Contains}
+use Rattle.std.proofs.Common.{◌≡◌, ℕ, ◌+◌, ◌*◌, ◌/◌, ◌%◌, ◌<◌, ◌↔◌, true, List, [], length, get_or, replicate, arith, inl, inr, sym, subst, ◌⊎◌, ⊎_elim}
+use Rattle.std.proofs.Common.{Contains}
 use Rattle.wp_model.specs.declared.point.Point.{Point}
 use Rattle.wp_model.specs.Warehouse.{Layout, IsSlot}
 use Rattle.wp_graph.specs.PickSets.{AreSlots, HasBitsOfBoth, MarksSlots, is_marked, points_where}
-use Rattle.wp_graph.proofs.Marks.{listed_passes, marked_before, marked_or, marked_same, marked_still, none_marked, or_marked_left, or_marked_right, passing_listed, with_bit}
+use Rattle.wp_graph.proofs.Marks.{listed_passes, marked_before, marked_or, marked_same, marked_still, none_marked, or_marked_left, or_marked_right}
+use Rattle.wp_graph.proofs.Marks.{passing_listed, with_bit}
 use Rattle.wp_graph.proofs.Members.{Contains-from_among, among_from_Contains, nil_from_none}
 
 -- two points of the same aisle and slot are the same

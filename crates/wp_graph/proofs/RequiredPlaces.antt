@@ -26,7 +26,8 @@ pub slot_had : (layout : Layout) (points : List Point) (aisle place : ℕ) → A
     → IsSlot layout (record { aisle = aisle; slot = place })
 slot_had layout points aisle place are has = are.slots (record { aisle = aisle; slot = place }) (Contains-from_among _ _ (has_among points aisle place has))
 
-required_front : (layout : Layout) (points : List Point) (aisle : ℕ) → AreSlots layout points → is_required layout points aisle 0 ≡ has_depot (site_of layout) aisle at_front
+required_front : (layout : Layout) (points : List Point) (aisle : ℕ) → AreSlots layout points
+    → is_required layout points aisle 0 ≡ has_depot (site_of layout) aisle at_front
 unfolding has_point
 required_front layout points aisle are =
     let none : has_point points aisle 0 ≡ false = false_from_ne_true _ (λ has. let s = (slot_had layout points aisle 0 are has).slot in omega (arith, s)) in
@@ -64,7 +65,8 @@ places_within has m (suc n) within none past =
 -- the slots of the layout among the places up to some bound
 pub slots_within : (layout : Layout) (points : List Point) (aisle n : ℕ) → AreSlots layout points → layout.slots < n →
     filter (has_point points aisle) (range_with_len 0 n) ≡ filter (has_point points aisle) (range_with_len 1 layout.slots)
-slots_within layout points aisle n are within = places_within (has_point points aisle) layout.slots n within (outside 0 (inl refl)) (λ k past. outside k (inr past))
+slots_within layout points aisle n are within
+    = places_within (has_point points aisle) layout.slots n within (outside 0 (inl refl)) (λ k past. outside k (inr past))
   where
     outside : (k : ℕ) → (k ≡ 0) ⊎ (layout.slots < k) → has_point points aisle k ≡ false
     outside k out = false_from_ne_true _ (λ h. let s = (slot_had layout points aisle k are h).slot in
@@ -93,7 +95,8 @@ required_parts layout points aisle are =
     let places : filter test (range_with_len 0 (m + 2)) ≡ cond (has_depot (site_of layout) aisle at_front)
     (0 ∷ (filter (has_point points aisle) (range_with_len 1 m) ++ cond (has_depot (site_of layout) aisle at_back) ((m + 1) ∷ []) []))
     (filter (has_point points aisle) (range_with_len 1 m) ++ cond (has_depot (site_of layout) aisle at_back) ((m + 1) ∷ []) []) =
-    ap (λ n. filter test (range_with_len 0 n)) all ∙ ap (λ b. cond b (0 ∷ filter test (range_with_len 1 (m + 1))) (filter test (range_with_len 1 (m + 1)))) front
+    ap (λ n. filter test (range_with_len 0 n)) all ∙ ap
+    (λ b. cond b (0 ∷ filter test (range_with_len 1 (m + 1))) (filter test (range_with_len 1 (m + 1)))) front
     ∙ ap (λ (ps : List ℕ). cond (has_depot (site_of layout) aisle at_front) (0 ∷ ps) ps)
     (parts ∙ ap (λ (ps : List ℕ). ps ++ filter test (range_with_len (1 + m) 1)) slots
     ∙ ap (λ (ps : List ℕ). filter (has_point points aisle) (range_with_len 1 m) ++ ps) behind) in

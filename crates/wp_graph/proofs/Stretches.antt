@@ -1,5 +1,6 @@
 -- What one pass over ascending distances comes to: the first, the last and the largest gap.
-use Rattle.std.proofs.Common.{◌≡◌, ℕ, suc, ◌-◌, ◌*◌, ◌≤◌, Bool, true, false, if◌then◌else◌, List, [], ◌∷◌, Option, Some, None, fold, length, slice_get, max, arith, refl, ap, ◌∙◌}
+use Rattle.std.proofs.Common.{◌≡◌, ℕ, suc, ◌-◌, ◌*◌, ◌≤◌, Bool, true, false, if◌then◌else◌, List, [], ◌∷◌, Option, Some, None, fold, length, slice_get, max}
+use Rattle.std.proofs.Common.{arith, refl, ap, ◌∙◌}
 use Rattle.std.proofs.lemmas.Bool.{le-leb, le-ltb, lt-ltb, ne_eqb}
 use Rattle.wp_model.specs.Warehouse.{End}
 use Rattle.wp_model.specs.Warehouse.End.{at_front, at_back}

@@ -7,7 +7,7 @@ use Rattle.wp_graph.specs.Copies.{Copies}
 use Rattle.wp_graph.specs.Required.{site_places}
 use Rattle.wp_graph.specs.Sites.{Site, last_place, site_distance}
 use Rattle.wp_graph.specs.Members.{Among}
-use Rattle.wp_graph.specs.TourCopies.{IsKept}
+use Rattle.wp_graph.specs.TourCopies.{IsUnwalked}
 use Rattle.wp_graph.specs.Cuts.{Turning}
 use Rattle.wp_graph.proofs.EachAisle.{places_within}
 use Rattle.wp_graph.proofs.AislePieces.{IsTold, deep_here, in_aisle}
@@ -44,7 +44,7 @@ whole_beyond last f s high = ⊎_elim
 -- where each piece is walked, each can be walked once, or each twice
 pub passing_told : (site : Site) (picks : List Point) (copies : Copies) (aisle times : ℕ) → 0 < times
     → ((s : ℕ) → s < last_place site → 0 < copies.deep aisle s) →
-    (colour : ℕ → ℕ → Bool) → IsKept site (in_aisle copies aisle (passing (last_place site) times)) colour
+    (colour : ℕ → ℕ → Bool) → IsUnwalked site (in_aisle copies aisle (passing (last_place site) times)) colour
     → IsTold site picks copies aisle (passing (last_place site) times) colour
 passing_told site picks copies aisle times some all colour kept = record {
   column = whole_column (last_place site) (colour aisle);
@@ -91,7 +91,7 @@ cut_same z y front back s low high = let first : nat_le s z ≡ nat_le (suc s) z
 pub turning_told : (site : Site) (picks : List Point) (copies : Copies) (aisle z y t : ℕ)
     (turn : Turning (site_distance site) (last_place site) (site_places site picks aisle) z y t) → z ≤ y → y < last_place site → copies.deep aisle z ≡ 0
     → copies.deep aisle y ≡ 0 →
-    (colour : ℕ → ℕ → Bool) → IsKept site (in_aisle copies aisle (turning (last_place site) turn.near turn.far)) colour
+    (colour : ℕ → ℕ → Bool) → IsUnwalked site (in_aisle copies aisle (turning (last_place site) turn.near turn.far)) colour
     → IsTold site picks copies aisle (turning (last_place site) turn.near turn.far) colour
 turning_told site picks copies aisle z y t turn order within low high colour kept = record {
   column = column;

@@ -1,5 +1,6 @@
 -- The lengths of the six ways through an aisle.
-use Rattle.std.specs.Prelude.{ℕ, ◌-◌, ◌*◌, ◌≤◌, ◌==◌, nat_le, Bool, List, Some, None, IfSome, option_map, length, map, slice_get, if◌then◌else◌}
+use Rattle.std.specs.Prelude.{ℕ, ◌-◌, ◌*◌, ◌≤◌, ◌==◌, nat_le, Bool, List, Some, None, IfSome, option_map, length, map}
+use Rattle.std.specs.Prelude.{slice_get, if◌then◌else◌}
 use Rattle.wp_model.specs.declared.point.Point.{Point}
 use Rattle.wp_model.specs.Warehouse.{End, Layout}
 use Rattle.wp_graph.specs.declared.ways.AisleWays.{AisleWays}
@@ -15,7 +16,8 @@ abbrev pub ways_with : (End → Bool) → ℕ → List ℕ → AisleWays
 ways_with depot whole distances = record {
   pass = whole;
   back = if depot at_front then None else option_map (λ nearest. 2 * (whole - nearest)) (slice_get distances 0);
-  front = if depot at_back then None else option_map (λ farthest. 2 * farthest) (slice_get distances (length distances - 1));
+  front = if depot at_back then None else option_map (λ farthest. 2 * farthest)
+      (slice_get distances (length distances - 1));
   gap = if nat_le 2 (length distances) then Some (2 * (whole - largest_gap distances)) else None;
   double = 2 * whole;
   skip = if length distances == 0 then Some 0 else None;
@@ -32,7 +34,8 @@ pub record AreAtMost (most : ℕ) (ways : AisleWays) : Type 0 where
 
 -- the ways through an aisle of a site with these picks
 unfoldable pub site_ways : Site → List Point → ℕ → AisleWays
-site_ways site picks aisle = ways_with (has_depot site aisle) (site_distance site (last_place site)) (map (site_distance site) (site_places site picks aisle))
+site_ways site picks aisle = ways_with (has_depot site aisle) (site_distance site (last_place site))
+    (map (site_distance site) (site_places site picks aisle))
 
 -- the ways through an aisle of a layout with these picks
 abbrev pub ways_of : Layout → List Point → ℕ → AisleWays

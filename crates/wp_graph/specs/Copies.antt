@@ -14,11 +14,13 @@ pub record Copies : Type 0 where
 
 -- 1 for a move between a place of an aisle and the next place behind it, 0 for any other move
 abbrev pub along_aisle : ℕ → ℕ → Point → Point → ℕ
-along_aisle aisle place from to = if (from.aisle == aisle) && ((to.aisle == aisle) && (min from.slot to.slot == place)) then 1 else 0
+along_aisle aisle place from to = if (from.aisle == aisle) && ((to.aisle == aisle) && (min from.slot to.slot == place))
+    then 1 else 0
 
 -- 1 for a move between an aisle and the next one, both at this place, 0 for any other move
 abbrev pub along_cross : ℕ → ℕ → Point → Point → ℕ
-along_cross place aisle from to = if (from.slot == place) && ((to.slot == place) && (min from.aisle to.aisle == aisle)) then 1 else 0
+along_cross place aisle from to = if (from.slot == place) && ((to.slot == place) && (min from.aisle to.aisle == aisle))
+    then 1 else 0
 
 -- the sum over the moves of a walk
 abbrev pub sum_moves : (Point → Point → ℕ) → List Point → ℕ
@@ -44,4 +46,5 @@ cross_walked site copies aisle = (copies.behind aisle + copies.front aisle) * si
 
 -- the length of all that is walked
 abbrev pub all_walked : Site → Copies → ℕ
-all_walked site copies = sum_below site.aisles (λ a. aisle_walked site copies (suc a) + cross_walked site copies (suc a))
+all_walked site copies = sum_below site.aisles
+    (λ a. aisle_walked site copies (suc a) + cross_walked site copies (suc a))

@@ -32,11 +32,14 @@ pub record Turning (d : ℕ → ℕ) (b : ℕ) (places : List ℕ) (z y t : ℕ)
 -- which ways apply where nothing is required between two gaps, by where anything is
 pub data IsCut (ways : AisleWays) (d : ℕ → ℕ) (b : ℕ) (places : List ℕ) (z y most : ℕ) : Type 0 where
   skips : (places ≡ []) → ways.skip ≡ Some 0 → Turning d b places z y 0 → IsCut ways d b places z y most
-  fronts : (t x : ℕ) → ways.front ≡ Some t → t ≤ most → Among places x → x ≤ z → ((r : ℕ) → Among places r → r ≤ z) → Turning d b places z y t
+  fronts : (t x : ℕ) → ways.front ≡ Some t → t ≤ most → Among places x → x ≤ z → ((r : ℕ) → Among places r → r ≤ z)
+      → Turning d b places z y t
       → IsCut ways d b places z y most
-  backs : (t x : ℕ) → ways.back ≡ Some t → t ≤ most → Among places x → y < x → ((r : ℕ) → Among places r → y < r) → Turning d b places z y t
+  backs : (t x : ℕ) → ways.back ≡ Some t → t ≤ most → Among places x → y < x → ((r : ℕ) → Among places r → y < r)
+      → Turning d b places z y t
       → IsCut ways d b places z y most
-  gaps : (t x r : ℕ) → ways.gap ≡ Some t → t ≤ most → Among places x → x ≤ z → Among places r → y < r → Turning d b places z y t
+  gaps : (t x r : ℕ) → ways.gap ≡ Some t → t ≤ most → Among places x → x ≤ z → Among places r → y < r
+      → Turning d b places z y t
       → IsCut ways d b places z y most
 
 -- an aisle with a piece that isn't walked
@@ -48,5 +51,6 @@ pub record HasCut (site : Site) (picks : List Point) (copies : Copies) (aisle : 
   pub none : copies.deep aisle gap ≡ 0
   pub none_beyond : copies.deep aisle beyond ≡ 0
   pub most : ℕ
-  pub cut : IsCut (site_ways site picks aisle) (site_distance site) (last_place site) (site_places site picks aisle) gap beyond most
+  pub cut : IsCut (site_ways site picks aisle) (site_distance site) (last_place site)
+      (site_places site picks aisle) gap beyond most
   pub least : most ≤ aisle_walked site copies aisle

@@ -16,7 +16,8 @@ is_needed layout points aisle = list_any (lies_in aisle) (depot_point layout ∷
 
 -- no aisle between two is needed
 abbrev pub NoneNeededBetween : Layout → List Point → ℕ → ℕ → Type 0
-NoneNeededBetween layout points low high = (aisle : ℕ) → low < aisle → aisle < high → is_needed layout points aisle ≡ false
+NoneNeededBetween layout points low high
+    = (aisle : ℕ) → low < aisle → aisle < high → is_needed layout points aisle ≡ false
 
 -- the last needed aisle before an aisle, or none is needed before it
 abbrev pub IsLastNeededBefore : Layout → List Point → ℕ → Option ℕ → Type 0
@@ -26,4 +27,5 @@ IsLastNeededBefore layout points aisle (Some last) =
 
 -- a word has the bits of the needed aisles: its lowest bit stands for the last aisle that a layout may have
 pub record MarksNeeded (layout : Layout) (points : List Point) (word : ℕ) : Type 0 where
-  pub bits : (aisle : ℕ) → IsUpTo most_aisles aisle → (bit_at word (most_aisles - aisle) == 1) ≡ is_needed layout points aisle
+  pub bits : (aisle : ℕ) → IsUpTo most_aisles aisle
+      → (bit_at word (most_aisles - aisle) == 1) ≡ is_needed layout points aisle

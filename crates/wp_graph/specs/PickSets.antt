@@ -1,5 +1,6 @@
 -- Sets of slots, as contracts see them and as words of bits keep them.
-use Rattle.std.specs.Prelude.{◌≡◌, ℕ, ◌+◌, ◌-◌, ◌*◌, ◌/◌, ◌%◌, ◌<◌, ◌≤◌, ◌==◌, Bool, Contains, List, filter, map, max, slice_index, IsTrue}
+use Rattle.std.specs.Prelude.{◌≡◌, ℕ, ◌+◌, ◌-◌, ◌*◌, ◌/◌, ◌%◌, ◌<◌, ◌≤◌, ◌==◌, Bool, Contains, List, filter, map, max}
+use Rattle.std.specs.Prelude.{slice_index, IsTrue}
 use Rattle.std.specs.Int.{bit_at}
 use Rattle.std.specs.List.{flat_map, range_with_len}
 use Rattle.wp_model.specs.declared.point.Point.{Point}
@@ -31,7 +32,8 @@ points_in aisle slots = map (λ slot. record { aisle = aisle; slot = slot }) slo
 
 -- the slots of a layout at which the test passes
 unfoldable pub points_where : Layout → (ℕ → ℕ → Bool) → List Point
-points_where layout test = flat_map (λ aisle. points_in aisle (slots_where layout test aisle)) (range_with_len 1 layout.aisles)
+points_where layout test = flat_map (λ aisle. points_in aisle (slots_where layout test aisle))
+    (range_with_len 1 layout.aisles)
 
 -- whether a slot's bit is set: each aisle has four words of 64 bits
 unfoldable pub is_marked : List ℕ → ℕ → ℕ → Bool
@@ -40,7 +42,8 @@ is_marked words aisle slot = bit_at (slice_index words (4 * aisle + slot / 64)) 
 -- bits are set at slots of the layout alone
 pub record MarksSlots (layout : Layout) (words : List ℕ) : Type 0 where
   pub ranges : IsLayout layout
-  pub slots : (aisle slot : ℕ) → aisle ≤ 64 → slot < 256 → IsTrue (is_marked words aisle slot) → IsSlot layout (record { aisle = aisle; slot = slot })
+  pub slots : (aisle slot : ℕ) → aisle ≤ 64 → slot < 256 → IsTrue (is_marked words aisle slot)
+      → IsSlot layout (record { aisle = aisle; slot = slot })
 
 -- the words mark slots of the layout, and a further word the aisles that are needed for them
 pub record KeepsSlots (layout : Layout) (words : List ℕ) (needed : ℕ) : Type 0 where
@@ -53,4 +56,5 @@ HasBitsOfBoth left right word = (k : ℕ) → k < 64 → bit_at word k ≡ max (
 
 -- no bit is set in the words of an aisle that is not needed
 abbrev pub AreBareElsewhere : ℕ → List ℕ → Type 0
-AreBareElsewhere needed words = (at : ℕ) → at < 260 → bit_at needed (most_aisles - at / 4) ≡ 0 → (k : ℕ) → k < 64 → bit_at (slice_index words at) k ≡ 0
+AreBareElsewhere needed words = (at : ℕ) → at < 260 → bit_at needed (most_aisles - at / 4) ≡ 0 → (k : ℕ) → k < 64
+    → bit_at (slice_index words at) k ≡ 0

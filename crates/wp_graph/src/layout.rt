@@ -9,8 +9,8 @@ use crate::offsets::Offsets;
 use std::marker::Model;
 use wp_model::{GREATEST_LENGTH, MOST_AISLES, MOST_SLOTS, Point};
 
-/// A warehouse of one block: 1 to 64 parallel aisles of 1 to 200 slots, joined by a front and a back cross aisle, with a
-/// length of its own from each aisle to the next one. The depot is the front or the back end of one of the aisles.
+/// A warehouse of one block: 1 to 64 parallel aisles of 1 to 200 slots, joined by a front and a back cross aisle, with
+/// a length of its own from each aisle to the next one. The depot is the front or the back end of one of the aisles.
 #[derive(Clone, Copy, PartialEq, Eq)]
 pub struct Layout {
     aisles: u32,
@@ -90,9 +90,9 @@ fn are_lengths(lengths: &[u32]) -> bool
 
 impl Layout {
     /// The layout of these numbers, of which the spacings are the lengths from each aisle but the last to the next one,
-    /// with the depot at the back end of its aisle or at the front one. None comes exactly where there isn't one spacing
-    /// less than there are aisles, or a number is out of its range: 1 to 64 aisles, 1 to 200 slots, 1 to 10,000 for the
-    /// pitch, the clearance and each spacing, and a depot from 1 to the number of aisles.
+    /// with the depot at the back end of its aisle or at the front one. None comes exactly where there isn't one
+    /// spacing less than there are aisles, or a number is out of its range: 1 to 64 aisles, 1 to 200 slots, 1 to 10,000
+    /// for the pitch, the clearance and each spacing, and a depot from 1 to the number of aisles.
     pub fn with(
         aisles: u32,
         slots: u32,
@@ -140,8 +140,8 @@ impl Layout {
         })
     }
 
-    /// The layout of these six numbers, with the same length between all neighbouring aisles and the depot in front. None
-    /// comes exactly where one is out of its range: 1 to 64 aisles, 1 to 200 slots, 1 to 10,000 for the pitch, the
+    /// The layout of these six numbers, with the same length between all neighbouring aisles and the depot in front.
+    /// None comes exactly where one is out of its range: 1 to 64 aisles, 1 to 200 slots, 1 to 10,000 for the pitch, the
     /// clearance and the spacing, and a depot from 1 to the number of aisles.
     pub fn new(
         aisles: u32,
@@ -151,8 +151,10 @@ impl Layout {
         spacing: u32,
         depot: u32,
     ) -> Option<Layout>
-        ensures exact { IsSome result ↔ (IsUpTo greatest_length spacing × IsLayout (even_layout aisles slots pitch clearance spacing depot)) }
-        ensures value { IfSome result (λ l. l ≡ even_layout aisles slots pitch clearance spacing depot) }
+        ensures exact { IsSome result ↔ (IsUpTo greatest_length spacing
+            × IsLayout (even_layout aisles slots pitch clearance spacing depot)) }
+        ensures value { IfSome result (λ l. l ≡ even_layout aisles slots pitch clearance spacing
+            depot) }
     {
         if !is_up_to(MOST_AISLES, aisles) || !is_up_to(GREATEST_LENGTH, spacing) {
             return None;

@@ -21,7 +21,8 @@ fn is_deeper(from: Point, to: Point) -> bool
 
 // Whether one point is the same end of the next aisle.
 fn is_further(layout: &Layout, from: Point, to: Point) -> bool
-    ensures { IsTrue result ↔ (((from.slot ≡ 0) ⊎ (from.slot ≡ back_end layout.now)) × (to.aisle ≡ from.aisle + 1) × (to.slot ≡ from.slot)) }
+    ensures { IsTrue result ↔ (((from.slot ≡ 0) ⊎ (from.slot ≡ back_end layout.now))
+        × (to.aisle ≡ from.aisle + 1) × (to.slot ≡ from.slot)) }
 {
     let next = from.aisle < to.aisle && to.aisle - from.aisle == 1;
     let end = from.slot == 0 || from.slot == layout.slots() + 1;
@@ -44,8 +45,10 @@ fn length_behind(layout: &Layout, slot: u32) -> u64
 fn length_across(layout: &Layout, from: Point, to: Point) -> Option<u64>
     requires from_point { IsPoint layout.now from }
     requires to_point { IsPoint layout.now to }
-    ensures exact { IsSome result ↔ ((length : ℕ) × (IsFurther layout.now from to length ⊎ IsFurther layout.now to from length)) }
-    ensures value { IfSome result (λ length. IsFurther layout.now from to length ⊎ IsFurther layout.now to from length) }
+    ensures exact { IsSome result ↔ ((length : ℕ)
+        × (IsFurther layout.now from to length ⊎ IsFurther layout.now to from length)) }
+    ensures value { IfSome result (λ length. IsFurther layout.now from to length
+        ⊎ IsFurther layout.now to from length) }
     ensures small { IfSome result (λ length. length ≤ greatest_length) }
 {
     if is_further(layout, from, to) {

@@ -1,4 +1,5 @@
-ghost use Rattle.std.specs.Prelude.{◌≡◌, ◌+◌, ◌-◌, ◌*◌, ◌/◌, ◌^◌, ◌<◌, ◌≤◌, ◌==◌, ◌↔◌, ◌⊎◌, ℕ, [], IsTrue, Contains, length, replicate, slice_index, bit_or};
+ghost use Rattle.std.specs.Prelude.{◌≡◌, ◌+◌, ◌-◌, ◌*◌, ◌/◌, ◌^◌, ◌<◌, ◌≤◌, ◌==◌, ◌↔◌, ◌⊎◌, ℕ, [], IsTrue, Contains};
+ghost use Rattle.std.specs.Prelude.{length, replicate, slice_index, bit_or};
 ghost use Rattle.wp_model.specs.declared.point.Point.{Point as PointData};
 ghost use Rattle.std.specs.Int.{bit_at};
 ghost use Rattle.wp_model.specs.Limits.{most_aisles};
@@ -17,8 +18,8 @@ pub const AISLE_WORDS: usize = 4;
 /// How many words all aisles have. The first ones stand for no aisle.
 const WORDS: usize = 260;
 
-/// A set of slots of one layout. A slot that is picked on both sides counts once. Beside the bits of the slots it keeps a
-/// word with those of the needed aisles: the depot's, and those in which it has a slot.
+/// A set of slots of one layout. A slot that is picked on both sides counts once. Beside the bits of the slots it keeps
+/// a word with those of the needed aisles: the depot's, and those in which it has a slot.
 #[derive(Drop)]
 pub struct Picks {
     layout: Layout,
@@ -113,7 +114,8 @@ impl Picks {
     pub fn add(&mut self, point: Point)
         requires { IsSlot self.old.layout point }
         ensures layout { self.new.layout ≡ self.old.layout }
-        ensures points { (p : PointData) → Contains self.new.points p ↔ (Contains self.old.points p ⊎ (p ≡ point)) }
+        ensures points { (p : PointData) → Contains self.new.points p
+            ↔ (Contains self.old.points p ⊎ (p ≡ point)) }
     {
         let word = word_of(&self.layout, point);
         self.words[word] |= 1 << (point.slot % 64);
@@ -124,7 +126,8 @@ impl Picks {
     pub fn join(&mut self, other: &Picks)
         requires { self.old.layout ≡ other.now.layout }
         ensures layout { self.new.layout ≡ self.old.layout }
-        ensures points { (p : PointData) → Contains self.new.points p ↔ (Contains self.old.points p ⊎ Contains other.now.points p) }
+        ensures points { (p : PointData) → Contains self.new.points p
+            ↔ (Contains self.old.points p ⊎ Contains other.now.points p) }
     {
         join_words(&mut self.words, &other.words, other.needed);
         self.needed |= other.needed;
@@ -153,8 +156,8 @@ impl Picks {
         false
     }
 
-    /// The last needed aisle before an aisle, where there is one. An aisle is needed if the depot lies in it or a slot of
-    /// the set.
+    /// The last needed aisle before an aisle, where there is one. An aisle is needed if the depot lies in it or a slot
+    /// of the set.
     pub fn needed_below(&self, aisle: u32) -> Option<u32>
         requires some { 1 ≤ aisle }
         requires last { aisle ≤ self.now.layout.aisles + 1 }
@@ -174,7 +177,8 @@ impl Picks {
     pub(crate) fn word(&self, aisle: u32, index: usize) -> u64
         requires aisle { IsUpTo self.now.layout.aisles aisle }
         requires index { index < 4 }
-        ensures bits { (k : ℕ) → k < 64 → (bit_at result k == 1) ≡ has_point self.now.points aisle (64 * index + k) }
+        ensures bits { (k : ℕ) → k < 64 → (bit_at result k == 1)
+            ≡ has_point self.now.points aisle (64 * index + k) }
         ensures slots { AreSlots self.now.layout self.now.points }
     {
         let last = AISLE_WORDS * self.layout.aisles() as usize + AISLE_WORDS;
@@ -188,9 +192,12 @@ impl Picks {
 fn join_aisle(words: &mut [u64; 260], other: &[u64; 260], aisle: u32)
     requires { aisle ≤ most_aisles }
     ensures whole { length words.new ≡ 260 }
-    ensures here { (at : ℕ) → 4 * aisle ≤ at → at < 4 * aisle + 4 → slice_index words.new at ≡ bit_or (slice_index words.old at) (slice_index other.now at) }
-    ensures before { (at : ℕ) → at < 4 * aisle → slice_index words.new at ≡ slice_index words.old at }
-    ensures behind { (at : ℕ) → 4 * aisle + 4 ≤ at → slice_index words.new at ≡ slice_index words.old at }
+    ensures here { (at : ℕ) → 4 * aisle ≤ at → at < 4 * aisle + 4
+        → slice_index words.new at ≡ bit_or (slice_index words.old at) (slice_index other.now at) }
+    ensures before { (at : ℕ) → at < 4 * aisle
+        → slice_index words.new at ≡ slice_index words.old at }
+    ensures behind { (at : ℕ) → 4 * aisle + 4 ≤ at
+        → slice_index words.new at ≡ slice_index words.old at }
 {
     let first = AISLE_WORDS * aisle as usize;
     for at in first..first + AISLE_WORDS {
@@ -202,7 +209,8 @@ fn join_aisle(words: &mut [u64; 260], other: &[u64; 260], aisle: u32)
 fn join_words(words: &mut [u64; 260], other: &[u64; 260], needed: u64)
     requires { AreBareElsewhere needed other.now }
     ensures whole { length words.new ≡ 260 }
-    ensures each { (at : ℕ) → at < 260 → HasBitsOfBoth (slice_index words.old at) (slice_index other.now at) (slice_index words.new at) }
+    ensures each { (at : ℕ) → at < 260 → HasBitsOfBoth (slice_index words.old at)
+        (slice_index other.now at) (slice_index words.new at) }
 {
     let mut rest = needed;
     while rest != 0 {

@@ -1,4 +1,5 @@
-ghost use Rattle.std.specs.Prelude.{◌≡◌, ◌-◌, ◌^◌, ◌<◌, ◌↔◌, ℕ, IsTrue, IsSome, IfSome, Some, length, slice_get, vec_len};
+ghost use Rattle.std.specs.Prelude.{◌≡◌, ◌-◌, ◌^◌, ◌<◌, ◌↔◌, ℕ, IsTrue, IsSome, IfSome, Some, length, slice_get};
+ghost use Rattle.std.specs.Prelude.{vec_len};
 ghost use Rattle.wp_model.specs.Tours.{IsClosedWalk, IsWalk};
 ghost use Rattle.wp_model.specs.Warehouse.{depot_point};
 

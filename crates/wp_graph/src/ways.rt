@@ -1,4 +1,5 @@
-ghost use Rattle.std.specs.Prelude.{◌≡◌, ◌+◌, ◌++◌, ◌<◌, ◌≤◌, ◌==◌, ℕ, List, [], ◌∷◌, ◌*◌, ◌-◌, Option, IfSome, Some, None, nat_lt, fold, map, if◌then◌else◌};
+ghost use Rattle.std.specs.Prelude.{◌≡◌, ◌+◌, ◌++◌, ◌<◌, ◌≤◌, ◌==◌, ℕ, List, [], ◌∷◌, ◌*◌, ◌-◌, Option, IfSome, Some};
+ghost use Rattle.std.specs.Prelude.{None, nat_lt, fold, map, if◌then◌else◌};
 ghost use Rattle.std.specs.Int.{bit_at};
 ghost use Rattle.wp_model.specs.Warehouse.{IsLayout, IsUpTo};
 ghost use Rattle.wp_graph.specs.AisleLengths.{ways_of};
@@ -6,7 +7,8 @@ ghost use Rattle.wp_graph.specs.Required.{aisle_length, distance, required_dista
 ghost use Rattle.wp_graph.specs.Sites.{has_depot, site_of};
 ghost use Rattle.wp_model.specs.Warehouse.End.{at_front, at_back};
 ghost use Rattle.wp_graph.specs.PickSets.{AreSlots};
-ghost use Rattle.wp_graph.specs.Stretches.{back_distances, bit_places, front_distances, reach_to, slot_distances, ways_by_stretch};
+ghost use Rattle.wp_graph.specs.Stretches.{back_distances, bit_places, front_distances, reach_to, slot_distances};
+ghost use Rattle.wp_graph.specs.Stretches.{ways_by_stretch};
 
 use crate::layout::Layout;
 use crate::picks::{AISLE_WORDS, Picks};
@@ -77,7 +79,8 @@ fn reach_word(layout: &Layout, before: Option<Stretch>, first: u32, bits: u64) -
     requires valid { IsLayout layout.now }
     requires slots { (k : ℕ) → k < 64 → bit_at bits k ≡ 1 → IsUpTo layout.now.slots (first + k) }
     requires last { IfSome before (λ s. s.last ≤ 2000000) }
-    ensures value { result ≡ fold reach_to before (map (distance layout.now) (bit_places first bits)) }
+    ensures value { result ≡ fold reach_to before
+        (map (distance layout.now) (bit_places first bits)) }
     ensures last { IfSome result (λ s. s.last ≤ 2000000) }
 {
     let mut stretch = before;
@@ -136,7 +139,8 @@ fn reach_back(layout: &Layout, aisle: u32, before: Option<Stretch>) -> Option<St
 fn reach_slots(layout: &Layout, picks: &Picks, aisle: u32) -> Option<Stretch>
     requires picks { picks.now.layout ≡ layout.now }
     requires aisle { IsUpTo layout.now.aisles aisle }
-    ensures value { result ≡ fold reach_to None (front_distances layout.now aisle ++ slot_distances layout.now picks.now.points aisle) }
+    ensures value { result ≡ fold reach_to None
+        (front_distances layout.now aisle ++ slot_distances layout.now picks.now.points aisle) }
     ensures slots { AreSlots layout.now picks.now.points }
     ensures last { IfSome result (λ s. s.last ≤ 2000000) }
 {
@@ -151,7 +155,8 @@ fn reach_slots(layout: &Layout, picks: &Picks, aisle: u32) -> Option<Stretch>
 fn reach_aisle(layout: &Layout, picks: &Picks, aisle: u32) -> Option<Stretch>
     requires picks { picks.now.layout ≡ layout.now }
     requires aisle { IsUpTo layout.now.aisles aisle }
-    ensures value { result ≡ fold reach_to None (required_distances layout.now picks.now.points aisle) }
+    ensures value { result ≡ fold reach_to None
+        (required_distances layout.now picks.now.points aisle) }
     ensures slots { AreSlots layout.now picks.now.points }
     ensures last { IfSome result (λ s. s.last ≤ 2010000) }
 {
@@ -177,13 +182,14 @@ fn front_way(behind: bool, last: u64) -> Option<u64>
 // The way that leaves the largest gap, where there is one.
 fn gap_way(whole: u64, reached: Stretch) -> Option<u64>
     requires { whole ≤ 2010000 }
-    ensures { result ≡ (if nat_lt reached.first reached.last then Some (2 * (whole - reached.gap)) else None) }
+    ensures { result ≡ (if nat_lt reached.first reached.last then Some (2 * (whole - reached.gap))
+        else None) }
 {
     (reached.first < reached.last).then_some(2 * whole.saturating_sub(reached.gap))
 }
 
-// The lengths of the ways through an aisle of a length with such required distances, given whether the depot lies at its
-// front end and whether at its back end.
+// The lengths of the ways through an aisle of a length with such required distances, given whether the depot lies at
+// its front end and whether at its back end.
 fn ways_by(in_front: bool, behind: bool, whole: u64, stretch: Option<Stretch>) -> AisleWays
     requires whole { whole ≤ 2010000 }
     requires last { IfSome stretch (λ s. s.last ≤ 2010000) }
@@ -209,8 +215,8 @@ fn ways_by(in_front: bool, behind: bool, whole: u64, stretch: Option<Stretch>) -
     }
 }
 
-/// The lengths of the six ways through an aisle. In the depot's aisle the end at which it lies counts as a pick, and there
-/// is no way from the other end alone.
+/// The lengths of the six ways through an aisle. In the depot's aisle the end at which it lies counts as a pick, and
+/// there is no way from the other end alone.
 pub fn aisle_ways(layout: &Layout, picks: &Picks, aisle: u32) -> AisleWays
     requires picks { picks.now.layout ≡ layout.now }
     requires aisle { IsUpTo layout.now.aisles aisle }

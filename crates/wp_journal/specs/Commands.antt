@@ -57,10 +57,12 @@ other_command word (wave ∷ []) = option_and_then (wave_command word) (name_in 
 other_command word (a ∷ b ∷ []) = None
 other_command word (location ∷ article ∷ quantity ∷ []) = receipt_in location article quantity
 other_command word (wave ∷ order ∷ location ∷ quantity ∷ []) =
-    if bytes_eq word (codes "pick") then pick_in wave order location quantity else missing_in wave order location quantity
+    if bytes_eq word (codes "pick") then pick_in wave order location quantity
+    else missing_in wave order location quantity
 other_command word (a ∷ b ∷ c ∷ d ∷ e ∷ rest) = None
 
 -- the command that words write
 abbrev pub command_in : List Word → Option Command
 command_in [] = None
-command_in (word ∷ arguments) = if bytes_eq word (codes "submit") then submission_in arguments else other_command word arguments
+command_in (word ∷ arguments) = if bytes_eq word (codes "submit") then submission_in arguments
+    else other_command word arguments

@@ -17,7 +17,8 @@ entry_fault_text fault.Memory = codes "memory"
 
 -- an entry that has another reply than the machine's
 abbrev pub wrong_reply_text : ℕ → Reply → Reply → List ℕ
-wrong_reply_text number printed right = codes "entry " ++ decimal number ++ codes " printed " ++ reply_text printed ++ codes " right " ++ reply_text right
+wrong_reply_text number printed right = codes "entry " ++ decimal number ++ codes " printed " ++ reply_text printed
+    ++ codes " right " ++ reply_text right
 
 -- why a line isn't taken in as the next entry
 abbrev pub replay_fault_text : ReplayFault → List ℕ

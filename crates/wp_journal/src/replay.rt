@@ -1,5 +1,5 @@
 //! Audits of journals: the machine answers each entry's command again, and its own entries are compared with the lines.
-ghost use Rattle.std.specs.Prelude.{◌≡◌, ◌↔◌, ◌⊎◌, ◌<◌, ◌&&◌, ◌++◌, ◌∷◌, [], ℕ, List, Result, Err, IfOk, IsTrue, codes};
+ghost use Rattle.std.specs.Prelude.{◌≡◌, ◌⊎◌, ◌<◌, ◌&&◌, ◌++◌, ◌∷◌, [], ℕ, List, Result, Err, IfOk, IsTrue, codes};
 ghost use Rattle.std.specs.Prelude.{length};
 ghost use Rattle.std.specs.List.{position_or_len};
 ghost use Rattle.std.specs.Str.{bytes_eq};
@@ -137,7 +137,6 @@ fn take_entry(
     entry: Entry,
 ) -> Result<(), ReplayFault>
     requires few { length machine.old.entries < 4294967295 }
-    requires plain { IsTrue (is_plain entry.command) }
     requires number { entry.number < most_entries }
     requires is { IsLineOf line.now entry }
     requires only { IsOnlyLineOf line.now entry }
@@ -194,7 +193,8 @@ fn take_line(alloc: Global, machine: &mut Machine<'_>, line: &[u8]) -> Result<()
 
 // Audits the lines after the head.
 fn audit_entries(alloc: Global, opening: &Opening, text: &[u8]) -> Result<Audit, AuditFault>
-    ensures { (whole : List ℕ) → lines_of whole ≡ line (codes "journal") ∷ lines_of text.now → Tells opening.now whole result }
+    ensures { (whole : List ℕ) → lines_of whole ≡ line (codes "journal") ∷ lines_of text.now
+        → Tells opening.now whole result }
 {
     let mut machine = Machine::open(alloc, opening)?;
     let mut rest = text;

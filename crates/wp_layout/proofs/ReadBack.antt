@@ -1,5 +1,6 @@
 -- The value of a layout says the layout, and its text is the one stated.
-use Rattle.std.proofs.Common.{◌≡◌, ℕ, suc, ◌+◌, ◌-◌, ◌≤◌, ◌==◌, Bool, true, false, List, [], ◌∷◌, ◌++◌, All, length, map, replicate, max, Ok, Some, refl, arith, IsUtf8, ap, sym, ◌∙◌, codes}
+use Rattle.std.proofs.Common.{◌≡◌, ℕ, suc, ◌+◌, ◌-◌, ◌≤◌, ◌==◌, Bool, true, false, List, [], ◌∷◌, ◌++◌, All, length, map, replicate, max, Ok, Some, refl, arith}
+use Rattle.std.proofs.Common.{IsUtf8, ap, sym, ◌∙◌, codes}
 use Rattle.std.proofs.Common.{append_assoc, if◌then◌else◌}
 use Rattle.std.specs.Fmt.{decimal, digits}
 use Rattle.std.specs.List.{flat_map, list_all}
@@ -185,7 +186,8 @@ ranged-true most n h = grind arith
 
 all_ranged : (ns : List ℕ) → All (IsUpTo greatest_length) ns → list_all (is_ranged greatest_length) ns ≡ true
 all_ranged [] are = refl
-all_ranged (n ∷ ns) are = and_from (is_ranged greatest_length n) (list_all (is_ranged greatest_length) ns) (ranged-true greatest_length n (are 0 0 (omega arith)))
+all_ranged (n ∷ ns) are = and_from (is_ranged greatest_length n) (list_all (is_ranged greatest_length) ns)
+    (ranged-true greatest_length n (are 0 0 (omega arith)))
     (all_ranged ns (λ k d low. are (suc k) d (omega (arith, low))))
 
 -- the value of version 2 says the layout

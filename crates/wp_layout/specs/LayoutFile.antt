@@ -1,5 +1,6 @@
 -- What the bytes of a layout file say: a layout, or the first test that they fail.
-use Rattle.std.specs.Prelude.{ℕ, ◌-◌, ◌==◌, ◌&&◌, nat_le, Bool, true, false, List, [], ◌∷◌, length, map, Option, Some, None, option_and_then, option_map, unwrap_or, is_none, is_some}
+use Rattle.std.specs.Prelude.{ℕ, ◌-◌, ◌==◌, ◌&&◌, nat_le, Bool, true, false, List, [], ◌∷◌, length, map, Option, Some}
+use Rattle.std.specs.Prelude.{None, option_and_then, option_map, unwrap_or, is_none, is_some}
 use Rattle.std.specs.Prelude.{if◌then◌else◌, Result, Ok, Err, bytes_eq, codes, ⊤}
 use Rattle.std.specs.List.{find, list_all, list_any}
 use Rattle.std.specs.Option.{ok_or}
@@ -77,7 +78,8 @@ number_read value key most = and_then (ok_or (whole_at value key) (fault.NotWhol
 
 -- the version, which must be there, and 1 or 2
 abbrev pub version_read : Data → Result ℕ LayoutFault
-version_read value = if is_missing value key.Version then Err (fault.MissingKey key.Version) else number_read value key.Version 2
+version_read value = if is_missing value key.Version then Err (fault.MissingKey key.Version)
+    else number_read value key.Version 2
 
 -- the numbers that both versions have before the spacing, one key after another
 abbrev pub sizes_read : Data → Result Sizes LayoutFault
@@ -112,24 +114,29 @@ whole_or_zero value = unwrap_or (whole_of value) 0
 
 -- each value must be a whole number
 abbrev pub wholes_read : List Data → Result (List ℕ) LayoutFault
-wholes_read values = if list_all is_whole values then Ok (map whole_or_zero values) else Err (fault.NotWhole key.Spacings)
+wholes_read values = if list_all is_whole values then Ok (map whole_or_zero values)
+    else Err (fault.NotWhole key.Spacings)
 
 -- there must be one spacing less than there are aisles, each in its range
 abbrev pub spacings_ranged : ℕ → List ℕ → Result (List ℕ) LayoutFault
 spacings_ranged aisles spacings =
-    if (length spacings == aisles - 1) && list_all (is_ranged greatest_length) spacings then Ok spacings else Err (fault.OutOfRange key.Spacings)
+    if (length spacings == aisles - 1) && list_all (is_ranged greatest_length) spacings then Ok spacings
+    else Err (fault.OutOfRange key.Spacings)
 
 -- the spacings, which must be a list of whole numbers, as many and as long as they may be
 abbrev pub spacings_read : Data → ℕ → Result (List ℕ) LayoutFault
-spacings_read value aisles = and_then (and_then (ok_or (list_at value key.Spacings) (fault.NotWhole key.Spacings)) wholes_read) (spacings_ranged aisles)
+spacings_read value aisles = and_then (and_then
+    (ok_or (list_at value key.Spacings) (fault.NotWhole key.Spacings)) wholes_read) (spacings_ranged aisles)
 
 -- whether a text names the back end, where it names an end
 abbrev pub back_named : List ℕ → Option Bool
-back_named text = if bytes_eq text (codes "front") then Some false else (if bytes_eq text (codes "back") then Some true else None)
+back_named text = if bytes_eq text (codes "front") then Some false
+    else (if bytes_eq text (codes "back") then Some true else None)
 
 -- whether the depot lies at the back end, which must be told by the name of an end
 abbrev pub back_read : Data → Result Bool LayoutFault
-back_read value = ok_or (option_and_then back_named (option_and_then as_str (get (key_text key.End) value))) fault.NotEnd
+back_read value = ok_or (option_and_then back_named (option_and_then as_str (get (key_text key.End) value)))
+    fault.NotEnd
 
 -- version 2 has a spacing for each two neighbouring aisles, and its depot at an end of one of the aisles
 abbrev pub second_read : Data → Result Layout LayoutFault

@@ -20,8 +20,8 @@ pub enum LayoutFault {
     /// What stands at this key is no whole number from 0 to 2^64 - 1, written with digits alone, and at the spacings no
     /// list of such numbers.
     NotWhole(Key),
-    /// The number at this key is outside its range, or one of the spacings is, or there isn't one of them less than there
-    /// are aisles.
+    /// The number at this key is outside its range, or one of the spacings is, or there isn't one of them less than
+    /// there are aisles.
     OutOfRange(Key),
     /// What stands at the end is neither `front` nor `back`.
     NotEnd,

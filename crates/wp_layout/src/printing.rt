@@ -2,7 +2,8 @@ ghost use Rattle.std.specs.Prelude.{◌≡◌, ◌≤◌, IfOk, Ok, map};
 ghost use Rattle.serde_json.specs.Data.{array};
 ghost use Rattle.serde_json.specs.View.{items_of, view};
 ghost use Rattle.wp_layout.specs.LayoutFile.{layout_said};
-ghost use Rattle.wp_layout.specs.LayoutText.{are_same, end_name, first_value, is_even, layout_text, layout_value, number_value, second_value};
+ghost use Rattle.wp_layout.specs.LayoutText.{are_same, end_name, first_value, is_even, layout_text, layout_value};
+ghost use Rattle.wp_layout.specs.LayoutText.{number_value, second_value};
 ghost use Rattle.wp_model.specs.Warehouse.{IsLayout};
 
 use serde_json::{Value, json};
@@ -53,7 +54,8 @@ fn first_value(alloc: Global, layout: &Layout) -> Result<Value, AllocError>
 
 // The spacings as a list.
 fn spacings_value(alloc: Global, layout: &Layout) -> Result<Value, AllocError>
-    ensures { IfOk result (λ value. view value ≡ array (items_of (map number_value layout.now.spacings))) }
+    ensures { IfOk result (λ value. view value
+        ≡ array (items_of (map number_value layout.now.spacings))) }
 {
     let mut values = Vec::new(alloc);
     for left in 1..layout.aisles() {
@@ -100,8 +102,9 @@ fn value_of(alloc: Global, layout: &Layout) -> Result<Value, AllocError>
     }
 }
 
-/// The text of a layout, with its keys in the order of their bytes: of version 1 where the depot lies in front, there are at
-/// least two aisles and all lie equally far from each other, and else of version 2. It is read again as the same layout.
+/// The text of a layout, with its keys in the order of their bytes: of version 1 where the depot lies in front, there
+/// are at least two aisles and all lie equally far from each other, and else of version 2. It is read again as the same
+/// layout.
 pub fn print_layout(alloc: Global, layout: &Layout) -> Result<Vec<u8>, Memory>
     ensures text { IfOk result (λ text. text.items ≡ layout_text layout.now) }
     ensures reads_back { IfOk result (λ text. layout_said text.items ≡ Ok layout.now) }

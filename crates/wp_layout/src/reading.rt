@@ -3,8 +3,10 @@ ghost use Rattle.wp_model.specs.Limits.{greatest_length, most_aisles, most_slots
 ghost use Rattle.std.specs.List.{find, list_all};
 ghost use Rattle.serde_json.specs.View.{members_view, view};
 ghost use Rattle.wp_layout.specs.Keys.{key_text};
-ghost use Rattle.wp_layout.specs.LayoutFile.{first_read, is_key, is_missing, keys_found, keys_known, keys_tested, layout_said, names_of, number_read};
-ghost use Rattle.wp_layout.specs.LayoutFile.{second_read, sizes_read, value_read, value_said, version_read, version_said};
+ghost use Rattle.wp_layout.specs.LayoutFile.{first_read, is_key, is_missing, keys_found, keys_known, keys_tested};
+ghost use Rattle.wp_layout.specs.LayoutFile.{layout_said, names_of, number_read};
+ghost use Rattle.wp_layout.specs.LayoutFile.{second_read, sizes_read, value_read, value_said, version_read};
+ghost use Rattle.wp_layout.specs.LayoutFile.{version_said};
 ghost use Rattle.wp_layout.specs.declared.fault.LayoutFault.TheVariants as fault;
 ghost use Rattle.wp_model.specs.Warehouse.{IsUpTo};
 
@@ -20,7 +22,8 @@ const LAST_VERSION: u32 = 2;
 
 fn read_value(alloc: Global, text: &Vec<u8>) -> Result<Value, LayoutFault>
     ensures value { IfOk result (λ value. value_read text.now.items ≡ Ok (view value)) }
-    ensures refusal { IfErr result (λ refusal. refusal ≢ fault.Memory → value_read text.now.items ≡ Err refusal) }
+    ensures refusal { IfErr result (λ refusal. refusal ≢ fault.Memory → value_read text.now.items
+        ≡ Err refusal) }
 {
     match Value::from_slice(alloc, text) {
         Ok(value) => Ok(value),
@@ -220,13 +223,13 @@ fn layout_of(value: &Value) -> Result<Layout, LayoutFault>
 }
 
 /// The layout that the bytes of a layout file say. They are refused, in this order, as `NotJson` where they aren't
-/// UTF-8 or `serde_json` reads no value in them, `NotObject` where the value isn't an object, `MissingKey` where it has no
-/// version, `NotWhole` where that is no whole number and `OutOfRange` where it is neither 1 nor 2, `MissingKey` with the
-/// first key of its version that it hasn't, `UnknownKey` where it has another, and then for one key after another: as
-/// `NotWhole` where its value is no whole number, or at the spacings no list of such numbers, and as `OutOfRange` where a
-/// number isn't in its range: 1 to 64 for the aisles, 1 to 200 for the slots, 1 to 10,000 for the pitch, the clearance and
-/// each spacing, of which there is one less than there are aisles, and 1 to the number of aisles for the depot; as `NotEnd`
-/// where the end is neither `front` nor `back`. Of two members of one key the last counts.
+/// UTF-8 or `serde_json` reads no value in them, `NotObject` where the value isn't an object, `MissingKey` where it has
+/// no version, `NotWhole` where that is no whole number and `OutOfRange` where it is neither 1 nor 2, `MissingKey` with
+/// the first key of its version that it hasn't, `UnknownKey` where it has another, and then for one key after another:
+/// as `NotWhole` where its value is no whole number, or at the spacings no list of such numbers, and as `OutOfRange`
+/// where a number isn't in its range: 1 to 64 for the aisles, 1 to 200 for the slots, 1 to 10,000 for the pitch, the
+/// clearance and each spacing, of which there is one less than there are aisles, and 1 to the number of aisles for the
+/// depot; as `NotEnd` where the end is neither `front` nor `back`. Of two members of one key the last counts.
 pub fn read_layout(alloc: Global, text: &Vec<u8>) -> Result<Layout, LayoutFault>
     ensures exact { result ≢ Err fault.Memory → result ≡ layout_said text.now.items }
 {

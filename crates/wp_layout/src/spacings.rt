@@ -1,11 +1,13 @@
 //! What version 2 of a layout file has beyond version 1: the spacings and the depot's end.
-ghost use Rattle.std.specs.Prelude.{◌≡◌, ◌-◌, ◌≤◌, All, Err, IfErr, IfOk, Ok, length, map, option_and_then, option_map, take, true};
+ghost use Rattle.std.specs.Prelude.{◌≡◌, ◌-◌, ◌≤◌, All, Err, IfErr, IfOk, Ok, length, map, option_and_then, option_map};
+ghost use Rattle.std.specs.Prelude.{take, true};
 ghost use Rattle.std.specs.List.{list_all};
 ghost use Rattle.serde_json.specs.View.{items_view, view};
 ghost use Rattle.wp_model.specs.Limits.{greatest_length, most_aisles};
 ghost use Rattle.wp_model.specs.Warehouse.{IsUpTo};
 ghost use Rattle.wp_model.specs.Outcomes.{and_then};
-ghost use Rattle.wp_layout.specs.LayoutFile.{back_named, back_read, is_ranged, is_whole, spacings_ranged, spacings_read, whole_or_zero, wholes_read};
+ghost use Rattle.wp_layout.specs.LayoutFile.{back_named, back_read, is_ranged, is_whole, spacings_ranged};
+ghost use Rattle.wp_layout.specs.LayoutFile.{spacings_read, whole_or_zero, wholes_read};
 ghost use Rattle.serde_json.specs.Find.{as_array, get};
 ghost use Rattle.wp_layout.specs.Keys.{key_text};
 ghost use Rattle.wp_layout.specs.declared.key.Key.TheVariants as key;
@@ -43,7 +45,8 @@ fn is_spacing(value: &Value) -> bool
 
 // Whether each value is.
 fn are_spacings(values: &[Value]) -> bool
-    ensures { result ≡ list_all (is_ranged greatest_length) (map whole_or_zero (map view values.now)) }
+    ensures { result ≡ list_all (is_ranged greatest_length)
+        (map whole_or_zero (map view values.now)) }
 {
     for value in values {
         if !is_spacing(value) {
@@ -64,7 +67,8 @@ fn spacing_of(value: &Value) -> u32
 // The spacings that values are, which are few enough.
 fn spacings_of(values: &[Value]) -> [u32; 63]
     requires few { length values.now ≤ 63 }
-    requires ranged { list_all (is_ranged greatest_length) (map whole_or_zero (map view values.now)) ≡ true }
+    requires ranged { list_all (is_ranged greatest_length) (map whole_or_zero (map view values.now))
+        ≡ true }
     ensures spacings { take (length values.now) result ≡ map whole_or_zero (map view values.now) }
     ensures whole { length result ≡ 63 }
 {
@@ -77,7 +81,8 @@ fn spacings_of(values: &[Value]) -> [u32; 63]
 
 // The values of the list at the key, where there is one.
 fn list_of(value: &Value) -> Option<&Vec<Value>>
-    ensures { option_map (λ values. items_view values.now.items) result ≡ option_and_then as_array (get (key_text key.Spacings) (view value.now)) }
+    ensures { option_map (λ values. items_view values.now.items) result
+        ≡ option_and_then as_array (get (key_text key.Spacings) (view value.now)) }
 {
     value.get(Key::Spacings.name()).and_then(Value::as_array)
 }
@@ -85,10 +90,13 @@ fn list_of(value: &Value) -> Option<&Vec<Value>>
 // The spacings that values are, for so many aisles.
 fn spacings_in(values: &[Value], aisles: u32) -> Result<[u32; 63], LayoutFault>
     requires { IsUpTo most_aisles aisles }
-    ensures ok { IfOk result (λ spacings. and_then (wholes_read (map view values.now)) (spacings_ranged aisles) ≡ Ok (take (aisles - 1) spacings)) }
+    ensures ok { IfOk result (λ spacings. and_then (wholes_read (map view values.now))
+        (spacings_ranged aisles) ≡ Ok (take (aisles - 1) spacings)) }
     ensures whole { IfOk result (λ spacings. length spacings ≡ 63) }
-    ensures range { IfOk result (λ spacings. All (IsUpTo greatest_length) (take (aisles - 1) spacings)) }
-    ensures refusal { IfErr result (λ fault. and_then (wholes_read (map view values.now)) (spacings_ranged aisles) ≡ Err fault) }
+    ensures range { IfOk result (λ spacings. All (IsUpTo greatest_length)
+        (take (aisles - 1) spacings)) }
+    ensures refusal { IfErr result (λ fault. and_then (wholes_read (map view values.now))
+        (spacings_ranged aisles) ≡ Err fault) }
 {
     if !are_whole(values) {
         return Err(LayoutFault::NotWhole(Key::Spacings));
@@ -105,9 +113,11 @@ fn spacings_in(values: &[Value], aisles: u32) -> Result<[u32; 63], LayoutFault>
 /// The spacings of so many aisles: as many of the numbers as are asked for.
 pub(crate) fn read_spacings(value: &Value, aisles: u32) -> Result<[u32; 63], LayoutFault>
     requires { IsUpTo most_aisles aisles }
-    ensures ok { IfOk result (λ spacings. spacings_read (view value.now) aisles ≡ Ok (take (aisles - 1) spacings)) }
+    ensures ok { IfOk result (λ spacings. spacings_read (view value.now) aisles
+        ≡ Ok (take (aisles - 1) spacings)) }
     ensures whole { IfOk result (λ spacings. length spacings ≡ 63) }
-    ensures range { IfOk result (λ spacings. All (IsUpTo greatest_length) (take (aisles - 1) spacings)) }
+    ensures range { IfOk result (λ spacings. All (IsUpTo greatest_length)
+        (take (aisles - 1) spacings)) }
     ensures refusal { IfErr result (λ fault. spacings_read (view value.now) aisles ≡ Err fault) }
 {
     match list_of(value) {

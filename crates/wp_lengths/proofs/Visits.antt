@@ -15,7 +15,8 @@ use Rattle.wp_lengths.specs.Lengths.{IsLengthOf}
 use Rattle.wp_lengths.specs.Waves.{WavePicks}
 use Rattle.wp_lengths.proofs.Unions.{all_from_contained}
 use Rattle.wp_lengths.specs.Duals.{AreFeasible, duals_of}
-use Rattle.wp_lengths.specs.Visits.{AddsItem, AreFurther, Children, Due, IsItem, IsLater, IsReach, IsVisit, IsVisitOfAll, IsWithin, Passed, Place, all_added, entered, no_item, not_permitted, onward, pruned}
+use Rattle.wp_lengths.specs.Visits.{AddsItem, AreFurther, Children, Due, IsItem, IsLater, IsReach, IsVisit, IsVisitOfAll, IsWithin, Passed, Place, all_added}
+use Rattle.wp_lengths.specs.Visits.{entered, no_item, not_permitted, onward, pruned}
 use Rattle.wp_lengths.proofs.Ascending.{nothing_left, split_off}
 use Rattle.wp_lengths.proofs.FewerOrders.{more_orders_no_shorter}
 

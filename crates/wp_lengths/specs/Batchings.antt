@@ -15,14 +15,17 @@ batch_at batches place = slice_index_or batches place []
 -- batches that are permitted where there is no pair, such that each order of the wave is in one of them and in no other
 pub record IsBatching (wave : WavePicks) (capacity : ℕ) (batches : List (List ℕ)) : Type 0 where
   pub each : (place : ℕ) → place < length batches → IsPermitted (no_pairs wave capacity) (batch_at batches place)
-  pub covered : (order : ℕ) → order < length wave.orders → (place : ℕ) × (place < length batches) × Contains (batch_at batches place) order
-  pub once : (order left right : ℕ) → left < length batches → right < length batches → Contains (batch_at batches left) order
+  pub covered : (order : ℕ) → order < length wave.orders
+      → (place : ℕ) × (place < length batches) × Contains (batch_at batches place) order
+  pub once : (order left right : ℕ) → left < length batches → right < length batches
+      → Contains (batch_at batches left) order
       → Contains (batch_at batches right) order → left ≡ right
 
 -- each batch's least order is below that of each later batch
 abbrev pub IsListedByLeast : List (List ℕ) → Type 0
 IsListedByLeast batches =
-    (left right : ℕ) → left < right → right < length batches → slice_index (batch_at batches left) 0 < slice_index (batch_at batches right) 0
+    (left right : ℕ) → left < right → right < length batches
+    → slice_index (batch_at batches left) 0 < slice_index (batch_at batches right) 0
 
 -- the lengths of the batches sum to this
 abbrev pub IsCost : WavePicks → List (List ℕ) → ℕ → Type 0

@@ -1,5 +1,7 @@
--- Duals: one number for each order of a wave. In sixtieths of a unit of length they say what the orders of a batch cost at least.
-use Rattle.std.specs.Prelude.{◌≡◌, ℕ, ◌+◌, ◌*◌, ◌/◌, ◌<◌, ◌≤◌, List, [], ◌∷◌, All, Contains, length, slice_index, sum, sum_by}
+-- Duals: one number for each order of a wave. In sixtieths of a unit of length they say what the orders of a batch cost
+-- at least.
+use Rattle.std.specs.Prelude.{◌≡◌, ℕ, ◌+◌, ◌*◌, ◌/◌, ◌<◌, ◌≤◌, List, [], ◌∷◌, All, Contains, length, slice_index, sum}
+use Rattle.std.specs.Prelude.{sum_by}
 use Rattle.wp_pairs.specs.Permitted.{IsPermitted, Pairing}
 use Rattle.wp_lengths.specs.Lengths.{IsLengthOf}
 use Rattle.wp_lengths.specs.Waves.{WavePicks}
@@ -23,10 +25,12 @@ pub record AreDuals (duals : List ℕ) : Type 0 where
 
 -- duals are feasible where no permitted batch has more in duals than sixty times its length
 abbrev pub AreFeasible : WavePicks → Pairing → List ℕ → Type 0
-AreFeasible wave pairing duals = (batch : List ℕ) (total : ℕ) → IsPermitted pairing batch → IsLengthOf wave batch total → duals_of duals batch ≤ sixtieths_of total
+AreFeasible wave pairing duals = (batch : List ℕ) (total : ℕ) → IsPermitted pairing batch → IsLengthOf wave batch total
+    → duals_of duals batch ≤ sixtieths_of total
 
 -- a permitted batch with this order that has in duals exactly sixty times its length
-pub record IsTightFor (wave : WavePicks) (pairing : Pairing) (duals : List ℕ) (order : ℕ) (batch : List ℕ) : Type 0 where
+pub record IsTightFor (wave : WavePicks) (pairing : Pairing) (duals : List ℕ) (order : ℕ)
+    (batch : List ℕ) : Type 0 where
   pub permitted : IsPermitted pairing batch
   pub holds : Contains batch order
   pub total : ℕ
@@ -35,7 +39,8 @@ pub record IsTightFor (wave : WavePicks) (pairing : Pairing) (duals : List ℕ) 
 
 -- duals are tight where each order is in a permitted batch that has in duals exactly sixty times its length
 abbrev pub AreTight : WavePicks → Pairing → List ℕ → Type 0
-AreTight wave pairing duals = (order : ℕ) → order < pairing.orders → (batch : List ℕ) × IsTightFor wave pairing duals order batch
+AreTight wave pairing duals = (order : ℕ) → order < pairing.orders → (batch : List ℕ)
+    × IsTightFor wave pairing duals order batch
 
 -- the share dual of an order: sixty times the length of a tour for it alone, divided by the capacity and rounded down
 pub record IsShare (wave : WavePicks) (capacity order share : ℕ) : Type 0 where

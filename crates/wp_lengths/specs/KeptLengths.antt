@@ -7,13 +7,13 @@ use Rattle.wp_lengths.specs.Lengths.{IsLengthOf, batch_picks}
 use Rattle.wp_lengths.specs.Waves.{WavePicks}
 
 -- a length that is kept is that of its batch, and below 2 ^ 28
-pub record IsKept (wave : WavePicks) (kept : Length) : Type 0 where
+pub record IsKeptLength (wave : WavePicks) (kept : Length) : Type 0 where
   pub is : IsLengthOf wave kept.batch kept.length
   pub small : kept.length < 2 ^ 28
 
 -- so is each
 abbrev pub HaveLengths : WavePicks → List Length → Type 0
-HaveLengths wave lengths = All (IsKept wave) lengths
+HaveLengths wave lengths = All (IsKeptLength wave) lengths
 
 -- the slots of a batch are those at which some order of it picks
 pub record IsPicked (wave : WavePicks) (picked : PickedBatch) : Type 0 where

@@ -17,11 +17,13 @@ pub record HaveMost (pairing : Pairing) (duals : List ℕ) (from count : ℕ) (t
 pub record IsBestFurther (pairing : Pairing) (duals taken : List ℕ) (from end order : ℕ) : Type 0 where
   pub later : IsLater pairing from order
   pub new : Contains taken order → ⊥
-  pub best : (other : ℕ) → other < end → IsLater pairing from other → (Contains taken other → ⊥) → slice_index duals other ≤ slice_index duals order
+  pub best : (other : ℕ) → other < end → IsLater pairing from other → (Contains taken other → ⊥)
+      → slice_index duals other ≤ slice_index duals order
 
 -- the best order below an end; there is none where all are taken
 abbrev pub IsBestBelow : Pairing → List ℕ → List ℕ → ℕ → ℕ → Option ℕ → Type 0
-IsBestBelow pairing duals taken from end None = (other : ℕ) → other < end → IsLater pairing from other → Contains taken other
+IsBestBelow pairing duals taken from end None
+    = (other : ℕ) → other < end → IsLater pairing from other → Contains taken other
 IsBestBelow pairing duals taken from end (Some order) = IsBestFurther pairing duals taken from end order
 
 -- the one of two orders that has the larger dual

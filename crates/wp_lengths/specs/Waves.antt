@@ -5,7 +5,8 @@ use Rattle.wp_model.specs.Warehouse.{Layout}
 use Rattle.wp_graph.specs.PickSets.{PickSet}
 use Rattle.wp_pairs.specs.Carts.{IsCartFor, LoadedCart}
 
--- a wave: its layout, for each order the slots at which it picks, and the cart that its batches are to fit, if there is one
+-- a wave: its layout, for each order the slots at which it picks, and the cart that its batches are to fit, if there is
+-- one
 pub record WavePicks : Type 0 where
   pub layout : Layout
   pub orders : List PickSet
@@ -15,7 +16,8 @@ pub record WavePicks : Type 0 where
 abbrev pub picks_of : WavePicks → ℕ → List Point
 picks_of wave order = (slice_index_or wave.orders order (record { layout = wave.layout; points = [] })).points
 
--- a wave has 1 to 64 orders, each picks at slots of the wave's layout, at one or more, and a cart has a load for each order
+-- a wave has 1 to 64 orders, each picks at slots of the wave's layout, at one or more, and a cart has a load for each
+-- order
 pub record IsWave (wave : WavePicks) : Type 0 where
   pub some : 1 ≤ length wave.orders
   pub most : length wave.orders ≤ 64

@@ -26,7 +26,8 @@ pub fn units_of(sixtieths: u128) -> u128
     }
 }
 
-/// Duals of up to 64 orders, one for each, in sixtieths of a unit of length: 0 to 1,000,000,000,000. Contracts see the list.
+/// Duals of up to 64 orders, one for each, in sixtieths of a unit of length: 0 to 1,000,000,000,000. Contracts see the
+/// list.
 #[derive(Drop)]
 pub struct OrderDuals {
     values: Vec<u64>,
@@ -62,7 +63,8 @@ impl OrderDuals {
         })
     }
 
-    /// Duals of so many orders, up to 64: these values, as far as they are there and the greatest dual goes, and else 0.
+    /// Duals of so many orders, up to 64: these values, as far as they are there and the greatest dual goes, and else
+    /// 0.
     pub fn limited(alloc: Global, orders: u32, values: &[u64]) -> Result<OrderDuals, Memory>
         requires { orders ≤ 64 }
         ensures { IfOk result (λ duals. length duals ≡ orders) }

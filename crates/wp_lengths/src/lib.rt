@@ -1,6 +1,6 @@
-//! Waves of orders, the lengths of their batches, and duals of a wave's orders: what they come to, how far further orders can
-//! reach, and the share duals. The definitions of batchings and what they cost, of feasible and tight duals, and of the visit
-//! of all permitted batches that tests them, stand in `specs`.
+//! Waves of orders, the lengths of their batches, and duals of a wave's orders: what they come to, how far further
+//! orders can reach, and the share duals. The definitions of batchings and what they cost, of feasible and tight duals,
+//! and of the visit of all permitted batches that tests them, stand in `specs`.
 #![tactic(auto)]
 
 mod batching;

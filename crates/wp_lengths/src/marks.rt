@@ -1,4 +1,5 @@
-ghost use Rattle.std.specs.Prelude.{◌≡◌, ◌≢◌, ◌+◌, ◌*◌, ◌<◌, ◌==◌, ◌∷◌, ◌++◌, ℕ, [], OnErr, OnOk, Some, length, slice_get};
+ghost use Rattle.std.specs.Prelude.{◌≡◌, ◌≢◌, ◌+◌, ◌*◌, ◌<◌, ◌==◌, ◌∷◌, ◌++◌, ℕ, [], OnErr, OnOk, Some, length};
+ghost use Rattle.std.specs.Prelude.{slice_get};
 ghost use Rattle.std.specs.Int.{bit_at};
 ghost use Rattle.wp_lengths.specs.Marks.{HoldsMarks, mark_at};
 
@@ -42,7 +43,8 @@ fn write_mark(bytes: &mut Vec<u8>, place: u64, mark: bool)
     requires { place < 8 * length bytes.old.items }
     ensures count { length bytes.new.items ≡ length bytes.old.items }
     ensures here { mark_at bytes.new.items place ≡ mark }
-    ensures elsewhere { (other : ℕ) → other ≢ place → mark_at bytes.new.items other ≡ mark_at bytes.old.items other }
+    ensures elsewhere { (other : ℕ) → other ≢ place
+        → mark_at bytes.new.items other ≡ mark_at bytes.old.items other }
 {
     let index = (place / 8) as usize;
     bytes[index] = with_bit(bytes[index], (place % 8) as u32, mark);

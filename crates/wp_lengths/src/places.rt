@@ -5,13 +5,14 @@ use wp_pairs::Batch;
 /// How many orders a batch has at most.
 const MOST_IN_BATCH: u32 = 8;
 
-/// Counts for the places of batches in one list of them all. A batch comes before those that begin with it, and these come
-/// by their next orders: {}, {0}, {0, 1}, {0, 1, 2}, {0, 2}, {1}, {1, 2}, {2}. So whoever visits batches in this way reads
-/// the list from its beginning to its end.
+/// Counts for the places of batches in one list of them all. A batch comes before those that begin with it, and these
+/// come by their next orders: {}, {0}, {0, 1}, {0, 1, 2}, {0, 2}, {1}, {1, 2}, {2}. So whoever visits batches in this
+/// way reads the list from its beginning to its end.
 #[derive(Drop)]
 pub struct Places {
     capacity: u32,
-    // for a number of orders and an order: in how many ways a batch of so many goes on by further ones from that order on
+    // for a number of orders and an order: in how many ways a batch of so many goes on by further ones from that order
+    // on
     wider: [[u64; 65]; 9],
 }
 
@@ -39,8 +40,8 @@ fn no_rows() -> [[u64; 65]; 9] {
     [[0; 65]; 9]
 }
 
-// In how many ways a batch goes on from each order on, from the same numbers for batches of one order more: the next order
-// is that one or a later one, and the batch ends with it or goes on.
+// In how many ways a batch goes on from each order on, from the same numbers for batches of one order more: the next
+// order is that one or a later one, and the batch ends with it or goes on.
 fn next_row(orders: u32, row: &[u64; 65]) -> [u64; 65] {
     let mut next = no_ways();
     let mut sum: u64 = 0;
@@ -111,8 +112,8 @@ impl Places {
         Some(self.span_of(batch)?.first)
     }
 
-    /// The places of a batch and of those that begin with it. None comes exactly for one with more orders than the capacity, or
-    /// than eight.
+    /// The places of a batch and of those that begin with it. None comes exactly for one with more orders than the
+    /// capacity, or than eight.
     pub fn span_of(&self, batch: Batch) -> Option<Span>
         ensures { IsSome result ↔ ((length batch ≤ self.now.capacity) × (length batch ≤ 8)) }
     {
@@ -148,7 +149,9 @@ impl Part<'_> {
 
     /// Whether the part, with so many places, has one of a span.
     pub fn meets(&self, span: Span, count: usize) -> bool
-        ensures { self.now.start + count < 2 ^ 64 → (IsTrue result ↔ ((self.now.start ≤ span.last) × (span.first < self.now.start + count))) }
+        ensures { self.now.start + count < 2 ^ 64
+            → (IsTrue result ↔ ((self.now.start ≤ span.last)
+            × (span.first < self.now.start + count))) }
     {
         self.start <= span.last && span.first < self.start.saturating_add(count as u64)
     }

@@ -16,7 +16,8 @@ pub fn is_later(pairs: &Pairs, from: u32, order: u32) -> bool
     }
 }
 
-// Orders that are taken of those of items that are named by an order or later ones, with the pairs of all orders and their duals.
+// Orders that are taken of those of items that are named by an order or later ones, with the pairs of all orders and
+// their duals.
 #[derive(Clone, Copy)]
 struct Taken<'a> {
     pairs: &'a Pairs,
@@ -29,8 +30,10 @@ struct Taken<'a> {
 // The better of the best further order so far and the next.
 fn better_of(taken: &Taken<'_>, best: Option<u32>, next: u32) -> Option<u32>
     requires known { next < taken.now.pairs.now.orders }
-    requires best { IsBestBelow taken.now.pairs.now taken.now.duals.now taken.now.orders taken.now.from next best }
-    ensures { IsBestBelow taken.now.pairs.now taken.now.duals.now taken.now.orders taken.now.from (next + 1) result }
+    requires best { IsBestBelow taken.now.pairs.now taken.now.duals.now taken.now.orders
+        taken.now.from next best }
+    ensures { IsBestBelow taken.now.pairs.now taken.now.duals.now taken.now.orders taken.now.from
+        (next + 1) result }
 {
     if taken.orders.has(next) || !is_later(taken.pairs, taken.from, next) {
         return best;
@@ -54,11 +57,12 @@ fn larger_of(duals: &[u64], first: u32, second: u32) -> u32
     }
 }
 
-/// Of orders that have the most in duals of as many orders of items that are named by an order or later ones: the same with
-/// one order more, the best of those that are left, where one is left.
+/// Of orders that have the most in duals of as many orders of items that are named by an order or later ones: the same
+/// with one order more, the best of those that are left, where one is left.
 pub fn take_best(pairs: &Pairs, duals: &[u64], taken: Batch, from: u32) -> Batch
     requires count { length duals.now ≡ pairs.now.orders }
-    ensures { (count : ℕ) → HaveMost pairs.now duals.now from count taken → HaveMost pairs.now duals.now from (count + 1) result }
+    ensures { (count : ℕ) → HaveMost pairs.now duals.now from count taken
+        → HaveMost pairs.now duals.now from (count + 1) result }
 {
     let given = Taken {
         pairs,
@@ -76,8 +80,8 @@ pub fn take_best(pairs: &Pairs, duals: &[u64], taken: Batch, from: u32) -> Batch
     }
 }
 
-/// The most that further orders can add to what a place has in duals, if they are of items that are named by this order or
-/// later ones, and the place has room for them.
+/// The most that further orders can add to what a place has in duals, if they are of items that are named by this order
+/// or later ones, and the place has room for them.
 pub fn reach_of(pairs: &Pairs, duals: &[u64], place: Batch, from: u32) -> u128
     requires count { length duals.now ≡ pairs.now.orders }
     requires fits { length place ≤ pairs.now.capacity }

@@ -1,4 +1,5 @@
-ghost use Rattle.std.specs.Prelude.{◌≡◌, ◌≤◌, ◌<◌, ◌*◌, ◌^◌, ◌↔◌, ◌⊎◌, ◌++◌, ℕ, All, Contains, IfOk, IfSome, IsTrue, None, Some, length};
+ghost use Rattle.std.specs.Prelude.{◌≡◌, ◌≤◌, ◌<◌, ◌*◌, ◌^◌, ◌↔◌, ◌⊎◌, ◌++◌, ℕ, All, Contains, IfOk, IfSome, IsTrue};
+ghost use Rattle.std.specs.Prelude.{None, Some, length};
 ghost use Rattle.wp_model.specs.declared.point.Point.{Point as PointData};
 ghost use Rattle.wp_model.specs.Warehouse.{Layout as Block};
 ghost use Rattle.wp_pairs.specs.Carts.{FitsAnyCart, IsCartFor};
@@ -24,8 +25,8 @@ const MOST_LENGTHS: u64 = 4_194_304;
 /// How many lengths a worker is worth: to begin a thread takes as long as to find some hundred lengths.
 const LENGTHS_FOR_ONE: usize = 1_000;
 
-/// A wave of 1 to 64 orders: a layout, the slots at which each order picks, and a cart with what each order loads, if there is
-/// one. An order is named by its place, from 0 on.
+/// A wave of 1 to 64 orders: a layout, the slots at which each order picks, and a cart with what each order loads, if
+/// there is one. An order is named by its place, from 0 on.
 #[derive(Drop)]
 pub struct Wave {
     layout: Layout,
@@ -126,8 +127,8 @@ impl Wave {
         Wave::begun(alloc, layout, orders, None)
     }
 
-    /// The wave that takes over these orders' picks in a layout, with a cart that has a load for each of them. It takes no
-    /// memory.
+    /// The wave that takes over these orders' picks in a layout, with a cart that has a load for each of them. It takes
+    /// no memory.
     pub fn taking_with_cart(alloc: Global, layout: Layout, orders: Vec<Picks>, cart: Cart) -> Wave
         requires loads { length cart.loads ≡ length orders.items }
         requires of_layout { All (λ picks. picks.layout ≡ layout) orders.items }
@@ -220,7 +221,8 @@ impl Wave {
     pub fn picks(&self, i: u32) -> Picks
         requires { i < length self.now.orders }
         ensures layout { result.layout ≡ self.now.layout }
-        ensures points { (p : PointData) → Contains result.points p ↔ Contains (picks_of self.now i) p }
+        ensures points { (p : PointData) → Contains result.points p
+            ↔ Contains (picks_of self.now i) p }
     {
         copy_of(&self.layout, &self.orders[i as usize])
     }
@@ -234,7 +236,8 @@ impl Wave {
         &self.orders[i as usize]
     }
 
-    /// The length of a shortest tour past all slots at which the orders of a batch pick, 0 for no order. It is below 2 ^ 28.
+    /// The length of a shortest tour past all slots at which the orders of a batch pick, 0 for no order. It is below 2
+    /// ^ 28.
     pub fn batch_length(&self, batch: Batch) -> u64
         requires { All (λ order. order < length self.now.orders) batch }
         ensures is { IsLengthOf self.now batch result }
@@ -255,9 +258,9 @@ impl Wave {
         tour_length(&self.layout, &self.union_of(batch))
     }
 
-    /// Keeps the lengths of all batches of at most so many orders: from then on the length of such a batch is looked up. The
-    /// wave stays as it was, also where memory runs out. Nothing is kept where the capacity is above 8 or there are more than
-    /// 4,194,304 such batches, which is what 64 MiB have room for.
+    /// Keeps the lengths of all batches of at most so many orders: from then on the length of such a batch is looked
+    /// up. The wave stays as it was, also where memory runs out. Nothing is kept where the capacity is above 8 or there
+    /// are more than 4,194,304 such batches, which is what 64 MiB have room for.
     pub fn keep_lengths(&mut self, alloc: Global, capacity: u32) -> Result<(), Memory>
         ensures { self.new ≡ self.old }
     {
@@ -269,8 +272,8 @@ impl Wave {
         Ok(())
     }
 
-    /// The same by up to so many workers, 1 to 16, that find the lengths beside each other, each in a thread of its own but for
-    /// one. No more take part than the lengths are worth. What is kept doesn't depend on the workers.
+    /// The same by up to so many workers, 1 to 16, that find the lengths beside each other, each in a thread of its own
+    /// but for one. No more take part than the lengths are worth. What is kept doesn't depend on the workers.
     pub fn keep_lengths_by<R: Threads + Sync>(
         &mut self,
         rt: &R,
@@ -340,7 +343,8 @@ impl Wave {
             size,
             &|start: usize, part: &mut [Length]|
                 requires { HaveLengths wave.now part.now }
-                ensures { HaveLengths wave.entry.now part.exit.now × (length part.exit.now ≡ length part.entry.now) }
+                ensures { HaveLengths wave.entry.now part.exit.now
+                    × (length part.exit.now ≡ length part.entry.now) }
             { wave.keep_part(places, start, part) },
         );
     }
@@ -415,7 +419,8 @@ impl Wave {
         requires known { order < length self.now.orders }
         requires layout { union.now.layout ≡ self.now.layout }
         ensures layout { result.layout ≡ self.now.layout }
-        ensures points { (p : PointData) → Contains result.points p ↔ (Contains union.now.points p ⊎ Contains (picks_of self.now order) p) }
+        ensures points { (p : PointData) → Contains result.points p
+            ↔ (Contains union.now.points p ⊎ Contains (picks_of self.now order) p) }
     {
         let mut wider = copy_of(&self.layout, union);
         wider.join(&self.orders[order as usize]);
@@ -426,7 +431,8 @@ impl Wave {
     pub fn union_of(&self, batch: Batch) -> Picks
         requires { All (λ order. order < length self.now.orders) batch }
         ensures layout { result.layout ≡ self.now.layout }
-        ensures points { (p : PointData) → Contains result.points p ↔ Contains (batch_picks self.now batch) p }
+        ensures points { (p : PointData) → Contains result.points p
+            ↔ Contains (batch_picks self.now batch) p }
     {
         let mut union = Picks::new(&self.layout);
         for (place, picks) in self.orders.iter().enumerate() {

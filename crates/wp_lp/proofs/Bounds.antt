@@ -6,7 +6,7 @@ use Rattle.std.proofs.lemmas.Int.{ints}
 use Rattle.std.proofs.lemmas.List.{get_or_default}
 use Rattle.std.proofs.lemmas.List.Elements.{All-get_or}
 use Rattle.wp_master.specs.Bases.{total_below}
-use Rattle.wp_master.specs.Pairs.{number_of, sum_of}
+use Rattle.wp_master.specs.Pairs.{number_at, sum_of}
 use Rattle.wp_master.specs.Pools.{ColumnPool, column_of}
 use Rattle.wp_master.specs.declared.column.Column.{Column}
 use Rattle.wp_lp.proofs.Holds.{has_true}
@@ -53,9 +53,9 @@ small_duals pool weights duals q answer short order low =
     let within : row < length pool.columns = held.1.1 in
     let is : column_of pool row ≡ held.0 = get_or_default pool.columns row _ held.0 within ∙ held.1.2 in
     let in_it : Contains (column_of pool row).batch order = subst (λ (c : Column). Contains c.batch order) (sym is) held.2 in
-    let own = ap (λ (b : Bool). cond b (number_of duals order) (pos 0)) (has_true (column_of pool row).batch order in_it) in
-    let most = term_most pool.orders (λ (o : ℕ). cond (has (column_of pool row).batch o) (number_of duals o) (pos 0)) order known
-    (λ o less. cond_not_below (has (column_of pool row).batch o) (number_of duals o) (answer.are_duals.not_below o less)) in
+    let own = ap (λ (b : Bool). cond b (number_at duals order) (pos 0)) (has_true (column_of pool row).batch order in_it) in
+    let most = term_most pool.orders (λ (o : ℕ). cond (has (column_of pool row).batch o) (number_at duals o) (pos 0)) order known
+    (λ o less. cond_not_below (has (column_of pool row).batch o) (number_at duals o) (answer.are_duals.not_below o less)) in
     let fit = answer.fit row within in
     let short_one : (column_of pool row).length < 2 ^ 28 = All-get_or (λ (column : Column). column.length < 2 ^ 28) pool.columns row _ within short in
     let above : pos 0 ≤ℤ q = omega (arith, ints, answer.above) in
@@ -78,7 +78,7 @@ pub cost_small : (pool : ColumnPool) (weights duals : List ℤ) (q : ℤ) (cost 
     → pos cost ≤ℤ (pos 60 *ℤ sum_of pool duals) → cost < 2 ^ 127
 cost_small pool weights duals q cost answer short few small most =
     let each = small_duals pool weights duals q answer short in
-    let total = total_bounded pool.orders (number_of duals) (pos (2 ^ 28) *ℤ pos (2 ^ 86))
+    let total = total_bounded pool.orders (number_at duals) (pos (2 ^ 28) *ℤ pos (2 ^ 86))
     (λ k low. let one = (each k (omega (arith, low, answer.are_duals.count))).1 in
     let less = times_most (pos (2 ^ 28)) q (pos (2 ^ 86)) (omega (arith, ints)) (omega (arith, ints, small)) in
     omega (arith, ints, one, less)) in

@@ -6,7 +6,8 @@ use Rattle.std.proofs.Math.IntN.{*ℤ_comm}
 use Rattle.std.proofs.lemmas.Int.{ints}
 use Rattle.std.proofs.lemmas.Nat.{mul-le}
 use Rattle.std.proofs.lemmas.List.{get_or-map, get_or_default, length-map}
-use Rattle.std.proofs.lemmas.List.Elements.{All-get_or, Contains-append_left, Contains-append_right, Contains-get_or, Contains-push, Contains-push_cases, Contains-append_cases}
+use Rattle.std.proofs.lemmas.List.Elements.{All-get_or, Contains-append_left, Contains-append_right, Contains-get_or, Contains-push, Contains-push_cases}
+use Rattle.std.proofs.lemmas.List.Elements.{Contains-append_cases}
 use Rattle.wp_lengths.proofs.FewerOrders.{same_length}
 use Rattle.wp_lengths.specs.Batchings.{batch_at}
 use Rattle.wp_lengths.specs.Duals.{duals_of}
@@ -16,7 +17,7 @@ use Rattle.wp_pairs.proofs.SumsUnder.{under_all}
 use Rattle.wp_pairs.specs.Permitted.{IsPermitted, Pairing}
 use Rattle.wp_master.proofs.Sums.{total_most, total_times}
 use Rattle.wp_master.specs.Bases.{total_below}
-use Rattle.wp_master.specs.Pairs.{number_of}
+use Rattle.wp_master.specs.Pairs.{number_at}
 use Rattle.wp_master.specs.Pools.{column_of}
 use Rattle.wp_master.specs.declared.column.Column.{Column}
 use Rattle.wp_lp.proofs.Sides.{known_orders, total_under}
@@ -82,7 +83,8 @@ no_negative : (wave : WavePicks) (pairing : Pairing) (batches : List (List ℕ))
 no_negative wave pairing batches batch as_many priced is =
     let pool = priced.pool in
     let k = is.0 in
-    let within : k < length pool.columns = omega (arith, is.1, ap (λ (xs : List (List ℕ)). length xs) priced.pool_of.are, length-map pool.columns (λ (column : Column). column.batch)) in
+    let within : k < length pool.columns = omega
+    (arith, is.1, ap (λ (xs : List (List ℕ)). length xs) priced.pool_of.are, length-map pool.columns (λ (column : Column). column.batch)) in
     let column = column_of pool k in
     let same : column.batch ≡ batch = sym (get_or-map (λ (column : Column). column.batch) pool.columns k _ batch within)
     ∙ ap (λ (xs : List (List ℕ)). get_or xs k batch) priced.pool_of.are ∙ is.2 in
@@ -91,14 +93,14 @@ no_negative wave pairing batches batch as_many priced is =
     let sixtieths = priced.sixtieths in
     let duals = priced.duals in
     let own = λ (order : ℕ). cond (has batch order) (pos (slice_index sixtieths order)) (pos 0) in
-    let theirs = λ (order : ℕ). cond (has batch order) (number_of duals order) (pos 0) in
+    let theirs = λ (order : ℕ). cond (has batch order) (number_at duals order) (pos 0) in
     let orders = priced.pool_of.orders in
     let fit : total_below n theirs ≤ℤ (q *ℤ pos column.length) =
     subst (λ (m : ℕ). total_below m theirs ≤ℤ (q *ℤ pos column.length)) orders
-    (subst (λ (b : List ℕ). total_below pool.orders (λ (order : ℕ). cond (has b order) (number_of duals order) (pos 0)) ≤ℤ (q *ℤ pos column.length)) same
+    (subst (λ (b : List ℕ). total_below pool.orders (λ (order : ℕ). cond (has b order) (number_at duals order) (pos 0)) ≤ℤ (q *ℤ pos column.length)) same
     (priced.answer.fit k within)) in
     let most = total_most n (λ (order : ℕ). q *ℤ own order) (λ (order : ℕ). pos 60 *ℤ theirs order)
-    (λ order low. scaled_cond (has batch order) (number_of duals order) q (slice_index sixtieths order)
+    (λ order low. scaled_cond (has batch order) (number_at duals order) q (slice_index sixtieths order)
     (priced.rounded.each order (omega (arith, low, orders, priced.answer.are_duals.count))).reached) in
     let left = total_times n q own in
     let right = total_times n (pos 60) theirs in

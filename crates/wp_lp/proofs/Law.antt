@@ -8,7 +8,7 @@ use Rattle.wp_master.proofs.Numbers.{product_of_product, product_of_sum}
 use Rattle.wp_master.proofs.Sums.{total_of_sums, total_times}
 use Rattle.wp_master.proofs.Totals.{no_total, same_total}
 use Rattle.wp_master.specs.Bases.{total_below}
-use Rattle.wp_master.specs.Pairs.{number_of}
+use Rattle.wp_master.specs.Pairs.{number_at}
 use Rattle.wp_lengths.specs.Duals.{AreFeasible, duals_of}
 use Rattle.wp_price.specs.Slacks.{IsLeastSlack}
 use Rattle.wp_lengths.specs.Waves.{WavePicks}
@@ -44,25 +44,26 @@ one_more first rest w long high other q one more is =
 pub cover_most : (wave : WavePicks) (pairing : Pairing) (duals : List ℤ) (q : ℤ) (batches : List (List ℕ)) (weights : List ℤ) (high : ℤ)
     → AreFeasibleOver wave pairing duals q → All (λ (w : ℤ). pos 0 ≤ℤ w) weights → All (IsPermitted pairing) batches
     → IsWeightedLength wave batches weights high
-    → total_below (length wave.orders) (λ (order : ℕ). weight_with batches weights order *ℤ number_of duals order) ≤ℤ (high *ℤ q)
+    → total_below (length wave.orders) (λ (order : ℕ). weight_with batches weights order *ℤ number_at duals order) ≤ℤ (high *ℤ q)
 cover_most wave pairing duals q [] weights high feasible least permitted long =
-    none_times high q _ long (no_total (length wave.orders) (λ (o : ℕ). pos 0 *ℤ number_of duals o) (λ o low. omega (arith, ints)))
+    none_times high q _ long (no_total (length wave.orders) (λ (o : ℕ). pos 0 *ℤ number_at duals o) (λ o low. omega (arith, ints)))
 cover_most wave pairing duals q (batch ∷ batches) [] high feasible least permitted long =
-    none_times high q _ long (no_total (length wave.orders) (λ (o : ℕ). pos 0 *ℤ number_of duals o) (λ o low. omega (arith, ints)))
+    none_times high q _ long (no_total (length wave.orders) (λ (o : ℕ). pos 0 *ℤ number_at duals o) (λ o low. omega (arith, ints)))
 cover_most wave pairing duals q (batch ∷ batches) (weight ∷ weights) high feasible least permitted long =
     let n = length wave.orders in
-    let own = λ (o : ℕ). cond (has batch o) weight (pos 0) *ℤ number_of duals o in
-    let others = λ (o : ℕ). weight_with batches weights o *ℤ number_of duals o in
+    let own = λ (o : ℕ). cond (has batch o) weight (pos 0) *ℤ number_at duals o in
+    let others = λ (o : ℕ). weight_with batches weights o *ℤ number_at duals o in
     let rest = cover_most wave pairing duals q batches weights long.1 feasible (All-tail (λ (w : ℤ). pos 0 ≤ℤ w) weight weights least)
     (All-tail (IsPermitted pairing) batch batches permitted) long.3 in
     let not_below = All-head (λ (w : ℤ). pos 0 ≤ℤ w) weight weights least in
     let within = feasible.within batch long.0 (All-head (IsPermitted pairing) batch batches permitted) long.2 in
     let taken : total_below n own ≡ weight *ℤ dual_sum n duals batch =
-    same_total n own (λ (o : ℕ). weight *ℤ cond (has batch o) (number_of duals o) (pos 0)) (λ o low. either_part (has batch o) weight (number_of duals o))
-    ∙ sym (total_times n weight (λ (o : ℕ). cond (has batch o) (number_of duals o) (pos 0))) in
+    same_total n own (λ (o : ℕ). weight *ℤ cond (has batch o) (number_at duals o) (pos 0)) (λ o low. either_part (has batch o) weight (number_at duals o))
+    ∙ sym (total_times n weight (λ (o : ℕ). cond (has batch o) (number_at duals o) (pos 0))) in
     let most = times_most weight _ _ not_below within in
-    let split = same_total n (λ (o : ℕ). (cond (has batch o) weight (pos 0) +ℤ weight_with batches weights o) *ℤ number_of duals o)
-    (λ (o : ℕ). own o +ℤ others o) (λ o low. sum_times (cond (has batch o) weight (pos 0)) (weight_with batches weights o) (number_of duals o)) ∙ total_of_sums n own others in
+    let split = same_total n (λ (o : ℕ). (cond (has batch o) weight (pos 0) +ℤ weight_with batches weights o) *ℤ number_at duals o)
+    (λ (o : ℕ). own o +ℤ others o) (λ o low. sum_times (cond (has batch o) weight (pos 0)) (weight_with batches weights o) (number_at duals o)) ∙ total_of_sums
+    n own others in
     let both = one_more (total_below n own) (total_below n others) weight (pos long.0) high long.1 q (omega (arith, ints, taken, most)) rest long.4 in
     omega (arith, ints, split, both)
 
@@ -72,10 +73,10 @@ pub below_covers : (wave : WavePicks) (pairing : Pairing) (duals : List ℤ) (lo
 below_covers wave pairing duals low q feasible is batches weights other high cover long =
     let n = length wave.orders in
     let most = cover_most wave pairing duals q batches weights high feasible cover.not_below cover.permitted long in
-    let same : other *ℤ sum_of_duals n duals ≡ total_below n (λ (o : ℕ). weight_with batches weights o *ℤ number_of duals o) =
-    total_times n other (number_of duals)
-    ∙ same_total n (λ (o : ℕ). other *ℤ number_of duals o) (λ (o : ℕ). weight_with batches weights o *ℤ number_of duals o)
-    (λ o low. ap (λ (t : ℤ). t *ℤ number_of duals o) (sym (cover.exact o low))) in
+    let same : other *ℤ sum_of_duals n duals ≡ total_below n (λ (o : ℕ). weight_with batches weights o *ℤ number_at duals o) =
+    total_times n other (number_at duals)
+    ∙ same_total n (λ (o : ℕ). other *ℤ number_at duals o) (λ (o : ℕ). weight_with batches weights o *ℤ number_at duals o)
+    (λ o low. ap (λ (t : ℤ). t *ℤ number_at duals o) (sym (cover.exact o low))) in
     let turned = *ℤ_comm low other in
     let whole = ap (λ (t : ℤ). other *ℤ t) is in
     omega (arith, ints, most, same, turned, whole)

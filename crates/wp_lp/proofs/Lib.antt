@@ -10,3 +10,5 @@ pub mod Bounds
 pub mod ShareDuals
 pub mod FewRounds
 pub mod Covered
+pub mod Within
+pub mod Scaled

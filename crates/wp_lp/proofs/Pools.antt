@@ -56,7 +56,8 @@ pub run_goes_on : (wave : WavePicks) (pairing : Pairing) (made : ℕ) (batch : L
     → IsPriced wave pairing (batches_of old) batch → IsLengthOf wave batch long → long < 2 ^ 28
     → new ≡ record { orders = old.orders; columns = old.columns ++ record { batch = batch; length = long } ∷ [] } → IsRunPool wave pairing (suc made) new
 run_goes_on wave pairing made batch long old new before priced is small e =
-    let more = one_more_column wave pairing (batches_of old) batch long old new (record { are = refl; short = before.is_pool }) priced.permitted is small e in record {
+    let more = one_more_column wave pairing (batches_of old) batch long old new
+    (record { are = refl; short = before.is_pool }) priced.permitted is small e in record {
       run = subst (PricedRun wave pairing (suc made)) (sym more.are) (onward before.run priced);
       is_pool = more.short;
     }

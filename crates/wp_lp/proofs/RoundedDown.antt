@@ -6,7 +6,8 @@ use Rattle.std.proofs.lemmas.Int.{ints}
 use Rattle.std.proofs.lemmas.List.{get_or_append_left, get_or_push}
 use Rattle.wp_lp.specs.Runs.{IsSixtieths}
 
-rounded : (n d r : ℕ) → 0 < d → r ≡ n / d → (r * d ≤ n) × (n < (r + 1) * d)
+-- a quotient of natural numbers, times the divisor, and one more time
+pub rounded : (n d r : ℕ) → 0 < d → r ≡ n / d → (r * d ≤ n) × (n < (r + 1) * d)
 rounded n d r some is =
     let whole = div-add-mod' n d in
     let small = mod_below n d some in

@@ -14,42 +14,42 @@ use Rattle.wp_pairs.proofs.SumsUnder.{sum_under, under_all, under_none, under_wi
 use Rattle.wp_pairs.specs.Permitted.{IsPermitted, Pairing}
 use Rattle.wp_master.proofs.Totals.{same_total}
 use Rattle.wp_master.specs.Bases.{total_below}
-use Rattle.wp_master.specs.Pairs.{number_of}
+use Rattle.wp_master.specs.Pairs.{number_at}
 use Rattle.wp_lp.proofs.Holds.{has_tells, has_true}
 use Rattle.wp_lp.specs.Covers.{AreFeasibleOver, IsFractionalCover, IsWeightedLength, dual_sum, has, sum_of_duals, weight_with}
-use Rattle.wp_lp.specs.Parts.{AreExact, IsPart, IsRootOf, cost_of, cover_of, weighed, weight_for}
+use Rattle.wp_lp.specs.Parts.{AreExact, IsWeightedBatch, IsRootOf, cost_of, cover_of, weighed, weight_for}
 use Rattle.wp_lp.specs.Roots.{IsBracket, IsNarrow}
 use Rattle.wp_lp.specs.Runs.{AreSixtieths}
-use Rattle.wp_lp.specs.declared.part.Part.{Part}
+use Rattle.wp_lp.specs.declared.part.WeightedBatch.{WeightedBatch}
 use Rattle.wp_lp.specs.declared.root.Root.{Root}
 use Rattle.wp_lp.specs.declared.root.RootState.{RootState}
 
-batches_in : List Part → List (List ℕ)
-batches_in parts = map (λ (part : Part). part.batch) parts
+batches_in : List WeightedBatch → List (List ℕ)
+batches_in parts = map (λ (part : WeightedBatch). part.batch) parts
 
-weights_in : List Part → List ℤ
-weights_in parts = map (λ (part : Part). pos part.weight) parts
+weights_in : List WeightedBatch → List ℤ
+weights_in parts = map (λ (part : WeightedBatch). pos part.weight) parts
 
 own_weight : (b : Bool) (w rest : ℕ) → cond b (pos w) (pos 0) +ℤ pos rest ≡ pos (cond b w 0 + rest)
 own_weight true w rest = refl
 own_weight false w rest = refl
 
-weights_sum : (parts : List Part) (order : ℕ) → weight_with (batches_in parts) (weights_in parts) order ≡ pos (cover_of parts order)
+weights_sum : (parts : List WeightedBatch) (order : ℕ) → weight_with (batches_in parts) (weights_in parts) order ≡ pos (cover_of parts order)
 unfolding batches_in weights_in
 weights_sum [] order = refl
 weights_sum (part ∷ parts) order =
     ap (λ (t : ℤ). cond (has part.batch order) (pos part.weight) (pos 0) +ℤ t) (weights_sum parts order)
     ∙ own_weight (has part.batch order) part.weight (cover_of parts order) ∙ ap pos (sym (sum_by-cons (weight_for order) part parts))
 
-weighted_length : (wave : WavePicks) (pairing : Pairing) (parts : List Part) → All (IsPart wave pairing) parts
+weighted_length : (wave : WavePicks) (pairing : Pairing) (parts : List WeightedBatch) → All (IsWeightedBatch wave pairing) parts
     → IsWeightedLength wave (batches_in parts) (weights_in parts) (pos (cost_of parts))
 unfolding batches_in weights_in
 weighted_length wave pairing [] each = refl
 weighted_length wave pairing (part ∷ parts) each = (
   part.length,
   pos (cost_of parts),
-  (All-head (IsPart wave pairing) part parts each).long,
-  weighted_length wave pairing parts (All-tail (IsPart wave pairing) part parts each),
+  (All-head (IsWeightedBatch wave pairing) part parts each).long,
+  weighted_length wave pairing parts (All-tail (IsWeightedBatch wave pairing) part parts each),
   ap pos (sum_by-cons weighed part parts),
 )
 
@@ -94,7 +94,7 @@ duals_in : List ℕ → ℕ → List ℤ
 duals_in sixtieths over = map (λ (dual : ℕ). pos (dual * over)) sixtieths
 
 dual_at : (sixtieths : List ℕ) (over order : ℕ) → order < length sixtieths
-    → number_of (duals_in sixtieths over) order ≡ pos (slice_index sixtieths order * over)
+    → number_at (duals_in sixtieths over) order ≡ pos (slice_index sixtieths order * over)
 unfolding duals_in
 dual_at sixtieths over order low = get_or-map (λ (dual : ℕ). pos (dual * over)) sixtieths order 0 (pos 0) low
 
@@ -106,7 +106,7 @@ duals_sum : (sixtieths : List ℕ) (over n : ℕ) (batch : List ℕ) → length 
     → ((x : ℕ) → Contains batch x → x < n) → dual_sum n (duals_in sixtieths over) batch ≡ pos (duals_of sixtieths batch * over)
 duals_sum sixtieths over n batch count up known =
     let scaled = λ (order : ℕ). slice_index sixtieths order * over in
-    same_total n (λ (order : ℕ). cond (has batch order) (number_of (duals_in sixtieths over) order) (pos 0))
+    same_total n (λ (order : ℕ). cond (has batch order) (number_at (duals_in sixtieths over) order) (pos 0))
     (λ (order : ℕ). cond (has batch order) (pos (scaled order)) (pos 0))
     (λ order low. same_cond (has batch order) _ _ (dual_at sixtieths over order (omega (arith, low, count))))
     ∙ total_under scaled n batch up
@@ -114,7 +114,7 @@ duals_sum sixtieths over n batch count up known =
 
 low_sum : (sixtieths : List ℕ) (over n : ℕ) → length sixtieths ≡ n → sum_of_duals n (duals_in sixtieths over) ≡ pos (sum sixtieths * over)
 low_sum sixtieths over n count =
-    same_total n (number_of (duals_in sixtieths over)) (λ (place : ℕ). pos (slice_index sixtieths place * over))
+    same_total n (number_at (duals_in sixtieths over)) (λ (place : ℕ). pos (slice_index sixtieths place * over))
     (λ order low. dual_at sixtieths over order (omega (arith, low, count)))
     ∙ total_taken sixtieths over n (omega (arith, count))
     ∙ ap (λ (xs : List ℕ). pos (sum xs * over)) (take_all n sixtieths (omega (arith, count)))
@@ -146,21 +146,21 @@ feasible_over wave pairing sixtieths over feasible count as_many = record {
       omega (arith, ints, sums, most);
 }
 
-cover_in : (wave : WavePicks) (pairing : Pairing) (parts : List Part) (over : ℕ) → All (IsPart wave pairing) parts
+cover_in : (wave : WavePicks) (pairing : Pairing) (parts : List WeightedBatch) (over : ℕ) → All (IsWeightedBatch wave pairing) parts
     → AreExact (length wave.orders) (60 * over) parts → 1 ≤ over → IsFractionalCover wave pairing (batches_in parts) (weights_in parts) (pos (60 * over))
 unfolding batches_in weights_in
 cover_in wave pairing parts over each exact some = record {
   above = omega (arith, ints, some);
-  count = length-map parts (λ (part : Part). pos part.weight) ∙ sym (length-map parts (λ (part : Part). part.batch));
-  not_below = All-map (λ (w : ℤ). pos 0 ≤ℤ w) (λ (part : Part). pos part.weight) parts (λ k d low. omega (arith, ints));
-  permitted = All-map (IsPermitted pairing) (λ (part : Part). part.batch) parts
-      (All-weaker (IsPart wave pairing) (λ (part : Part). IsPermitted pairing part.batch) (λ part is. is.permitted) parts each);
+  count = length-map parts (λ (part : WeightedBatch). pos part.weight) ∙ sym (length-map parts (λ (part : WeightedBatch). part.batch));
+  not_below = All-map (λ (w : ℤ). pos 0 ≤ℤ w) (λ (part : WeightedBatch). pos part.weight) parts (λ k d low. omega (arith, ints));
+  permitted = All-map (IsPermitted pairing) (λ (part : WeightedBatch). part.batch) parts
+      (All-weaker (IsWeightedBatch wave pairing) (λ (part : WeightedBatch). IsPermitted pairing part.batch) (λ part is. is.permitted) parts each);
   exact = λ order low. weights_sum parts order ∙ ap pos (exact order low);
 }
 
 -- the bracket of exact parts and of feasible duals
-pub bracket_of : (wave : WavePicks) (pairing : Pairing) (parts : List Part) (sixtieths : List ℕ) (over : ℕ) (state : RootState) (root : Root)
-    → IsRootOf parts sixtieths over state root → All (IsPart wave pairing) parts → AreExact (length wave.orders) (60 * over) parts → 1 ≤ over
+pub bracket_of : (wave : WavePicks) (pairing : Pairing) (parts : List WeightedBatch) (sixtieths : List ℕ) (over : ℕ) (state : RootState) (root : Root)
+    → IsRootOf parts sixtieths over state root → All (IsWeightedBatch wave pairing) parts → AreExact (length wave.orders) (60 * over) parts → 1 ≤ over
     → AreFeasible wave pairing sixtieths → length sixtieths ≡ length wave.orders → pairing.orders ≡ length wave.orders → IsBracket wave pairing root
 unfolding weights_in batches_in duals_in
 bracket_of wave pairing parts sixtieths over state root is each exact some feasible count as_many = record {
@@ -183,8 +183,8 @@ bracket_of wave pairing parts sixtieths over state root is each exact some feasi
 }
 
 -- a part that has an order and a length weighs no more than each order does
-pub weights_small : (wave : WavePicks) (pairing : Pairing) (parts : List Part) (whole most : ℕ) → All (IsPart wave pairing) parts
-    → AreExact (length wave.orders) whole parts → pairing.orders ≡ length wave.orders → whole < most → All (λ (part : Part). part.weight < most) parts
+pub weights_small : (wave : WavePicks) (pairing : Pairing) (parts : List WeightedBatch) (whole most : ℕ) → All (IsWeightedBatch wave pairing) parts
+    → AreExact (length wave.orders) whole parts → pairing.orders ≡ length wave.orders → whole < most → All (λ (part : WeightedBatch). part.weight < most) parts
 weights_small wave pairing parts whole most each exact as_many less = λ k d low.
     let part = slice_index_or parts k d in
     let permitted = (each k d low).permitted in
@@ -206,12 +206,12 @@ narrow_sum (suc n) v s over less =
 -- a bracket is narrow where its cover costs no more than the duals that were rounded down
 pub narrow_of : (n over : ℕ) (duals : List ℤ) (sixtieths : List ℕ) (denominator low high q : ℤ) (cost : ℕ) → 1 ≤ n → length duals ≡ n
     → AreSixtieths duals denominator sixtieths → pos over ≡ denominator → low ≡ pos (sum sixtieths * over) → high ≡ pos cost → q ≡ pos (60 * over)
-    → pos cost ≤ℤ (pos 60 *ℤ total_below n (number_of duals)) → IsNarrow n low high q
+    → pos cost ≤ℤ (pos 60 *ℤ total_below n (number_at duals)) → IsNarrow n low high q
 narrow_of n over duals sixtieths denominator low high q cost some count rounded is low_is high_is q_is most =
     let next = λ (k : ℕ) (within : k < n).
-    subst (λ (d : ℤ). (pos 60 *ℤ number_of duals k) <ℤ (pos (slice_index sixtieths k + 1) *ℤ d)) (sym is)
+    subst (λ (d : ℤ). (pos 60 *ℤ number_at duals k) <ℤ (pos (slice_index sixtieths k + 1) *ℤ d)) (sym is)
     (rounded.each k (subst (λ (m : ℕ). k < m) (sym count) within)).next in
-    let sums = narrow_sum n (number_of duals) (slice_index sixtieths) over next in
+    let sums = narrow_sum n (number_at duals) (slice_index sixtieths) over next in
     let taken = total_taken sixtieths over n (omega (arith, rounded.count, count))
     ∙ ap (λ (xs : List ℕ). pos (sum xs * over)) (take_all n sixtieths (omega (arith, rounded.count, count))) in
     let product : pos n *ℤ pos (60 * over) ≡ pos (60 * (n * over)) = omega (arith, ints) in

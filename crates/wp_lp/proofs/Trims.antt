@@ -1,20 +1,21 @@
 -- Parts of a cover that are put behind others, and orders that are taken out of them.
-use Rattle.std.proofs.Common.{◌≡◌, ◌≢◌, ◌⊎◌, ⊎_elim, inl, inr, ℕ, ◌+◌, ◌-◌, ◌*◌, ◌≤◌, ◌<◌, min, Bool, true, false, cond, List, [], ◌∷◌, ◌++◌, length, take, get_or, Contains}
+use Rattle.std.proofs.Common.{◌≡◌, ◌≢◌, ◌⊎◌, ⊎_elim, inl, inr, ℕ, ◌+◌, ◌-◌, ◌*◌, ◌≤◌, ◌<◌, min, Bool, true, false, cond, List, [], ◌∷◌, ◌++◌, length, take}
+use Rattle.std.proofs.Common.{get_or, Contains}
 use Rattle.std.proofs.Common.{arith, ap, sym, subst, refl, ◌∙◌}
 use Rattle.std.proofs.lemmas.List.Elements.{All-push}
 use Rattle.std.proofs.lemmas.List.Sums.{sum_by_more, sum_by_push}
 use Rattle.std.specs.Prelude.{◌↔◌}
 use Rattle.wp_lp.proofs.Holds.{has_alike, has_false}
 use Rattle.wp_lp.specs.Covers.{has}
-use Rattle.wp_lp.specs.Parts.{IsAdded, IsCut, IsPart, IsTrimmed, cost_of, cover_of, weighed, weight_for}
-use Rattle.wp_lp.specs.declared.part.Part.{Part}
+use Rattle.wp_lp.specs.Parts.{IsAdded, IsCut, IsWeightedBatch, IsTrimmed, cost_of, cover_of, weighed, weight_for}
+use Rattle.wp_lp.specs.declared.part.WeightedBatch.{WeightedBatch}
 
 -- a part that has some order is put behind others
-pub added_part : (part : Part) (before after : List Part) → after ≡ before ++ part ∷ [] → 0 < length part.batch → IsAdded part before after
+pub added_part : (part : WeightedBatch) (before after : List WeightedBatch) → after ≡ before ++ part ∷ [] → 0 < length part.batch → IsAdded part before after
 added_part part before after e some = subst (IsAdded part before) (sym e) (record {
   covers = λ order. sum_by_push (weight_for order) before part;
   cost = omega (arith, sum_by_push weighed before part);
-  each = λ wave pairing old new. All-push (IsPart wave pairing) before part old (new some);
+  each = λ wave pairing old new. All-push (IsWeightedBatch wave pairing) before part old (new some);
 })
 
 times_less : (w a b : ℕ) → a ≤ b → w * a ≤ w * b
@@ -23,7 +24,7 @@ times_less w a b less = let k = b - a in
     rw e (omega arith)
 
 -- without an order a part has the others alike, and is no longer
-pub cut_part : (part : Part) (order weight : ℕ) (batch : List ℕ) (long : ℕ) (before after : List Part)
+pub cut_part : (part : WeightedBatch) (order weight : ℕ) (batch : List ℕ) (long : ℕ) (before after : List WeightedBatch)
     → ((p : ℕ) → Contains batch p ↔ (Contains part.batch p × (p ≢ order))) → long ≤ part.length
     → IsAdded (record { batch = batch; length = long; weight = weight }) before after → IsCut part order weight before after
 cut_part part order weight batch long before after orders short added = record {
@@ -38,7 +39,7 @@ cut_part part order weight batch long before after orders short added = record {
 }
 
 -- a part without an order is put behind others as it is
-pub kept_part : (part : Part) (order left : ℕ) (before after : List Part) → (Contains part.batch order → ⊥) → IsAdded part before after
+pub kept_part : (part : WeightedBatch) (order left : ℕ) (before after : List WeightedBatch) → (Contains part.batch order → ⊥) → IsAdded part before after
     → IsTrimmed part order left left before after
 kept_part part order left before after none added =
     let nothing = ap (λ (b : Bool). cond b part.weight 0) (has_false part.batch order none) in
@@ -62,7 +63,8 @@ either : (a b : ℕ) → (a ≤ b) ⊎ (b ≤ a)
 either a b = grind arith
 
 -- a part with an order is put behind others in two parts: with it as far as some weight is left, and else without it
-pub split_part : (part : Part) (order left kept : ℕ) (before middle after : List Part) → Contains part.batch order → kept ≡ min part.weight left
+pub split_part : (part : WeightedBatch) (order left kept : ℕ) (before middle after : List WeightedBatch) → Contains part.batch order
+    → kept ≡ min part.weight left
     → IsAdded (record { batch = part.batch; length = part.length; weight = kept }) before middle → IsCut part order (part.weight - kept) middle after
     → (has part.batch order ≡ true) → IsTrimmed part order left (left - kept) before after
 split_part part order left kept before middle after is least added cut tells =
@@ -82,7 +84,7 @@ split_part part order left kept before middle after is least added cut tells =
     }
 
 -- one more part of a list is trimmed
-pub more_trimmed : (parts : List Part) (i order whole left rest : ℕ) (part : Part) (before after : List Part) → i < length parts
+pub more_trimmed : (parts : List WeightedBatch) (i order whole left rest : ℕ) (part : WeightedBatch) (before after : List WeightedBatch) → i < length parts
     → part ≡ get_or parts i part → IsTrimmed part order left rest before after
     → ((other : ℕ) → other ≢ order → cover_of before other ≡ cover_of (take i parts) other)
     → (cover_of before order + left ≡ whole) → ((left ≡ 0) ⊎ (cover_of before order ≡ cover_of (take i parts) order))
@@ -94,8 +96,8 @@ pub more_trimmed : (parts : List Part) (i order whole left rest : ℕ) (part : P
     }
 more_trimmed parts i order whole left rest part before after low is trimmed others own spent cost =
     let more = λ (other : ℕ). sum_by_more (weight_for other) parts i part low
-    ∙ ap (λ (p : Part). cover_of (take i parts) other + weight_for other p) (sym is) in
-    let dearer = sum_by_more weighed parts i part low ∙ ap (λ (p : Part). cost_of (take i parts) + weighed p) (sym is) in
+    ∙ ap (λ (p : WeightedBatch). cover_of (take i parts) other + weight_for other p) (sym is) in
+    let dearer = sum_by_more weighed parts i part low ∙ ap (λ (p : WeightedBatch). cost_of (take i parts) + weighed p) (sym is) in
     record {
       others = λ other apart. omega (arith, trimmed.others other apart, others other apart, more other);
       own = omega (arith, trimmed.own, own);

@@ -1,12 +1,13 @@
 -- Fractional covers of a wave, what they cost, and duals of which no permitted batch has too much.
 use Rattle.std.specs.List.{list_any}
-use Rattle.std.specs.Prelude.{◌≡◌, ℕ, ◌<◌, ◌==◌, Bool, if◌then◌else◌, List, [], ◌∷◌, All, length, ℤ, pos, ◌+ℤ◌, ◌*ℤ◌, ◌≤ℤ◌}
+use Rattle.std.specs.Prelude.{◌≡◌, ℕ, ◌<◌, ◌==◌, Bool, if◌then◌else◌, List, [], ◌∷◌, All, length, ℤ, pos, ◌+ℤ◌, ◌*ℤ◌}
+use Rattle.std.specs.Prelude.{◌≤ℤ◌}
 use Rattle.wp_pairs.specs.Permitted.{IsPermitted, Pairing}
 use Rattle.wp_lengths.specs.Batchings.{no_pairs}
 use Rattle.wp_lengths.specs.Lengths.{IsLengthOf}
 use Rattle.wp_lengths.specs.Waves.{WavePicks}
 use Rattle.wp_master.specs.Bases.{total_below}
-use Rattle.wp_master.specs.Pairs.{AreNumbers, number_of}
+use Rattle.wp_master.specs.Pairs.{AreNumbers, number_at}
 
 -- the pairs of a wave for a capacity: of no two orders it is decided whether they go together
 abbrev pub pairs_of : WavePicks → ℕ → Pairing
@@ -20,18 +21,22 @@ has batch order = list_any (λ (held : ℕ). held == order) batch
 abbrev pub weight_with : List (List ℕ) → List ℤ → ℕ → ℤ
 weight_with [] weights order = pos 0
 weight_with (batch ∷ batches) [] order = pos 0
-weight_with (batch ∷ batches) (weight ∷ weights) order = (if has batch order then weight else pos 0) +ℤ weight_with batches weights order
+weight_with (batch ∷ batches) (weight ∷ weights) order
+    = (if has batch order then weight else pos 0) +ℤ weight_with batches weights order
 
 -- the shortest lengths of batches, each times its weight, sum to this
 abbrev pub IsWeightedLength : WavePicks → List (List ℕ) → List ℤ → ℤ → Type 0
 IsWeightedLength wave [] weights total = total ≡ pos 0
 IsWeightedLength wave (batch ∷ batches) [] total = total ≡ pos 0
 IsWeightedLength wave (batch ∷ batches) (weight ∷ weights) total =
-    (long : ℕ) × (rest : ℤ) × IsLengthOf wave batch long × IsWeightedLength wave batches weights rest × (total ≡ (weight *ℤ pos long) +ℤ rest)
+    (long : ℕ) × (rest : ℤ) × IsLengthOf wave batch long × IsWeightedLength wave batches weights rest
+    × (total ≡ (weight *ℤ pos long) +ℤ rest)
 
--- A fractional cover of a wave: permitted batches with whole weights that aren't below 0, over a denominator of at least 1, such that for each order the weights
--- of the batches with it sum to the denominator. It costs the sum of its weights, each times the shortest length of its batch, over the denominator.
-pub record IsFractionalCover (wave : WavePicks) (pairing : Pairing) (batches : List (List ℕ)) (weights : List ℤ) (denominator : ℤ) : Type 0 where
+-- A fractional cover of a wave: permitted batches with whole weights that aren't below 0, over a denominator of at
+-- least 1, such that for each order the weights of the batches with it sum to the denominator. It costs the sum of its
+-- weights, each times the shortest length of its batch, over the denominator.
+pub record IsFractionalCover (wave : WavePicks) (pairing : Pairing) (batches : List (List ℕ)) (weights : List ℤ)
+    (denominator : ℤ) : Type 0 where
   pub above : pos 1 ≤ℤ denominator
   pub count : length weights ≡ length batches
   pub not_below : All (λ (weight : ℤ). pos 0 ≤ℤ weight) weights
@@ -40,13 +45,15 @@ pub record IsFractionalCover (wave : WavePicks) (pairing : Pairing) (batches : L
 
 -- what a batch has in duals: the sum of the duals of its orders, of so many
 abbrev pub dual_sum : ℕ → List ℤ → List ℕ → ℤ
-dual_sum orders duals batch = total_below orders (λ (order : ℕ). if has batch order then number_of duals order else pos 0)
+dual_sum orders duals batch = total_below orders (λ (order : ℕ). if has batch order then number_at duals order
+    else pos 0)
 
 -- the sum of the duals of so many orders
 abbrev pub sum_of_duals : ℕ → List ℤ → ℤ
-sum_of_duals orders duals = total_below orders (number_of duals)
+sum_of_duals orders duals = total_below orders (number_at duals)
 
--- duals, one for each order and none below 0, of which no permitted batch has more than the denominator times its shortest length
+-- duals, one for each order and none below 0, of which no permitted batch has more than the denominator times its
+-- shortest length
 pub record AreFeasibleOver (wave : WavePicks) (pairing : Pairing) (duals : List ℤ) (denominator : ℤ) : Type 0 where
   pub are_numbers : AreNumbers (length wave.orders) duals
   pub within : (batch : List ℕ) (long : ℕ) → IsPermitted pairing batch → IsLengthOf wave batch long

@@ -3,3 +3,4 @@ pub mod Runs
 pub mod Roots
 pub mod Parts
 pub mod Rounds
+pub mod Knowns

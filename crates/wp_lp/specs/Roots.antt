@@ -18,7 +18,8 @@ IsNarrow orders low high denominator = (pos 60 *ℤ (high -ℤ low)) <ℤ (pos o
 
 -- the denominator of a table, or an entry of its last row
 abbrev pub IsOfLastRow : ColumnPool → Table → ℤ → Type 0
-IsOfLastRow pool table value = (value ≡ table.denominator) ⊎ ((place : ℕ) × (place < places pool) × (value ≡ entry_of table (last_row pool) place))
+IsOfLastRow pool table value = (value ≡ table.denominator)
+    ⊎ ((place : ℕ) × (place < places pool) × (value ≡ entry_of table (last_row pool) place))
 
 -- the denominator or an entry of the last row of a table to which a pivot run leads, and a number of at most 2 ^ 42
 pub record AreScaledWide (pool : ColumnPool) (left right : ℤ) : Type 0 where
@@ -29,7 +30,8 @@ pub record AreScaledWide (pool : ColumnPool) (left right : ℤ) : Type 0 where
   pub least : pos 0 ≤ℤ right
   pub most : right ≤ℤ pos (2 ^ 42)
 
--- two numbers whose product leaves 128 bits, for a pool of a wave's permitted batches: as `solve` tells them, or as one of its numbers is scaled
+-- two numbers whose product leaves 128 bits, for a pool of a wave's permitted batches: as `solve` tells them, or as one
+-- of its numbers is scaled
 pub record AreTooWide (wave : WavePicks) (pairing : Pairing) (left right : ℤ) : Type 0 where
   pub pool : ColumnPool
   pub is_pool : IsPermittedPool wave pairing pool
@@ -38,7 +40,8 @@ pub record AreTooWide (wave : WavePicks) (pairing : Pairing) (left right : ℤ) 
 
 -- a pool of a wave's permitted batches has a pivot run with so many pivots
 abbrev pub HasPivots : WavePicks → Pairing → ℕ → Type 0
-HasPivots wave pairing made = (pool : ColumnPool) × (table : Table) × IsPermittedPool wave pairing pool × PivotRun pool made table
+HasPivots wave pairing made = (pool : ColumnPool) × (table : Table) × IsPermittedPool wave pairing pool
+    × PivotRun pool made table
 
 -- a priced run in which so many batches were appended
 abbrev pub HasRun : WavePicks → Pairing → ℕ → Type 0

@@ -1,6 +1,6 @@
 -- Rounds of a search for a narrow bracket: the pools to which they lead, and how they end.
 use Rattle.std.specs.Int.{w128}
-use Rattle.std.specs.Prelude.{◌≡◌, ℕ, ◌<◌, ◌^◌, ◌⊎◌, FitsSigned, List, All, length, ℤ, pos, ◌*ℤ◌, ◌<ℤ◌}
+use Rattle.std.specs.Prelude.{◌≡◌, ℕ, ◌<◌, ◌^◌, ◌⊎◌, FitsSigned, List, All, ℤ, pos, ◌*ℤ◌, ◌<ℤ◌}
 use Rattle.wp_pairs.specs.Permitted.{IsPermitted, Pairing}
 use Rattle.wp_lengths.specs.Waves.{WavePicks}
 use Rattle.wp_master.specs.Faults.{IsTooWide}
@@ -10,12 +10,10 @@ use Rattle.wp_master.specs.declared.column.Column.{Column}
 use Rattle.wp_master.specs.declared.fault.MasterFault.{MasterFault}
 use Rattle.wp_master.specs.declared.fault.MasterFault.TheVariants as fault
 use Rattle.wp_price.specs.Slacks.{IsSlack}
-use Rattle.wp_lp.specs.Roots.{AreScaledWide, IsBracket, IsHalt, IsNarrow}
+use Rattle.wp_lp.specs.Roots.{AreScaledWide, IsHalt}
 use Rattle.wp_lp.specs.Runs.{IsPermittedPool, PricedRun, batches_of, most_turns}
 use Rattle.wp_lp.specs.declared.halt.Halt.{Halt}
 use Rattle.wp_lp.specs.declared.halt.Halt.TheVariants as halt
-use Rattle.wp_lp.specs.declared.root.Root.{Root}
-use Rattle.wp_lp.specs.declared.root.RootState.{RootState}
 use Rattle.wp_lp.specs.declared.root.RootState.TheVariants.{Narrow, Rounds, Turns, Wide}
 
 -- a pool of permitted batches of a wave with their shortest lengths, all of them below 2 ^ 28
@@ -54,21 +52,11 @@ IsPoolHalt pool (halt.Ended (Wide left right)) =
 
 -- a denominator whose product with 2 ^ 42 leaves 128 bits ends the search
 abbrev pub IsUnscalable : ℤ → Halt → Type 0
-IsUnscalable denominator answer = (answer ≡ halt.Ended (Wide denominator (pos (2 ^ 42)))) × (FitsSigned w128 (denominator *ℤ pos (2 ^ 42)) → ⊥)
+IsUnscalable denominator answer = (answer ≡ halt.Ended (Wide denominator (pos (2 ^ 42))))
+    × (FitsSigned w128 (denominator *ℤ pos (2 ^ 42)) → ⊥)
 
 -- why a search of so many rounds ended: never for want of a batch with some order
 abbrev pub IsEnd : WavePicks → Pairing → ℕ → Halt → Type 0
 IsEnd wave pairing rounds halt.Memory = Unit {0}
 IsEnd wave pairing rounds (halt.NoCover order) = ⊥
 IsEnd wave pairing rounds (halt.Ended state) = IsHalt wave pairing rounds state
-
--- a bracket in a state
-pub record IsBracketIn (wave : WavePicks) (pairing : Pairing) (state : RootState) (root : Root) : Type 0 where
-  pub bracket : IsBracket wave pairing root
-  pub is_state : root.state ≡ state
-
--- a narrow bracket
-pub record IsNarrowRoot (wave : WavePicks) (pairing : Pairing) (root : Root) : Type 0 where
-  pub bracket : IsBracket wave pairing root
-  pub is_state : root.state ≡ Narrow
-  pub narrow : IsNarrow (length wave.orders) root.low root.high root.denominator

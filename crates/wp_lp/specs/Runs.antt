@@ -1,10 +1,11 @@
 -- Priced runs: pools of a wave's batches, to each of which a batch of negative slack was appended.
-use Rattle.std.specs.Prelude.{◌≡◌, ℕ, suc, ◌+◌, ◌<◌, List, [], ◌∷◌, ◌++◌, All, Contains, length, map, slice_index, ℤ, pos, ◌*ℤ◌, ◌≤ℤ◌, ◌<ℤ◌}
+use Rattle.std.specs.Prelude.{◌≡◌, ℕ, suc, ◌+◌, ◌<◌, List, [], ◌∷◌, ◌++◌, All, Contains, length, map, slice_index, ℤ}
+use Rattle.std.specs.Prelude.{pos, ◌*ℤ◌, ◌≤ℤ◌, ◌<ℤ◌}
 use Rattle.wp_pairs.specs.Permitted.{IsPermitted, Pairing}
 use Rattle.wp_lengths.specs.Batchings.{batch_at}
 use Rattle.wp_lengths.specs.Lengths.{IsLengthOf}
 use Rattle.wp_lengths.specs.Waves.{WavePicks}
-use Rattle.wp_master.specs.Pairs.{AreNumbers, AreOfRun, CoverOrders, FitColumns, length_of, number_of, sum_of}
+use Rattle.wp_master.specs.Pairs.{AreNumbers, AreOfRun, CoverOrders, FitColumns, length_of, number_at, sum_of}
 use Rattle.wp_master.specs.Pools.{AreCovered, ColumnPool}
 use Rattle.wp_master.specs.declared.column.Column.{Column}
 use Rattle.wp_price.specs.Slacks.{IsSlack}
@@ -48,9 +49,11 @@ pub record IsSixtieths (value denominator : ℤ) (sixtieths : ℕ) : Type 0 wher
 -- the sixtieths of duals over a denominator, each rounded down
 pub record AreSixtieths (duals : List ℤ) (denominator : ℤ) (sixtieths : List ℕ) : Type 0 where
   pub count : length sixtieths ≡ length duals
-  pub each : (order : ℕ) → order < length duals → IsSixtieths (number_of duals order) denominator (slice_index sixtieths order)
+  pub each : (order : ℕ) → order < length duals
+      → IsSixtieths (number_at duals order) denominator (slice_index sixtieths order)
 
--- a permitted batch whose slack is negative for the duals, rounded down to sixtieths, that `solve` may answer for the pool of these batches
+-- a permitted batch whose slack is negative for the duals, rounded down to sixtieths, that `solve` may answer for the
+-- pool of these batches
 pub record IsPriced (wave : WavePicks) (pairing : Pairing) (batches : List (List ℕ)) (batch : List ℕ) : Type 0 where
   pub pool : ColumnPool
   pub pool_of : IsPoolOf wave batches pool
@@ -68,15 +71,18 @@ pub record IsPriced (wave : WavePicks) (pairing : Pairing) (batches : List (List
 -- permitted batches, such that each order is in one of them and in no other
 pub record IsBatchingUnder (pairing : Pairing) (batches : List (List ℕ)) : Type 0 where
   pub each : (place : ℕ) → place < length batches → IsPermitted pairing (batch_at batches place)
-  pub covered : (order : ℕ) → order < pairing.orders → (place : ℕ) × (place < length batches) × Contains (batch_at batches place) order
-  pub once : (order left right : ℕ) → left < length batches → right < length batches → Contains (batch_at batches left) order
+  pub covered : (order : ℕ) → order < pairing.orders
+      → (place : ℕ) × (place < length batches) × Contains (batch_at batches place) order
+  pub once : (order left right : ℕ) → left < length batches → right < length batches
+      → Contains (batch_at batches left) order
       → Contains (batch_at batches right) order → left ≡ right
 
--- the last list of a priced run in which so many batches were appended: the first list is a batching, and each further one is the one before with a priced
--- batch appended
+-- the last list of a priced run in which so many batches were appended: the first list is a batching, and each further
+-- one is the one before with a priced batch appended
 pub data PricedRun (wave : WavePicks) (pairing : Pairing) : ℕ → List (List ℕ) → Type 0 where
   start : {batches : List (List ℕ)} → IsBatchingUnder pairing batches → PricedRun wave pairing 0 batches
-  onward : {made : ℕ} {batches : List (List ℕ)} {batch : List ℕ} → PricedRun wave pairing made batches → IsPriced wave pairing batches batch
+  onward : {made : ℕ} {batches : List (List ℕ)} {batch : List ℕ} → PricedRun wave pairing made batches
+      → IsPriced wave pairing batches batch
       → PricedRun wave pairing (suc made) (batches ++ batch ∷ [])
 
 -- a list that has each permitted batch

@@ -1,7 +1,8 @@
 use wp_pairs::Batch;
 
-/// A fractional cover and feasible duals of a wave's orders, all over one denominator: batches with a weight for each, a dual for each
-/// order, the sum of the duals, and the sum of the weights, each times the shortest length of its batch.
+/// A fractional cover and feasible duals of a wave's orders, all over one denominator: batches with a weight for each,
+/// a dual for each order, the sum of the duals, and the sum of the weights, each times the shortest length of its
+/// batch.
 #[derive(Drop)]
 pub struct Root {
     pub batches: Vec<Batch>,

@@ -1,17 +1,17 @@
 //! One round of the search: a pool is solved, its duals are rounded down, and they are priced.
-ghost use Rattle.std.specs.Prelude.{◌≡◌, ◌<◌, ◌^◌, ℕ, suc, All, IfOk, IfErr, IfSome, IfNone, length, pos, ◌<ℤ◌};
+ghost use Rattle.std.specs.Prelude.{◌≡◌, ◌<◌, ◌^◌, ℕ, suc, All, IfOk, IfErr, IfSome, IfNone, length, pos, sum, ◌<ℤ◌};
 ghost use Rattle.wp_lengths.specs.Duals.{AreFeasible};
 ghost use Rattle.wp_master.specs.Pools.{AreCovered};
-ghost use Rattle.wp_lp.specs.Rounds.{IsEnd, IsNarrowRoot, IsNegative, IsPoolHalt, IsRunPool, IsShortPool, IsUnscalable};
+ghost use Rattle.wp_lp.specs.Knowns.{IsKnown, IsNarrowFrom};
+ghost use Rattle.wp_lp.specs.Rounds.{IsEnd, IsNegative, IsPoolHalt, IsRunPool, IsShortPool, IsUnscalable};
 ghost use Rattle.wp_lp.specs.Runs.{AreSixtieths, IsAnswer};
 
+use crate::cover::{cover_root, pool_cover};
 use crate::halt::Halt;
+use crate::known::{KnownWave, greater};
 use crate::open_wave::OpenWave;
 use crate::root::{Root, RootState};
 use crate::sixtieths::rounded_down;
-use crate::start::solved_parts;
-use crate::trim::trim;
-use crate::whole::{natural, root_of};
 use std::alloc::Global;
 use std::thread::Threads;
 use wp_master::{Pair, Pool, solve};
@@ -40,10 +40,12 @@ pub fn scalable(denominator: i128) -> Result<(), Halt>
     }
 }
 
-/// A pool's solution whose denominator times 2 ^ 42 stays within an `i128`. An `Err` comes where no batch of the pool has some order, where the
-/// pool needs more pivots than it is given, where numbers leave an `i128`, or where memory is wanting.
+/// A pool's solution whose denominator times 2 ^ 42 stays within an `i128`. An `Err` comes where no batch of the pool
+/// has some order, where the pool needs more pivots than it is given, where numbers leave an `i128`, or where memory is
+/// wanting.
 pub fn solved(alloc: Global, pool: &Pool) -> Result<Pair, Halt>
-    ensures answer { IfOk result (λ pair. IsAnswer pool.now pair.weights.items pair.duals.items pair.denominator) }
+    ensures answer { IfOk result (λ pair. IsAnswer pool.now pair.weights.items pair.duals.items
+        pair.denominator) }
     ensures small { IfOk result (λ pair. pair.denominator <ℤ pos (2 ^ 86)) }
     ensures halt { IfErr result (IsPoolHalt pool.now) }
 {
@@ -60,8 +62,10 @@ fn priced<R: Threads + Sync>(
 ) -> Result<Option<Batch>, Memory>
     requires count { length sixtieths.now.items ≡ length given.now.wave.now.orders }
     requires small { All (λ dual. dual < 2 ^ 34) sixtieths.now.items }
-    ensures none { IfOk result (λ found. IfNone found (AreFeasible given.now.wave.now given.now.pairs.now sixtieths.now.items)) }
-    ensures some { IfOk result (λ found. IfSome found (IsNegative given.now.wave.now given.now.pairs.now sixtieths.now.items)) }
+    ensures none { IfOk result (λ found. IfNone found
+        (AreFeasible given.now.wave.now given.now.pairs.now sixtieths.now.items)) }
+    ensures some { IfOk result (λ found. IfSome found
+        (IsNegative given.now.wave.now given.now.pairs.now sixtieths.now.items)) }
 {
     let found = least_slack(
         workers.rt,
@@ -82,52 +86,63 @@ fn priced<R: Threads + Sync>(
     Ok(None)
 }
 
-// The narrow bracket of a pool's solution whose duals, rounded down to sixtieths, are feasible.
+// The narrow bracket of a pool's solution whose duals, rounded down to sixtieths, are feasible; or of the duals that
+// are known, where they come to more.
 fn narrow_root(
     alloc: Global,
-    given: &OpenWave<'_>,
+    start: &KnownWave<'_>,
     pool: &Pool,
     pair: &Pair,
     sixtieths: &[u64],
 ) -> Result<Root, Memory>
-    requires pool { IsShortPool given.now.wave.now given.now.pairs.now pool.now }
-    requires answer { IsAnswer pool.now pair.now.weights.items pair.now.duals.items pair.now.denominator }
+    requires known { IsKnown start.now.given.wave.now start.now.given.pairs.now
+        start.now.batches.now start.now.cost start.now.duals.now }
+    requires pool { IsShortPool start.now.given.wave.now start.now.given.pairs.now pool.now }
+    requires answer { IsAnswer pool.now pair.now.weights.items pair.now.duals.items
+        pair.now.denominator }
     requires small { pair.now.denominator <ℤ pos (2 ^ 86) }
     requires rounded { AreSixtieths pair.now.duals.items pair.now.denominator sixtieths.now }
     requires below { All (λ dual. dual < 2 ^ 34) sixtieths.now }
-    requires feasible { AreFeasible given.now.wave.now given.now.pairs.now sixtieths.now }
-    ensures { IfOk result (IsNarrowRoot given.now.wave.now given.now.pairs.now) }
+    requires feasible { AreFeasible start.now.given.wave.now start.now.given.pairs.now
+        sixtieths.now }
+    ensures { IfOk result
+        (IsNarrowFrom start.now.given.wave.now start.now.given.pairs.now start.now.cost (sum start.now.duals.now)) }
 {
-    let over = natural(pair.denominator);
-    let enough = solved_parts(alloc, pool, pair)?;
-    let parts = trim(alloc, given, 60 * over, enough)?;
-    root_of(alloc, parts.as_slice(), sixtieths, over, RootState::Narrow)
+    let cover = pool_cover(alloc, start, pool, pair)?;
+    let duals = greater(start.duals, sixtieths);
+    let root = cover_root(alloc, start, &cover, duals, RootState::Narrow)?;
+    Ok(root)
 }
 
-/// One round: a pool is solved and its duals, rounded down, are priced. Where no batch has negative slack a narrow bracket comes of it;
-/// else such a batch is added to the pool.
+/// One round: a pool is solved and its duals, rounded down, are priced. Where no batch has negative slack a narrow
+/// bracket comes of it; else such a batch is added to the pool.
 pub(crate) fn round<R: Threads + Sync>(
     workers: &Workers<'_, R, OpenGate>,
-    given: &OpenWave<'_>,
+    start: &KnownWave<'_>,
     pool: &mut Pool,
 ) -> Result<Option<Root>, Halt>
-    requires short { IsShortPool given.now.wave.now given.now.pairs.now pool.old }
+    requires known { IsKnown start.now.given.wave.now start.now.given.pairs.now
+        start.now.batches.now start.now.cost start.now.duals.now }
+    requires short { IsShortPool start.now.given.wave.now start.now.given.pairs.now pool.old }
     requires covered { AreCovered pool.old pool.old.orders }
-    ensures narrow { IfOk result (λ found. IfSome found (IsNarrowRoot given.now.wave.now given.now.pairs.now)) }
-    ensures onward { IfOk result (λ found. IfNone found ((made : ℕ) → IsRunPool given.now.wave.now given.now.pairs.now made pool.old
-        → IsRunPool given.now.wave.now given.now.pairs.now (suc made) pool.new)) }
-    ensures halt { IfErr result (λ halt. (rounds : ℕ) → IsEnd given.now.wave.now given.now.pairs.now rounds halt) }
+    ensures narrow { IfOk result (λ found. IfSome found
+        (IsNarrowFrom start.now.given.wave.now start.now.given.pairs.now start.now.cost (sum start.now.duals.now))) }
+    ensures onward { IfOk result (λ found. IfNone found ((made : ℕ)
+        → IsRunPool start.now.given.wave.now start.now.given.pairs.now made pool.old
+        → IsRunPool start.now.given.wave.now start.now.given.pairs.now (suc made) pool.new)) }
+    ensures halt { IfErr result (λ halt. (rounds : ℕ)
+        → IsEnd start.now.given.wave.now start.now.given.pairs.now rounds halt) }
 {
     let alloc = workers.alloc;
     let pair = solved(alloc, pool)?;
     let sixtieths = rounded_down(alloc, pair.duals.as_slice(), pair.denominator)?;
-    match priced(workers, given, &sixtieths)? {
+    match priced(workers, &start.given, &sixtieths)? {
         None => {
-            let root = narrow_root(alloc, given, pool, &pair, sixtieths.as_slice())?;
+            let root = narrow_root(alloc, start, pool, &pair, sixtieths.as_slice())?;
             Ok(Some(root))
         }
         Some(batch) => {
-            pool.add(batch, given.wave.batch_length(batch))?;
+            pool.add(batch, start.given.wave.batch_length(batch))?;
             Ok(None)
         }
     }

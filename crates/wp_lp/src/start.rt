@@ -1,16 +1,17 @@
 //! The pool with which a search begins, and the parts with which a cover begins.
 ghost use Rattle.std.specs.Prelude.{◌≡◌, ◌≤◌, ◌<◌, ◌^◌, ◌*◌, ℕ, All, IfOk, length, pos, ◌*ℤ◌, ◌<ℤ◌, ◌≤ℤ◌};
+ghost use Rattle.wp_lengths.specs.Batchings.{IsCost};
 ghost use Rattle.wp_lengths.specs.Waves.{WavePicks};
 ghost use Rattle.wp_pairs.specs.Permitted.{Pairing};
-ghost use Rattle.wp_master.specs.Pairs.{number_of, sum_of};
+ghost use Rattle.wp_master.specs.Pairs.{number_at, sum_of};
 ghost use Rattle.wp_master.specs.Pools.{column_of};
-ghost use Rattle.wp_lp.specs.Parts.{AreExact, IsCapped, IsPart, cost_of, cover_of};
+ghost use Rattle.wp_lp.specs.Parts.{AreExact, IsCapped, IsWeightedBatch, cost_of, cover_of};
 ghost use Rattle.wp_lp.specs.Rounds.{IsRunPool};
 ghost use Rattle.wp_lp.specs.Runs.{IsAnswer, IsBatchingUnder, IsPermittedPool};
 
 use crate::open_wave::OpenWave;
-use crate::part::Part;
-use crate::whole::natural;
+use crate::part::WeightedBatch;
+use crate::whole::{high_of, natural};
 use std::alloc::Global;
 use wp_lengths::SIXTIETHS;
 use wp_master::{Pair, Pool};
@@ -49,16 +50,18 @@ fn capped(weight: i128, denominator: i128) -> u128
 }
 
 // The part of a column in a pool's solution.
-fn start_part(pool: &Pool, pair: &Pair, column: usize) -> Part
+fn start_part(pool: &Pool, pair: &Pair, column: usize) -> WeightedBatch
     requires column { column < length pool.now.columns }
-    requires answer { IsAnswer pool.now pair.now.weights.items pair.now.duals.items pair.now.denominator }
+    requires answer { IsAnswer pool.now pair.now.weights.items pair.now.duals.items
+        pair.now.denominator }
     requires small { pair.now.denominator <ℤ pos (2 ^ 86) }
     ensures batch { result.batch ≡ (column_of pool.now column).batch }
     ensures length { result.length ≡ (column_of pool.now column).length }
-    ensures weight { IsCapped (number_of pair.now.weights.items column) pair.now.denominator result.weight }
+    ensures weight { IsCapped (number_at pair.now.weights.items column) pair.now.denominator
+        result.weight }
 {
     let known = pool.column(column);
-    Part {
+    WeightedBatch {
         batch: known.batch,
         length: known.length,
         weight: capped(pair.weights[column], pair.denominator),
@@ -66,14 +69,21 @@ fn start_part(pool: &Pool, pair: &Pair, column: usize) -> Part
 }
 
 /// The parts of a pool's solution, in sixtieths of its weights: each order has sixty times the denominator or more.
-pub(crate) fn solved_parts(alloc: Global, pool: &Pool, pair: &Pair) -> Result<Vec<Part>, Memory>
-    requires answer { IsAnswer pool.now pair.now.weights.items pair.now.duals.items pair.now.denominator }
+pub(crate) fn solved_parts(
+    alloc: Global,
+    pool: &Pool,
+    pair: &Pair,
+) -> Result<Vec<WeightedBatch>, Memory>
+    requires answer { IsAnswer pool.now pair.now.weights.items pair.now.duals.items
+        pair.now.denominator }
     requires small { pair.now.denominator <ℤ pos (2 ^ 86) }
     ensures enough { IfOk result (λ parts. (order : ℕ) → order < pool.now.orders
         → (pos 60 *ℤ pair.now.denominator) ≤ℤ pos (cover_of parts.items order)) }
-    ensures cost { IfOk result (λ parts. pos (cost_of parts.items) ≤ℤ (pos 60 *ℤ sum_of pool.now pair.now.duals.items)) }
-    ensures each { IfOk result (λ parts. (wave : WavePicks) (pairing : Pairing) → IsPermittedPool wave pairing pool.now
-        → All (IsPart wave pairing) parts.items) }
+    ensures cost { IfOk result (λ parts. pos (cost_of parts.items)
+        ≤ℤ (pos 60 *ℤ sum_of pool.now pair.now.duals.items)) }
+    ensures each { IfOk result (λ parts. (wave : WavePicks) (pairing : Pairing)
+        → IsPermittedPool wave pairing pool.now
+        → All (IsWeightedBatch wave pairing) parts.items) }
 {
     let mut parts = Vec::new(alloc);
     for column in 0..pool.len() {
@@ -82,24 +92,42 @@ pub(crate) fn solved_parts(alloc: Global, pool: &Pool, pair: &Pair) -> Result<Ve
     Ok(parts)
 }
 
-/// The parts of a batching, each of a weight of 60.
+/// The parts of a batching, each of a weight.
 pub(crate) fn batching_parts(
     alloc: Global,
     given: &OpenWave<'_>,
     batches: &[Batch],
-) -> Result<Vec<Part>, Memory>
+    weight: u128,
+) -> Result<Vec<WeightedBatch>, Memory>
     requires { IsBatchingUnder given.now.pairs.now batches.now }
-    ensures exact { IfOk result (λ parts. AreExact (length given.now.wave.now.orders) 60 parts.items) }
-    ensures cost { IfOk result (λ parts. cost_of parts.items < 2 ^ 127) }
-    ensures each { IfOk result (λ parts. All (IsPart given.now.wave.now given.now.pairs.now) parts.items) }
+    ensures exact { IfOk result (λ parts. AreExact
+        (length given.now.wave.now.orders) weight parts.items) }
+    ensures cost { IfOk result (λ parts. (cost : ℕ) × IsCost given.now.wave.now batches.now cost
+        × (cost_of parts.items ≡ weight * cost)) }
+    ensures small { weight ≤ 60 → IfOk result (λ parts. cost_of parts.items < 2 ^ 127) }
+    ensures each { IfOk result (λ parts. All
+        (IsWeightedBatch given.now.wave.now given.now.pairs.now) parts.items) }
 {
     let mut parts = Vec::new(alloc);
     for batch in batches {
-        parts.push(Part {
+        parts.push(WeightedBatch {
             batch: *batch,
             length: given.wave.batch_length(*batch),
-            weight: 60,
+            weight,
         })?;
     }
     Ok(parts)
+}
+
+/// What a batching costs, in units of length.
+pub(crate) fn batching_cost(
+    alloc: Global,
+    given: &OpenWave<'_>,
+    batches: &[Batch],
+) -> Result<u128, Memory>
+    requires { IsBatchingUnder given.now.pairs.now batches.now }
+    ensures { IfOk result (IsCost given.now.wave.now batches.now) }
+{
+    let parts = batching_parts(alloc, given, batches, 1)?;
+    Ok(high_of(parts.as_slice()))
 }

@@ -1,14 +1,16 @@
 //! Batches of a cover are made smaller, until each order has exactly the weight that it is to have.
 ghost use Rattle.std.specs.Prelude.{◌≡◌, ◌≤◌, ◌<◌, All, IfOk, length};
-ghost use Rattle.wp_lp.specs.Parts.{AreEnough, AreExact, IsAdded, IsCut, IsPart, IsTrimmed, IsTrimmedTo, cost_of, cover_of};
+ghost use Rattle.wp_lp.specs.Parts.{AreEnough, AreExact, IsAdded, IsCut, IsWeightedBatch, IsTrimmed, IsTrimmedTo};
+ghost use Rattle.wp_lp.specs.Parts.{cost_of};
+ghost use Rattle.wp_lp.specs.Parts.{cover_of};
 
 use crate::open_wave::OpenWave;
-use crate::part::Part;
+use crate::part::WeightedBatch;
 use std::alloc::Global;
 use wp_model::Memory;
 
 // Puts a part behind others, where it has some weight and some order.
-fn add_part(parts: &mut Vec<Part>, part: Part) -> Result<(), Memory>
+fn add_part(parts: &mut Vec<WeightedBatch>, part: WeightedBatch) -> Result<(), Memory>
     ensures { IfOk result (λ _. IsAdded part parts.old.items parts.new.items) }
 {
     if 0 < part.weight && 0 < part.batch.len() {
@@ -20,22 +22,24 @@ fn add_part(parts: &mut Vec<Part>, part: Part) -> Result<(), Memory>
 // Puts a part behind others without an order, with so much of its weight.
 fn add_without(
     given: &OpenWave<'_>,
-    part: &Part,
+    part: &WeightedBatch,
     order: u32,
     weight: u128,
-    parts: &mut Vec<Part>,
+    parts: &mut Vec<WeightedBatch>,
 ) -> Result<(), Memory>
     requires known { order < 64 }
-    requires part { IsPart given.now.wave.now given.now.pairs.now part.now }
-    ensures trimmed { IfOk result (λ _. IsCut part.now order weight parts.old.items parts.new.items) }
-    ensures each { IfOk result (λ _. All (IsPart given.now.wave.now given.now.pairs.now) parts.old.items
-        → All (IsPart given.now.wave.now given.now.pairs.now) parts.new.items) }
+    requires part { IsWeightedBatch given.now.wave.now given.now.pairs.now part.now }
+    ensures trimmed { IfOk result (λ _. IsCut part.now order weight parts.old.items
+        parts.new.items) }
+    ensures each { IfOk result (λ _. All (IsWeightedBatch given.now.wave.now given.now.pairs.now)
+        parts.old.items
+        → All (IsWeightedBatch given.now.wave.now given.now.pairs.now) parts.new.items) }
 {
     let batch = part.batch.without(order);
     let length = given.wave.batch_length(batch);
     add_part(
         parts,
-        Part {
+        WeightedBatch {
             batch,
             length,
             weight,
@@ -46,16 +50,18 @@ fn add_without(
 // Puts a part behind others, with an order in it as far as so much is left for the order, and gives what is left then.
 fn trim_part(
     given: &OpenWave<'_>,
-    part: &Part,
+    part: &WeightedBatch,
     order: u32,
     left: u128,
-    parts: &mut Vec<Part>,
+    parts: &mut Vec<WeightedBatch>,
 ) -> Result<u128, Memory>
     requires known { order < 64 }
-    requires part { IsPart given.now.wave.now given.now.pairs.now part.now }
-    ensures trimmed { IfOk result (λ rest. IsTrimmed part.now order left rest parts.old.items parts.new.items) }
-    ensures each { IfOk result (λ _. All (IsPart given.now.wave.now given.now.pairs.now) parts.old.items
-        → All (IsPart given.now.wave.now given.now.pairs.now) parts.new.items) }
+    requires part { IsWeightedBatch given.now.wave.now given.now.pairs.now part.now }
+    ensures trimmed { IfOk result (λ rest. IsTrimmed part.now order left rest parts.old.items
+        parts.new.items) }
+    ensures each { IfOk result (λ _. All (IsWeightedBatch given.now.wave.now given.now.pairs.now)
+        parts.old.items
+        → All (IsWeightedBatch given.now.wave.now given.now.pairs.now) parts.new.items) }
 {
     if !part.batch.has(order) {
         add_part(parts, *part)?;
@@ -64,7 +70,7 @@ fn trim_part(
     let kept = part.weight.min(left);
     add_part(
         parts,
-        Part {
+        WeightedBatch {
             batch: part.batch,
             length: part.length,
             weight: kept,
@@ -80,13 +86,14 @@ fn trim_order(
     given: &OpenWave<'_>,
     order: u32,
     whole: u128,
-    parts: &[Part],
-) -> Result<Vec<Part>, Memory>
+    parts: &[WeightedBatch],
+) -> Result<Vec<WeightedBatch>, Memory>
     requires known { order < 64 }
     requires enough { whole ≤ cover_of parts.now order }
-    requires each { All (IsPart given.now.wave.now given.now.pairs.now) parts.now }
+    requires each { All (IsWeightedBatch given.now.wave.now given.now.pairs.now) parts.now }
     ensures trimmed { IfOk result (λ trimmed. IsTrimmedTo order whole parts.now trimmed.items) }
-    ensures each { IfOk result (λ trimmed. All (IsPart given.now.wave.now given.now.pairs.now) trimmed.items) }
+    ensures each { IfOk result (λ trimmed. All
+        (IsWeightedBatch given.now.wave.now given.now.pairs.now) trimmed.items) }
 {
     let mut trimmed = Vec::new(alloc);
     let mut left = whole;
@@ -101,13 +108,15 @@ pub(crate) fn trim(
     alloc: Global,
     given: &OpenWave<'_>,
     whole: u128,
-    parts: Vec<Part>,
-) -> Result<Vec<Part>, Memory>
+    parts: Vec<WeightedBatch>,
+) -> Result<Vec<WeightedBatch>, Memory>
     requires enough { AreEnough (length given.now.wave.now.orders) whole parts.items }
-    requires each { All (IsPart given.now.wave.now given.now.pairs.now) parts.items }
-    ensures exact { IfOk result (λ trimmed. AreExact (length given.now.wave.now.orders) whole trimmed.items) }
+    requires each { All (IsWeightedBatch given.now.wave.now given.now.pairs.now) parts.items }
+    ensures exact { IfOk result (λ trimmed. AreExact
+        (length given.now.wave.now.orders) whole trimmed.items) }
     ensures cost { IfOk result (λ trimmed. cost_of trimmed.items ≤ cost_of parts.items) }
-    ensures each { IfOk result (λ trimmed. All (IsPart given.now.wave.now given.now.pairs.now) trimmed.items) }
+    ensures each { IfOk result (λ trimmed. All
+        (IsWeightedBatch given.now.wave.now given.now.pairs.now) trimmed.items) }
 {
     let mut trimmed = parts;
     for order in 0..given.wave.orders() {

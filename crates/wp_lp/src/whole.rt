@@ -1,9 +1,9 @@
 //! Whole numbers that aren't below 0, and the bracket that is made of them.
 ghost use Rattle.std.specs.Prelude.{◌≡◌, ◌*◌, ◌<◌, ◌≤◌, ◌^◌, All, IfOk, length, map, pos, sum, ◌≤ℤ◌};
 ghost use Rattle.wp_lp.specs.Parts.{IsRootOf, cost_of};
-ghost use Rattle.wp_lp.specs.declared.part.Part.{Part as PartData};
+ghost use Rattle.wp_lp.specs.declared.part.WeightedBatch.{WeightedBatch as PartData};
 
-use crate::part::Part;
+use crate::part::WeightedBatch;
 use crate::root::{Root, RootState};
 use std::alloc::Global;
 use wp_lengths::total_of;
@@ -27,8 +27,9 @@ fn whole(value: u128) -> i128
 }
 
 // The batches of parts.
-fn batches_of(alloc: Global, parts: &[Part]) -> Result<Vec<Batch>, Memory>
-    ensures { IfOk result (λ batches. batches.items ≡ map (λ (part : PartData). part.batch) parts.now) }
+fn batches_of(alloc: Global, parts: &[WeightedBatch]) -> Result<Vec<Batch>, Memory>
+    ensures { IfOk result (λ batches. batches.items
+        ≡ map (λ (part : PartData). part.batch) parts.now) }
 {
     let mut batches = Vec::new(alloc);
     for part in parts {
@@ -38,9 +39,10 @@ fn batches_of(alloc: Global, parts: &[Part]) -> Result<Vec<Batch>, Memory>
 }
 
 // The weights of parts.
-fn weights_of(alloc: Global, parts: &[Part]) -> Result<Vec<i128>, Memory>
+fn weights_of(alloc: Global, parts: &[WeightedBatch]) -> Result<Vec<i128>, Memory>
     requires { All (λ (part : PartData). part.weight < 2 ^ 127) parts.now }
-    ensures { IfOk result (λ weights. weights.items ≡ map (λ (part : PartData). pos part.weight) parts.now) }
+    ensures { IfOk result (λ weights. weights.items
+        ≡ map (λ (part : PartData). pos part.weight) parts.now) }
 {
     let mut weights = Vec::new(alloc);
     for part in parts {
@@ -49,8 +51,8 @@ fn weights_of(alloc: Global, parts: &[Part]) -> Result<Vec<i128>, Memory>
     Ok(weights)
 }
 
-// What the weights of parts come to, each times its length.
-fn high_of(parts: &[Part]) -> u128
+/// What the weights of parts come to, each times its length.
+pub(crate) fn high_of(parts: &[WeightedBatch]) -> u128
     requires { cost_of parts.now < 2 ^ 127 }
     ensures { result ≡ cost_of parts.now }
 {
@@ -74,8 +76,8 @@ fn duals_of(alloc: Global, sixtieths: &[u64], over: u128) -> Result<Vec<i128>, M
     Ok(duals)
 }
 
-// The sum of duals in sixtieths, times a number.
-fn low_of(sixtieths: &[u64], over: u128) -> u128
+/// The sum of duals in sixtieths, times a number.
+pub(crate) fn low_of(sixtieths: &[u64], over: u128) -> u128
     requires count { length sixtieths.now ≤ 64 }
     requires small { All (λ dual. dual < 2 ^ 34) sixtieths.now }
     requires over { over < 2 ^ 86 }
@@ -88,7 +90,7 @@ fn low_of(sixtieths: &[u64], over: u128) -> u128
 /// The bracket of parts and of duals in sixtieths, over 60 times a number.
 pub(crate) fn root_of(
     alloc: Global,
-    parts: &[Part],
+    parts: &[WeightedBatch],
     sixtieths: &[u64],
     over: u128,
     state: RootState,

@@ -4,7 +4,7 @@ use Rattle.wp_model.specs.Opening.{Opening}
 use Rattle.wp_model.specs.Tables.{row_number_from}
 use Rattle.wp_model.specs.declared.command.Command.{Command}
 use Rattle.wp_model.specs.declared.command.Command.TheVariants as command
-use Rattle.wp_floor.specs.Floor.{number_of}
+use Rattle.wp_floor.specs.Floor.{order_number}
 use Rattle.wp_floor.specs.MissingUnits.{HaveSpaceAt}
 use Rattle.wp_floor.specs.NewWaves.{IsPrepared, size_fault, submit_of}
 use Rattle.wp_floor.specs.declared.held.Claim.{Claim}
@@ -13,7 +13,7 @@ use Rattle.wp_machine.specs.declared.prepared.Prepared.TheVariants as prepared
 
 -- a claim has the number of its order, and of the row that lies at its location
 pub record KnowsPlaces (opening : Opening) (claim : Claim) : Type 0 where
-  pub order : claim.number ≡ number_of opening claim.order
+  pub order : claim.number ≡ order_number opening claim.order
   pub row : row_number_from 0 opening.stock.rows claim.location ≡ claim.row
 
 -- what is prepared for a command

@@ -1,9 +1,9 @@
 //! What a command is answered, and what is told beside the reply.
-ghost use Rattle.std.specs.Prelude.{◌≡◌, ◌+◌, ◌<◌, ◌^◌, length};
+ghost use Rattle.std.specs.Prelude.{◌≡◌, ◌+◌, ◌<◌, ◌^◌};
 ghost use Rattle.wp_model.specs.declared.command.Command.{Command as CommandData};
 ghost use Rattle.wp_model.specs.declared.command.Command.TheVariants as command;
 ghost use Rattle.wp_machine.specs.Answering.{IsAnswer};
-ghost use Rattle.wp_floor.specs.Floor.{IsFloor, number_of, state_of, wave_count};
+ghost use Rattle.wp_floor.specs.Floor.{IsFloor, order_number, state_of, wave_count};
 ghost use Rattle.wp_floor.specs.HeldUnits.{IsRowAt};
 ghost use Rattle.wp_machine.specs.Prepared.{IsPreparedFor};
 ghost use Rattle.wp_floor.specs.MissingUnits.{HaveRoomsAt};
@@ -78,25 +78,28 @@ fn answer_release(floor: &mut Floor, opening: &Opening, number: u64, name: Name)
     }
 }
 
-// Answers a loss.
-fn answer_missing(
-    floor: &mut Floor,
-    opening: &Opening,
-    number: u64,
+// A loss as a desk tells it: the wave's name, the claim of the units that are missing, and room for what may be held in
+// their place.
+#[derive(Drop)]
+struct ToldLoss {
     name: Name,
-    claim: &Claim,
+    claim: Claim,
     rooms: Rooms,
-) -> Answer
+}
+
+// Answers a loss.
+fn answer_missing(floor: &mut Floor, opening: &Opening, number: u64, loss: ToldLoss) -> Answer
     requires floor { IsFloor opening.now floor.old }
-    requires row { IsRowAt (state_of floor.old).rows claim.now.location claim.now.row }
-    requires order { claim.now.number ≡ number_of opening.now claim.now.order }
-    requires quantity { 0 < claim.now.quantity }
-    requires rooms { HaveRoomsAt (state_of floor.old).rows claim.now.row claim.now.quantity rooms }
-    ensures { IsAnswer opening.now number (command.Missing name claim.now.order claim.now.location
-        claim.now.quantity) floor.old floor.new result }
+    requires row { IsRowAt (state_of floor.old).rows loss.claim.location loss.claim.row }
+    requires order { loss.claim.number ≡ order_number opening.now loss.claim.order }
+    requires quantity { 0 < loss.claim.quantity }
+    requires rooms { HaveRoomsAt (state_of floor.old).rows loss.claim.row loss.claim.quantity loss.rooms }
+    ensures { IsAnswer opening.now number (command.Missing loss.name loss.claim.order loss.claim.location
+        loss.claim.quantity) floor.old floor.new result }
 {
-    match floor.missing(opening, &name, claim, rooms) {
-        Missed::Refilled(room) => refilled(number, name, claim, room),
+    let ToldLoss { name, claim, rooms } = loss;
+    match floor.missing(opening, &name, &claim, rooms) {
+        Missed::Refilled(room) => refilled(number, name, &claim, room),
         Missed::Answered(reply) => plain(number, reply),
     }
 }
@@ -122,7 +125,7 @@ pub fn answer_prepared(
         Prepared::Cancel(name) => plain(number, floor.cancel(opening, &name)),
         Prepared::Pick(name, claim) => plain(number, floor.pick(opening, &name, &claim)),
         Prepared::Missing(name, claim, rooms) => {
-            answer_missing(floor, opening, number, name, &claim, rooms)
+            answer_missing(floor, opening, number, ToldLoss { name, claim, rooms })
         }
         Prepared::Receive {
             location,

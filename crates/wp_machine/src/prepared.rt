@@ -3,7 +3,7 @@ ghost use Rattle.std.specs.Prelude.{◌≡◌, IfOk, IsTrue};
 ghost use Rattle.wp_model.specs.Plain.{is_plain};
 ghost use Rattle.wp_model.specs.Tables.{IsReadOpening, row_number_from};
 ghost use Rattle.wp_model.specs.declared.command.Command.TheVariants as command;
-ghost use Rattle.wp_floor.specs.Floor.{number_of};
+ghost use Rattle.wp_floor.specs.Floor.{order_number};
 ghost use Rattle.wp_machine.specs.Prepared.{IsPreparedFor};
 
 use std::alloc::Global;
@@ -49,7 +49,7 @@ fn prepared_submit(
 fn claim_of(opening: &Opening, order: &Name, location: &Location, quantity: u32) -> Claim
     ensures { result ≡ record {
       order = order.now;
-      number = number_of opening.now order.now;
+      number = order_number opening.now order.now;
       location = location.now;
       row = row_number_from 0 opening.now.stock.rows location.now;
       quantity = quantity;

@@ -33,7 +33,8 @@ after_number_too digits rest other is ends ends' same =
     lex-number digits rest is ends ∙ ap (λ (ls : List Lexeme). token (number digits) ∷ ls) same ∙ sym (lex-number digits other is ends')
 
 -- and after each of the words of a layout
-after_aisles : (rest other : List ℕ) → lex between rest ≡ lex between other → lex between (codes "{\"aisles\":" ++ rest) ≡ lex between (codes "{\"aisles\":" ++ other)
+after_aisles : (rest other : List ℕ) → lex between rest ≡ lex between other
+    → lex between (codes "{\"aisles\":" ++ rest) ≡ lex between (codes "{\"aisles\":" ++ other)
 unfolding lex content
 after_aisles rest other same = ap (λ (ls : List Lexeme). lex between (codes "{\"aisles\":") ++ ls) same
 
@@ -42,15 +43,18 @@ after_clearance : (rest other : List ℕ) → lex between rest ≡ lex between o
 unfolding lex content
 after_clearance rest other same = ap (λ (ls : List Lexeme). lex between (codes ",\"clearance\":") ++ ls) same
 
-after_depot : (rest other : List ℕ) → lex between rest ≡ lex between other → lex between (codes ",\"depot\":" ++ rest) ≡ lex between (codes ",\"depot\":" ++ other)
+after_depot : (rest other : List ℕ) → lex between rest ≡ lex between other
+    → lex between (codes ",\"depot\":" ++ rest) ≡ lex between (codes ",\"depot\":" ++ other)
 unfolding lex content
 after_depot rest other same = ap (λ (ls : List Lexeme). lex between (codes ",\"depot\":") ++ ls) same
 
-after_pitch : (rest other : List ℕ) → lex between rest ≡ lex between other → lex between (codes ",\"pitch\":" ++ rest) ≡ lex between (codes ",\"pitch\":" ++ other)
+after_pitch : (rest other : List ℕ) → lex between rest ≡ lex between other
+    → lex between (codes ",\"pitch\":" ++ rest) ≡ lex between (codes ",\"pitch\":" ++ other)
 unfolding lex content
 after_pitch rest other same = ap (λ (ls : List Lexeme). lex between (codes ",\"pitch\":") ++ ls) same
 
-after_slots : (rest other : List ℕ) → lex between rest ≡ lex between other → lex between (codes ",\"slots\":" ++ rest) ≡ lex between (codes ",\"slots\":" ++ other)
+after_slots : (rest other : List ℕ) → lex between rest ≡ lex between other
+    → lex between (codes ",\"slots\":" ++ rest) ≡ lex between (codes ",\"slots\":" ++ other)
 unfolding lex content
 after_slots rest other same = ap (λ (ls : List Lexeme). lex between (codes ",\"slots\":") ++ ls) same
 

@@ -55,7 +55,8 @@ orders_records aisles state count = flat_map (order_records aisles state) (range
 -- the wave after so many is submitted with its orders
 abbrev pub submit_record : Size → ℕ → Record
 submit_record size waves =
-    decimal (desk_of_wave size waves) ∷ codes "submit" ∷ wave_name (waves + 1) ∷ map order_name (orders_of_wave size waves)
+    decimal (desk_of_wave size waves) ∷ codes "submit" ∷ wave_name (waves + 1)
+    ∷ map order_name (orders_of_wave size waves)
 
 -- and released
 abbrev pub release_record : Size → ℕ → Record

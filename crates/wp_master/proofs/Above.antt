@@ -74,13 +74,16 @@ above_by_own : (before after : Table) (row place i : ℕ) → pos 0 <ℤ before.
 above_by_own before after row place i some pivot low other one two most early = record {
   at = one.at;
   within = omega (arith, one.within, pivot.width);
-  before = λ j earlier. none_stays before.denominator (entry_of before row place) (entry_of after i j) (entry_of before i j) (entry_of before i place) (entry_of before row j) some
+  before = λ j earlier. none_stays before.denominator (entry_of before row place) (entry_of after i j) (entry_of before i j) (entry_of before i place)
+      (entry_of before row j) some
       (others_entry before after row place i j pivot low (omega (arith, earlier, one.within)) other) (one.before j earlier)
       (two.before j (omega (arith, earlier, early)));
-  above = raised before.denominator (entry_of before row place) (entry_of after i one.at) (entry_of before i one.at) (entry_of before i place) (entry_of before row one.at) some pivot.above
+  above = raised before.denominator (entry_of before row place) (entry_of after i one.at) (entry_of before i one.at) (entry_of before i place)
+      (entry_of before row one.at) some pivot.above
       (others_entry before after row place i one.at pivot low one.within other) one.above
       (⊎_elim (λ (l : one.at < two.at). times_none (entry_of before i place) (entry_of before row one.at) (two.before one.at l))
-      (λ (e : one.at ≡ two.at). below_times (entry_of before i place) (entry_of before row one.at) most (subst (λ (n : ℕ). pos 0 <ℤ entry_of before row n) (sym e) two.above))
+      (λ (e : one.at ≡ two.at). below_times (entry_of before i place) (entry_of before row one.at) most
+      (subst (λ (n : ℕ). pos 0 <ℤ entry_of before row n) (sym e) two.above))
       (lower_or_same one.at two.at early));
 }
 
@@ -90,10 +93,13 @@ above_by_none : (before after : Table) (row place i : ℕ) → pos 0 <ℤ before
 above_by_none before after row place i some pivot low other one none = record {
   at = one.at;
   within = omega (arith, one.within, pivot.width);
-  before = λ j earlier. kept_none before.denominator (entry_of before row place) (entry_of after i j) (entry_of before i j) (entry_of before i place) (entry_of before row j) some
+  before = λ j earlier. kept_none before.denominator (entry_of before row place) (entry_of after i j) (entry_of before i j) (entry_of before i place)
+      (entry_of before row j) some
       (others_entry before after row place i j pivot low (omega (arith, earlier, one.within)) other) (one.before j earlier) none;
-  above = raised before.denominator (entry_of before row place) (entry_of after i one.at) (entry_of before i one.at) (entry_of before i place) (entry_of before row one.at) some pivot.above
-      (others_entry before after row place i one.at pivot low one.within other) one.above (none_times (entry_of before i place) (entry_of before row one.at) none);
+  above = raised before.denominator (entry_of before row place) (entry_of after i one.at) (entry_of before i one.at) (entry_of before i place)
+      (entry_of before row one.at) some pivot.above
+      (others_entry before after row place i one.at pivot low one.within other) one.above
+      (none_times (entry_of before i place) (entry_of before row one.at) none);
 }
 
 -- a row that is below 0 at the pivot's place, and whose first entry above 0 comes later than that of the pivot's row, stays above 0
@@ -102,11 +108,14 @@ above_by_row : (before after : Table) (row place i : ℕ) → pos 0 <ℤ before.
 above_by_row before after row place i some pivot low other one two less late = record {
   at = two.at;
   within = omega (arith, two.within, pivot.width);
-  before = λ j earlier. none_stays before.denominator (entry_of before row place) (entry_of after i j) (entry_of before i j) (entry_of before i place) (entry_of before row j) some
+  before = λ j earlier. none_stays before.denominator (entry_of before row place) (entry_of after i j) (entry_of before i j) (entry_of before i place)
+      (entry_of before row j) some
       (others_entry before after row place i j pivot low (omega (arith, earlier, two.within)) other) (one.before j (omega (arith, earlier, late)))
       (two.before j earlier);
-  above = lifted before.denominator (entry_of before row place) (entry_of after i two.at) (entry_of before i two.at) (entry_of before i place) (entry_of before row two.at) some
-      (others_entry before after row place i two.at pivot low two.within other) (one.before two.at late) (less_below_times (entry_of before i place) (entry_of before row two.at) less two.above);
+  above = lifted before.denominator (entry_of before row place) (entry_of after i two.at) (entry_of before i two.at) (entry_of before i place)
+      (entry_of before row two.at) some
+      (others_entry before after row place i two.at pivot low two.within other) (one.before two.at late)
+      (less_below_times (entry_of before i place) (entry_of before row two.at) less two.above);
 }
 
 lower_or_higher : (m n : ℕ) → (m ≤ n) ⊎ (n < m)
@@ -133,9 +142,11 @@ above_by_ratio : (before after : Table) (row place i : ℕ) → pos 0 <ℤ befor
 above_by_ratio before after row place i some pivot low other p = record {
   at = p.at;
   within = omega (arith, p.within, pivot.width);
-  before = λ j earlier. same_left before.denominator (entry_of before row place) (entry_of after i j) (entry_of before i j) (entry_of before i place) (entry_of before row j) some
+  before = λ j earlier. same_left before.denominator (entry_of before row place) (entry_of after i j) (entry_of before i j) (entry_of before i place)
+      (entry_of before row j) some
       (others_entry before after row place i j pivot low (omega (arith, earlier, p.within)) other) (p.equal j earlier);
-  above = more_raised before.denominator (entry_of before row place) (entry_of after i p.at) (entry_of before i p.at) (entry_of before i place) (entry_of before row p.at) some
+  above = more_raised before.denominator (entry_of before row place) (entry_of after i p.at) (entry_of before i p.at) (entry_of before i place)
+      (entry_of before row p.at) some
       (others_entry before after row place i p.at pivot low p.within other) p.less;
 }
 
@@ -220,8 +231,11 @@ last_row_rises pool before after row place rows pivot low below one =
       last = rows;
       place = one.at;
       within = one.within;
-      equal = λ j early. risen_same before.denominator (entry_of before row place) (entry_of after (last_row pool) j) (entry_of before (last_row pool) j) (entry_of before (last_row pool) place) (entry_of before row j) (entry j (omega (arith, early, one.within))) (one.before j early)
+      equal = λ j early. risen_same before.denominator (entry_of before row place) (entry_of after (last_row pool) j) (entry_of before (last_row pool) j)
+          (entry_of before (last_row pool) place) (entry_of before row j) (entry j (omega (arith, early, one.within))) (one.before j early)
           ∙ ap (λ (x : ℤ). entry_of before (last_row pool) j *ℤ x) (sym pivot.denominator);
       more = subst (λ (x : ℤ). (entry_of before (last_row pool) one.at *ℤ x) <ℤ (entry_of after (last_row pool) one.at *ℤ before.denominator))
-          (sym pivot.denominator) (risen_more before.denominator (entry_of before row place) (entry_of after (last_row pool) one.at) (entry_of before (last_row pool) one.at) (entry_of before (last_row pool) place) (entry_of before row one.at) (entry one.at one.within) below one.above);
+          (sym pivot.denominator) (risen_more before.denominator (entry_of before row place) (entry_of after (last_row pool) one.at)
+          (entry_of before (last_row pool) one.at) (entry_of before (last_row pool) place) (entry_of before row one.at)
+          (entry one.at one.within) below one.above);
     }

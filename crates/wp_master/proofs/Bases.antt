@@ -141,7 +141,8 @@ basis_stays pool begun before after basis row place rows width some is pivot =
       within = placed (λ k x. k < n → x < places pool) basis row place within (λ h. omega (arith, width, pivot.within)) (λ k other h. is.within k h);
       own = placed (λ k x. k < n → entry_of after k x ≡ after.denominator) basis row place within
           (λ h. (pivot.entries row place row_in pivot.within).stays refl ∙ sym pivot.denominator)
-          (λ k other h. own_stays before.denominator (entry_of before row place) _ _ _ _ some ((pivot.entries k _ (low k h) (basic k h)).others other) (is.own k h)
+          (λ k other h. own_stays before.denominator (entry_of before row place) _ _ _ _ some ((pivot.entries k _ (low k h) (basic k h)).others other)
+          (is.own k h)
           (is.others row k (omega (arith, within, is.count)) h (λ e. other (sym e))) ∙ sym pivot.denominator);
       others = λ i k high h apart. placed (λ k x. k < n → i ≢ k → entry_of after i x ≡ pos 0) basis row place within
           (λ h apart. cleared before.denominator (entry_of before row place) _ (entry_of before i place) some
@@ -153,7 +154,8 @@ basis_stays pool begun before after basis row place rows width some is pivot =
           ((pivot.entries i _ (under i high) (basic k h)).others differ) (is.others i k high h apart)
           (is.others row k (omega (arith, within, is.count)) h (λ e. other (sym e))))
           (is_or_not i row)) k h apart;
-      columns = λ i j h in_row. zero_dropped _ _ (row_stays pool begun before after basis row place i j (pos 0) (pos 0) (pos 0) within rows width some is pivot in_row
+      columns = λ i j h in_row. zero_dropped _ _
+          (row_stays pool begun before after basis row place i j (pos 0) (pos 0) (pos 0) within rows width some is pivot in_row
           (zero_before _ _ (is.columns i j h in_row)) (zero_before _ _ (is.columns i place h (omega (arith, width, pivot.within))))
           (no_rest before.denominator (entry_of before row place) (entry_of before row j)));
       last = λ j in_row. row_stays pool begun before after basis row place n j (entry_of before n j) (entry_of before n place) (entry_of after n j)

@@ -1,5 +1,6 @@
 -- The exchanges of a pivot, entry by entry and row by row.
-use Rattle.std.proofs.Common.{◌≡◌, ◌≢◌, ◌⊎◌, ⊎_elim, ℕ, ◌+◌, ◌*◌, ◌/◌, ◌%◌, ◌<◌, ◌≤◌, ℤ, pos, ◌*ℤ◌, ◌-ℤ◌, ◌<ℤ◌, List, length, replicate, set, arith, refl, ap, sym, subst, ◌∙◌}
+use Rattle.std.proofs.Common.{◌≡◌, ◌≢◌, ◌⊎◌, ⊎_elim, ℕ, ◌+◌, ◌*◌, ◌/◌, ◌%◌, ◌<◌, ◌≤◌, ℤ, pos, ◌*ℤ◌, ◌-ℤ◌, ◌<ℤ◌, List, length, replicate, set, arith, refl, ap}
+use Rattle.std.proofs.Common.{sym, subst, ◌∙◌}
 use Rattle.std.proofs.Math.IntN.{*ℤ_comm}
 use Rattle.std.proofs.lemmas.Int.{ints}
 use Rattle.std.proofs.lemmas.List.{get_or-replicate, get_or-set_other, get_or-set_same, length-replicate, length-set}
@@ -7,7 +8,8 @@ use Rattle.std.proofs.lemmas.Nat.{div-mul-add, mod-mul-add}
 use Rattle.std.specs.Prelude.{slice_index, slice_index_or}
 use Rattle.wp_master.proofs.Entries.{same_exchange, wide_entries, within_rows}
 use Rattle.wp_master.proofs.Products.{wide_along}
-use Rattle.wp_master.specs.Exchanges.{AreExchanged, AreFactors, AreFilled, HaveOneShape, IsClear, IsEntryExchanged, IsPut, IsRowExchanged, IsRowWhole, IsRowWide, exchange_by}
+use Rattle.wp_master.specs.Exchanges.{AreExchanged, AreFactors, AreFilled, HaveOneShape, IsClear, IsEntryExchanged, IsPut, IsRowExchanged, IsRowWhole}
+use Rattle.wp_master.specs.Exchanges.{IsRowWide, exchange_by}
 use Rattle.wp_master.specs.declared.filled.Filled.{Filled}
 use Rattle.wp_master.specs.declared.grid.Factors.{Factors}
 use Rattle.wp_master.specs.Pivots.{AreWhole, AreWideEntries, IsPivot, IsTable, IsWideFor, Table, entry_of, exchange_of}
@@ -198,7 +200,8 @@ rows_more before now after row place i low within apart are is = record {
       ∙ same_exchanges before now row place i j are low within in_row))
       (lower_or_here k i early);
   own = λ j in_row. is.others row j (omega (arith, in_row, are.shape.width)) (λ e. apart (sym e)) ∙ are.own j in_row;
-  later = λ k j late known in_row. is.others k j (omega (arith, in_row, are.shape.width)) (λ e. omega (arith, e, late)) ∙ are.later k j (omega (arith, late)) known in_row;
+  later = λ k j late known in_row. is.others k j (omega (arith, in_row, are.shape.width)) (λ e. omega (arith, e, late)) ∙ are.later k j
+      (omega (arith, late)) known in_row;
 }
 
 -- the exchanges of a row that isn't exchanged yet are multiples of the denominator

@@ -86,7 +86,8 @@ gathered_stays pool begun before after row place rows width some pivot are =
       columns = λ i j known in_row. ⊎_elim
           (λ (here : i ≡ row). subst (λ (r : ℕ). entry_of after r j ≡ gathered pool begun after r j) (sym here)
           (own_gathered pool begun before after row place j width pivot in_row (are.columns row j low in_row)))
-          (λ (other : i ≢ row). zero_dropped _ _ (row_gathered pool begun before after row place i j (pos 0) (pos 0) rows width some pivot (omega (arith, known))
+          (λ (other : i ≢ row). zero_dropped _ _ (row_gathered pool begun before after row place i j (pos 0) (pos 0) rows width some pivot
+          (omega (arith, known))
           other in_row (zero_before _ _ (are.columns i j known in_row)) (are.columns row j low in_row)
           (no_rest before.denominator (entry_of before row place))))
           (is_or_not i row);

@@ -10,7 +10,7 @@ use Rattle.wp_master.proofs.Sums.{total_most, total_of_sums, total_swapped, tota
 use Rattle.wp_master.proofs.Totals.{no_total, one_total, same_total}
 use Rattle.wp_master.specs.Bases.{basic_place, total_below}
 use Rattle.wp_master.specs.Choices.{HasRisen}
-use Rattle.wp_master.specs.Pairs.{AreLastRow, AreNumbers, CoverOrders, FitColumns, holds, length_of, load_of, number_of, sum_of}
+use Rattle.wp_master.specs.Pairs.{AreLastRow, AreNumbers, CoverOrders, FitColumns, holds, length_of, load_of, number_at, sum_of}
 use Rattle.wp_master.specs.Pivots.{Table, column_place, entry_of, last_row, order_place}
 use Rattle.wp_master.specs.Pools.{ColumnPool, column_of}
 use Rattle.wp_master.specs.Runs.{AreDuals, IsAbove, IsBasicDual, IsDual, IsFreeDual, IsPair, IsReached, IsReachedAtAll}
@@ -71,10 +71,10 @@ dual_is_total pool made table basis place dual is at = ⊎_elim
 -- the sum of factors times duals, by rows
 total_by_rows : (pool : ColumnPool) (made : ℕ) (table : Table) (basis : List ℕ) (duals : List ℤ) (factor : ℕ → ℤ) → IsReached pool made table basis
     → AreDuals pool table basis duals
-    → total_below pool.orders (λ order. factor order *ℤ number_of duals order)
+    → total_below pool.orders (λ order. factor order *ℤ number_at duals order)
     ≡ total_below (last_row pool) (λ row. total_below pool.orders (λ order. factor order *ℤ here_or_none table basis (order_place pool order) row))
 total_by_rows pool made table basis duals factor is are =
-    same_total pool.orders (λ order. factor order *ℤ number_of duals order)
+    same_total pool.orders (λ order. factor order *ℤ number_at duals order)
     (λ order. total_below (last_row pool) (λ row. factor order *ℤ here_or_none table basis (order_place pool order) row))
     (λ order known. ap (λ (x : ℤ). factor order *ℤ x) (dual_is_total pool made table basis (order_place pool order) _ is (are order known))
     ∙ total_times (last_row pool) (factor order) (here_or_none table basis (order_place pool order)))
@@ -109,8 +109,8 @@ load_by_rows : (pool : ColumnPool) (made : ℕ) (table : Table) (basis : List �
     → load_of pool duals column ≡ total_below (last_row pool)
     (λ row. total_below pool.orders (λ order. entry_of is.begun column (order_place pool order) *ℤ here_or_none table basis (order_place pool order) row))
 load_by_rows pool made table basis duals column is are low =
-    same_total pool.orders (λ order. cond (holds pool column order) (number_of duals order) (pos 0))
-    (λ order. entry_of is.begun column (order_place pool order) *ℤ number_of duals order)
+    same_total pool.orders (λ order. cond (holds pool column order) (number_at duals order) (pos 0))
+    (λ order. entry_of is.begun column (order_place pool order) *ℤ number_at duals order)
     (λ order known. load_entry (holds pool column order) _ _ (held_entry pool is.begun column order is.start low known))
     ∙ total_by_rows pool made table basis duals (λ order. entry_of is.begun column (order_place pool order)) is are
 
@@ -188,7 +188,7 @@ sum_is_last : (pool : ColumnPool) (made : ℕ) (table : Table) (basis : List ℕ
 sum_is_last pool made table basis duals is are =
     let rows = λ (row : ℕ). total_below pool.orders (λ order. pos 1 *ℤ here_or_none table basis (order_place pool order) row) in
     let less = λ (row : ℕ). entry_of is.begun (last_row pool) (basic_place basis row) *ℤ entry_of table row 0 in
-    let ones = same_total pool.orders (number_of duals) (λ order. pos 1 *ℤ number_of duals order) (λ order known. sym (one_times (number_of duals order))) in
+    let ones = same_total pool.orders (number_at duals) (λ order. pos 1 *ℤ number_at duals order) (λ order known. sym (one_times (number_at duals order))) in
     sum_and_less (total_below (last_row pool) rows) (total_below (last_row pool) less) (total_below (last_row pool) (λ row. rows row +ℤ less row)) _ _
     table.denominator (entry_of is.begun (last_row pool) 0)
     (ones ∙ total_by_rows pool made table basis duals (λ order. pos 1) is are)
@@ -208,7 +208,7 @@ length_is_last : (pool : ColumnPool) (made : ℕ) (table : Table) (basis : List 
     → AreLastRow pool table weights denominator → length_of pool weights ≡ entry_of table (last_row pool) 0
 length_is_last pool made table basis weights denominator is are =
     sym (same_total (last_row pool) (λ (column : ℕ). entry_of table (last_row pool) (column_place column) *ℤ entry_of is.begun column 0)
-    (λ (column : ℕ). number_of weights column *ℤ pos (column_of pool column).length)
+    (λ (column : ℕ). number_at weights column *ℤ pos (column_of pool column).length)
     (λ column low. times_both _ _ _ _ (are.entries column low) ((is.start.entries column 0 (omega (arith, low)) (omega arith)).long low refl)))
     ∙ rest_dropped _ table.denominator (entry_of is.begun (last_row pool) 0) _ (is.are_gathered.last 0 (omega arith))
     ((is.start.entries (last_row pool) 0 (omega arith) (omega arith)).last_first refl refl)
@@ -236,7 +236,7 @@ weights_cover pool made table basis weights denominator is risen are = λ order 
     ((is.start.entries (last_row pool) place (omega arith) (omega (arith, known))).last_orders order refl refl)
     (risen (last_row pool) place is.rows (omega arith) (omega (arith, known, is.width)))
     (same_total (last_row pool) (λ (column : ℕ). entry_of table (last_row pool) (column_place column) *ℤ entry_of is.begun column place)
-    (λ (column : ℕ). cond (holds pool column order) (number_of weights column) (pos 0))
+    (λ (column : ℕ). cond (holds pool column order) (number_at weights column) (pos 0))
     (λ column low. cover_entry (holds pool column order) _ _ _ (are.entries column low) (held_entry pool is.begun column order is.start low known)))
 
 -- no weight is below 0

@@ -139,7 +139,8 @@ turn_of table stored laid spots seen looked row place leaving slot spare spot fo
       laid_is = laid_is;
     }
 
-module _ (stored laid : Table) (spots after : List Spot) (row place leaving slot spare : ℕ) (turn : IsTurn stored laid spots after row place leaving slot spare) where
+module _ (stored laid : Table) (spots after : List Spot) (row place leaving slot spare : ℕ)
+    (turn : IsTurn stored laid spots after row place leaving slot spare) where
   slot_known : (slot < stored.width) × (slot ≢ spare)
   slot_known = turn.known.stored_known place slot turn.place_known turn.comes
 

@@ -12,7 +12,8 @@ pub record IsRisingPlace (table : Table) (place : ℕ) : Type 0 where
 
 -- the last row is nowhere below 0 but at its first place
 abbrev pub HasRisen : Table → Type 0
-HasRisen table = (row place : ℕ) → table.rows ≡ row + 1 → 1 ≤ place → place < table.width → pos 0 ≤ℤ entry_of table row place
+HasRisen table = (row place : ℕ) → table.rows ≡ row + 1 → 1 ≤ place → place < table.width
+    → pos 0 ≤ℤ entry_of table row place
 
 -- of the places before one, but for the first, one at which a row is below 0, or none where it is nowhere below 0
 abbrev pub IsRisingBefore : Table → ℕ → ℕ → Option ℕ → Type 0
@@ -23,8 +24,8 @@ IsRisingBefore table row before (Some place) = (1 ≤ place) × (place < before)
 abbrev pub scaled_entry : Table → ℕ → ℕ → ℕ → ℕ → ℤ
 scaled_entry table row j other place = entry_of table row j *ℤ entry_of table other place
 
--- a row over its entry at a place is lexicographically below another row over its entry there, where both entries are above 0: the first place at which
--- the two differ has less
+-- a row over its entry at a place is lexicographically below another row over its entry there, where both entries are
+-- above 0: the first place at which the two differ has less
 pub record Precedes (table : Table) (row other place : ℕ) : Type 0 where
   pub at : ℕ
   pub within : at < table.width
@@ -33,9 +34,11 @@ pub record Precedes (table : Table) (row other place : ℕ) : Type 0 where
 
 -- two rows over their entries at a place don't differ before a place
 abbrev pub AgreeBefore : Table → ℕ → ℕ → ℕ → ℕ → Type 0
-AgreeBefore table row other place before = (j : ℕ) → j < before → scaled_entry table row j other place ≡ scaled_entry table other j row place
+AgreeBefore table row other place before
+    = (j : ℕ) → j < before → scaled_entry table row j other place ≡ scaled_entry table other j row place
 
--- of the first so many rows, one whose entry at a place is above 0, and which none of the others with an entry above 0 there precedes
+-- of the first so many rows, one whose entry at a place is above 0, and which none of the others with an entry above 0
+-- there precedes
 pub record IsLeavingRow (table : Table) (place before row : ℕ) : Type 0 where
   pub known : row < before
   pub above : pos 0 <ℤ entry_of table row place

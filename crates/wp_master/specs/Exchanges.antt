@@ -23,9 +23,11 @@ IsClear table row from next = (j : ℕ) → from ≤ j → j < next → j < tabl
 
 -- from each place that is listed on, a row has 0 at all places before the one that is listed for it
 abbrev pub AreFilled : Table → ℕ → Filled → Type 0
-AreFilled table row filled = (from : ℕ) → from < length filled.nexts → IsClear table row from (slice_index filled.nexts from)
+AreFilled table row filled = (from : ℕ) → from < length filled.nexts
+    → IsClear table row from (slice_index filled.nexts from)
 
--- what an entry of a row is exchanged to, times the denominator, for a pivot and the entry of the row at the pivot's place
+-- what an entry of a row is exchanged to, times the denominator, for a pivot and the entry of the row at the pivot's
+-- place
 abbrev pub exchange_by : ℤ → ℤ → Table → ℕ → ℕ → ℕ → ℤ
 exchange_by pivot beside table row i j = (pivot *ℤ entry_of table i j) -ℤ (beside *ℤ entry_of table row j)
 
@@ -44,17 +46,20 @@ pub record IsEntryExchanged (before : Table) (by : Factors) (row i j : ℕ) (aft
 
 -- for a pivot each exchange of a row is a multiple of the denominator
 abbrev pub IsRowWhole : Table → ℕ → ℕ → ℕ → Type 0
-IsRowWhole table row place i = (j : ℕ) → j < table.width → (entry : ℤ) × (table.denominator *ℤ entry ≡ exchange_of table row place i j)
+IsRowWhole table row place i = (j : ℕ) → j < table.width → (entry : ℤ)
+    × (table.denominator *ℤ entry ≡ exchange_of table row place i j)
 
 -- two factors are too wide for the exchange of an entry of a row
 abbrev pub IsRowWide : Table → ℕ → ℕ → ℕ → ℤ → ℤ → Type 0
 IsRowWide table row place i left right = (j : ℕ) × (j < table.width)
-    × IsWideFor (entry_of table row place) (entry_of table i j) (entry_of table i place) (entry_of table row j) left right
+    × IsWideFor (entry_of table row place) (entry_of table i j) (entry_of table i place)
+    (entry_of table row j) left right
 
 -- a table in which a row's entries before a place are exchanged, and all others are as before
 pub record IsRowExchanged (before after : Table) (row place i count : ℕ) : Type 0 where
   pub shape : HaveOneShape before after
-  pub done : (j : ℕ) → j < count → j < before.width → before.denominator *ℤ entry_of after i j ≡ exchange_of before row place i j
+  pub done : (j : ℕ) → j < count → j < before.width
+      → before.denominator *ℤ entry_of after i j ≡ exchange_of before row place i j
   pub later : (j : ℕ) → count ≤ j → j < before.width → entry_of after i j ≡ entry_of before i j
   pub others : (k j : ℕ) → j < before.width → k ≢ i → entry_of after k j ≡ entry_of before k j
 

@@ -14,8 +14,8 @@ IsUnfinished pool made = (table : Table) × (place : ℕ) × PivotRun pool made 
 abbrev pub IsTooWide : ColumnPool → ℕ → ℤ → ℤ → Type 0
 IsTooWide pool turns left right = (table : Table) × IsWithinTurns pool turns table × AreWideEntries table left right
 
--- The cause of a fault, for a number of pivots that are allowed: an order that no column holds; as many pivots were made, and more are needed; two factors are
--- too wide; none is needed where memory is wanting.
+-- The cause of a fault, for a number of pivots that are allowed: an order that no column holds; as many pivots were
+-- made, and more are needed; two factors are too wide; none is needed where memory is wanting.
 abbrev pub IsCause : ColumnPool → ℕ → MasterFault → Type 0
 IsCause pool turns (NoCover order) = IsFirstUncovered pool order
 IsCause pool turns (Turns made) = (made ≡ turns) × IsUnfinished pool made

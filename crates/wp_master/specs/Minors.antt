@@ -7,11 +7,12 @@ use Rattle.wp_master.specs.Pools.{ColumnPool}
 abbrev pub Columns : Type 0
 Columns = List (ℕ → ℤ)
 
--- what a determinant is, expanded along a row, where these columns stand before the rest: each further column's entry in the row, times what the columns
--- without it give, with signs in turn
+-- what a determinant is, expanded along a row, where these columns stand before the rest: each further column's entry
+-- in the row, times what the columns without it give, with signs in turn
 unfoldable pub expanded : (Columns → ℤ) → ℕ → Columns → Columns → ℤ
 expanded without row before [] = pos 0
-expanded without row before (column ∷ after) = (column row *ℤ without (before ++ after)) -ℤ expanded without row (before ++ column ∷ []) after
+expanded without row before (column ∷ after)
+    = (column row *ℤ without (before ++ after)) -ℤ expanded without row (before ++ column ∷ []) after
 
 -- the determinant of columns over so many rows from a row on, which is 0 where there aren't as many columns as rows
 unfoldable pub determinant : ℕ → ℕ → Columns → ℤ
@@ -36,8 +37,8 @@ basic_columns pool begun (place ∷ basis) = column_at begun place ∷ basic_col
 abbrev pub minor : ColumnPool → Columns → ℤ
 minor pool columns = determinant (suc (last_row pool)) 0 columns
 
--- A table's entries are minors of the start table that it comes from: the denominator that of the basis, and an entry that of the basis in which the column of
--- the entry's place stands in the place of the basic column of its row.
+-- A table's entries are minors of the start table that it comes from: the denominator that of the basis, and an entry
+-- that of the basis in which the column of the entry's place stands in the place of the basic column of its row.
 pub record AreMinors (pool : ColumnPool) (begun table : Table) (basis : List ℕ) : Type 0 where
   pub denominator : table.denominator ≡ minor pool (basic_columns pool begun basis)
   pub entries : (row place : ℕ) → row ≤ last_row pool → place < places pool

@@ -1,6 +1,8 @@
--- Tables of whole numbers over a pool of columns, and the pivots that lead from one to the next (Edmonds, 1967; Bareiss, 1968).
+-- Tables of whole numbers over a pool of columns, and the pivots that lead from one to the next (Edmonds, 1967;
+-- Bareiss, 1968).
 use Rattle.std.specs.Int.{w128}
-use Rattle.std.specs.Prelude.{◌*◌, ◌/◌, ◌%◌, ◌⊎◌, FitsSigned, List, slice_index_or, ◌≡◌, ◌≢◌, ℕ, suc, ◌+◌, ◌<◌, ◌≤◌, ℤ, pos, negsuc}
+use Rattle.std.specs.Prelude.{◌*◌, ◌/◌, ◌%◌, ◌⊎◌, FitsSigned, List, slice_index_or, ◌≡◌, ◌≢◌, ℕ, suc, ◌+◌, ◌<◌, ◌≤◌, ℤ}
+use Rattle.std.specs.Prelude.{pos, negsuc}
 use Rattle.std.specs.Prelude.{◌-ℤ◌, ◌*ℤ◌, ◌<ℤ◌, Contains, length}
 use Rattle.wp_master.specs.Pools.{ColumnPool, column_of}
 
@@ -37,37 +39,46 @@ column_place column = 1 + column
 abbrev pub order_place : ColumnPool → ℕ → ℕ
 order_place pool order = 1 + length pool.columns + order
 
--- an entry of the start table. The row of a column has its length first, then 1 at its own place and 0 at those of the other columns, then per order 1
--- where it holds the order, else 0. The last row has 0 first, then 0 at the places of the columns and -1 at those of the orders
+-- an entry of the start table. The row of a column has its length first, then 1 at its own place and 0 at those of the
+-- other columns, then per order 1 where it holds the order, else 0. The last row has 0 first, then 0 at the places of
+-- the columns and -1 at those of the orders
 pub record IsStartEntry (pool : ColumnPool) (row place : ℕ) (entry : ℤ) : Type 0 where
   pub long : row < last_row pool → place ≡ 0 → entry ≡ pos (column_of pool row).length
   pub own : row < last_row pool → place ≡ column_place row → entry ≡ pos 1
-  pub others : (column : ℕ) → row < last_row pool → column < length pool.columns → column ≢ row → place ≡ column_place column → entry ≡ pos 0
-  pub held : (order : ℕ) → row < last_row pool → place ≡ order_place pool order → Contains (column_of pool row).batch order → entry ≡ pos 1
-  pub unheld : (order : ℕ) → row < last_row pool → place ≡ order_place pool order → (Contains (column_of pool row).batch order → ⊥) → entry ≡ pos 0
+  pub others : (column : ℕ) → row < last_row pool → column < length pool.columns → column ≢ row
+      → place ≡ column_place column → entry ≡ pos 0
+  pub held : (order : ℕ) → row < last_row pool → place ≡ order_place pool order
+      → Contains (column_of pool row).batch order → entry ≡ pos 1
+  pub unheld : (order : ℕ) → row < last_row pool → place ≡ order_place pool order
+      → (Contains (column_of pool row).batch order → ⊥) → entry ≡ pos 0
   pub last_first : row ≡ last_row pool → place ≡ 0 → entry ≡ pos 0
-  pub last_columns : (column : ℕ) → row ≡ last_row pool → column < length pool.columns → place ≡ column_place column → entry ≡ pos 0
+  pub last_columns : (column : ℕ) → row ≡ last_row pool → column < length pool.columns → place ≡ column_place column
+      → entry ≡ pos 0
   pub last_orders : (order : ℕ) → row ≡ last_row pool → place ≡ order_place pool order → entry ≡ negsuc 0
 
 -- the start table: a row per column, and the last row, over 1
 pub record IsStart (pool : ColumnPool) (table : Table) : Type 0 where
   pub rows : table.rows ≡ last_row pool + 1
   pub width : table.width ≡ places pool
-  pub entries : (row place : ℕ) → row ≤ last_row pool → place < places pool → IsStartEntry pool row place (entry_of table row place)
+  pub entries : (row place : ℕ) → row ≤ last_row pool → place < places pool
+      → IsStartEntry pool row place (entry_of table row place)
   pub denominator : table.denominator ≡ pos 1
 
--- for a pivot in a row at a place, and an entry T of another row: pivot * T - (the entry of T's row at the pivot's place) * (the entry of the pivot's row
--- at T's place)
+-- for a pivot in a row at a place, and an entry T of another row: pivot * T - (the entry of T's row at the pivot's
+-- place) * (the entry of the pivot's row at T's place)
 abbrev pub exchange_of : Table → ℕ → ℕ → ℕ → ℕ → ℤ
-exchange_of table row place i j = (entry_of table row place *ℤ entry_of table i j) -ℤ (entry_of table i place *ℤ entry_of table row j)
+exchange_of table row place i j = (entry_of table row place *ℤ entry_of table i j) -ℤ
+    (entry_of table i place *ℤ entry_of table row j)
 
--- the entry of the next table, for the pivot in a row at a place: the pivot's row stays, and each other entry X comes from the entry T there by
--- denominator * X = pivot * T - (the entry of T's row at the pivot's place) * (the entry of the pivot's row at T's place)
+-- the entry of the next table, for the pivot in a row at a place: the pivot's row stays, and each other entry X comes
+-- from the entry T there by denominator * X = pivot * T - (the entry of T's row at the pivot's place) * (the entry of
+-- the pivot's row at T's place)
 pub record IsExchanged (table : Table) (row place i j : ℕ) (entry : ℤ) : Type 0 where
   pub stays : i ≡ row → entry ≡ entry_of table row j
   pub others : i ≢ row → table.denominator *ℤ entry ≡ exchange_of table row place i j
 
--- a pivot on an entry above 0, in a row that isn't the last and at a place that isn't the first; the pivot becomes the denominator
+-- a pivot on an entry above 0, in a row that isn't the last and at a place that isn't the first; the pivot becomes the
+-- denominator
 pub record IsPivot (row place : ℕ) (before after : Table) : Type 0 where
   pub not_last : row + 1 < before.rows
   pub not_first : 1 ≤ place
@@ -78,13 +89,15 @@ pub record IsPivot (row place : ℕ) (before after : Table) : Type 0 where
   pub entries : (i j : ℕ) → i < before.rows → j < before.width → IsExchanged before row place i j (entry_of after i j)
   pub denominator : after.denominator ≡ entry_of before row place
 
--- the last row over its denominator is lexicographically above that of the table before: the first place at which the two differ has more
+-- the last row over its denominator is lexicographically above that of the table before: the first place at which the
+-- two differ has more
 pub record LastRowRises (before after : Table) : Type 0 where
   pub row : ℕ
   pub last : before.rows ≡ row + 1
   pub place : ℕ
   pub within : place < before.width
-  pub equal : (j : ℕ) → j < place → (entry_of after row j *ℤ before.denominator) ≡ (entry_of before row j *ℤ after.denominator)
+  pub equal : (j : ℕ) → j < place → (entry_of after row j *ℤ before.denominator)
+      ≡ (entry_of before row j *ℤ after.denominator)
   pub more : (entry_of before row place *ℤ after.denominator) <ℤ (entry_of after row place *ℤ before.denominator)
 
 -- a table that so many pivots lead to from the start table, each of which makes the last row over its denominator rise
@@ -119,7 +132,8 @@ pub record IsTwofoldOf (left right twice other : ℤ) : Type 0 where
 
 -- two factors whose product leaves 128 bits: these two, or twice one of them and the other
 abbrev pub AreWide : ℤ → ℤ → ℤ → ℤ → Type 0
-AreWide left right one two = ((one ≡ left) × (two ≡ right) × (FitsSigned w128 (left *ℤ right) → ⊥)) ⊎ IsTwofoldOf left right one two
+AreWide left right one two = ((one ≡ left) × (two ≡ right) × (FitsSigned w128 (left *ℤ right) → ⊥))
+    ⊎ IsTwofoldOf left right one two
 
 -- two factors whose product leaves 128 bits: both of one of two products, or twice one of its factors and the other
 abbrev pub IsWideFor : ℤ → ℤ → ℤ → ℤ → ℤ → ℤ → Type 0
@@ -127,4 +141,5 @@ IsWideFor left right other further one two = AreWide left right one two ⊎ AreW
 
 -- these entries, in rows of this width, are those that a start table begins with
 abbrev pub AreStartEntries : ColumnPool → ℕ → List ℤ → Type 0
-AreStartEntries pool width entries = (at : ℕ) → at < length entries → IsStartEntry pool (at / width) (at % width) (slice_index_or entries at (pos 0))
+AreStartEntries pool width entries = (at : ℕ) → at < length entries
+    → IsStartEntry pool (at / width) (at % width) (slice_index_or entries at (pos 0))

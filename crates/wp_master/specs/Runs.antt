@@ -2,7 +2,7 @@
 use Rattle.std.specs.Prelude.{ℕ, ◌+◌, ◌<◌, ◌≡◌, ◌≢◌, ◌⊎◌, List, length, ℤ, pos, ◌+ℤ◌, ◌*ℤ◌, ◌<ℤ◌}
 use Rattle.wp_master.specs.Bases.{IsBasis, basic_place, total_below}
 use Rattle.wp_master.specs.Minors.{AreMinors}
-use Rattle.wp_master.specs.Pairs.{AreLastRow, AreNumbers, CoverOrders, FitColumns, length_of, number_of, sum_of}
+use Rattle.wp_master.specs.Pairs.{AreLastRow, AreNumbers, CoverOrders, FitColumns, length_of, number_at, sum_of}
 use Rattle.wp_master.specs.Pivots.{IsStart, PivotRun, Table, column_place, entry_of, last_row, order_place, places}
 use Rattle.wp_master.specs.Pools.{ColumnPool}
 
@@ -13,15 +13,18 @@ pub record IsAbove (table : Table) (row : ℕ) : Type 0 where
   pub before : (j : ℕ) → j < at → entry_of table row j ≡ pos 0
   pub above : pos 0 <ℤ entry_of table row at
 
--- what the rows of the columns in a start table have at a place, each times a table's entry in a row at the place of that column
+-- what the rows of the columns in a start table have at a place, each times a table's entry in a row at the place of
+-- that column
 abbrev pub gathered : ColumnPool → Table → Table → ℕ → ℕ → ℤ
 gathered pool begun table row place =
-    total_below (last_row pool) (λ (column : ℕ). entry_of table row (column_place column) *ℤ entry_of begun column place)
+    total_below (last_row pool) (λ (column : ℕ). entry_of table row (column_place column)
+    *ℤ entry_of begun column place)
 
--- a table's rows are combinations of the start table's rows, with what they have at the places of the columns; in the last one the start table's last row
--- stands too, times the denominator
+-- a table's rows are combinations of the start table's rows, with what they have at the places of the columns; in the
+-- last one the start table's last row stands too, times the denominator
 pub record AreGathered (pool : ColumnPool) (begun table : Table) : Type 0 where
-  pub columns : (row place : ℕ) → row < last_row pool → place < places pool → entry_of table row place ≡ gathered pool begun table row place
+  pub columns : (row place : ℕ) → row < last_row pool → place < places pool
+      → entry_of table row place ≡ gathered pool begun table row place
   pub last : (place : ℕ) → place < places pool
       → entry_of table (last_row pool) place
       ≡ (table.denominator *ℤ entry_of begun (last_row pool) place) +ℤ gathered pool begun table (last_row pool) place
@@ -57,7 +60,8 @@ IsDual table basis place dual = IsBasicDual table basis place dual ⊎ IsFreeDua
 
 -- the duals of the places of all orders
 abbrev pub AreDuals : ColumnPool → Table → List ℕ → List ℤ → Type 0
-AreDuals pool table basis duals = (order : ℕ) → order < pool.orders → IsDual table basis (order_place pool order) (number_of duals order)
+AreDuals pool table basis duals = (order : ℕ) → order < pool.orders
+    → IsDual table basis (order_place pool order) (number_at duals order)
 
 -- a table that some number of pivots reach, with its basis
 abbrev pub IsReachedAtAll : ColumnPool → Table → List ℕ → Type 0

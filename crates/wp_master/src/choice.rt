@@ -22,7 +22,8 @@ impl Table {
         if lower { Some(place) } else { best }
     }
 
-    /// A place, but for the first of all, at which the last row is lowest, where it is below 0. None comes exactly where it is nowhere below 0.
+    /// A place, but for the first of all, at which the last row is lowest, where it is below 0. None comes exactly
+    /// where it is nowhere below 0.
     pub fn rising_place(&self) -> Option<usize>
         requires { 0 < self.now.rows }
         ensures some { IfSome result (λ place. IsRisingPlace self.now place) }
@@ -50,8 +51,8 @@ impl Table {
         product(own, there)
     }
 
-    /// Whether a row over its entry at a place is lexicographically below another row over its entry there. Both entries are meant to be
-    /// above 0. An `Err` names two entries whose product leaves an `i128`.
+    /// Whether a row over its entry at a place is lexicographically below another row over its entry there. Both
+    /// entries are meant to be above 0. An `Err` names two entries whose product leaves an `i128`.
     pub fn precedes(&self, row: usize, other: usize, place: usize) -> Result<bool, TooWide>
         requires row { row < self.now.rows }
         requires other { other < self.now.rows }
@@ -95,8 +96,8 @@ impl Table {
         }
     }
 
-    /// Of the rows before one whose entry at a place is above 0, the one that over that entry comes lexicographically first. None comes
-    /// exactly where there is none. An `Err` names two entries whose product leaves an `i128`.
+    /// Of the rows before one whose entry at a place is above 0, the one that over that entry comes lexicographically
+    /// first. None comes exactly where there is none. An `Err` names two entries whose product leaves an `i128`.
     pub fn leaving_row(&self, before: usize, place: usize) -> Result<Option<usize>, TooWide>
         requires before { before ≤ self.now.rows }
         requires place { place < self.now.width }

@@ -2,8 +2,8 @@ ghost use Rattle.std.specs.Prelude.{◌≡◌, ◌*ℤ◌, IfSome};
 
 use crate::wide::narrow_product;
 
-/// A denominator, with what its multiples are divided by it: how often it is halved until it is odd, and the number that times its odd
-/// part is 1, modulo 2 ^ 64 (Jebelean, 1993).
+/// A denominator, with what its multiples are divided by it: how often it is halved until it is odd, and the number
+/// that times its odd part is 1, modulo 2 ^ 64 (Jebelean, 1993).
 #[derive(Clone, Copy)]
 pub(crate) struct Divisor {
     pub(crate) denominator: i128,
@@ -11,8 +11,8 @@ pub(crate) struct Divisor {
     inverse: i64,
 }
 
-// The number that times an odd one is 1, modulo 2 ^ 64. Each turn doubles the number of bits that are right, of which the odd number
-// itself has three.
+// The number that times an odd one is 1, modulo 2 ^ 64. Each turn doubles the number of bits that are right, of which
+// the odd number itself has three.
 fn inverse_of(odd: i64) -> i64 {
     let mut inverse = odd;
     for _ in 0..5 {
@@ -35,8 +35,8 @@ impl Divisor {
         }
     }
 
-    // The quotient of a number, where it is a multiple of the denominator and both have at most 64 bits. It is made without a division,
-    // and told only where the denominator times it is the number.
+    // The quotient of a number, where it is a multiple of the denominator and both have at most 64 bits. It is made
+    // without a division, and told only where the denominator times it is the number.
     #[inline(always)]
     pub(crate) fn quotient(&self, value: i128) -> Option<i128>
         ensures { IfSome result (λ quotient. self.now.denominator *ℤ quotient ≡ value) }

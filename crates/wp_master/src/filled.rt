@@ -5,8 +5,8 @@ ghost use Rattle.wp_master.specs.Pivots.{Table as Shown};
 /// How many places of a row are listed at most: as many as are stored over 64 orders.
 pub(crate) const LISTED: usize = 66;
 
-/// For each of the first places of a row, the first place from it on at which the row isn't 0, or the end of the row where there is
-/// none.
+/// For each of the first places of a row, the first place from it on at which the row isn't 0, or the end of the row
+/// where there is none.
 #[derive(Clone, Copy)]
 pub(crate) struct Filled {
     pub(crate) nexts: [usize; LISTED],
@@ -33,7 +33,8 @@ impl Filled {
     #[inline(always)]
     pub(crate) fn next(&self, from: usize) -> usize
         ensures not_before { from ≤ result }
-        ensures clear { (table : Shown) → (row : ℕ) → AreFilled table row self.now → IsClear table row from result }
+        ensures clear { (table : Shown) → (row : ℕ) → AreFilled table row self.now
+            → IsClear table row from result }
     {
         if from < LISTED {
             self.nexts[from].max(from)
@@ -44,7 +45,8 @@ impl Filled {
 
     // Lists the place that is the next from one on.
     pub(crate) fn list(&mut self, from: usize, next: usize)
-        ensures { (table : Shown) → (row : ℕ) → AreFilled table row self.old → IsClear table row from next → AreFilled table row self.new }
+        ensures { (table : Shown) → (row : ℕ) → AreFilled table row self.old
+            → IsClear table row from next → AreFilled table row self.new }
     {
         if from < LISTED {
             self.nexts[from] = next;

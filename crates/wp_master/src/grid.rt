@@ -1,5 +1,7 @@
-ghost use Rattle.std.specs.Prelude.{◌≡◌, ◌≢◌, ◌≤◌, ◌<◌, ◌+◌, ◌*◌, ℤ, ◌*ℤ◌, ◌-ℤ◌, ◌<ℤ◌, pos, IfOk, IfErr, IsTrue, length};
-ghost use Rattle.wp_master.specs.Exchanges.{AreExchanged, AreFactors, AreFilled, IsClear, IsEntryExchanged, IsPut, IsRowExchanged, IsRowWhole, IsRowWide, exchange_by};
+ghost use Rattle.std.specs.Prelude.{◌≡◌, ◌≢◌, ◌≤◌, ◌<◌, ◌+◌, ◌*◌, ℤ, ◌*ℤ◌, ◌-ℤ◌, ◌<ℤ◌, pos, IfOk, IfErr, IsTrue};
+ghost use Rattle.std.specs.Prelude.{length};
+ghost use Rattle.wp_master.specs.Exchanges.{AreExchanged, AreFactors, AreFilled, IsClear, IsEntryExchanged, IsPut};
+ghost use Rattle.wp_master.specs.Exchanges.{IsRowExchanged, IsRowWhole, IsRowWide, exchange_by};
 ghost use Rattle.wp_master.specs.Pivots.{AreWhole, AreWideEntries, IsPivot, IsWideFor, entry_of};
 ghost use Rattle.wp_master.specs.Spots.{IsLaid, unit_entry};
 
@@ -8,8 +10,8 @@ use crate::filled::Filled;
 use crate::wide::{TooWide, cross};
 use std::marker::Model;
 
-/// Whole numbers over one denominator, in rows of one width, each of them stored. Contracts see the number of rows, the width, each
-/// entry by its row and place, and the denominator, which is above 0.
+/// Whole numbers over one denominator, in rows of one width, each of them stored. Contracts see the number of rows, the
+/// width, each entry by its row and place, and the denominator, which is above 0.
 #[derive(Drop)]
 pub(crate) struct Grid {
     pub(crate) rows: usize,
@@ -23,12 +25,23 @@ impl Model for Grid {
 
     ghost Value = { Shown };
 
-    ghost view = { λ g. record { rows = g.rows; width = g.width; entries = g.entries.items; denominator = g.denominator } };
+    ghost view = { λ g. record {
+      rows = g.rows;
+      width = g.width;
+      entries = g.entries.items;
+      denominator = g.denominator;
+    } };
 
-    ghost invariant = { λ g. IsTable (record { rows = g.rows; width = g.width; entries = g.entries.items; denominator = g.denominator }) };
+    ghost invariant = { λ g. IsTable (record {
+      rows = g.rows;
+      width = g.width;
+      entries = g.entries.items;
+      denominator = g.denominator;
+    }) };
 }
 
-/// What the entries of a row are exchanged by: the pivot and its place, the entry of the row at that place, and the denominator.
+/// What the entries of a row are exchanged by: the pivot and its place, the entry of the row at that place, and the
+/// denominator.
 #[derive(Clone, Copy)]
 pub(crate) struct Factors {
     place: usize,
@@ -73,7 +86,8 @@ impl Factors {
     // Whether they plainly leave an entry as it is, which stands in a column in which the pivot's row has another.
     #[inline(always)]
     fn leave(&self, own: i128, above: i128) -> bool
-        ensures { IsTrue result → self.now.over.denominator *ℤ own ≡ (self.now.pivot *ℤ own) -ℤ (self.now.beside *ℤ above) }
+        ensures { IsTrue result → self.now.over.denominator *ℤ own
+            ≡ (self.now.pivot *ℤ own) -ℤ (self.now.beside *ℤ above) }
     {
         if self.beside != 0 && above != 0 {
             return false;
@@ -81,13 +95,17 @@ impl Factors {
         own == 0 || self.pivot == self.over.denominator
     }
 
-    // What they make of an entry: pivot * own - beside * above over the denominator, where the pivot's row has this above in its column.
+    // What they make of an entry: pivot * own - beside * above over the denominator, where the pivot's row has this
+    // above in its column.
     #[inline(always)]
     fn exchanged(&self, own: i128, above: i128) -> Result<i128, TooWide>
         requires above_0 { pos 0 <ℤ self.now.over.denominator }
-        requires whole { (x : ℤ) × (self.now.over.denominator *ℤ x ≡ (self.now.pivot *ℤ own) -ℤ (self.now.beside *ℤ above)) }
-        ensures is { IfOk result (λ entry. self.now.over.denominator *ℤ entry ≡ (self.now.pivot *ℤ own) -ℤ (self.now.beside *ℤ above)) }
-        ensures wide { IfErr result (λ wide. IsWideFor self.now.pivot own self.now.beside above wide.left wide.right) }
+        requires whole { (x : ℤ) × (self.now.over.denominator *ℤ x
+            ≡ (self.now.pivot *ℤ own) -ℤ (self.now.beside *ℤ above)) }
+        ensures is { IfOk result (λ entry. self.now.over.denominator *ℤ entry
+            ≡ (self.now.pivot *ℤ own) -ℤ (self.now.beside *ℤ above)) }
+        ensures wide { IfErr result (λ wide. IsWideFor self.now.pivot own self.now.beside above
+            wide.left wide.right) }
     {
         if self.leave(own, above) {
             return Ok(own);
@@ -184,9 +202,11 @@ impl Grid {
         requires row { row < self.old.rows }
         requires j { j < self.old.width }
         requires above { pos 0 <ℤ by.now.over.denominator }
-        requires whole { (x : ℤ) × (by.now.over.denominator *ℤ x ≡ exchange_by by.now.pivot by.now.beside self.old row i j) }
+        requires whole { (x : ℤ) × (by.now.over.denominator *ℤ x
+            ≡ exchange_by by.now.pivot by.now.beside self.old row i j) }
         ensures exchanged { IfOk result (λ _. IsEntryExchanged self.old by.now row i j self.new) }
-        ensures wide { IfErr result (λ wide. IsWideFor by.now.pivot (entry_of self.old i j) by.now.beside (entry_of self.old row j) wide.left wide.right) }
+        ensures wide { IfErr result (λ wide. IsWideFor by.now.pivot
+            (entry_of self.old i j) by.now.beside (entry_of self.old row j) wide.left wide.right) }
     {
         let own = self.entry(i, j);
         let above = self.entry(row, j);
@@ -202,8 +222,10 @@ impl Grid {
         requires other { i ≢ row }
         requires by { AreFactors self.old row i by.now }
         requires whole { IsRowWhole self.old row by.now.place i }
-        ensures exchanged { IfOk result (λ _. IsRowExchanged self.old self.new row by.now.place i self.old.width) }
-        ensures wide { IfErr result (λ wide. IsRowWide self.old row by.now.place i wide.left wide.right) }
+        ensures exchanged { IfOk result (λ _. IsRowExchanged self.old self.new row by.now.place i
+            self.old.width) }
+        ensures wide { IfErr result (λ wide. IsRowWide self.old row by.now.place i wide.left
+            wide.right) }
     {
         for j in 0..self.width {
             self.exchange_entry(i, row, j, by)?;
@@ -211,7 +233,8 @@ impl Grid {
         Ok(())
     }
 
-    // The same where the pivot is the denominator: then entries change only at the places at which the pivot's row isn't 0.
+    // The same where the pivot is the denominator: then entries change only at the places at which the pivot's row
+    // isn't 0.
     fn exchange_filled(
         &mut self,
         i: usize,
@@ -226,8 +249,10 @@ impl Grid {
         requires same { by.now.pivot ≡ self.old.denominator }
         requires filled { AreFilled self.old row filled.now }
         requires whole { IsRowWhole self.old row by.now.place i }
-        ensures exchanged { IfOk result (λ _. IsRowExchanged self.old self.new row by.now.place i self.old.width) }
-        ensures wide { IfErr result (λ wide. IsRowWide self.old row by.now.place i wide.left wide.right) }
+        ensures exchanged { IfOk result (λ _. IsRowExchanged self.old self.new row by.now.place i
+            self.old.width) }
+        ensures wide { IfErr result (λ wide. IsRowWide self.old row by.now.place i wide.left
+            wide.right) }
     {
         let mut j = filled.next(0);
         while j < self.width {
@@ -253,7 +278,8 @@ impl Grid {
         requires over { over.now.denominator ≡ self.old.denominator }
         requires filled { AreFilled self.old row filled.now }
         requires whole { IsRowWhole self.old row place i }
-        ensures exchanged { IfOk result (λ _. IsRowExchanged self.old self.new row place i self.old.width) }
+        ensures exchanged { IfOk result (λ _. IsRowExchanged self.old self.new row place i
+            self.old.width) }
         ensures wide { IfErr result (λ wide. IsRowWide self.old row place i wide.left wide.right) }
     {
         let by = Factors {
@@ -276,7 +302,8 @@ impl Grid {
         requires row { row < self.old.rows }
         requires place { place < self.old.width }
         requires whole { AreWhole self.old row place }
-        ensures exchanged { IfOk result (λ _. AreExchanged self.old self.new row place self.old.rows) }
+        ensures exchanged { IfOk result (λ _. AreExchanged self.old self.new row place
+            self.old.rows) }
         ensures wide { IfErr result (λ wide. AreWideEntries self.old wide.left wide.right) }
     {
         let over = Divisor::of(self.denominator);
@@ -289,8 +316,8 @@ impl Grid {
         Ok(())
     }
 
-    // The grid after a pivot on the entry in a row at a place. An `Err` names two entries, or twice an entry and an entry, whose product
-    // leaves an `i128`.
+    // The grid after a pivot on the entry in a row at a place. An `Err` names two entries, or twice an entry and an
+    // entry, whose product leaves an `i128`.
     pub(crate) fn pivot(mut self, row: usize, place: usize) -> Result<Grid, TooWide>
         requires not_last { row + 1 < self.rows }
         requires not_first { 1 ≤ place }

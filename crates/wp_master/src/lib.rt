@@ -1,5 +1,5 @@
-//! A pool of columns, each a batch of a wave's orders with its length, and the whole-number tables in which a linear program over the
-//! pool is solved by pivots.
+//! A pool of columns, each a batch of a wave's orders with its length, and the whole-number tables in which a linear
+//! program over the pool is solved by pivots.
 #![tactic(auto)]
 
 mod choice;

@@ -18,7 +18,8 @@ use wp_model::Memory;
 fn column_places(alloc: Global, columns: usize) -> Result<Vec<usize>, Memory>
     requires { columns < 2 ^ 63 }
     ensures count { IfOk result (λ basis. length basis.items ≡ columns) }
-    ensures each { IfOk result (λ basis. (row : ℕ) → row < columns → slice_index basis.items row ≡ column_place row) }
+    ensures each { IfOk result (λ basis. (row : ℕ) → row < columns → slice_index basis.items row
+        ≡ column_place row) }
 {
     let mut basis = Vec::new(alloc);
     for column in 0..columns {
@@ -27,7 +28,8 @@ fn column_places(alloc: Global, columns: usize) -> Result<Vec<usize>, Memory>
     Ok(basis)
 }
 
-// A table that pivots lead to from the start table of a pool, and for each of its rows but the last the place that the row has in the basis.
+// A table that pivots lead to from the start table of a pool, and for each of its rows but the last the place that the
+// row has in the basis.
 #[derive(Drop)]
 pub(crate) struct Run {
     table: Table,
@@ -49,7 +51,8 @@ impl Run {
         requires reached { IsReachedAtAll pool.now self.table self.basis.items }
         requires covered { AreCovered pool.now pool.now.orders }
         requires rising { IsRisingPlace self.table place }
-        ensures next { IfOk result (λ next. (made : ℕ) → IsReached pool.now made self.table self.basis.items
+        ensures next { IfOk result (λ next. (made : ℕ)
+            → IsReached pool.now made self.table self.basis.items
             → IsReached pool.now (made + 1) next.table next.basis.items) }
         ensures wide { IfErr result (λ wide. AreWideEntries self.table wide.left wide.right) }
     {
@@ -91,7 +94,8 @@ impl Run {
         requires rows { self.now.table.rows ≡ last_row pool.now + 1 }
         requires width { self.now.table.width ≡ places pool.now }
         ensures count { IfOk result (λ weights. length weights.items ≡ last_row pool.now) }
-        ensures each { IfOk result (λ weights. AreLastRow pool.now self.now.table weights.items self.now.table.denominator) }
+        ensures each { IfOk result (λ weights. AreLastRow pool.now self.now.table weights.items
+            self.now.table.denominator) }
     {
         let mut weights = Vec::new(alloc);
         for column in 0..pool.len() {
@@ -119,7 +123,8 @@ impl Run {
         requires rows { self.now.table.rows ≡ length self.now.basis.items + 1 }
         requires width { 0 < self.now.table.width }
         ensures count { IfOk result (λ duals. length duals.items ≡ pool.now.orders) }
-        ensures each { IfOk result (λ duals. AreDuals pool.now self.now.table self.now.basis.items duals.items) }
+        ensures each { IfOk result (λ duals. AreDuals pool.now self.now.table self.now.basis.items
+            duals.items) }
     {
         let mut duals = Vec::new(alloc);
         for order in 0..pool.orders() as usize {
@@ -132,7 +137,8 @@ impl Run {
     pub(crate) fn pair(&self, alloc: Global, pool: &Pool) -> Result<Pair, Memory>
         requires reached { IsReachedAtAll pool.now self.now.table self.now.basis.items }
         requires risen { HasRisen self.now.table }
-        ensures { IfOk result (λ pair. IsPair pool.now self.now.table pair.weights.items pair.duals.items pair.denominator) }
+        ensures { IfOk result (λ pair. IsPair pool.now self.now.table pair.weights.items
+            pair.duals.items pair.denominator) }
     {
         let weights = self.weights(alloc, pool)?;
         let duals = self.duals(alloc, pool)?;

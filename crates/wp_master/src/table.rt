@@ -12,9 +12,9 @@ use std::alloc::Global;
 use std::marker::Model;
 use wp_model::Memory;
 
-/// Whole numbers over one denominator, in rows of one width. Contracts see the number of rows, the width, each entry by its row and
-/// place, and the denominator, which is above 0. Each row but the last has its unit column at some place: the denominator in that row and
-/// 0 in all others. These columns aren't stored.
+/// Whole numbers over one denominator, in rows of one width. Contracts see the number of rows, the width, each entry by
+/// its row and place, and the denominator, which is above 0. Each row but the last has its unit column at some place:
+/// the denominator in that row and 0 in all others. These columns aren't stored.
 #[derive(Drop)]
 pub struct Table {
     stored: Grid,
@@ -53,7 +53,8 @@ fn is_basic(at: Spot, row: usize) -> bool
 
 // The place that has the unit column of a row.
 fn basic_place(spots: &[Spot], row: usize) -> Option<usize>
-    ensures some { IfSome result (λ place. (place < length spots.now) × (spot_of spots.now place ≡ spot.Basic row)) }
+    ensures some { IfSome result (λ place. (place < length spots.now)
+        × (spot_of spots.now place ≡ spot.Basic row)) }
     ensures none { IfNone result (IsNowhere spots.now row (length spots.now)) }
 {
     for place in 0..spots.len() {
@@ -100,8 +101,8 @@ impl Table {
         }
     }
 
-    /// The table after a pivot on the entry in a row at a place. An `Err` names two entries, or twice an entry and an entry, whose product
-    /// leaves an `i128`.
+    /// The table after a pivot on the entry in a row at a place. An `Err` names two entries, or twice an entry and an
+    /// entry, whose product leaves an `i128`.
     pub fn pivot(self, row: usize, place: usize) -> Result<Table, TooWide>
         requires not_last { row + 1 < self.rows }
         requires not_first { 1 ≤ place }

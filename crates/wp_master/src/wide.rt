@@ -19,7 +19,8 @@ pub(crate) fn narrow_product(left: i64, right: i64) -> i128
 // The product of two numbers, or the two where it leaves an `i128`.
 pub(crate) fn product(left: i128, right: i128) -> Result<i128, TooWide>
     ensures is { IfOk result (λ value. value ≡ left *ℤ right) }
-    ensures wide { IfErr result (λ wide. (wide.left ≡ left) × (wide.right ≡ right) × (FitsSigned w128 (left *ℤ right) → ⊥)) }
+    ensures wide { IfErr result (λ wide. (wide.left ≡ left) × (wide.right ≡ right)
+        × (FitsSigned w128 (left *ℤ right) → ⊥)) }
 {
     if let (Ok(one), Ok(other)) = (i64::try_from(left), i64::try_from(right)) {
         return Ok(narrow_product(one, other));
@@ -64,8 +65,8 @@ fn narrow_cross(left: i128, right: i128, other: i128, further: i128) -> Option<i
     }
 }
 
-/// The difference of two products, or two factors whose product leaves an `i128`: those of one of the two, or twice a factor
-/// and the other.
+/// The difference of two products, or two factors whose product leaves an `i128`: those of one of the two, or twice a
+/// factor and the other.
 #[inline(always)]
 pub(crate) fn cross(left: i128, right: i128, other: i128, further: i128) -> Result<i128, TooWide>
     ensures is { IfOk result (λ value. value ≡ (left *ℤ right) -ℤ (other *ℤ further)) }
@@ -90,7 +91,8 @@ fn wide_cross(left: i128, right: i128, other: i128, further: i128) -> Result<i12
     }
 }
 
-// Of two products whose difference leaves an `i128`, the factors of one that leaves it when it is doubled, one of them doubled.
+// Of two products whose difference leaves an `i128`, the factors of one that leaves it when it is doubled, one of them
+// doubled.
 fn widest(left: i128, right: i128, first: i128, other: i128, further: i128) -> TooWide
     requires first { first ≡ left *ℤ right }
     requires second { FitsSigned w128 (other *ℤ further) }

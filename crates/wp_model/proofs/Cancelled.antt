@@ -58,7 +58,8 @@ cancelled_by_mark state name cancelled is = by (wave_from 0 state.waves name) (s
     by (Some f) some = cc some
 
 -- what is found stays where more waves come
-found_mark-append : (ms more : List Mark) (name : List ℕ) (cancelled : Bool) → found_mark ms name ≡ Some cancelled → found_mark (ms ++ more) name ≡ Some cancelled
+found_mark-append : (ms more : List Mark) (name : List ℕ) (cancelled : Bool) → found_mark ms name ≡ Some cancelled
+    → found_mark (ms ++ more) name ≡ Some cancelled
 found_mark-append [] more name cancelled is = absurd (cc is)
 found_mark-append (m ∷ ms) more name cancelled is = by (bytes_eq m.0 name) (found_mark-append ms more name cancelled) is
   where
@@ -99,7 +100,8 @@ given_up state other name number w cancelled true found same is =
     let changed : Wave = record w { state = wave.Cancelled } in
     let own : other ≡ name = (bytes_eq-Decides other name).0 same in
     marked (slice_set state.waves number changed) name number changed true
-    (subst (λ n. wave_from 0 (slice_set state.waves number changed) n ≡ Some (number, changed)) own (next_is_found state other number w changed found refl)) refl
+    (subst (λ n. wave_from 0 (slice_set state.waves number changed) n ≡ Some (number, changed)) own (next_is_found state other number w changed found refl))
+    refl
 given_up state other name number w cancelled false found same is =
     let changed : Wave = record w { state = wave.Cancelled } in
     let named : w.name ≡ other = found_named 0 state.waves other (number, w) found in

@@ -10,7 +10,8 @@ use Rattle.wp_model.specs.Demand.{free_units, short_article}
 use Rattle.wp_model.specs.Limits.{most_on_hand, most_wave_orders}
 use Rattle.wp_model.specs.Opening.{Opening, article_name, is_known_order, order_units}
 use Rattle.wp_model.specs.State.{State, Wave}
-use Rattle.wp_model.specs.Step.{Held, SaysDone, Stepped, allot, at_held, at_released, at_wave, cancel, cart_fault, first_order_fault, give_up, held_for, hold_for}
+use Rattle.wp_model.specs.Step.{Held, SaysDone, Stepped, allot, at_held, at_released, at_wave, cancel, cart_fault, first_order_fault, give_up, held_for}
+use Rattle.wp_model.specs.Step.{hold_for}
 use Rattle.wp_model.specs.Step.{is_among, is_over_cart, is_refusal, order_fault, pick, taker_of}
 use Rattle.wp_model.specs.Step.{receive_at, refuse, refuse_short, release, row_from, step, submit_fault, wave_from, write_off}
 use Rattle.wp_model.specs.declared.command.Command.{Command}

@@ -1,5 +1,6 @@
 -- The stock book: the rows as they stand, and the units that are held in them for the orders of waves.
-use Rattle.std.specs.Prelude.{◌≡◌, ℕ, zero, suc, ◌-◌, ◌≤◌, ◌&&◌, ◌==◌, not, List, [], ◌∷◌, ◌++◌, length, if◌then◌else◌, slice_get, IfSome, Bool}
+use Rattle.std.specs.Prelude.{◌≡◌, ℕ, zero, suc, ◌-◌, ◌≤◌, ◌&&◌, ◌==◌, not, List, [], ◌∷◌, ◌++◌, length, if◌then◌else◌}
+use Rattle.std.specs.Prelude.{slice_get, IfSome, Bool}
 use Rattle.std.specs.List.{All, sum_by}
 use Rattle.wp_model.specs.Sound.{IsBalanced}
 use Rattle.wp_model.specs.State.{State}
@@ -107,4 +108,5 @@ held_list (suc order) rows held = held_list order rows held ++ order_held_list o
 
 -- what a wave of so many orders holds in a state beyond what it held in one before
 abbrev pub held_more : State → State → ℕ → ℕ → List Hold
-held_more before after number orders = held_list orders (length after.rows) (λ order row. after.held number order row - before.held number order row)
+held_more before after number orders = held_list orders (length after.rows)
+    (λ order row. after.held number order row - before.held number order row)

@@ -1,5 +1,6 @@
 -- What moves units and waves.
-use Rattle.std.specs.Prelude.{ℕ, ◌+◌, ◌-◌, ◌&&◌, ◌==◌, List, [], ◌∷◌, Option, if◌then◌else◌, length, slice_get, slice_set}
+use Rattle.std.specs.Prelude.{ℕ, ◌+◌, ◌-◌, ◌&&◌, ◌==◌, List, [], ◌∷◌, Option, if◌then◌else◌, length, slice_get}
+use Rattle.std.specs.Prelude.{slice_set}
 use Rattle.std.specs.Option.{option_map_or}
 use Rattle.wp_model.specs.Demand.{offer_at}
 use Rattle.wp_model.specs.Overlap.{overlap}
@@ -45,7 +46,8 @@ with_held state wave held w order row = if w == wave then held order row else st
 -- stock is held for a wave of so many orders, by overlap
 abbrev pub hold : (ℕ → ℕ → ℕ) → Option ℕ → ℕ → ℕ → State → State
 hold demand except wave orders state = record state {
-  rows = change_rows (λ row. hold_units (sum_below orders (λ order. share demand state.rows except order row))) 0 state.rows;
+  rows = change_rows (λ row. hold_units (sum_below orders (λ order. share demand state.rows except order row))) 0
+      state.rows;
   held = with_held state wave (λ order row. state.held wave order row + share demand state.rows except order row);
 }
 
@@ -60,7 +62,8 @@ give_back wave orders state = record state {
 abbrev pub take : ℕ → ℕ → ℕ → ℕ → State → State
 take wave order row units state = record state {
   rows = change_rows (at_place row (take_units units)) 0 state.rows;
-  held = with_held state wave (λ o r. if (o == order) && (r == row) then state.held wave o r - units else state.held wave o r);
+  held = with_held state wave (λ o r. if (o == order) && (r == row) then state.held wave o r - units
+      else state.held wave o r);
 }
 
 -- units come to a row
@@ -73,4 +76,5 @@ put_wave number w state = record state { waves = slice_set state.waves number w 
 
 -- a wave that holds nothing more is done
 abbrev pub settle : ℕ → Wave → State → State
-settle number w state = put_wave number (if wave_held state number (length w.orders) == 0 then record w { state = wave.Done } else w) state
+settle number w state = put_wave number (if wave_held state number (length w.orders) == 0
+    then record w { state = wave.Done } else w) state

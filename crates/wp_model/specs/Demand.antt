@@ -1,5 +1,6 @@
 -- What orders and waves want, and whether free stock covers it.
-use Rattle.std.specs.Prelude.{ℕ, zero, suc, ◌+◌, ◌<◌, ◌≤◌, ◌&&◌, ◌==◌, not, nat_lt, Bool, false, List, length, Option, Some, None, if◌then◌else◌, slice_get}
+use Rattle.std.specs.Prelude.{ℕ, zero, suc, ◌+◌, ◌<◌, ◌≤◌, ◌&&◌, ◌==◌, not, nat_lt, Bool, false, List, length, Option}
+use Rattle.std.specs.Prelude.{Some, None, if◌then◌else◌, slice_get}
 use Rattle.std.specs.List.{sum_by}
 use Rattle.std.specs.Option.{option_map_or}
 use Rattle.wp_model.specs.Opening.{Opening, lines_of}
@@ -17,7 +18,8 @@ order_demand opening order article = sum_by (quantity_of article) (lines_of open
 
 -- the same of the order at a place of a list, nothing where there is none
 abbrev pub demand_at : Opening → List (List ℕ) → ℕ → ℕ → ℕ
-demand_at opening orders article place = option_map_or (λ order. order_demand opening order article) (slice_get orders place) 0
+demand_at opening orders article place = option_map_or (λ order. order_demand opening order article)
+    (slice_get orders place) 0
 
 -- how many units of an article a wave's orders want together
 abbrev pub wave_demand : Opening → List (List ℕ) → ℕ → ℕ
@@ -42,7 +44,8 @@ free_units rows article except = sum_below (length rows) (offer_at rows article 
 
 -- free stock covers what the orders want, of every article
 abbrev pub IsCovered : Opening → List Row → List (List ℕ) → Option ℕ → Type 0
-IsCovered opening rows orders except = (article : ℕ) → wave_demand opening orders article ≤ free_units rows article except
+IsCovered opening rows orders except = (article : ℕ) → wave_demand opening orders article
+    ≤ free_units rows article except
 
 -- of each article from one on no more is wanted than is free
 abbrev pub AreCovered : (ℕ → ℕ) → (ℕ → ℕ) → ℕ → ℕ → Type 0
@@ -58,9 +61,11 @@ pub record IsFirstShort (wanted free : ℕ → ℕ) (from until article : ℕ) :
 -- the first of so many articles from one on of which more is wanted than is free
 abbrev pub first_short : (ℕ → ℕ) → (ℕ → ℕ) → ℕ → ℕ → Option ℕ
 first_short wanted free zero article = None
-first_short wanted free (suc more) article = if nat_lt (free article) (wanted article) then Some article else first_short wanted free more (article + 1)
+first_short wanted free (suc more) article
+    = if nat_lt (free article) (wanted article) then Some article else first_short wanted free more (article + 1)
 
 -- the first article, in the order of the stock file, that free stock doesn't cover
 abbrev pub short_article : Opening → List Row → List (List ℕ) → Option ℕ → Option ℕ
 short_article opening rows orders except =
-    first_short (wave_demand opening orders) (λ article. free_units rows article except) (length opening.stock.articles) 0
+    first_short (wave_demand opening orders) (λ article. free_units rows article except)
+    (length opening.stock.articles) 0

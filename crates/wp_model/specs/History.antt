@@ -65,4 +65,5 @@ script_of (script ∷ scripts) desk = if script.desk == desk then script.command
 -- the part of a desk: the commands of its entries, in order
 abbrev pub part_of : ℕ → List Entry → List Command
 part_of desk [] = []
-part_of desk (entry ∷ entries) = if entry.desk == desk then entry.command ∷ part_of desk entries else part_of desk entries
+part_of desk (entry ∷ entries) = if entry.desk == desk then entry.command ∷ part_of desk entries
+    else part_of desk entries

@@ -45,9 +45,11 @@ command_text (command.Allot w) = codes "allot" ++ after_space w
 command_text (command.Release w) = codes "release" ++ after_space w
 command_text (command.Cancel w) = codes "cancel" ++ after_space w
 command_text (command.Pick w order location quantity) =
-    codes "pick" ++ after_space w ++ after_space order ++ after_space (location_text location) ++ number_after_space quantity
+    codes "pick" ++ after_space w ++ after_space order ++ after_space (location_text location)
+    ++ number_after_space quantity
 command_text (command.Missing w order location quantity) =
-    codes "missing" ++ after_space w ++ after_space order ++ after_space (location_text location) ++ number_after_space quantity
+    codes "missing" ++ after_space w ++ after_space order ++ after_space (location_text location)
+    ++ number_after_space quantity
 command_text (command.Receive location article quantity) =
     codes "receive" ++ after_space (location_text location) ++ after_space article ++ number_after_space quantity
 
@@ -70,7 +72,8 @@ reply_text (reply.OrderTaken order w) = codes "refused order-taken" ++ after_spa
 reply_text (reply.OverCart order units) = codes "refused over-cart" ++ after_space order ++ number_after_space units
 reply_text reply.UnknownWave = codes "refused unknown-wave"
 reply_text (reply.WrongState state) = codes "refused wrong-state" ++ after_space (wave_state_text state)
-reply_text (reply.Short article wanted free) = codes "refused short" ++ after_space article ++ number_after_space wanted ++ number_after_space free
+reply_text (reply.Short article wanted free)
+    = codes "refused short" ++ after_space article ++ number_after_space wanted ++ number_after_space free
 reply_text reply.Picking = codes "refused picking"
 reply_text (reply.NotHeld location) = codes "refused not-held" ++ after_space (location_text location)
 reply_text (reply.TooMuch held) = codes "refused too-much" ++ number_after_space held
@@ -80,7 +83,8 @@ reply_text (reply.TooMany on_hand) = codes "refused too-many" ++ number_after_sp
 
 -- an entry: its number, the desk, the command, an arrow and the reply
 abbrev pub entry_text : Entry → List ℕ
-entry_text entry = decimal entry.number ++ number_after_space entry.desk ++ after_space (command_text entry.command) ++ codes " -> " ++ reply_text entry.reply
+entry_text entry = decimal entry.number ++ number_after_space entry.desk ++ after_space (command_text entry.command)
+    ++ codes " -> " ++ reply_text entry.reply
 
 -- a text as a line
 abbrev pub line : List ℕ → List ℕ

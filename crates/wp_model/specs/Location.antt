@@ -1,5 +1,6 @@
 -- Locations as tables and commands write them.
-use Rattle.std.specs.Prelude.{ℕ, ◌==◌, ◌&&◌, ◌||◌, nat_lt, Bool, true, false, List, [], ◌∷◌, Option, Some, None, option_map, option_and_then, if◌then◌else◌}
+use Rattle.std.specs.Prelude.{ℕ, ◌==◌, ◌&&◌, ◌||◌, nat_lt, Bool, true, false, List, [], ◌∷◌, Option, Some, None}
+use Rattle.std.specs.Prelude.{option_map, option_and_then, if◌then◌else◌}
 use Rattle.std.specs.List.{before_first, after_first}
 use Rattle.std.specs.Ordering.{nat_cmp, ordering_then}
 use Rattle.std.specs.declared.cmp.Ordering.{Ordering}
@@ -22,7 +23,8 @@ side_of (b ∷ c ∷ rest) = None
 -- the location whose parts these texts write
 abbrev pub location_from : List ℕ → List ℕ → List ℕ → Option Location
 location_from aisle slot side =
-    option_and_then (λ a. option_and_then (λ s. option_map (λ d. record { aisle = a; slot = s; side = d }) (side_of side)) (number_of 5 slot))
+    option_and_then (λ a. option_and_then (λ s. option_map (λ d. record { aisle = a; slot = s; side = d })
+    (side_of side)) (number_of 5 slot))
     (number_of 5 aisle)
 
 -- the location that a text writes: an aisle, a dash, a slot, a dash and a side
@@ -40,7 +42,8 @@ side_before R R = false
 
 -- one location before another: by aisle, slot and side
 abbrev pub is_before : Location → Location → Bool
-is_before a b = nat_lt a.aisle b.aisle || ((a.aisle == b.aisle) && (nat_lt a.slot b.slot || ((a.slot == b.slot) && side_before a.side b.side)))
+is_before a b = nat_lt a.aisle b.aisle ||
+    ((a.aisle == b.aisle) && (nat_lt a.slot b.slot || ((a.slot == b.slot) && side_before a.side b.side)))
 
 -- the order of two sides
 abbrev pub side_cmp : Side → Side → Ordering
@@ -51,4 +54,5 @@ side_cmp R R = Equal
 
 -- the order of two locations
 abbrev pub location_cmp : Location → Location → Ordering
-location_cmp a b = ordering_then (nat_cmp a.aisle b.aisle) (ordering_then (nat_cmp a.slot b.slot) (side_cmp a.side b.side))
+location_cmp a b = ordering_then (nat_cmp a.aisle b.aisle)
+    (ordering_then (nat_cmp a.slot b.slot) (side_cmp a.side b.side))

@@ -1,11 +1,13 @@
 -- Names of waves, orders and articles.
-use Rattle.std.specs.Prelude.{ℕ, ◌-◌, ◌&&◌, ◌||◌, ◌==◌, Bool, nat_le, nat_lt, List, ◌++◌, length, replicate, Option, Some, None, if◌then◌else◌}
+use Rattle.std.specs.Prelude.{ℕ, ◌-◌, ◌&&◌, ◌||◌, ◌==◌, Bool, nat_le, nat_lt, List, ◌++◌, length, replicate, Option}
+use Rattle.std.specs.Prelude.{Some, None, if◌then◌else◌}
 use Rattle.std.specs.List.{list_all}
 use Rattle.wp_model.specs.Limits.{most_name_bytes}
 
 -- a byte that may stand in a name: an ASCII digit, an ASCII letter, a dash, an underscore or a dot
 abbrev pub is_name_byte : ℕ → Bool
-is_name_byte b = (nat_le 48 b && nat_le b 57) || (nat_le 65 b && nat_le b 90) || (nat_le 97 b && nat_le b 122) || (b == 45) || (b == 95) || (b == 46)
+is_name_byte b = (nat_le 48 b && nat_le b 57) || (nat_le 65 b && nat_le b 90) || (nat_le 97 b && nat_le b 122) ||
+    (b == 45) || (b == 95) || (b == 46)
 
 -- a name has such bytes, at least one and not too many
 abbrev pub is_name : List ℕ → Bool

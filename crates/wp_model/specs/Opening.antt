@@ -1,5 +1,6 @@
 -- What a run begins with: the stock file, the order file, and how many units a cart holds.
-use Rattle.std.specs.Prelude.{ℕ, ◌<◌, ◌≤◌, List, [], ◌∷◌, Option, if◌then◌else◌, length, slice_index_or, Bool, false, ◌||◌}
+use Rattle.std.specs.Prelude.{ℕ, ◌<◌, ◌≤◌, List, [], ◌∷◌, Option, if◌then◌else◌, length, slice_index_or, Bool, false}
+use Rattle.std.specs.Prelude.{◌||◌}
 use Rattle.std.specs.List.{All, sum_by}
 use Rattle.std.specs.Str.{bytes_eq}
 use Rattle.wp_model.specs.Limits.{most_lines, most_on_hand, most_quantity}
@@ -16,7 +17,8 @@ pub record Order : Type 0 where
   pub name : List ℕ
   pub lines : List Line
 
--- the stock, the orders in the order of their first appearance, and the units that a cart holds, none where it holds any number
+-- the stock, the orders in the order of their first appearance, and the units that a cart holds, none where it holds
+-- any number
 pub record Opening : Type 0 where
   pub stock : Stock
   pub orders : List Order

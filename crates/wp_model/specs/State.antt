@@ -22,7 +22,13 @@ pub record State : Type 0 where
 
 -- a row of the file, all of it free
 abbrev pub opening_row : StockRow → Row
-opening_row row = record { location = row.location; article = row.article; on_hand = row.on_hand; free = row.on_hand; held = 0 }
+opening_row row = record {
+  location = row.location;
+  article = row.article;
+  on_hand = row.on_hand;
+  free = row.on_hand;
+  held = 0;
+}
 
 -- all stock is free, and there is no wave
 abbrev pub opening_state : Opening → State

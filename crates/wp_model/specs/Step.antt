@@ -1,5 +1,6 @@
 -- What each command does. The tests are made in the order in which they stand, and a refusal changes nothing.
-use Rattle.std.specs.Prelude.{◌≡◌, ◌⊎◌, ℕ, ◌+◌, ◌&&◌, ◌==◌, not, nat_lt, nat_le, Bool, true, false, List, [], ◌∷◌, ◌++◌, length, Option, Some, None}
+use Rattle.std.specs.Prelude.{◌≡◌, ◌⊎◌, ℕ, ◌+◌, ◌&&◌, ◌==◌, not, nat_lt, nat_le, Bool, true, false, List, [], ◌∷◌, ◌++◌}
+use Rattle.std.specs.Prelude.{length, Option, Some, None}
 use Rattle.std.specs.Prelude.{if◌then◌else◌}
 use Rattle.std.specs.Prelude.{option_map}
 use Rattle.std.specs.List.{list_any}
@@ -59,7 +60,8 @@ wave_from number (w ∷ waves) name = if bytes_eq w.name name then Some (number,
 
 -- what a command does to the wave of a name, where there is one
 abbrev pub at_wave : State → List ℕ → (ℕ → Wave → Stepped) → Stepped
-at_wave state name change = option_map_or (λ found. change found.0 found.1) (wave_from 0 state.waves name) (refuse state reply.UnknownWave)
+at_wave state name change = option_map_or (λ found. change found.0 found.1) (wave_from 0 state.waves name)
+    (refuse state reply.UnknownWave)
 
 -- a list of names has this one
 abbrev pub is_among : List (List ℕ) → List ℕ → Bool
@@ -83,7 +85,8 @@ is_over_cart (Some cart) units = nat_lt cart units
 -- why no cart holds an order: it has more units than a cart
 abbrev pub cart_fault : Opening → List ℕ → Option Reply
 cart_fault opening order =
-    if is_over_cart opening.units (order_units opening.orders order) then Some (reply.OverCart order (order_units opening.orders order)) else None
+    if is_over_cart opening.units (order_units opening.orders order)
+    then Some (reply.OverCart order (order_units opening.orders order)) else None
 
 -- why an order can't join a wave, after the orders that were named before it
 abbrev pub order_fault : Opening → List Wave → List (List ℕ) → List ℕ → Option Reply
@@ -103,7 +106,8 @@ abbrev pub submit_fault : Opening → State → List ℕ → List (List ℕ) →
 submit_fault opening state name orders =
     if length orders == 0 then Some reply.NoOrders
     else if nat_lt most_wave_orders (length orders) then Some (reply.WaveFull (length orders))
-    else option_or (option_map (λ found. reply.KnownWave) (wave_from 0 state.waves name)) (first_order_fault opening state.waves [] orders)
+    else option_or (option_map (λ found. reply.KnownWave) (wave_from 0 state.waves name))
+    (first_order_fault opening state.waves [] orders)
 
 -- a new wave, the last of all
 abbrev pub add_wave : List ℕ → List (List ℕ) → State → State
@@ -114,18 +118,24 @@ add_wave name orders state = record state {
 -- Submit: the wave is made of these orders, in this order
 abbrev pub submit : Opening → State → List ℕ → List (List ℕ) → Stepped
 submit opening state name orders =
-    option_map_or (refuse state) (submit_fault opening state name orders) (record { reply = reply.Submitted; state = add_wave name orders state })
+    option_map_or (refuse state) (submit_fault opening state name orders)
+    (record { reply = reply.Submitted; state = add_wave name orders state })
 
 -- more is wanted of an article than is free
 abbrev pub refuse_short : Opening → State → Wave → ℕ → Stepped
 refuse_short opening state w article =
-    refuse state (reply.Short (article_name opening article) (wave_demand opening w.orders article) (free_units state.rows article None))
+    refuse state (reply.Short (article_name opening article) (wave_demand opening w.orders article)
+    (free_units state.rows article None))
 
 -- stock is held for a wave's orders where free stock covers them
 abbrev pub hold_for : Opening → State → WaveState → Reply → ℕ → Wave → Stepped
 hold_for opening state next done number w =
     option_map_or (refuse_short opening state w) (short_article opening state.rows w.orders None)
-    (record { reply = done; state = put_wave number (record w { state = next }) (hold (demand_at opening w.orders) None number (length w.orders) state) })
+    (record {
+      reply = done;
+      state = put_wave number (record w { state = next })
+          (hold (demand_at opening w.orders) None number (length w.orders) state);
+    })
 
 -- Allot: stock is held for the wave
 abbrev pub allot : Opening → State → ℕ → Wave → WaveState → Stepped
@@ -135,7 +145,10 @@ allot opening state number w other = refuse state (reply.WrongState other)
 -- Release: the wave goes out, with the stock that it holds or that is held for it now
 abbrev pub release : Opening → State → ℕ → Wave → WaveState → Stepped
 release opening state number w wave.Submitted = hold_for opening state wave.Released reply.Released number w
-release opening state number w wave.Allotted = record { reply = reply.Released; state = put_wave number (record w { state = wave.Released }) state }
+release opening state number w wave.Allotted = record {
+  reply = reply.Released;
+  state = put_wave number (record w { state = wave.Released }) state;
+}
 release opening state number w other = refuse state (reply.WrongState other)
 
 -- a wave is given up, and all that it holds goes back to free
@@ -165,7 +178,8 @@ same_location a b = (a.aisle == b.aisle) && (a.slot == b.slot) && same_side a.si
 -- the row at a location, with its number, where the first row of the list has this number
 abbrev pub row_from : ℕ → List Row → Location → Option (ℕ × Row)
 row_from number [] location = None
-row_from number (row ∷ rows) location = if same_location row.location location then Some (number, row) else row_from (number + 1) rows location
+row_from number (row ∷ rows) location = if same_location row.location location then Some (number, row)
+    else row_from (number + 1) rows location
 
 -- the place of a name in a list, where the first has this place
 abbrev pub place_from : ℕ → List (List ℕ) → List ℕ → Option ℕ
@@ -188,7 +202,13 @@ abbrev pub held_for : State → ℕ → Wave → List ℕ → Location → Optio
 held_for state number w order location =
     option_map_or
     (λ place. option_map_or
-    (λ found. any_held (record { order = place; row = found.0; article = found.1.article; units = state.held number place found.0 }))
+    (λ found. any_held (record {
+      order = place;
+      row = found.0;
+      article = found.1.article;
+      units = state.held number
+          place found.0;
+    }))
     (row_from 0 state.rows location) None)
     (place_from 0 w.orders order) None
 
@@ -200,7 +220,8 @@ at_held state number w order location quantity change =
 
 -- the same, at a released wave
 abbrev pub at_released : State → ℕ → Wave → List ℕ → Location → ℕ → (Held → Stepped) → WaveState → Stepped
-at_released state number w order location quantity change wave.Released = at_held state number w order location quantity change
+at_released state number w order location quantity change wave.Released
+    = at_held state number w order location quantity change
 at_released state number w order location quantity change other = refuse state (reply.WrongState other)
 
 -- Pick: the units are gone
@@ -220,18 +241,21 @@ refill opening number w quantity held state =
     if nat_le quantity (free_units state.rows held.article (Some held.row))
     then record {
       reply = reply.Refilled quantity;
-      state = settle number w (hold (one_demand held.order held.article quantity) (Some held.row) number (length w.orders) state);
+      state = settle number w (hold (one_demand held.order held.article quantity) (Some held.row) number
+          (length w.orders) state);
     }
     else record { reply = reply.Lost (article_name opening held.article) quantity; state = settle number w state }
 
 -- Missing: the units are written off, and held elsewhere where that can be
 abbrev pub write_off : Opening → State → ℕ → Wave → ℕ → Held → Stepped
-write_off opening state number w quantity held = refill opening number w quantity held (take number held.order held.row quantity state)
+write_off opening state number w quantity held
+    = refill opening number w quantity held (take number held.order held.row quantity state)
 
 -- Receive: units come to a row of their article
 abbrev pub receive_at : Opening → State → List ℕ → ℕ → ℕ → Row → Stepped
 receive_at opening state article quantity number row =
-    if not (bytes_eq (article_name opening row.article) article) then refuse state (reply.OtherArticle (article_name opening row.article))
+    if not (bytes_eq (article_name opening row.article) article)
+    then refuse state (reply.OtherArticle (article_name opening row.article))
     else if nat_lt most_on_hand (row.on_hand + quantity) then refuse state (reply.TooMany row.on_hand)
     else record { reply = reply.Received; state = receive number quantity state }
 
@@ -242,11 +266,14 @@ step opening state (command.Allot name) = at_wave state name (λ number w. allot
 step opening state (command.Release name) = at_wave state name (λ number w. release opening state number w w.state)
 step opening state (command.Cancel name) = at_wave state name (λ number w. cancel state number w w.state)
 step opening state (command.Pick name order location quantity) =
-    at_wave state name (λ number w. at_released state number w order location quantity (pick state number w quantity) w.state)
+    at_wave state name (λ number w. at_released state number w order location quantity
+    (pick state number w quantity) w.state)
 step opening state (command.Missing name order location quantity) =
-    at_wave state name (λ number w. at_released state number w order location quantity (write_off opening state number w quantity) w.state)
+    at_wave state name (λ number w. at_released state number w order location quantity
+    (write_off opening state number w quantity) w.state)
 step opening state (command.Receive location article quantity) =
-    option_map_or (λ found. receive_at opening state article quantity found.0 found.1) (row_from 0 state.rows location) (refuse state reply.NoRow)
+    option_map_or (λ found. receive_at opening state article quantity found.0 found.1) (row_from 0 state.rows location)
+    (refuse state reply.NoRow)
 
 -- the reply says that the command was done
 abbrev pub SaysDone : Command → Reply → Type 0

@@ -9,7 +9,8 @@ use Rattle.wp_model.specs.declared.row.Row.{Row}
 pub record IsSoundStock (state : State) : Type 0 where
   pub rows : All IsBalanced state.rows
   pub held : (row : ℕ) → IfSome (slice_get state.rows row) (λ r. r.held ≡ held_at state row)
-  pub nowhere_else : (number order row : ℕ) → state.held number order row ≢ 0 → (order < orders_in state number) × (row < length state.rows)
+  pub nowhere_else : (number order row : ℕ) → state.held number order row ≢ 0
+      → (order < orders_in state number) × (row < length state.rows)
 
 -- as many rows, of the same articles
 pub record AreAlike (old new : List Row) : Type 0 where

@@ -1,5 +1,6 @@
 -- How the lines of tables make a stock and orders.
-use Rattle.std.specs.Prelude.{◌≡◌, ℕ, ◌<◌, ◌≤◌, ◌&&◌, Bool, true, false, List, [], ◌∷◌, ◌++◌, length, Option, Some, None, if◌then◌else◌, IsTrue}
+use Rattle.std.specs.Prelude.{◌≡◌, ℕ, ◌<◌, ◌≤◌, ◌&&◌, Bool, true, false, List, [], ◌∷◌, ◌++◌, length, Option, Some}
+use Rattle.std.specs.Prelude.{None, if◌then◌else◌, IsTrue}
 use Rattle.std.specs.List.{list_any, position_or_len}
 use Rattle.std.specs.Str.{bytes_eq}
 use Rattle.wp_model.specs.Location.{is_before}
@@ -43,12 +44,21 @@ put_row row (r ∷ rows) = if is_before row.location r.location then row ∷ r �
 
 -- the row of a line, where articles have these names
 abbrev pub row_of : List (List ℕ) → StockLine → StockRow
-row_of articles line = record { location = line.location; article = number_among articles line.article; on_hand = line.on_hand }
+row_of articles line = record {
+  location = line.location;
+  article = number_among articles
+      line.article;
+  on_hand = line.on_hand;
+}
 
 -- a stock with one more line: its row in its place, and its article the last, where that is new
 abbrev pub add_line : Stock → StockLine → Stock
 add_line stock line =
-    record { rows = put_row (row_of (join stock.articles line.article) line) stock.rows; articles = join stock.articles line.article }
+    record {
+      rows = put_row (row_of (join stock.articles line.article) line) stock.rows;
+      articles = join stock.articles
+          line.article;
+    }
 
 -- no rows and no articles
 abbrev pub empty_stock : Stock
@@ -62,13 +72,15 @@ article_in articles field = if is_among articles field then Some (number_among a
 abbrev pub add_order_line : List Order → OrderLine → List Order
 add_order_line [] line = record { name = line.order; lines = line.line ∷ [] } ∷ []
 add_order_line (order ∷ orders) line =
-    if bytes_eq order.name line.order then record order { lines = order.lines ++ line.line ∷ [] } ∷ orders else order ∷ add_order_line orders line
+    if bytes_eq order.name line.order then record order { lines = order.lines ++ line.line ∷ [] } ∷ orders
+    else order ∷ add_order_line orders line
 
 -- how many rows of a stock are of the article with a name
 abbrev pub places_named : Stock → List ℕ → ℕ
 places_named stock name = places_of stock.rows (number_among stock.articles name)
 
--- a line may join a stock: there is room for a row, none lies at its location, its article has a name and not too many rows, and its units aren't too many
+-- a line may join a stock: there is room for a row, none lies at its location, its article has a name and not too many
+-- rows, and its units aren't too many
 pub record MayJoin (stock : Stock) (line : StockLine) : Type 0 where
   pub room : length stock.rows < most_rows
   pub free : list_any (lies_at line.location) stock.rows ≡ false
@@ -76,8 +88,8 @@ pub record MayJoin (stock : Stock) (line : StockLine) : Type 0 where
   pub on_hand : line.on_hand ≤ most_on_hand
   pub named : IsTrue (is_name line.article)
 
--- a line may join orders: it is a line of the stock's articles and of an order with a name, and there is room for it in its order, or for
--- a new order
+-- a line may join orders: it is a line of the stock's articles and of an order with a name, and there is room for it in
+-- its order, or for a new order
 pub record MayJoinOrders (articles : List (List ℕ)) (orders : List Order) (line : OrderLine) : Type 0 where
   pub is_line : IsLine articles line.line
   pub short : length (lines_of orders line.order) < most_lines

@@ -8,7 +8,8 @@ abbrev pub IsWalk : Layout → List Point → ℕ → Type 0
 IsWalk layout [] total = total ≡ 0
 IsWalk layout (point ∷ []) total = total ≡ 0
 IsWalk layout (point ∷ next ∷ points) total =
-    (step : ℕ) × (rest : ℕ) × (IsMove layout point next step) × (IsWalk layout (next ∷ points) rest) × (total ≡ step + rest)
+    (step : ℕ) × (rest : ℕ) × (IsMove layout point next step) × (IsWalk layout (next ∷ points) rest)
+    × (total ≡ step + rest)
 
 -- a walk of this length that begins and ends at the depot
 pub record IsClosedWalk (layout : Layout) (points : List Point) (total : ℕ) : Type 0 where

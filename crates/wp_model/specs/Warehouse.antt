@@ -1,6 +1,7 @@
 -- A warehouse of one block: parallel aisles, joined at both ends by a front and a back cross aisle. Its layout, its
 -- points and the moves between them.
-use Rattle.std.specs.Prelude.{◌≡◌, ℕ, ◌+◌, ◌-◌, ◌≤◌, ◌==◌, ◌||◌, ◌⊎◌, Bool, true, false, if◌then◌else◌, List, ◌∷◌, length, replicate, slice_index, All}
+use Rattle.std.specs.Prelude.{◌≡◌, ℕ, ◌+◌, ◌-◌, ◌≤◌, ◌==◌, ◌||◌, ◌⊎◌, Bool, true, false, if◌then◌else◌, List, ◌∷◌}
+use Rattle.std.specs.Prelude.{length, replicate, slice_index, All}
 use Rattle.wp_model.specs.Limits.{greatest_length, most_aisles, most_slots}
 use Rattle.wp_model.specs.declared.point.Point.{Point}
 
@@ -15,7 +16,8 @@ end_of false = at_front
 end_of true = at_back
 
 -- the numbers of aisles and of slots in each; the lengths between neighbouring slots and from an end of an aisle to its
--- nearest slot, and from each aisle but the last to the next one; and the aisle and the end of it at which the depot lies
+-- nearest slot, and from each aisle but the last to the next one; and the aisle and the end of it at which the depot
+-- lies
 pub record Layout : Type 0 where
   pub aisles : ℕ
   pub slots : ℕ

@@ -1,7 +1,9 @@
 //! The limits of the program, each once. The definitions have the same numbers, and a law ties them.
 ghost use Rattle.std.specs.Prelude.{◌≡◌};
-ghost use Rattle.wp_model.specs.Limits.{greatest_desk, greatest_length, greatest_place, most_aisles, most_cart_units, most_commands, most_entries, most_file_bytes};
-ghost use Rattle.wp_model.specs.Limits.{most_file_orders, most_lines, most_name_bytes, most_named, most_on_hand, most_places, most_quantity, most_rows};
+ghost use Rattle.wp_model.specs.Limits.{greatest_desk, greatest_length, greatest_place, most_aisles, most_cart_units};
+ghost use Rattle.wp_model.specs.Limits.{most_commands, most_entries, most_file_bytes};
+ghost use Rattle.wp_model.specs.Limits.{most_file_orders, most_lines, most_name_bytes, most_named, most_on_hand};
+ghost use Rattle.wp_model.specs.Limits.{most_places, most_quantity, most_rows};
 ghost use Rattle.wp_model.specs.Limits.{most_slots, most_submissions, most_wave_orders};
 
 /// The most bytes that a file may have.

@@ -31,7 +31,8 @@ impl Model for Name {
 
     ghost view = { λ n. take n.len n.bytes };
 
-    ghost invariant = { λ n. IsTrue (is_name (take n.len n.bytes)) × (n.bytes ≡ padded_out (take n.len n.bytes)) × (n.len ≡ length (take n.len n.bytes)) };
+    ghost invariant = { λ n. IsTrue (is_name (take n.len n.bytes)) × (n.bytes ≡ padded_out (take n.len n.bytes))
+        × (n.len ≡ length (take n.len n.bytes)) };
 
     ghost inverse = { λ text. record { bytes = padded_out text; len = length text } };
 
@@ -108,7 +109,8 @@ impl Name {
 impl Hash for Name {
     ghost hash_input = { λ name. padded_out name ∷ [] };
 
-    ghost respects_eq = { (first_alike _ (on_Alike padded_out (same_Alike (λ (bytes : List ℕ). bytes ∷ []) bytes_decides))).fed };
+    ghost respects_eq = { (first_alike _ (on_Alike padded_out
+        (same_Alike (λ (bytes : List ℕ). bytes ∷ []) bytes_decides))).fed };
 
     fn hash<H: Hasher>(&self, state: &mut H) {
         state.write(&self.bytes);

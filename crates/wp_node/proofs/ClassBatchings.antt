@@ -215,7 +215,8 @@ module _ (wave : WavePicks) (pairing : Pairing) (duals : List ℕ) (as_many : pa
     classes_cost count =
         let costs = exact_cost batches exact_at in
         let total = first_values wave pairing.capacity batches duals classes_are_batching count (length wave.orders) (omega arith) in
-        let all : sum (take (length wave.orders) duals) ≡ sum duals = ap (λ (xs : List ℕ). sum xs) (take_all (length wave.orders) duals (omega (arith, count))) in
+        let all : sum (take (length wave.orders) duals) ≡ sum duals
+        = ap (λ (xs : List ℕ). sum xs) (take_all (length wave.orders) duals (omega (arith, count))) in
         let whole : sum duals ≡ 60 * costs.0 = sym all ∙ (sym total ∙ costs.2) in
         let rest : (sum duals + 59) % 60 < 60 = mod-lt (sum duals + 59) (omega arith) in
         let units : costs.0 ≡ units_of (sum duals) = omega (arith, div-add-mod (sum duals + 59) 60, rest, whole) in

@@ -1,6 +1,5 @@
 pub mod Prices
 pub mod Raises
-pub mod Items
 pub mod Finds
 pub mod Weights
 pub mod Owns

@@ -16,7 +16,8 @@ sets_within orders capacity = sum_below (capacity + 1) (choose orders)
 abbrev pub price : ℕ → ℕ → ℕ
 price orders capacity = (4 * orders + 4) * sets_within orders capacity
 
--- a budget that pays for any tree: a path has no more pairs than there are pairs of orders, so fewer nodes than this power of two have duals of their own
+-- a budget that pays for any tree: a path has no more pairs than there are pairs of orders, so fewer nodes than this
+-- power of two have duals of their own
 abbrev pub full : ℕ → ℕ → ℕ
 full orders capacity = price orders capacity * 2 ^ (orders * (orders - 1) / 2 + 1)
 

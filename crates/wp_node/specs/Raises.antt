@@ -32,7 +32,8 @@ abbrev pub AreNoLower : List ℕ → List ℕ → Type 0
 AreNoLower before after = (order : ℕ) → slice_index before order ≤ slice_index after order
 
 -- a batch is listed for each of the first orders, which is tight for it
-pub record AreListedTight (wave : WavePicks) (pairing : Pairing) (duals : List ℕ) (orders : ℕ) (tight : List (List ℕ)) : Type 0 where
+pub record AreListedTight (wave : WavePicks) (pairing : Pairing) (duals : List ℕ) (orders : ℕ)
+    (tight : List (List ℕ)) : Type 0 where
   pub count : length tight ≡ orders
   pub each : (order : ℕ) → order < orders → IsTightFor wave pairing duals order (slice_index_or tight order [])
 

@@ -1,6 +1,6 @@
 ghost use Rattle.std.specs.Prelude.{◌≤◌};
 
-use crate::items::total_in;
+use crate::totals::total_in;
 use wp_lengths::{SIXTIETHS, total_of};
 use wp_master::Column;
 use wp_pairs::Batch;
@@ -41,7 +41,8 @@ fn take_off(duals: &mut [u64], batch: Batch, each: u64, excess: u64) -> u64 {
     left
 }
 
-// Lowers the duals of a column's orders, where they are above sixty times its length: each by the same part, as far as it goes.
+// Lowers the duals of a column's orders, where they are above sixty times its length: each by the same part, as far as
+// it goes.
 fn lower(duals: &mut [u64], column: &Column) {
     let batch = column.batch;
     let excess = total_in(duals, batch).saturating_sub(column.length.saturating_mul(SIXTIETHS));
@@ -60,7 +61,8 @@ pub fn lower_columns(duals: &mut [u64], columns: &[Column]) {
     }
 }
 
-// The step of a turn, of which so many are left: from an eighth of the mean dual down, as the square of the turns that are left.
+// The step of a turn, of which so many are left: from an eighth of the mean dual down, as the square of the turns that
+// are left.
 fn step_of(orders: usize, total: u64, turns: u64, left: u64) -> u64 {
     let turns = turns.max(1);
     let falling = total.saturating_mul(left) / turns;
@@ -75,8 +77,8 @@ pub fn sum_all(duals: &[u64]) -> u64 {
 }
 
 // No promise rests on it: duals that come of it are tested before they are taken.
-/// Changes duals so that their sum rises, in so many turns: in turn all are raised by a step, and those of each column are lowered
-/// where it has too much. The steps fall, so that what is too much in the end is mostly nothing.
+/// Changes duals so that their sum rises, in so many turns: in turn all are raised by a step, and those of each column
+/// are lowered where it has too much. The steps fall, so that what is too much in the end is mostly nothing.
 pub fn ascend_within(duals: &mut [u64], columns: &[Column], turns: u64) {
     let total = sum_all(duals);
     for done in 0..turns {

@@ -1,7 +1,8 @@
 ghost use Rattle.std.specs.Prelude.{◌≡◌, IfOk, IfSome, false, length};
 
 use crate::columns::{add_finds, nearest, pool_of};
-use crate::visit::{PARTS, RAISED_PARTS, visit};
+use crate::finds::{PARTS, RAISED_PARTS};
+use crate::visit::visit;
 use std::alloc::Global;
 use std::thread::Threads;
 use wp_lengths::{PairedWave, SIXTIETHS, Wave};
@@ -22,15 +23,16 @@ const MOST_ROUNDS: u32 = 64;
 /// How many columns for each order a program has at most before another round; of more the nearest half is kept.
 const MOST_COLUMNS: usize = 6;
 
-/// What a linear program over columns gives: for each order a dual, in parts of a sixtieth, and for each column a weight.
+/// What a linear program over columns gives: for each order a dual, in parts of a sixtieth, and for each column a
+/// weight.
 #[derive(Drop)]
 pub struct Solved {
     pub duals: Vec<u64>,
     pub weights: Vec<u64>,
 }
 
-/// Columns, and the answer of the linear program over them, if it has one: a weight for each, in their order. Where all are
-/// priced, no permitted batch has a slack below 0 under the duals of the answer, but for what is lost in rounding.
+/// Columns, and the answer of the linear program over them, if it has one: a weight for each, in their order. Where all
+/// are priced, no permitted batch has a slack below 0 under the duals of the answer, but for what is lost in rounding.
 #[derive(Drop)]
 pub struct PricedColumns {
     pub columns: Vec<Column>,
@@ -81,7 +83,8 @@ fn solved_of(alloc: Global, pair: &Pair) -> Result<Solved, Memory>
 
 // The answer of the linear program over columns, if it has one: a weight for each column.
 fn solve_over(alloc: Global, wave: &Wave, columns: &[Column]) -> Result<Option<Solved>, Memory>
-    ensures { IfOk result (λ found. IfSome found (λ solved. length solved.weights.items ≡ length columns.now)) }
+    ensures { IfOk result (λ found. IfSome found
+        (λ solved. length solved.weights.items ≡ length columns.now)) }
 {
     let Some(pool) = pool_of(alloc, wave, columns)? else {
         return Ok(None);
@@ -93,7 +96,8 @@ fn solve_over(alloc: Global, wave: &Wave, columns: &[Column]) -> Result<Option<S
     }
 }
 
-// Adds for each order the permitted batch of least slack through it, where that is below 0, and tells whether any is new.
+// Adds for each order the permitted batch of least slack through it, where that is below 0, and tells whether any is
+// new.
 fn add_priced<R: Threads + Sync, G: Gate>(
     workers: &Workers<'_, R, G>,
     paired: &PairedWave<'_>,
@@ -120,14 +124,16 @@ fn trimmed(
     nearest(alloc, columns.as_slice(), duals, most / 2)
 }
 
-/// Column generation: from some columns on the linear program over the columns is solved, and the permitted batches whose
-/// slack is below 0 are added, until there is none. After the last round the program has the answer over the columns so far.
+/// Column generation: from some columns on the linear program over the columns is solved, and the permitted batches
+/// whose slack is below 0 are added, until there is none. After the last round the program has the answer over the
+/// columns so far.
 pub fn price_columns<R: Threads + Sync, G: Gate>(
     workers: &Workers<'_, R, G>,
     paired: &PairedWave<'_>,
     columns: Vec<Column>,
 ) -> Result<PricedColumns, Memory>
-    ensures { IfOk result (λ priced. IfSome priced.solved (λ solved. length solved.weights.items ≡ length priced.columns.items)) }
+    ensures { IfOk result (λ priced. IfSome priced.solved
+        (λ solved. length solved.weights.items ≡ length priced.columns.items)) }
 {
     let alloc = workers.alloc;
     let wave = paired.wave;

@@ -4,7 +4,7 @@ ghost use Rattle.wp_node.specs.Weights.{HaveOneLength};
 
 use crate::ascent::{ascend_within, sum_all};
 use crate::bound::WHOLE;
-use crate::items::total_in;
+use crate::totals::total_in;
 use crate::work::{Weighted, Worked};
 use std::alloc::Global;
 use wp_lengths::SIXTIETHS;
@@ -34,8 +34,8 @@ struct Two {
     second: u32,
 }
 
-/// A node of which pairs are tried: what it has, what its duals come to, and what those of a child come to more at least where the
-/// child needs no split, since its bound is what the best batching costs.
+/// A node of which pairs are tried: what it has, what its duals come to, and what those of a child come to more at
+/// least where the child needs no split, since its bound is what the best batching costs.
 #[derive(Clone, Copy)]
 struct Trial<'a> {
     worked: &'a Worked,
@@ -195,8 +195,8 @@ fn score_of(alloc: Global, trial: &Trial<'_>, two: Two, turns: u64) -> Result<u6
     Ok(together.saturating_mul(apart))
 }
 
-// The places of pairs by what they gain, those that gain most first; of equal ones the earlier. After one that closes both
-// children no further one is tried.
+// The places of pairs by what they gain, those that gain most first; of equal ones the earlier. After one that closes
+// both children no further one is tried.
 fn by_gain(
     alloc: Global,
     trial: &Trial<'_>,
@@ -234,7 +234,8 @@ fn best_pairs(
     Ok(best)
 }
 
-// Of the pairs that are tried the one that gains most, if any is tried: those that gain most in a short ascent are tried again.
+// Of the pairs that are tried the one that gains most, if any is tried: those that gain most in a short ascent are
+// tried again.
 fn best_tried(alloc: Global, trial: &Trial<'_>, shared: &[Two]) -> Result<Option<Two>, Memory> {
     let again = best_pairs(alloc, trial, shared, TRY_TURNS, MOST_TRIED_AGAIN)?;
     let best = best_pairs(alloc, trial, again.as_slice(), TURNS_AGAIN, 1)?;
@@ -292,8 +293,8 @@ fn least_shared(pairs: &Pairs, weighted: &[Weighted]) -> Option<Two> {
     None
 }
 
-// The pair that the columns of a node suggest, if they share any in part: where all have one length the one whose later order is the
-// least, with no trial, since no pair gains anything there; else the one that gains most.
+// The pair that the columns of a node suggest, if they share any in part: where all have one length the one whose later
+// order is the least, with no trial, since no pair gains anything there; else the one that gains most.
 fn suggested(
     alloc: Global,
     pairs: &Pairs,
@@ -308,17 +309,19 @@ fn suggested(
     best_tried(alloc, &trial_of(worked, cost), shared.as_slice())
 }
 
-/// The pair of orders on which a node is split, where the best batching costs so much: of the undecided pairs that the columns of
-/// the node's linear program share most nearly by one half, the one whose two children gain most in an ascent, as far as a gain
-/// brings them to that cost. Where these columns all have one length it is, of those that they share in part, the pair whose later
-/// order is the least. Where no pair is shared in part it is the least undecided pair. None comes exactly where all pairs are decided.
+/// The pair of orders on which a node is split, where the best batching costs so much: of the undecided pairs that the
+/// columns of the node's linear program share most nearly by one half, the one whose two children gain most in an
+/// ascent, as far as a gain brings them to that cost. Where these columns all have one length it is, of those that they
+/// share in part, the pair whose later order is the least. Where no pair is shared in part it is the least undecided
+/// pair. None comes exactly where all pairs are decided.
 pub fn choose_pair(
     alloc: Global,
     pairs: &Pairs,
     worked: &Worked,
     cost: u64,
 ) -> Result<Option<(u32, u32)>, Memory>
-    ensures some { IfOk result (λ found. IfSome found (λ pair. AreUndecided pairs.now pair.0 pair.1)) }
+    ensures some { IfOk result (λ found. IfSome found
+        (λ pair. AreUndecided pairs.now pair.0 pair.1)) }
     ensures none { IfOk result (λ found. IfNone found (AllDecided pairs.now)) }
 {
     if let Some(two) = suggested(alloc, pairs, worked, cost)? {

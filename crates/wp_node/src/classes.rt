@@ -14,7 +14,8 @@ pub fn class_batching(alloc: Global, given: &DualWave<'_>) -> Result<Batching, M
     requires tight { AreTight given.now.wave.now given.now.pairs.now given.now.duals.now }
     ensures batching { IfOk result (IsBatching given.now.wave.now given.now.pairs.now.capacity) }
     ensures listed { IfOk result IsListedByLeast }
-    ensures cost { IfOk result (λ batching. IsCost given.now.wave.now batching (units_of (sum given.now.duals.now))) }
+    ensures cost { IfOk result (λ batching. IsCost given.now.wave.now batching
+        (units_of (sum given.now.duals.now))) }
 {
     let pairs = given.pairs;
     let mut batches = Vec::new(alloc);

@@ -1,8 +1,8 @@
 ghost use Rattle.std.specs.Prelude.{◌≡◌, ◌<◌, ◌↔◌, All, IfNone, IfOk, IfSome, IsTrue, false, length};
 ghost use Rattle.wp_master.specs.Pools.{IsColumn};
 
-use crate::items::total_in;
-use crate::visit::{FEW, Find, slack_of};
+use crate::finds::{FEW, Find, slack_of};
+use crate::totals::total_in;
 use std::alloc::Global;
 use wp_lengths::{PairedWave, Wave};
 use wp_master::{Column, Pool};
@@ -24,7 +24,8 @@ fn is_column(orders: u32, column: &Column) -> bool
 /// The pool of these columns, each at its place. None comes exactly where one of them can't stand in a pool.
 pub fn pool_of(alloc: Global, wave: &Wave, columns: &[Column]) -> Result<Option<Pool>, Memory>
     ensures kept { IfOk result (λ found. IfSome found (λ pool. pool.columns ≡ columns.now)) }
-    ensures none { IfOk result (λ found. IfNone found (All (IsColumn (length wave.now.orders)) columns.now → ⊥)) }
+    ensures none { IfOk result (λ found. IfNone found
+        (All (IsColumn (length wave.now.orders)) columns.now → ⊥)) }
 {
     let orders = wave.orders();
     let mut pool = Pool::new(alloc, orders)?;
@@ -84,7 +85,8 @@ pub fn add_alone(paired: &PairedWave<'_>, columns: &mut Vec<Column>) -> Result<(
     Ok(())
 }
 
-/// Adds the best of the few batches that were found through each order, up to so many of them, and tells whether any is new.
+/// Adds the best of the few batches that were found through each order, up to so many of them, and tells whether any is
+/// new.
 pub fn add_finds(columns: &mut Vec<Column>, finds: &[Find], most: usize) -> Result<bool, Memory>
     ensures { IfOk result (λ added. added ≡ false → columns.new.items ≡ columns.old.items) }
 {

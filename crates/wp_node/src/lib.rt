@@ -1,6 +1,6 @@
-//! The work at one node of the search for a wave's plan: the duals that it has of its own, by a linear program over columns and by
-//! raising, and the pair of orders on which it is split. What that costs of a budget, and the share duals with which a search
-//! begins.
+//! The work at one node of the search for a wave's plan: the duals that it has of its own, by a linear program over
+//! columns and by raising, and the pair of orders on which it is split. What that costs of a budget, and the share
+//! duals with which a search begins.
 #![tactic(auto)]
 
 mod ascent;
@@ -8,12 +8,12 @@ mod bound;
 mod choice;
 mod classes;
 mod columns;
-mod items;
+mod finds;
 mod own;
 mod price;
 mod raise;
-mod reach;
 mod shares;
+mod totals;
 mod visit;
 mod work;
 

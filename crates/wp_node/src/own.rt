@@ -13,7 +13,8 @@ use wp_model::Memory;
 use wp_outside::Gate;
 use wp_price::{Workers, are_feasible, short_marks};
 
-/// What a node of the search has of its own, as a certificate has it, but that its duals are known to be within their range.
+/// What a node of the search has of its own, as a certificate has it, but that its duals are known to be within their
+/// range.
 #[derive(Drop)]
 pub struct NodeOwn {
     pub duals: OrderDuals,
@@ -41,9 +42,11 @@ fn own_from<R: Threads + Sync, G: Gate>(
     feasible: OrderDuals,
 ) -> Result<NodeOwn, Memory>
     requires { IsStart paired.now.wave.now paired.now.pairs.now feasible }
-    ensures right { IfOk result (λ own. IsRightOwn paired.now.wave.now paired.now.pairs.now (sum feasible) (as_own own)) }
+    ensures right { IfOk result (λ own. IsRightOwn paired.now.wave.now paired.now.pairs.now
+        (sum feasible) (as_own own)) }
     ensures duals { IfOk result (λ own. AreDuals own.duals) }
-    ensures short { IfOk result (λ own. AreShortMarks paired.now.wave.now paired.now.pairs.now own.duals own.marks) }
+    ensures short { IfOk result (λ own. AreShortMarks paired.now.wave.now paired.now.pairs.now
+        own.duals own.marks) }
 {
     let mut duals = feasible;
     let tight = raise_all(workers, paired, &mut duals)?;
@@ -61,8 +64,8 @@ fn own_from<R: Threads + Sync, G: Gate>(
     })
 }
 
-/// What a node has of its own, from duals that are tried first: they are taken where they are feasible, and raised come to no
-/// less than those above the node. Else those above are raised.
+/// What a node has of its own, from duals that are tried first: they are taken where they are feasible, and raised come
+/// to no less than those above the node. Else those above are raised.
 pub fn own_of<R: Threads + Sync, G: Gate>(
     workers: &Workers<'_, R, G>,
     paired: &PairedWave<'_>,
@@ -71,9 +74,11 @@ pub fn own_of<R: Threads + Sync, G: Gate>(
 ) -> Result<NodeOwn, Memory>
     requires start { IsStart paired.now.wave.now paired.now.pairs.now above.now }
     requires count { length tried ≡ length paired.now.wave.now.orders }
-    ensures right { IfOk result (λ own. IsRightOwn paired.now.wave.now paired.now.pairs.now (sum above.now) (as_own own)) }
+    ensures right { IfOk result (λ own. IsRightOwn paired.now.wave.now paired.now.pairs.now
+        (sum above.now) (as_own own)) }
     ensures duals { IfOk result (λ own. AreDuals own.duals) }
-    ensures short { IfOk result (λ own. AreShortMarks paired.now.wave.now paired.now.pairs.now own.duals own.marks) }
+    ensures short { IfOk result (λ own. AreShortMarks paired.now.wave.now paired.now.pairs.now
+        own.duals own.marks) }
 {
     let given = DualWave {
         wave: paired.wave,

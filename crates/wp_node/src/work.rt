@@ -9,8 +9,9 @@ ghost use Rattle.wp_node.specs.Weights.{IsWeighted};
 use crate::ascent::{ascend_within, lower_columns};
 use crate::bound::{PricedColumns, Solved, WHOLE, price_columns};
 use crate::columns::{add_alone, add_finds, nearest, permitted_columns, ranked};
+use crate::finds::{FEW, Find, PARTS, RAISED_PARTS};
 use crate::own::{NodeOwn, own_of};
-use crate::visit::{FEW, Find, PARTS, RAISED_PARTS, visit};
+use crate::visit::visit;
 use std::alloc::Global;
 use std::thread::Threads;
 use wp_lengths::{OrderDuals, PairedWave};
@@ -48,9 +49,9 @@ pub struct Weighted {
     pub weight: u64,
 }
 
-/// What a node of the search has of its own; the batches that its children begin with; columns of its linear program with their
-/// weights, those of least slack first; and the batches to which its solution is rounded, which are tested before they are taken for
-/// a batching.
+/// What a node of the search has of its own; the batches that its children begin with; columns of its linear program
+/// with their weights, those of least slack first; and the batches to which its solution is rounded, which are tested
+/// before they are taken for a batching.
 #[derive(Drop)]
 pub struct Worked {
     pub own: NodeOwn,
@@ -95,7 +96,8 @@ fn visit_by<R: Threads + Sync, G: Gate>(
     visit(workers, paired, parts.as_slice(), limit)
 }
 
-// Adds the columns that the duals of an ascent within the columns so far make nearly tight, and again from these, a few times.
+// Adds the columns that the duals of an ascent within the columns so far make nearly tight, and again from these, a few
+// times.
 fn add_nearly_tight<R: Threads + Sync, G: Gate>(
     workers: &Workers<'_, R, G>,
     paired: &PairedWave<'_>,
@@ -127,8 +129,8 @@ fn nearly_tight(
     Ok(kept)
 }
 
-// The columns that a node begins with: those that are handed to it and permitted, each order with those alone that are to go with
-// it, and where these are few some that ascents find.
+// The columns that a node begins with: those that are handed to it and permitted, each order with those alone that are
+// to go with it, and where these are few some that ascents find.
 fn first_columns<R: Threads + Sync, G: Gate>(
     workers: &Workers<'_, R, G>,
     paired: &PairedWave<'_>,
@@ -174,7 +176,8 @@ fn solved_duals(
     }
 }
 
-// The duals to be tried: where not all is priced they are lowered, until no permitted batch has too much, or a few times.
+// The duals to be tried: where not all is priced they are lowered, until no permitted batch has too much, or a few
+// times.
 fn tried_duals<R: Threads + Sync, G: Gate>(
     workers: &Workers<'_, R, G>,
     paired: &PairedWave<'_>,
@@ -213,7 +216,8 @@ fn by_weight(alloc: Global, weighted: &[Weighted]) -> Result<Vec<(u64, usize)>, 
     Ok(ranks)
 }
 
-// What of a column is taken beside orders that are taken already: a whole column less these, or a column in part that has none.
+// What of a column is taken beside orders that are taken already: a whole column less these, or a column in part that
+// has none.
 fn taken_of(each: &Weighted, taken: Batch) -> Batch {
     let batch = each.column.batch;
     if each.weight < WHOLE && batch.meets(taken) {
@@ -271,7 +275,8 @@ fn nearest_weighted(
     solved: &Solved,
     most: usize,
 ) -> Result<Vec<Weighted>, Memory>
-    ensures { IfOk result (λ nearest. All (IsWeighted columns.now solved.now.weights.items) nearest.items) }
+    ensures { IfOk result (λ nearest. All (IsWeighted columns.now solved.now.weights.items)
+        nearest.items) }
 {
     let ranks = ranked(alloc, columns, solved.duals.as_slice())?;
     let mut nearest = Vec::new(alloc);
@@ -338,9 +343,9 @@ fn worked_of(
     })
 }
 
-/// The work at one node of the search. Its duals come to no less than those above it, and where the linear program over all its
-/// permitted batches has an answer, to that, but for what is lost in rounding down to sixtieths. The columns that it begins with are
-/// taken from the batches that are handed to it. The workers share its visits and its pricing.
+/// The work at one node of the search. Its duals come to no less than those above it, and where the linear program over
+/// all its permitted batches has an answer, to that, but for what is lost in rounding down to sixtieths. The columns
+/// that it begins with are taken from the batches that are handed to it. The workers share its visits and its pricing.
 pub fn work_node<R: Threads + Sync, G: Gate>(
     workers: &Workers<'_, R, G>,
     paired: &PairedWave<'_>,
@@ -348,9 +353,11 @@ pub fn work_node<R: Threads + Sync, G: Gate>(
     columns: &[Batch],
 ) -> Result<Worked, Memory>
     requires { IsStart paired.now.wave.now paired.now.pairs.now above.now }
-    ensures right { IfOk result (λ worked. IsRightOwn paired.now.wave.now paired.now.pairs.now (sum above.now) (as_own worked.own)) }
+    ensures right { IfOk result (λ worked. IsRightOwn paired.now.wave.now paired.now.pairs.now
+        (sum above.now) (as_own worked.own)) }
     ensures duals { IfOk result (λ worked. AreDuals worked.own.duals) }
-    ensures short { IfOk result (λ worked. AreShortMarks paired.now.wave.now paired.now.pairs.now worked.own.duals worked.own.marks) }
+    ensures short { IfOk result (λ worked. AreShortMarks paired.now.wave.now paired.now.pairs.now
+        worked.own.duals worked.own.marks) }
 {
     let alloc = workers.alloc;
     let orders = paired.wave.orders();

@@ -1,5 +1,6 @@
 -- What a sink took in several calls, one after the other.
-use Rattle.std.proofs.Common.{◌≡◌, ap, refl, sym, Result, Ok, Err, ◌+◌, ℕ, List, [], ◌++◌, length, append_assoc, append-nil, length-append, Option, Some, None, arith}
+use Rattle.std.proofs.Common.{◌≡◌, ap, refl, sym, Result, Ok, Err, ◌+◌, ℕ, List, [], ◌++◌, length, append_assoc, append-nil, length-append, Option, Some, None}
+use Rattle.std.proofs.Common.{arith}
 use Rattle.std.proofs.Math.Seq.{take-append-add}
 use Rattle.std.proofs.lemmas.Grind.{common_steps}
 use Rattle.wp_outside.specs.Outside.{Grows, TookPart, TookPrefix}

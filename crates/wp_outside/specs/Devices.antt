@@ -1,7 +1,8 @@
 -- Devices that are written to, and what of it counts.
 use Rattle.std.specs.Prelude.{ℕ, ◌-◌, Bool, List, Option, length, option_map, take}
 
--- what a writer holds, where it tells that, how often it failed, and how many of these bytes it took last and didn't flush
+-- what a writer holds, where it tells that, how often it failed, and how many of these bytes it took last and didn't
+-- flush
 pub record Written : Type 0 where
   pub contents : Option (List ℕ)
   pub faults : ℕ

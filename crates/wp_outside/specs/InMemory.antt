@@ -1,5 +1,6 @@
 -- Files and sinks in memory, as clauses see them.
-use Rattle.std.specs.Prelude.{ℕ, ◌+◌, ◌-◌, ◌^◌, Bool, ◌==◌, ◌&&◌, ◌||◌, nat_lt, if◌then◌else◌, List, [], length, map, find, Option, Some, is_none, option_map}
+use Rattle.std.specs.Prelude.{ℕ, ◌+◌, ◌-◌, ◌^◌, Bool, ◌==◌, ◌&&◌, ◌||◌, nat_lt, if◌then◌else◌, List, [], length, map}
+use Rattle.std.specs.Prelude.{find, Option, Some, is_none, option_map}
 use Rattle.std.specs.Prelude.{unwrap_or, String, string_bytes, Vec}
 use Rattle.std.specs.List.{zip, list_any}
 use Rattle.std.specs.Str.{bytes_eq}
@@ -64,7 +65,12 @@ pub record SinkInMemory : Type 0 where
 
 -- what such a sink tells
 abbrev pub sink_told : SinkInMemory → SinkTold
-sink_told sink = record { taken = Some sink.taken; faults = sink.calls.faults; stopped = sink.errors.stopped; late = sink.errors.late }
+sink_told sink = record {
+  taken = Some sink.taken;
+  faults = sink.calls.faults;
+  stopped = sink.errors.stopped;
+  late = sink.errors.late;
+}
 
 -- a write of this piece fails: it isn't empty, and its number says so
 abbrev pub piece_fails : NumberedCalls → List ℕ → Bool
@@ -80,7 +86,8 @@ calls_after_piece calls piece = if nat_lt 0 (length piece) then after_call calls
 abbrev pub calls_after_write : SinkInMemory → List ℕ → NumberedCalls
 calls_after_write sink piece = calls_after_piece sink.calls piece
 
--- files and a sink in memory that never fail: the files, how many reads there were, the bytes that were taken, and the errors of writes
+-- files and a sink in memory that never fail: the files, how many reads there were, the bytes that were taken, and the
+-- errors of writes
 pub record BothInMemory : Type 0 where
   pub files : List (List ℕ × List ℕ)
   pub reads : ℕ

@@ -16,4 +16,5 @@ AreParts Says (suc last) text = (before : List ℕ) × AreParts Says last before
 
 -- a text is that of a section: its heading, so many parts, and its ending
 abbrev pub IsSection : List ℕ → ℕ → (ℕ → List ℕ → Type 0) → List ℕ → List ℕ → Type 0
-IsSection heading count Says ending text = (middle : List ℕ) × AreParts Says count middle × (text ≡ heading ++ middle ++ ending)
+IsSection heading count Says ending text
+    = (middle : List ℕ) × AreParts Says count middle × (text ≡ heading ++ middle ++ ending)

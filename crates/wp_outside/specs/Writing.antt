@@ -17,8 +17,8 @@ pub record Writes (old new : SinkTold) (waited waits text : List ℕ) : Type 0 w
   pub stopped : new.stopped ≡ old.stopped
   pub early : old.stopped ≡ false → new.late ≡ old.late
 
--- a step failed: the sink took a beginning of the text that was to be written, and not all of it where the sink itself failed, which counts as one
--- more fault of it
+-- a step failed: the sink took a beginning of the text that was to be written, and not all of it where the sink itself
+-- failed, which counts as one more fault of it
 pub record Fails (fault : SinkFault) (old new : SinkTold) (text : List ℕ) : Type 0 where
   pub prefix : TookPrefix old.taken new.taken text
   pub part : fault ≡ Failed → TookPart old.taken new.taken text

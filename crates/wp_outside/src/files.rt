@@ -55,10 +55,10 @@ pub trait Files {
     /// reading each name failed, where one number may serve for all names; and how many reads there were.
     ghost told: { Self → FilesTold };
 
-    /// All the bytes of the file of this name. It is one read, but where memory runs out it may be none. No read changes
-    /// what a name holds, nor whether that is told, and no count falls. `Failed` comes only where the count of this name
-    /// rose in this call. Where the bytes are told, `TooLong` comes exactly where they are more than `MOST_FILE_BYTES`
-    /// and that count did not rise, unless memory runs out.
+    /// All the bytes of the file of this name. It is one read, but where memory runs out it may be none. No read
+    /// changes what a name holds, nor whether that is told, and no count falls. `Failed` comes only where the count of
+    /// this name rose in this call. Where the bytes are told, `TooLong` comes exactly where they are more than
+    /// `MOST_FILE_BYTES` and that count did not rise, unless memory runs out.
     fn read(&mut self, alloc: Global, name: &str) -> Result<Vec<u8>, FileFault>
         ensures bytes { IfOk result (λ read.
             IfSome ((told self.old).holds name.now) (λ held. read.items ≡ held)) }
@@ -73,7 +73,8 @@ pub trait Files {
             IsTooLong held
             → (told self.new).faults name.now ≡ (told self.old).faults name.now
             → IsErrOf result FileFault.TooLong ⊎ IsErrOf result FileFault.Memory) }
-        ensures once { (IsErrOf result FileFault.Memory → ⊥) → (told self.new).reads ≡ (told self.old).reads + 1 }
+        ensures once { (IsErrOf result FileFault.Memory → ⊥)
+            → (told self.new).reads ≡ (told self.old).reads + 1 }
         ensures least { (told self.old).reads ≤ (told self.new).reads }
         ensures most { (told self.new).reads ≤ (told self.old).reads + 1 };
 }

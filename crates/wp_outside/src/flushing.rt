@@ -5,8 +5,8 @@ use crate::sink::SinkFault;
 use crate::writer::Writes;
 use std::marker::Model;
 
-/// A writer, and how many of the bytes that it took last weren't flushed. Clauses see the bytes that it holds, where they
-/// are told, how often it failed, and that number.
+/// A writer, and how many of the bytes that it took last weren't flushed. Clauses see the bytes that it holds, where
+/// they are told, how often it failed, and that number.
 #[derive(Drop)]
 pub(crate) struct Flushing<W: Writes + Drop> {
     out: W,
@@ -41,10 +41,13 @@ impl<W: Writes + Drop> Flushing<W> {
         ensures within { IfOk result (λ n. n ≤ length piece.now) }
         ensures progress { IfOk result (λ n. 0 < n) }
         ensures behind { IfOk result (λ n. self.new.behind ≡ n) }
-        ensures takes { IfOk result (λ n. Grows self.old.contents self.new.contents (take n piece.now)) }
-        ensures nothing { OnErr result ((self.new.contents ≡ self.old.contents) × (self.new.behind ≡ 0)) }
+        ensures takes { IfOk result (λ n. Grows self.old.contents self.new.contents
+            (take n piece.now)) }
+        ensures nothing { OnErr result ((self.new.contents ≡ self.old.contents)
+            × (self.new.behind ≡ 0)) }
         ensures counted { IsErrOf result SinkFault.Failed → self.new.faults ≡ self.old.faults + 1 }
-        ensures uncounted { (IsErrOf result SinkFault.Failed → ⊥) → self.new.faults ≡ self.old.faults }
+        ensures uncounted { (IsErrOf result SinkFault.Failed → ⊥)
+            → self.new.faults ≡ self.old.faults }
     {
         let count = self.out.write(piece)?;
         self.behind = count;
@@ -57,7 +60,8 @@ impl<W: Writes + Drop> Flushing<W> {
         ensures flushed { OnOk result (self.new.behind ≡ 0) }
         ensures behind { OnErr result (self.new.behind ≡ self.old.behind) }
         ensures counted { IsErrOf result SinkFault.Failed → self.new.faults ≡ self.old.faults + 1 }
-        ensures uncounted { (IsErrOf result SinkFault.Failed → ⊥) → self.new.faults ≡ self.old.faults }
+        ensures uncounted { (IsErrOf result SinkFault.Failed → ⊥)
+            → self.new.faults ≡ self.old.faults }
     {
         self.out.flush()?;
         self.behind = 0;

@@ -58,7 +58,8 @@ impl Files for MemFiles {
             IsTooLong told
             → self.new.calls.faults ≡ self.old.calls.faults
             → IsErrOf result FileFault.TooLong ⊎ IsErrOf result FileFault.Memory) }
-        ensures once { (IsErrOf result FileFault.Memory → ⊥) → self.new.calls.made ≡ self.old.calls.made + 1 }
+        ensures once { (IsErrOf result FileFault.Memory → ⊥)
+            → self.new.calls.made ≡ self.old.calls.made + 1 }
         ensures least { self.old.calls.made ≤ self.new.calls.made }
         ensures most { self.new.calls.made ≤ self.old.calls.made + 1 }
     {

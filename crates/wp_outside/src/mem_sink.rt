@@ -53,7 +53,8 @@ impl Sink for MemSink {
     /// piece that isn't empty is counted. After 2^64 - 1 of them there is no number: none fails, and
     /// nothing is counted.
     fn write(&mut self, piece: &[u8]) -> Result<usize, SinkFault>
-        ensures planned { IsErrOf result SinkFault.Failed ↔ IsTrue (write_fails self.old piece.now) }
+        ensures planned { IsErrOf result SinkFault.Failed
+            ↔ IsTrue (write_fails self.old piece.now) }
         ensures counted { self.new.calls ≡ calls_after_write self.old piece.now }
 
         ensures whole { IfOk result (λ n. n ≡ length piece.now) }
@@ -63,7 +64,8 @@ impl Sink for MemSink {
         ensures nothing { OnErr result (self.new.taken ≡ self.old.taken) }
         ensures sound { OnOk result (self.new.errors.stopped ≡ self.old.errors.stopped) }
         ensures stopped { OnErr result (self.new.errors.stopped ≡ true) }
-        ensures early { self.old.errors.stopped ≡ false → self.new.errors.late ≡ self.old.errors.late }
+        ensures early { self.old.errors.stopped ≡ false
+            → self.new.errors.late ≡ self.old.errors.late }
         ensures late { self.old.errors.stopped ≡ true → self.new.errors.late ≡ true }
     {
         let answer = take_whole(&mut self.bytes, &mut self.calls, piece);

@@ -1,4 +1,5 @@
-ghost use Rattle.std.specs.Prelude.{◌≡◌, ◌+◌, ◌≤◌, ◌++◌, [], Some, true, false, length, vec_len, IfOk, OnOk, OnErr, IsErrOf};
+ghost use Rattle.std.specs.Prelude.{◌≡◌, ◌+◌, ◌≤◌, ◌++◌, [], Some, true, false, length, vec_len, IfOk, OnOk, OnErr};
+ghost use Rattle.std.specs.Prelude.{IsErrOf};
 ghost use Rattle.wp_model.specs.Limits.{most_file_bytes};
 ghost use Rattle.wp_outside.specs.Outside.{IsTooLong};
 ghost use Rattle.wp_outside.specs.InMemory.{files_of, bytes_or_empty};
@@ -55,10 +56,15 @@ impl NeverFails {
 }
 
 impl Files for NeverFails {
-    ghost told = { λ s. record { holds = λ name. Some (bytes_or_empty s.files name); faults = λ _. 0; reads = s.reads } };
+    ghost told = { λ s. record {
+      holds = λ name. Some
+          (bytes_or_empty s.files name);
+      faults = λ _. 0;
+      reads = s.reads;
+    } };
 
-    /// A read is refused only where the file is too long or memory is wanting. It is counted, unless its count is at its
-    /// end, and changes nothing else.
+    /// A read is refused only where the file is too long or memory is wanting. It is counted, unless its count is at
+    /// its end, and changes nothing else.
     fn read(&mut self, alloc: Global, name: &str) -> Result<Vec<u8>, FileFault>
         ensures bytes { IfOk result (λ read. read.items ≡ bytes_or_empty self.old.files name.now) }
         ensures fits { OnOk result
@@ -95,7 +101,8 @@ impl Sink for NeverFails {
         ensures reads { self.new.reads ≡ self.old.reads }
         ensures sound { OnOk result (self.new.errors.stopped ≡ self.old.errors.stopped) }
         ensures stopped { OnErr result (self.new.errors.stopped ≡ true) }
-        ensures early { self.old.errors.stopped ≡ false → self.new.errors.late ≡ self.old.errors.late }
+        ensures early { self.old.errors.stopped ≡ false
+            → self.new.errors.late ≡ self.old.errors.late }
         ensures late { self.old.errors.stopped ≡ true → self.new.errors.late ≡ true }
     {
         let answer = take_whole(&mut self.bytes, piece);

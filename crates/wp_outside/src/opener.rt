@@ -29,7 +29,8 @@ pub trait Opens {
             IfSome (holds self.old name.now) (λ told. Self.File.remaining file ≡ Some told)) }
         ensures same { SameBytes (holds self.old) (holds self.new) }
         ensures counts { NoneFalls (faults self.old) (faults self.new) }
-        ensures counted { IsErrOf result FileFault.Failed → faults self.new name.now ≡ faults self.old name.now + 1 }
+        ensures counted { IsErrOf result FileFault.Failed
+            → faults self.new name.now ≡ faults self.old name.now + 1 }
         ensures uncounted { (IsErrOf result FileFault.Failed → ⊥)
             → faults self.new name.now ≡ faults self.old name.now }
         ensures short { ¬ IsErrOf result FileFault.TooLong };
@@ -43,10 +44,12 @@ pub trait Opens {
         piece: &mut [u8],
     ) -> Result<usize, FileFault>
         ensures bound { ReadsAtMost result piece.new }
-        ensures bytes { ReadConsumes (Self.File.remaining file.old) (Self.File.remaining file.new) result piece.new }
+        ensures bytes { ReadConsumes (Self.File.remaining file.old)
+            (Self.File.remaining file.new) result piece.new }
         ensures same { SameBytes (holds self.old) (holds self.new) }
         ensures counts { NoneFalls (faults self.old) (faults self.new) }
-        ensures counted { IsErrOf result FileFault.Failed → faults self.new name.now ≡ faults self.old name.now + 1 }
+        ensures counted { IsErrOf result FileFault.Failed
+            → faults self.new name.now ≡ faults self.old name.now + 1 }
         ensures uncounted { (IsErrOf result FileFault.Failed → ⊥)
             → faults self.new name.now ≡ faults self.old name.now }
         ensures short { ¬ IsErrOf result FileFault.TooLong };

@@ -20,7 +20,8 @@ pub trait Parts {
     fn count(&self) -> usize
         ensures { result ≡ count self.now };
 
-    /// Adds the text of the part with a number. After an `Err`, which comes from a want of memory alone, the text may have some of it.
+    /// Adds the text of the part with a number. After an `Err`, which comes from a want of memory alone, the text may
+    /// have some of it.
     fn print(&self, alloc: Global, number: usize, text: &mut Vec<u8>) -> Result<(), Memory>
         requires ready { can_print self.now }
         requires within { number < count self.now }

@@ -51,11 +51,14 @@ impl<O: Opens + Drop> Files for RealFiles<O> {
     fn read(&mut self, alloc: Global, name: &str) -> Result<Vec<u8>, FileFault>
         ensures cause { IsErrOf result FileFault.Failed
             → O.faults self.new.opener name.now ≡ O.faults self.old.opener name.now + 1 }
-        ensures at_most { O.faults self.new.opener name.now ≤ O.faults self.old.opener name.now + 1 }
-        ensures sound { (IsErrOf result FileFault.Failed → ⊥) → (IsErrOf result FileFault.Memory → ⊥)
+        ensures at_most { O.faults self.new.opener name.now
+            ≤ O.faults self.old.opener name.now + 1 }
+        ensures sound { (IsErrOf result FileFault.Failed → ⊥)
+            → (IsErrOf result FileFault.Memory → ⊥)
             → O.faults self.new.opener name.now ≡ O.faults self.old.opener name.now }
         ensures counted { IsErrOf result FileFault.Failed → self.new.faults ≡ self.old.faults + 1 }
-        ensures uncounted { (IsErrOf result FileFault.Failed → ⊥) → self.new.faults ≡ self.old.faults }
+        ensures uncounted { (IsErrOf result FileFault.Failed → ⊥)
+            → self.new.faults ≡ self.old.faults }
 
         ensures bytes { IfOk result (λ read.
             IfSome (O.holds self.old.opener name.now) (λ told. read.items ≡ told)) }

@@ -36,9 +36,11 @@ fn write_parts<P: Parts, K: Sink>(
 ) -> Result<(), SinkFault>
     requires ready { P.can_print parts.now }
     requires any { HaveText (P.says parts.now) (P.count parts.now) }
-    ensures writes { OnOk result ((text : List ℕ) × AreParts (P.says parts.now) (P.count parts.now) text
+    ensures writes { OnOk result ((text : List ℕ)
+        × AreParts (P.says parts.now) (P.count parts.now) text
         × Writes (K.told out.old) (K.told out.new) waiting.old.items waiting.new.items text) }
-    ensures fails { IfErr result (λ fault. (text : List ℕ) × AreParts (P.says parts.now) (P.count parts.now) text
+    ensures fails { IfErr result (λ fault. (text : List ℕ)
+        × AreParts (P.says parts.now) (P.count parts.now) text
         × Fails fault (K.told out.old) (K.told out.new) (waiting.old.items ++ text)) }
 {
     for number in 0..parts.count() {
@@ -47,9 +49,10 @@ fn write_parts<P: Parts, K: Sink>(
     Ok(())
 }
 
-/// Writes a section behind what waits: its heading, its parts one after the other, and its ending. Whenever enough waits for a piece
-/// all of it is written, so that less waits at the end. After an `Err` the sink took a beginning of what waited and of a text that the
-/// section may have: `Failed` comes from the sink, and `Memory` from the sink or the parts.
+/// Writes a section behind what waits: its heading, its parts one after the other, and its ending. Whenever enough
+/// waits for a piece all of it is written, so that less waits at the end. After an `Err` the sink took a beginning of
+/// what waited and of a text that the section may have: `Failed` comes from the sink, and `Memory` from the sink or the
+/// parts.
 pub fn write_section<P: Parts, K: Sink>(
     alloc: Global,
     out: &mut K,
@@ -60,10 +63,12 @@ pub fn write_section<P: Parts, K: Sink>(
     requires any { HaveText (P.says section.now.parts.now) (P.count section.now.parts.now) }
     ensures short { OnOk result (length waiting.new.items < piece_bytes) }
     ensures writes { OnOk result ((text : List ℕ)
-        × IsSection section.now.heading.now (P.count section.now.parts.now) (P.says section.now.parts.now) section.now.ending.now text
+        × IsSection section.now.heading.now (P.count section.now.parts.now)
+        (P.says section.now.parts.now) section.now.ending.now text
         × Writes (K.told out.old) (K.told out.new) waiting.old.items waiting.new.items text) }
     ensures fails { IfErr result (λ fault. (text : List ℕ)
-        × IsSection section.now.heading.now (P.count section.now.parts.now) (P.says section.now.parts.now) section.now.ending.now text
+        × IsSection section.now.heading.now (P.count section.now.parts.now)
+        (P.says section.now.parts.now) section.now.ending.now text
         × Fails fault (K.told out.old) (K.told out.new) (waiting.old.items ++ text)) }
 {
     write_behind(out, waiting, section.heading)?;

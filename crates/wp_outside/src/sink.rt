@@ -48,8 +48,8 @@ impl From<AllocError> for SinkFault {
 
 /// Where text goes.
 pub trait Sink {
-    /// What it tells: the bytes that were taken so far, or that they aren't told; how often taking failed; whether a write
-    /// was answered with an error; and whether a write was made after that.
+    /// What it tells: the bytes that were taken so far, or that they aren't told; how often taking failed; whether a
+    /// write was answered with an error; and whether a write was made after that.
     ghost told: { Self → SinkTold };
 
     /// Takes the first bytes of a piece, and answers how many: at least one, unless the piece is
@@ -63,10 +63,13 @@ pub trait Sink {
         ensures empty { length piece.now ≡ 0
             → (result ≡ Ok 0) × ((told self.new).taken ≡ (told self.old).taken) }
         ensures nothing { OnErr result ((told self.new).taken ≡ (told self.old).taken) }
-        ensures counted { IsErrOf result SinkFault.Failed → (told self.new).faults ≡ (told self.old).faults + 1 }
-        ensures uncounted { (IsErrOf result SinkFault.Failed → ⊥) → (told self.new).faults ≡ (told self.old).faults }
+        ensures counted { IsErrOf result SinkFault.Failed
+            → (told self.new).faults ≡ (told self.old).faults + 1 }
+        ensures uncounted { (IsErrOf result SinkFault.Failed → ⊥)
+            → (told self.new).faults ≡ (told self.old).faults }
         ensures sound { OnOk result ((told self.new).stopped ≡ (told self.old).stopped) }
         ensures stopped { OnErr result ((told self.new).stopped ≡ true) }
-        ensures early { (told self.old).stopped ≡ false → (told self.new).late ≡ (told self.old).late }
+        ensures early { (told self.old).stopped ≡ false
+            → (told self.new).late ≡ (told self.old).late }
         ensures late { (told self.old).stopped ≡ true → (told self.new).late ≡ true };
 }

@@ -29,7 +29,11 @@ impl<W: Writes + Drop> Model for StdSink<W> {
 impl<W: Writes + Drop> StdSink<W> {
     /// A sink over this writer. What the writer holds was taken, and no write failed yet.
     pub fn new(out: W) -> StdSink<W>
-        ensures writer { result.writer ≡ record { contents = W.contents out; faults = W.faults out; behind = 0 } }
+        ensures writer { result.writer ≡ record {
+          contents = W.contents out;
+          faults = W.faults out;
+          behind = 0;
+        } }
         ensures faults { result.faults ≡ 0 }
         ensures errors { result.errors ≡ record { stopped = false; late = false } }
     {
@@ -42,7 +46,13 @@ impl<W: Writes + Drop> StdSink<W> {
 }
 
 impl<W: Writes + Drop> Sink for StdSink<W> {
-    ghost told = { λ s. record { taken = flushed s.writer; faults = s.faults; stopped = s.errors.stopped; late = s.errors.late } };
+    ghost told = { λ s. record {
+      taken = flushed
+          s.writer;
+      faults = s.faults;
+      stopped = s.errors.stopped;
+      late = s.errors.late;
+    } };
 
     /// A write fails only where the writer fails in this call, or where bytes that it took before could not be
     /// flushed: then nothing is called on the writer. After a call that failed no other is made: the writer fails at
@@ -58,15 +68,19 @@ impl<W: Writes + Drop> Sink for StdSink<W> {
         ensures faultless { OnOk result (self.new.writer.faults ≡ self.old.writer.faults) }
 
         ensures within { IfOk result (λ n. n ≤ length piece.now) }
-        ensures takes { IfOk result (λ n. Grows (flushed self.old.writer) (flushed self.new.writer) (take n piece.now)) }
+        ensures takes { IfOk result (λ n. Grows (flushed self.old.writer) (flushed self.new.writer)
+            (take n piece.now)) }
         ensures progress { 0 < length piece.now → IfOk result (λ n. 0 < n) }
-        ensures empty { length piece.now ≡ 0 → (result ≡ Ok 0) × (flushed self.new.writer ≡ flushed self.old.writer) }
+        ensures empty { length piece.now ≡ 0 → (result ≡ Ok 0)
+            × (flushed self.new.writer ≡ flushed self.old.writer) }
         ensures nothing { OnErr result (flushed self.new.writer ≡ flushed self.old.writer) }
         ensures counted { IsErrOf result SinkFault.Failed → self.new.faults ≡ self.old.faults + 1 }
-        ensures uncounted { (IsErrOf result SinkFault.Failed → ⊥) → self.new.faults ≡ self.old.faults }
+        ensures uncounted { (IsErrOf result SinkFault.Failed → ⊥)
+            → self.new.faults ≡ self.old.faults }
         ensures sound { OnOk result (self.new.errors.stopped ≡ self.old.errors.stopped) }
         ensures stopped { OnErr result (self.new.errors.stopped ≡ true) }
-        ensures early { self.old.errors.stopped ≡ false → self.new.errors.late ≡ self.old.errors.late }
+        ensures early { self.old.errors.stopped ≡ false
+            → self.new.errors.late ≡ self.old.errors.late }
         ensures late { self.old.errors.stopped ≡ true → self.new.errors.late ≡ true }
     {
         let answer = write_counted(&mut self.writer, &mut self.faults, piece);
@@ -91,9 +105,11 @@ fn write_counted<W: Writes + Drop>(
     ensures counted { IsErrOf result SinkFault.Failed → faults.new ≡ faults.old + 1 }
     ensures uncounted { (IsErrOf result SinkFault.Failed → ⊥) → faults.new ≡ faults.old }
     ensures within { IfOk result (λ n. n ≤ length piece.now) }
-    ensures takes { IfOk result (λ n. Grows (flushed writer.old) (flushed writer.new) (take n piece.now)) }
+    ensures takes { IfOk result (λ n. Grows (flushed writer.old) (flushed writer.new)
+        (take n piece.now)) }
     ensures progress { 0 < length piece.now → IfOk result (λ n. 0 < n) }
-    ensures empty { length piece.now ≡ 0 → (result ≡ Ok 0) × (flushed writer.new ≡ flushed writer.old) }
+    ensures empty { length piece.now ≡ 0 → (result ≡ Ok 0)
+        × (flushed writer.new ≡ flushed writer.old) }
     ensures nothing { OnErr result (flushed writer.new ≡ flushed writer.old) }
 {
     if piece.is_empty() {
@@ -115,7 +131,8 @@ fn write_and_flush<W: Writes + Drop>(
     requires { 0 < length piece.now }
     ensures within { IfOk result (λ n. n ≤ length piece.now) }
     ensures progress { IfOk result (λ n. 0 < n) }
-    ensures takes { IfOk result (λ n. Grows (flushed writer.old) (flushed writer.new) (take n piece.now)) }
+    ensures takes { IfOk result (λ n. Grows (flushed writer.old) (flushed writer.new)
+        (take n piece.now)) }
     ensures nothing { OnErr result (flushed writer.new ≡ flushed writer.old) }
     ensures cause { IsErrOf result SinkFault.Failed
         → (writer.new.faults ≡ writer.old.faults + 1) ⊎ (0 < writer.old.behind) }

@@ -19,8 +19,10 @@ pub fn room(alloc: Global) -> Result<Vec<u8>, Memory>
 
 fn write_all<K: Sink>(out: &mut K, waiting: &mut Vec<u8>) -> Result<(), SinkFault>
     ensures empty { OnOk result (waiting.new.items ≡ []) }
-    ensures writes { OnOk result (Writes (K.told out.old) (K.told out.new) waiting.old.items [] []) }
-    ensures fails { IfErr result (λ fault. Fails fault (K.told out.old) (K.told out.new) waiting.old.items) }
+    ensures writes { OnOk result (Writes (K.told out.old)
+        (K.told out.new) waiting.old.items [] []) }
+    ensures fails { IfErr result (λ fault. Fails fault (K.told out.old)
+        (K.told out.new) waiting.old.items) }
 {
     write_text(out, waiting.as_slice())?;
     waiting.clear();
@@ -30,8 +32,10 @@ fn write_all<K: Sink>(out: &mut K, waiting: &mut Vec<u8>) -> Result<(), SinkFaul
 /// Writes what waits, if it is enough for a piece.
 pub(crate) fn write_if_full<K: Sink>(out: &mut K, waiting: &mut Vec<u8>) -> Result<(), SinkFault>
     ensures short { OnOk result (length waiting.new.items < piece_bytes) }
-    ensures writes { OnOk result (Writes (K.told out.old) (K.told out.new) waiting.old.items waiting.new.items []) }
-    ensures fails { IfErr result (λ fault. Fails fault (K.told out.old) (K.told out.new) waiting.old.items) }
+    ensures writes { OnOk result (Writes (K.told out.old)
+        (K.told out.new) waiting.old.items waiting.new.items []) }
+    ensures fails { IfErr result (λ fault. Fails fault (K.told out.old)
+        (K.told out.new) waiting.old.items) }
 {
     if waiting.len() >= PIECE_BYTES {
         write_all(out, waiting)?;
@@ -46,8 +50,10 @@ pub(crate) fn write_behind<K: Sink>(
     text: &[u8],
 ) -> Result<(), SinkFault>
     ensures short { OnOk result (length waiting.new.items < piece_bytes) }
-    ensures writes { OnOk result (Writes (K.told out.old) (K.told out.new) waiting.old.items waiting.new.items text.now) }
-    ensures fails { IfErr result (λ fault. Fails fault (K.told out.old) (K.told out.new) (waiting.old.items ++ text.now)) }
+    ensures writes { OnOk result (Writes (K.told out.old)
+        (K.told out.new) waiting.old.items waiting.new.items text.now) }
+    ensures fails { IfErr result (λ fault. Fails fault (K.told out.old) (K.told out.new)
+        (waiting.old.items ++ text.now)) }
 {
     waiting.extend_from_slice(text)?;
     write_if_full(out, waiting)
@@ -56,8 +62,10 @@ pub(crate) fn write_behind<K: Sink>(
 /// Writes what waits and then a last text, after which nothing waits. After an `Err` the sink took a beginning of both.
 pub fn write_rest<K: Sink>(out: &mut K, waiting: &mut Vec<u8>, last: &[u8]) -> Result<(), SinkFault>
     ensures empty { OnOk result (waiting.new.items ≡ []) }
-    ensures writes { OnOk result (Writes (K.told out.old) (K.told out.new) waiting.old.items [] last.now) }
-    ensures fails { IfErr result (λ fault. Fails fault (K.told out.old) (K.told out.new) (waiting.old.items ++ last.now)) }
+    ensures writes { OnOk result (Writes (K.told out.old)
+        (K.told out.new) waiting.old.items [] last.now) }
+    ensures fails { IfErr result (λ fault. Fails fault (K.told out.old) (K.told out.new)
+        (waiting.old.items ++ last.now)) }
 {
     waiting.extend_from_slice(last)?;
     write_all(out, waiting)

@@ -1,4 +1,5 @@
-ghost use Rattle.std.specs.Prelude.{◌≡◌, ◌+◌, ◌<◌, ◌≤◌, ℕ, List, Option, is_some, length, take, IfOk, IfErr, IsErr, OnErr, IsErrOf, refl};
+ghost use Rattle.std.specs.Prelude.{◌≡◌, ◌+◌, ◌<◌, ◌≤◌, ℕ, List, Option, is_some, length, take, IfOk, IfErr, IsErr};
+ghost use Rattle.std.specs.Prelude.{OnErr, IsErrOf, refl};
 ghost use Rattle.std.specs.IoError.{error_kind};
 ghost use Rattle.wp_outside.specs.Outside.{Grows, IsToldAs};
 ghost use Rattle.wp_outside.specs.declared.sink.SinkFault.TheVariants.{Failed, Memory as MemoryFault};
@@ -22,16 +23,19 @@ pub trait Writes {
     fn write(&mut self, piece: &[u8]) -> Result<usize, SinkFault>
         ensures within { IfOk result (λ n. n ≤ length piece.now) }
         ensures progress { 0 < length piece.now → IfOk result (λ n. 0 < n) }
-        ensures takes { IfOk result (λ n. Grows (contents self.old) (contents self.new) (take n piece.now)) }
+        ensures takes { IfOk result (λ n. Grows (contents self.old) (contents self.new)
+            (take n piece.now)) }
         ensures nothing { OnErr result (contents self.new ≡ contents self.old) }
         ensures counted { IsErrOf result SinkFault.Failed → faults self.new ≡ faults self.old + 1 }
-        ensures uncounted { (IsErrOf result SinkFault.Failed → ⊥) → faults self.new ≡ faults self.old };
+        ensures uncounted { (IsErrOf result SinkFault.Failed → ⊥)
+            → faults self.new ≡ faults self.old };
 
     /// Flushes what was written. The count rises by one with `Failed`, and with nothing else.
     fn flush(&mut self) -> Result<(), SinkFault>
         ensures contents { contents self.new ≡ contents self.old }
         ensures counted { IsErrOf result SinkFault.Failed → faults self.new ≡ faults self.old + 1 }
-        ensures uncounted { (IsErrOf result SinkFault.Failed → ⊥) → faults self.new ≡ faults self.old };
+        ensures uncounted { (IsErrOf result SinkFault.Failed → ⊥)
+            → faults self.new ≡ faults self.old };
 }
 
 /// A writer of the kit of which either each value tells the bytes that it holds, or none does.
@@ -135,7 +139,8 @@ fn fault_of(faults: &mut Count, error: &io::Error) -> SinkFault
 
 fn write_some<W: Tells>(out: &mut W, piece: &[u8]) -> io::Result<usize>
     ensures within { IfOk result (λ n. n ≤ length piece.now) }
-    ensures takes { IfOk result (λ n. Grows (W.contents out.old) (W.contents out.new) (take n piece.now)) }
+    ensures takes { IfOk result (λ n. Grows (W.contents out.old) (W.contents out.new)
+        (take n piece.now)) }
     ensures nothing { OnErr result (W.contents out.new ≡ W.contents out.old) }
 {
     out.write(piece)

@@ -1,4 +1,5 @@
-//! Drawn crashes: between two syncs each byte that was written may be any byte, and what stands past the old end may be missing.
+//! Drawn crashes: between two syncs each byte that was written may be any byte, and what stands past the old end may be
+//! missing.
 use crate::days::{BODIES, append_all, disk_of, opens_with};
 use std::alloc::Global;
 use std::test::Fail;

@@ -1,5 +1,5 @@
-//! Tests of what the program meets outside and of what desks share: devices, the writing of sections, the turn, and the store: what a
-//! stopped or failing disk leaves, and what stands behind the last record. By the public calls alone.
+//! Tests of what the program meets outside and of what desks share: devices, the writing of sections, the turn, and the
+//! store: what a stopped or failing disk leaves, and what stands behind the last record. By the public calls alone.
 #![tactic(auto)]
 
 #[cfg(test)]

@@ -8,8 +8,8 @@ use wp_store::open;
 /// The first record of the smallest day, as it stands in a file.
 const FIRST: &[u8] = b"\x01\x00\x00\x00\x1e0 1 submit W1 O1 -> submitted\n";
 
-/// What stands behind a record and is no record: nothing, a closed byte, noise, a record cut short, no length, a length that is
-/// too great, one with its least byte first, and a closed byte before a whole record.
+/// What stands behind a record and is no record: nothing, a closed byte, noise, a record cut short, no length, a length
+/// that is too great, one with its least byte first, and a closed byte before a whole record.
 const ENDS: &[&[u8]] = &[
     b"",
     b"\x00",

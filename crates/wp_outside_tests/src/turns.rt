@@ -78,8 +78,10 @@ fn add_all<R: Threads + Wait + Sync>(
             ensures { IfOk result (λ after. IsOf turn.entry.now after) }
         { add(rt, alloc, turn, pass, times) },
         move || -> Result<Passes<Counter>, Memory>
-            requires { IsSync R.row × All (IsOf turn.now) passes.list × (times ≤ turn.now.start.0) × All (HasLeft times) passes.list }
-            ensures { IfOk result (λ after. All (IsOf turn.entry.now) after.list × (length after.list ≡ length passes.list) × (after.room ≡ passes.room)) }
+            requires { IsSync R.row × All (IsOf turn.now) passes.list × (times ≤ turn.now.start.0)
+                × All (HasLeft times) passes.list }
+            ensures { IfOk result (λ after. All (IsOf turn.entry.now) after.list
+                × (length after.list ≡ length passes.list) × (after.room ≡ passes.room)) }
         { add_all(rt, alloc, turn, passes, times) },
     );
     both(turn, one, others, left, room)
@@ -94,7 +96,8 @@ fn both(
     room: u32,
 ) -> Result<Passes<Counter>, Memory>
     requires one { IfOk one (λ pass. IsOf turn.now pass) }
-    requires others { IfOk others (λ passes. All (IsOf turn.now) passes.list × (length passes.list ≡ left) × (passes.room ≡ room)) }
+    requires others { IfOk others (λ passes. All (IsOf turn.now) passes.list
+        × (length passes.list ≡ left) × (passes.room ≡ room)) }
     requires room { left < room }
     ensures own { IfOk result (λ after. All (IsOf turn.now) after.list) }
     ensures len { IfOk result (λ after. length after.list ≡ left + 1) }
@@ -267,8 +270,8 @@ fn ordered(
     }
 }
 
-/// Whether the first pass, once it met the others, has the caller number of the first and has seen the calls of all, and
-/// closes the turn.
+/// Whether the first pass, once it met the others, has the caller number of the first and has seen the calls of all,
+/// and closes the turn.
 fn meet_and_close(
     turn: Turn<Counter>,
     mut passes: Passes<Counter>,
@@ -307,7 +310,8 @@ fn one_of(turn: &Turn<Counter>, passes: &mut Passes<Counter>) -> Option<Pass<Cou
 fn three_of(turn: &Turn<Counter>, passes: &mut Passes<Counter>, order: &[u32; 3]) -> Option<Three>
     requires own { All (IsOf turn.now) passes.old.list }
     requires fits { length passes.old.list ≤ passes.old.room }
-    ensures three { IfSome result (λ three. IsOf turn.now three.0 × IsOf turn.now three.1 × IsOf turn.now three.2) }
+    ensures three { IfSome result (λ three. IsOf turn.now three.0 × IsOf turn.now three.1
+        × IsOf turn.now three.2) }
     ensures own { All (IsOf turn.now) passes.new.list }
     ensures room { IfSome result (λ _. length passes.new.list < passes.new.room) }
 {

@@ -93,7 +93,8 @@ fn a_long_section_is_written_in_order(rt: HostRuntime) -> Result<(), Fail> {
     Ok(())
 }
 
-/// The number of a write, and how many bytes were taken before it. The first piece ends with a line, one byte past 64 KiB.
+/// The number of a write, and how many bytes were taken before it. The first piece ends with a line, one byte past 64
+/// KiB.
 const TAKEN: &[(u64, usize)] = &[(1, 0), (2, 65_537), (3, 131_073), (4, 196_609)];
 
 /// The first number of a write that doesn't fail, or before which something else was taken.

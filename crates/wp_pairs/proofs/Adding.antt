@@ -1,7 +1,7 @@
 -- With a further pair, what is kept is right.
 use Rattle.std.proofs.Common.{◌≡◌, ℕ, ◌<◌, ◌↔◌, Bool, true, false, List, [], ◌∷◌, ◌++◌, Contains, refl, sym, subst}
 use Rattle.wp_pairs.specs.declared.pair.OrderPair.{OrderPair}
-use Rattle.wp_pairs.specs.Kept.{IsKept, listed_for}
+use Rattle.wp_pairs.specs.Kept.{ArePartners, listed_for}
 use Rattle.wp_pairs.specs.Permitted.{AreJoined, AreParted, Pairing}
 use Rattle.wp_pairs.proofs.FurtherPairs.{still_never_both}
 use Rattle.wp_pairs.proofs.KeptPairs.{AddsPair, Settles, further, joins_apart, joins_together, parts_apart, parts_together, still_valid, with_pair}
@@ -9,7 +9,7 @@ use Rattle.wp_pairs.proofs.PairNumbers.{still_once}
 
 -- with a further pair, what is kept is right
 pub still_kept : (pairing : Pairing) (joined joined_after parted parted_after : List (List ℕ)) (new : OrderPair) → AddsPair pairing joined parted new
-    → Settles joined joined_after parted parted_after new → IsKept (with_pair pairing new) joined_after parted_after
+    → Settles joined joined_after parted parted_after new → ArePartners (with_pair pairing new) joined_after parted_after
 still_kept pairing joined joined_after parted parted_after new adds does = record {
   valid = still_valid adds;
   joins = go_joins new.together refl;

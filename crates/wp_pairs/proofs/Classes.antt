@@ -8,7 +8,7 @@ use Rattle.std.proofs.lemmas.List.Elements.{All-contains, Contains-get_or}
 use Rattle.std.proofs.lemmas.List.Sums.{sum_by-cons}
 use Rattle.wp_pairs.specs.Batches.{IsBatch}
 use Rattle.wp_pairs.specs.Carts.{FitsAnyCart, LoadedCart}
-use Rattle.wp_pairs.specs.Kept.{FitsCapacity, IsKept, IsPairing, KeepsOrder, listed_for}
+use Rattle.wp_pairs.specs.Kept.{FitsCapacity, ArePartners, IsPairing, KeepsOrder, listed_for}
 use Rattle.wp_pairs.specs.Permitted.{AreJoined, ArePair, IsDead, IsHeld, IsPermitted, Pairing, itself, onward}
 use Rattle.wp_pairs.proofs.Chains.{joined_back, joined_on}
 use Rattle.wp_pairs.proofs.Members.{contains_first, contains_later, contains_cases, contains_none}
@@ -133,7 +133,7 @@ keeping_permitted pairing batch is within keeps = record {
 }
 
 -- the orders that are joined to one are a permitted batch, if they are few enough and fit the cart
-pub class_held : (pairing : Pairing) (joined parted : List (List ℕ)) (order : ℕ) → IsKept pairing joined parted → order < pairing.orders
+pub class_held : (pairing : Pairing) (joined parted : List (List ℕ)) (order : ℕ) → ArePartners pairing joined parted → order < pairing.orders
     → IsBatch (listed_for joined order) → FitsCapacity pairing (listed_for joined order) → IsHeld pairing order
 class_held pairing joined parted order kept known is within =
     let class = listed_for joined order in
@@ -150,7 +150,7 @@ class_held pairing joined parted order kept known is within =
     )
 
 -- an order to which too many are joined, or too heavy ones, is in no permitted batch
-pub class_dead : (pairing : Pairing) (joined parted : List (List ℕ)) (order : ℕ) → IsKept pairing joined parted → order < pairing.orders
+pub class_dead : (pairing : Pairing) (joined parted : List (List ℕ)) (order : ℕ) → ArePartners pairing joined parted → order < pairing.orders
     → IsBatch (listed_for joined order) → (FitsCapacity pairing (listed_for joined order) → ⊥) → IsDead pairing order
 class_dead pairing joined parted order kept known is over = record {
   known = known;
@@ -167,7 +167,7 @@ class_dead pairing joined parted order kept known is over = record {
 }
 
 -- an order of the wave is kept where all that are joined to it are in the batch, and none that is parted from it
-pub order_kept : (pairing : Pairing) (joined parted : List (List ℕ)) (batch : List ℕ) (order : ℕ) → IsKept pairing joined parted → order < pairing.orders
+pub order_kept : (pairing : Pairing) (joined parted : List (List ℕ)) (batch : List ℕ) (order : ℕ) → ArePartners pairing joined parted → order < pairing.orders
     → ((p : ℕ) → Contains (listed_for joined order) p → Contains batch p) → ((p : ℕ) → Contains batch p → Contains (listed_for parted order) p → ⊥)
     → KeepsOrder pairing batch order
 order_kept pairing joined parted batch order kept known all none = record {

@@ -7,7 +7,7 @@ use Rattle.std.proofs.lemmas.List.{get_or-replicate, get_or_past, length-replica
 use Rattle.std.proofs.lemmas.List.Elements.{Contains-push_cases}
 use Rattle.wp_pairs.specs.declared.pair.OrderPair.{OrderPair}
 use Rattle.wp_pairs.specs.Carts.{IsCartFor, LoadedCart}
-use Rattle.wp_pairs.specs.Kept.{IsKept, IsListedForEither, IsPairing, JoinsClasses, PartsClasses, listed_for}
+use Rattle.wp_pairs.specs.Kept.{ArePartners, IsListedForEither, IsPairing, JoinsClasses, PartsClasses, listed_for}
 use Rattle.wp_pairs.specs.Permitted.{AreDecided, AreJoined, AreParted, AreUndecided, Pairing, itself, onward}
 use Rattle.wp_pairs.proofs.Chains.{joined_back, joined_before, joined_more, joined_on, joined_same, parted_back, parted_more}
 use Rattle.wp_pairs.proofs.FurtherPairs.{IsAway, IsFurther, IsNear, joined_elsewhere, joined_near, near_joined, near_not_away, near_parted, pair_parts}
@@ -38,7 +38,7 @@ with_pair pairing new = record {
 
 -- a further pair of orders of the wave, of which the kept rows tell nothing
 pub record AddsPair (pairing : Pairing) (joined parted : List (List ℕ)) (new : OrderPair) : Type 0 where
-  pub before : IsKept pairing joined parted
+  pub before : ArePartners pairing joined parted
   pub order : new.first < new.second
   pub known : new.second < pairing.orders
   pub open_ : AreDecided pairing.pairs new.first new.second → ⊥
@@ -196,7 +196,7 @@ pub record Settles (joined joined_after parted parted_after : List (List ℕ)) (
   pub parts : new.together ≡ false → PartsClasses joined parted parted_after new.first new.second
 
 -- a pair that is undecided in the view is one that adds to what is kept
-pub adds_from : (pairing now : Pairing) (joined parted : List (List ℕ)) (new : OrderPair) → pairing ≡ now → IsKept pairing joined parted
+pub adds_from : (pairing now : Pairing) (joined parted : List (List ℕ)) (new : OrderPair) → pairing ≡ now → ArePartners pairing joined parted
     → AreUndecided now new.first new.second → AddsPair pairing joined parted new
 adds_from pairing now joined parted new view kept undecided =
     let un = subst (λ (p : Pairing). AreUndecided p new.first new.second) (sym view) undecided in
@@ -211,7 +211,7 @@ only_itself a b (onward t p) = absurd (omega (arith, t.added.1))
 -- with no pair, each order is joined to itself alone, and none is parted
 pub nothing_kept : (orders capacity : ℕ) (cart : Option LoadedCart) (joined : List (List ℕ)) → 1 ≤ orders → orders ≤ 64 → 1 ≤ capacity → capacity ≤ 8
     → IsCartFor cart orders → ((order other : ℕ) → order < 64 → (Contains (listed_for joined order) other ↔ (other ≡ order)))
-    → IsKept (record { orders = orders; capacity = capacity; cart = cart; pairs = [] }) joined (replicate 64 [])
+    → ArePartners (record { orders = orders; capacity = capacity; cart = cart; pairs = [] }) joined (replicate 64 [])
 unfolding IsDistinct
 nothing_kept orders capacity cart joined some most some_capacity most_capacity loaded singles = record {
   valid = record {

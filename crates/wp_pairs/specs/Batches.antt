@@ -11,7 +11,8 @@ pub record IsBatch (batch : List ℕ) : Type 0 where
 unfoldable pub members_from : ℕ → ℕ → ℕ → List ℕ
 members_from zero place word = []
 members_from (suc digits) place word =
-    if word % 2 == 1 then place ∷ members_from digits (place + 1) (word / 2) else members_from digits (place + 1) (word / 2)
+    if word % 2 == 1 then place ∷ members_from digits (place + 1) (word / 2)
+    else members_from digits (place + 1) (word / 2)
 
 -- the places of the ones of a word of 64 bits
 unfoldable pub members : ℕ → List ℕ

@@ -1,5 +1,6 @@
 -- Carts that hold a number of units, and what the orders of a wave load.
-use Rattle.std.specs.Prelude.{◌≡◌, ℕ, ◌-◌, ◌≤◌, List, ◌++◌, All, IfSome, None, Option, Some, length, replicate, slice_index, sum_by, take}
+use Rattle.std.specs.Prelude.{◌≡◌, ℕ, ◌-◌, ◌≤◌, List, ◌++◌, All, IfSome, None, Option, Some, length, replicate}
+use Rattle.std.specs.Prelude.{slice_index, sum_by, take}
 use Rattle.wp_model.specs.Tables.{IsCart}
 
 -- how many units a cart holds, and what each order of a wave loads

@@ -1,11 +1,14 @@
--- What is kept of the pairs that were added: for each order the orders that are joined to it, and those that are parted from it.
-use Rattle.std.specs.Prelude.{◌≡◌, ℕ, zero, suc, ◌+◌, ◌<◌, ◌≤◌, ◌↔◌, ◌⊎◌, List, [], Contains, length, map, slice_index_or, nat_eq}
+-- What is kept of the pairs that were added: for each order the orders that are joined to it, and those that are parted
+-- from it.
+use Rattle.std.specs.Prelude.{◌≡◌, ℕ, zero, suc, ◌+◌, ◌<◌, ◌≤◌, ◌↔◌, ◌⊎◌, List, [], Contains, length, map}
+use Rattle.std.specs.Prelude.{slice_index_or, nat_eq}
 use Rattle.std.specs.List.{IsDistinct}
 use Rattle.wp_pairs.specs.declared.pair.OrderPair.{OrderPair}
 use Rattle.wp_pairs.specs.Carts.{FitsAnyCart, IsCartFor}
 use Rattle.wp_pairs.specs.Permitted.{AreJoined, AreParted, Pairing}
 
--- 1 to 64 orders, a capacity of 1 to 8, a cart for as many orders, if there is one, and pairs of orders of the wave, the lower first
+-- 1 to 64 orders, a capacity of 1 to 8, a cart for as many orders, if there is one, and pairs of orders of the wave,
+-- the lower first
 pub record IsPairing (pairing : Pairing) : Type 0 where
   pub some_orders : 1 ≤ pairing.orders
   pub most_orders : pairing.orders ≤ 64
@@ -37,39 +40,53 @@ pairs_of zero = 0
 pairs_of (suc n) = pairs_of n + n
 
 -- the number of a pair among all pairs of orders
-abbrev pub number_of : OrderPair → ℕ
-number_of pair = pairs_of pair.second + pair.first
+abbrev pub pair_number : OrderPair → ℕ
+pair_number pair = pairs_of pair.second + pair.first
 
--- for each order of the wave those that are joined to it and those that are parted from it are listed; no two orders are both; no pair was added twice
-pub record IsKept (pairing : Pairing) (joined parted : List (List ℕ)) : Type 0 where
+-- for each order of the wave those that are joined to it and those that are parted from it are listed; no two orders
+-- are both; no pair was added twice
+pub record ArePartners (pairing : Pairing) (joined parted : List (List ℕ)) : Type 0 where
   pub valid : IsPairing pairing
-  pub joins : (order other : ℕ) → order < pairing.orders → (Contains (listed_for joined order) other ↔ AreJoined pairing.pairs order other)
-  pub parts : (order other : ℕ) → order < pairing.orders → (Contains (listed_for parted order) other ↔ AreParted pairing.pairs order other)
+  pub joins : (order other : ℕ) → order < pairing.orders
+      → (Contains (listed_for joined order) other ↔ AreJoined pairing.pairs order other)
+  pub parts : (order other : ℕ) → order < pairing.orders
+      → (Contains (listed_for parted order) other ↔ AreParted pairing.pairs order other)
   pub never_both : (order other : ℕ) → AreJoined pairing.pairs order other → AreParted pairing.pairs order other → ⊥
-  pub once : IsDistinct nat_eq (map number_of pairing.pairs)
+  pub once : IsDistinct nat_eq (map pair_number pairing.pairs)
 
 -- an order is listed for one of these two
 abbrev pub IsListedForEither : List (List ℕ) → ℕ → ℕ → ℕ → Type 0
-IsListedForEither rows first second order = Contains (listed_for rows first) order ⊎ Contains (listed_for rows second) order
+IsListedForEither rows first second order
+    = Contains (listed_for rows first) order ⊎ Contains (listed_for rows second) order
 
--- the classes of two orders become one: its orders have all of both, and are parted from what was parted from either; each of those is parted from
--- all of the class
+-- the classes of two orders become one: its orders have all of both, and are parted from what was parted from either;
+-- each of those is parted from all of the class
 pub record JoinsClasses (joined joined_after parted parted_after : List (List ℕ)) (first second : ℕ) : Type 0 where
   pub class : (order other : ℕ) → order < 64 → IsListedForEither joined first second order
       → (Contains (listed_for joined_after order) other ↔ IsListedForEither joined first second other)
-  pub others : (order : ℕ) → order < 64 → (IsListedForEither joined first second order → ⊥) → listed_for joined_after order ≡ listed_for joined order
-  pub parted_class : (order other : ℕ) → order < 64 → IsListedForEither joined first second order → (IsListedForEither parted first second order → ⊥)
+  pub others : (order : ℕ) → order < 64 → (IsListedForEither joined first second order → ⊥)
+      → listed_for joined_after order ≡ listed_for joined order
+  pub parted_class : (order other : ℕ) → order < 64 → IsListedForEither joined first second order
+      → (IsListedForEither parted first second order → ⊥)
       → (Contains (listed_for parted_after order) other ↔ IsListedForEither parted first second other)
-  pub away : (order other : ℕ) → order < 64 → (IsListedForEither joined first second order → ⊥) → IsListedForEither parted first second order
-      → (Contains (listed_for parted_after order) other ↔ (Contains (listed_for parted order) other ⊎ IsListedForEither joined first second other))
-  pub rest : (order : ℕ) → order < 64 → (IsListedForEither joined first second order → ⊥) → (IsListedForEither parted first second order → ⊥)
+  pub away : (order other : ℕ) → order < 64 → (IsListedForEither joined first second order → ⊥)
+      → IsListedForEither parted first second order
+      → (Contains (listed_for parted_after order) other
+      ↔ (Contains (listed_for parted order) other ⊎ IsListedForEither joined first second other))
+  pub rest : (order : ℕ) → order < 64 → (IsListedForEither joined first second order → ⊥)
+      → (IsListedForEither parted first second order → ⊥)
       → listed_for parted_after order ≡ listed_for parted order
 
 -- the classes of two orders are parted: each order of the one from all of the other
 pub record PartsClasses (joined parted parted_after : List (List ℕ)) (first second : ℕ) : Type 0 where
-  pub of_first : (order other : ℕ) → order < 64 → Contains (listed_for joined first) order → (Contains (listed_for joined second) order → ⊥)
-      → (Contains (listed_for parted_after order) other ↔ (Contains (listed_for parted order) other ⊎ Contains (listed_for joined second) other))
-  pub of_second : (order other : ℕ) → order < 64 → (Contains (listed_for joined first) order → ⊥) → Contains (listed_for joined second) order
-      → (Contains (listed_for parted_after order) other ↔ (Contains (listed_for parted order) other ⊎ Contains (listed_for joined first) other))
-  pub rest : (order : ℕ) → order < 64 → (Contains (listed_for joined first) order → ⊥) → (Contains (listed_for joined second) order → ⊥)
+  pub of_first : (order other : ℕ) → order < 64 → Contains (listed_for joined first) order
+      → (Contains (listed_for joined second) order → ⊥)
+      → (Contains (listed_for parted_after order) other
+      ↔ (Contains (listed_for parted order) other ⊎ Contains (listed_for joined second) other))
+  pub of_second : (order other : ℕ) → order < 64 → (Contains (listed_for joined first) order → ⊥)
+      → Contains (listed_for joined second) order
+      → (Contains (listed_for parted_after order) other
+      ↔ (Contains (listed_for parted order) other ⊎ Contains (listed_for joined first) other))
+  pub rest : (order : ℕ) → order < 64 → (Contains (listed_for joined first) order → ⊥)
+      → (Contains (listed_for joined second) order → ⊥)
       → listed_for parted_after order ≡ listed_for parted order

@@ -4,24 +4,26 @@ use Rattle.std.specs.List.Sorted.{IsStrictlyIncreasing}
 use Rattle.wp_pairs.specs.declared.pair.OrderPair.{OrderPair}
 use Rattle.wp_pairs.specs.Carts.{FitsAnyCart, LoadedCart}
 
--- the number of orders of a wave, how many of them a batch may have, the cart with their loads, if there is one, and the pairs that were added, in the
--- order of adding
+-- the number of orders of a wave, how many of them a batch may have, the cart with their loads, if there is one, and
+-- the pairs that were added, in the order of adding
 pub record Pairing : Type 0 where
   pub orders : ℕ
   pub capacity : ℕ
   pub cart : Option LoadedCart
   pub pairs : List OrderPair
 
--- a batch has some orders of the wave, no more than the capacity, which load no more than a cart holds, both or none of each together pair, and not
--- both of any apart pair
+-- a batch has some orders of the wave, no more than the capacity, which load no more than a cart holds, both or none of
+-- each together pair, and not both of any apart pair
 pub record IsPermitted (pairing : Pairing) (batch : List ℕ) : Type 0 where
   pub ascending : IsStrictlyIncreasing batch
   pub filled : 0 < length batch
   pub fits : length batch ≤ pairing.capacity
   pub light : FitsAnyCart pairing.cart batch
   pub known : All (λ order. order < pairing.orders) batch
-  pub together : (pair : OrderPair) → Contains pairing.pairs pair → pair.together ≡ true → (Contains batch pair.first ↔ Contains batch pair.second)
-  pub apart : (pair : OrderPair) → Contains pairing.pairs pair → pair.together ≡ false → (Contains batch pair.first × Contains batch pair.second) → ⊥
+  pub together : (pair : OrderPair) → Contains pairing.pairs pair → pair.together ≡ true
+      → (Contains batch pair.first ↔ Contains batch pair.second)
+  pub apart : (pair : OrderPair) → Contains pairing.pairs pair → pair.together ≡ false
+      → (Contains batch pair.first × Contains batch pair.second) → ⊥
 
 -- these two orders were added as a pair of this kind, one way or the other
 pub record ArePair (pairs : List OrderPair) (together : Bool) (left right : ℕ) : Type 0 where
@@ -33,7 +35,8 @@ pub record ArePair (pairs : List OrderPair) (together : Bool) (left right : ℕ)
 -- a chain of together pairs leads from one order to the other; each order is joined to itself
 pub data AreJoined (pairs : List OrderPair) : ℕ → ℕ → Type 0 where
   itself : {order : ℕ} → AreJoined pairs order order
-  onward : {order next last : ℕ} → ArePair pairs true order next → AreJoined pairs next last → AreJoined pairs order last
+  onward : {order next last : ℕ} → ArePair pairs true order next → AreJoined pairs next last
+      → AreJoined pairs order last
 
 -- an apart pair lies between an order that is joined to the one and an order that is joined to the other
 pub record AreParted (pairs : List OrderPair) (left right : ℕ) : Type 0 where
@@ -53,9 +56,11 @@ pub record AreUndecided (pairing : Pairing) (first second : ℕ) : Type 0 where
   pub known : second < pairing.orders
   pub open_ : AreDecided pairing.pairs first second → ⊥
 
--- all pairs of orders that come before this one are decided: those with a lower first order, and those with the same first and a lower second
+-- all pairs of orders that come before this one are decided: those with a lower first order, and those with the same
+-- first and a lower second
 pub record AreDecidedBefore (pairing : Pairing) (first second : ℕ) : Type 0 where
-  pub lower_first : (left right : ℕ) → left < first → left < right → right < pairing.orders → AreDecided pairing.pairs left right
+  pub lower_first : (left right : ℕ) → left < first → left < right → right < pairing.orders
+      → AreDecided pairing.pairs left right
   pub lower_second : (right : ℕ) → first < right → right < second → AreDecided pairing.pairs first right
 
 -- all pairs of orders are decided

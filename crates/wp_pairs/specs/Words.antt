@@ -1,5 +1,6 @@
 -- The places of the ones of a word give the word back.
-use Rattle.std.specs.Prelude.{◌≡◌, ℕ, zero, suc, ◌+◌, ◌*◌, ◌/◌, ◌%◌, ◌^◌, ◌<◌, Bool, true, false, List, ◌∷◌, if◌then◌else◌, refl}
+use Rattle.std.specs.Prelude.{◌≡◌, ℕ, zero, suc, ◌+◌, ◌*◌, ◌/◌, ◌%◌, ◌^◌, ◌<◌, Bool, true, false, List, ◌∷◌}
+use Rattle.std.specs.Prelude.{if◌then◌else◌, refl}
 use Rattle.std.proofs.Common.{ap, ◌∙◌, arith, eqb, eqb-true}
 use Rattle.std.proofs.Math.Nat.{div-add-mod, mod-lt, two-pow-succ, pow-succ'}
 use Rattle.wp_pairs.specs.Batches.{members, members_from, word_of}
@@ -12,11 +13,13 @@ even_zero zero small e = refl
 even_zero (suc zero) small e = absurd (cc e)
 even_zero (suc (suc r)) small e = absurd (omega arith)
 
-word_if : (b : Bool) (i : ℕ) (xs : List ℕ) → word_of (if b then i ∷ xs else xs) ≡ (if b then 2 ^ i + word_of xs else word_of xs)
+word_if : (b : Bool) (i : ℕ) (xs : List ℕ)
+    → word_of (if b then i ∷ xs else xs) ≡ (if b then 2 ^ i + word_of xs else word_of xs)
 word_if true i xs = refl
 word_if false i xs = refl
 
-step_word : (i n q rest : ℕ) (b : Bool) → eqb (n % 2) 1 ≡ b → n / 2 ≡ q → rest ≡ 2 ^ (i + 1) * q → (if b then 2 ^ i + rest else rest) ≡ 2 ^ i * n
+step_word : (i n q rest : ℕ) (b : Bool) → eqb (n % 2) 1 ≡ b → n / 2 ≡ q → rest ≡ 2 ^ (i + 1) * q
+    → (if b then 2 ^ i + rest else rest) ≡ 2 ^ i * n
 step_word i n q rest true odd half is =
     let one : n % 2 ≡ 1 = eqb-true (n % 2) 1 odd in
     let whole : n ≡ 2 * q + 1 = omega (arith, div-add-mod n 2) in
@@ -34,7 +37,8 @@ word_of-members_from zero i n small = let none : n ≡ 0 = omega arith in rw non
 word_of-members_from (suc k) i n small =
     let half : n / 2 < 2 ^ k = omega (arith, div-add-mod n 2, two-pow-succ k) in
     word_if (eqb (n % 2) 1) i (members_from k (i + 1) (n / 2))
-    ∙ step_word i n (n / 2) (word_of (members_from k (i + 1) (n / 2))) (eqb (n % 2) 1) refl refl (word_of-members_from k (i + 1) (n / 2) half)
+    ∙ step_word i n (n / 2) (word_of (members_from k (i + 1) (n / 2))) (eqb (n % 2) 1) refl refl
+    (word_of-members_from k (i + 1) (n / 2) half)
 
 -- the places of the ones give the word back
 pub word_of-members : (n : ℕ) → n < 2 ^ 64 → word_of (members n) ≡ n

@@ -1,4 +1,5 @@
-ghost use Rattle.std.specs.Prelude.{◌≡◌, ◌≢◌, ◌+◌, ◌≤◌, ◌<◌, ◌↔◌, ◌⊎◌, ℕ, [], IsTrue, Contains, false, length, slice_get};
+ghost use Rattle.std.specs.Prelude.{◌≡◌, ◌≢◌, ◌+◌, ◌≤◌, ◌<◌, ◌↔◌, ◌⊎◌, ℕ, [], IsTrue, Contains, false, length};
+ghost use Rattle.std.specs.Prelude.{slice_get};
 ghost use Rattle.wp_pairs.specs.Batches.{IsBatch};
 
 use std::marker::Model;
@@ -6,8 +7,8 @@ use std::marker::Model;
 /// How many orders a wave has at most. A batch is a set of places below it.
 pub const MOST_ORDERS: u32 = 64;
 
-/// A set of orders of one wave. An order is named by its place in the wave, 0 to 63. Contracts see the ascending list of
-/// the places.
+/// A set of orders of one wave. An order is named by its place in the wave, 0 to 63. Contracts see the ascending list
+/// of the places.
 #[derive(Clone, Copy, PartialEq, Eq)]
 pub struct Batch {
     word: u64,

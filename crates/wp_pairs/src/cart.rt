@@ -1,4 +1,5 @@
-ghost use Rattle.std.specs.Prelude.{◌≡◌, ◌<◌, ◌≤◌, ◌↔◌, ◌^◌, ◌++◌, All, IfSome, IsSome, IsTrue, Some, length, slice_get};
+ghost use Rattle.std.specs.Prelude.{◌≡◌, ◌<◌, ◌≤◌, ◌↔◌, ◌^◌, ◌++◌, All, IfSome, IsSome, IsTrue, Some, length};
+ghost use Rattle.std.specs.Prelude.{slice_get};
 ghost use Rattle.wp_pairs.specs.Carts.{FitsCart, IsLoadedCart, load_of};
 
 use crate::batch::Batch;
@@ -31,8 +32,8 @@ impl Model for Loads {
     ghost inverse_ok = { λ l h i. record { count = sym h.count_is i; words = sym h.words_are i } };
 }
 
-/// A cart that holds 1 to 40,000,000 units, and what each of the 1 to 64 orders of a wave loads: 0 units to all that it holds.
-/// Contracts see the units and the list of the loads.
+/// A cart that holds 1 to 40,000,000 units, and what each of the 1 to 64 orders of a wave loads: 0 units to all that it
+/// holds. Contracts see the units and the list of the loads.
 #[derive(Clone, Copy)]
 pub struct Cart {
     units: u32,
@@ -99,8 +100,8 @@ impl Loads {
 }
 
 impl Cart {
-    /// The cart that holds so many units, with what each order of a wave loads. None comes exactly where the units aren't 1 to
-    /// 40,000,000, there aren't 1 to 64 loads, or a load is above the units.
+    /// The cart that holds so many units, with what each order of a wave loads. None comes exactly where the units
+    /// aren't 1 to 40,000,000, there aren't 1 to 64 loads, or a load is above the units.
     pub fn new(units: u32, loads: &[u32]) -> Option<Cart>
         ensures exact { IsSome result ↔ IsLoadedCart (record { units = units; loads = loads.now }) }
         ensures value { IfSome result (λ cart. cart ≡ record { units = units; loads = loads.now }) }
@@ -155,8 +156,8 @@ impl Cart {
         total
     }
 
-    /// Whether a batch fits the cart: its orders load no more than the cart holds. An order that the cart has no load for loads
-    /// nothing.
+    /// Whether a batch fits the cart: its orders load no more than the cart holds. An order that the cart has no load
+    /// for loads nothing.
     pub fn holds(&self, batch: Batch) -> bool
         ensures { IsTrue result ↔ FitsCart self.now batch }
     {

@@ -1,8 +1,10 @@
-ghost use Rattle.std.specs.Prelude.{◌≡◌, ◌≤◌, ◌<◌, ◌+◌, ◌^◌, ◌↔◌, ℕ, [], ◌∷◌, ◌++◌, IsTrue, IfNone, IfSome, Contains, None, Some, length, take, true, false};
+ghost use Rattle.std.specs.Prelude.{◌≡◌, ◌≤◌, ◌<◌, ◌+◌, ◌^◌, ◌↔◌, ℕ, [], ◌∷◌, ◌++◌, IsTrue, IfNone, IfSome, Contains};
+ghost use Rattle.std.specs.Prelude.{None, Some, length, take, true, false};
 ghost use Rattle.wp_pairs.specs.declared.pair.OrderPair.{OrderPair as PairData};
 ghost use Rattle.wp_pairs.specs.Batches.{IsBatch};
 ghost use Rattle.wp_pairs.specs.Carts.{Carries, FitsAnyCart, IsCartFor, any_load};
-ghost use Rattle.wp_pairs.specs.Permitted.{Pairing, IsPermitted, AreJoined, AreParted, AreDecided, AreUndecided, AreDecidedBefore, AllDecided, IsHeld, IsDead};
+ghost use Rattle.wp_pairs.specs.Permitted.{Pairing, IsPermitted, AreJoined, AreParted, AreDecided, AreUndecided};
+ghost use Rattle.wp_pairs.specs.Permitted.{AreDecidedBefore, AllDecided, IsHeld, IsDead};
 ghost use Rattle.wp_pairs.specs.Permitted.{AreHeldBelow};
 ghost use Rattle.wp_pairs.specs.Kept.{FitsCapacity, IsPairing, KeepsOrder};
 
@@ -15,8 +17,9 @@ use std::marker::Model;
 /// How many pairs 64 orders have.
 const MOST_PAIRS: usize = 2016;
 
-/// The pairs of a wave's orders that are to go together or apart, how many orders a batch may have, and the cart that it is to
-/// fit, if there is one. Contracts see the number of orders, the capacity, the cart and the pairs in the order of adding.
+/// The pairs of a wave's orders that are to go together or apart, how many orders a batch may have, and the cart that
+/// it is to fit, if there is one. Contracts see the number of orders, the capacity, the cart and the pairs in the order
+/// of adding.
 #[derive(Drop)]
 pub struct Pairs {
     orders: u32,
@@ -31,13 +34,19 @@ pub struct Pairs {
 impl Model for Pairs {
     ghost use Rattle.std.specs.Prelude.{◌≡◌, length, take};
     ghost use Rattle.wp_pairs.specs.Permitted.{Pairing};
-    ghost use Rattle.wp_pairs.specs.Kept.{IsKept};
+    ghost use Rattle.wp_pairs.specs.Kept.{ArePartners};
 
     ghost Value = { Pairing };
 
-    ghost view = { λ p. record { orders = p.orders; capacity = p.capacity; cart = p.cart; pairs = take p.count p.added } };
+    ghost view = { λ p. record {
+      orders = p.orders;
+      capacity = p.capacity;
+      cart = p.cart;
+      pairs = take p.count
+          p.added;
+    } };
 
-    ghost invariant = { λ p. (length (take p.count p.added) ≡ p.count) × IsKept (record {
+    ghost invariant = { λ p. (length (take p.count p.added) ≡ p.count) × ArePartners (record {
       orders = p.orders;
       capacity = p.capacity;
       cart = p.cart;
@@ -72,17 +81,29 @@ impl Pairs {
         requires most_orders { orders ≤ 64 }
         requires some_capacity { 1 ≤ capacity }
         requires most_capacity { capacity ≤ 8 }
-        ensures { result ≡ record { orders = orders; capacity = capacity; cart = None; pairs = [] } }
+        ensures { result ≡ record {
+          orders = orders;
+          capacity = capacity;
+          cart = None;
+          pairs = [];
+        } }
     {
         Pairs::begun(orders, capacity, None)
     }
 
-    /// No pair, for a wave of so many orders and batches of so many that fit a cart with what each of these orders loads.
+    /// No pair, for a wave of so many orders and batches of so many that fit a cart with what each of these orders
+    /// loads.
     pub fn with_cart(orders: u32, capacity: u32, cart: Cart) -> Pairs
         requires loads { orders ≡ length cart.loads }
         requires some_capacity { 1 ≤ capacity }
         requires most_capacity { capacity ≤ 8 }
-        ensures { result ≡ record { orders = orders; capacity = capacity; cart = Some cart; pairs = [] } }
+        ensures { result ≡ record {
+          orders = orders;
+          capacity = capacity;
+          cart = Some
+              cart;
+          pairs = [];
+        } }
     {
         let of_wave = cart.orders() == orders;
         prove!(of_wave);
@@ -96,7 +117,12 @@ impl Pairs {
         requires some_capacity { 1 ≤ capacity }
         requires most_capacity { capacity ≤ 8 }
         requires cart { IsCartFor cart orders }
-        ensures { result ≡ record { orders = orders; capacity = capacity; cart = cart; pairs = [] } }
+        ensures { result ≡ record {
+          orders = orders;
+          capacity = capacity;
+          cart = cart;
+          pairs = [];
+        } }
     {
         Pairs {
             orders,
@@ -125,7 +151,8 @@ impl Pairs {
         self.capacity
     }
 
-    /// The cart that batches are to fit, with a load for each order of the wave. None comes exactly where there is no cart.
+    /// The cart that batches are to fit, with a load for each order of the wave. None comes exactly where there is no
+    /// cart.
     pub fn cart(&self) -> Option<Cart>
         ensures value { result ≡ self.now.cart }
         ensures valid { IsPairing self.now }
@@ -191,8 +218,8 @@ impl Pairs {
         orders_for(&self.joined, order)
     }
 
-    /// The orders that are to go apart from an order: those between which and an order that is joined to it, or one that is
-    /// joined to them, an apart pair lies.
+    /// The orders that are to go apart from an order: those between which and an order that is joined to it, or one
+    /// that is joined to them, an apart pair lies.
     pub fn parted_from(&self, order: u32) -> Batch
         requires { order < self.now.orders }
         ensures { (other : ℕ) → Contains result other ↔ AreParted self.now.pairs order other }
@@ -200,8 +227,8 @@ impl Pairs {
         orders_for(&self.parted, order)
     }
 
-    /// Whether a batch is permitted: it has some orders of the wave and at most as many as the capacity, which load no more than
-    /// the cart holds, if there is one, both or none of each together pair, and not both of any apart pair.
+    /// Whether a batch is permitted: it has some orders of the wave and at most as many as the capacity, which load no
+    /// more than the cart holds, if there is one, both or none of each together pair, and not both of any apart pair.
     pub fn permits(&self, batch: Batch) -> bool
         ensures { IsTrue result ↔ IsPermitted self.now batch }
     {
@@ -275,7 +302,8 @@ impl Pairs {
     // Whether that is so of each order of a batch.
     fn keeps_all(&self, batch: Batch) -> bool
         requires { IsBatch batch }
-        ensures exact { IsTrue result ↔ ((order : ℕ) → Contains batch order → KeepsOrder self.now batch order) }
+        ensures exact { IsTrue result ↔ ((order : ℕ) → Contains batch order
+            → KeepsOrder self.now batch order) }
     {
         for order in 0..64 {
             if batch.has(order) && !self.keeps(order, batch) {
@@ -288,9 +316,11 @@ impl Pairs {
     // The least order after a first one with which it is undecided.
     fn undecided_with(&self, first: u32) -> Option<u32>
         requires { first < self.now.orders }
-        ensures none { IfNone result ((right : ℕ) → first < right → right < self.now.orders → AreDecided self.now.pairs first right) }
+        ensures none { IfNone result ((right : ℕ) → first < right → right < self.now.orders
+            → AreDecided self.now.pairs first right) }
         ensures undecided { IfSome result (AreUndecided self.now first) }
-        ensures least { IfSome result (λ second. (right : ℕ) → first < right → right < second → AreDecided self.now.pairs first right) }
+        ensures least { IfSome result (λ second. (right : ℕ) → first < right → right < second
+            → AreDecided self.now.pairs first right) }
     {
         for second in 0..self.orders() {
             if first < second && !self.decided(first, second) {
@@ -300,8 +330,8 @@ impl Pairs {
         None
     }
 
-    // Whether some permitted batch has an order: the orders that are joined to it are such a batch, if they are few enough and
-    // fit the cart.
+    // Whether some permitted batch has an order: the orders that are joined to it are such a batch, if they are few
+    // enough and fit the cart.
     fn is_held(&self, order: u32) -> bool
         requires { order < self.now.orders }
         ensures held { result ≡ true → IsHeld self.now order }

@@ -13,7 +13,8 @@ pub fn empty_rows() -> [Batch; 64]
 /// For each order itself alone.
 pub fn single_rows() -> [Batch; 64]
     ensures whole { length result ≡ 64 }
-    ensures each { (order other : ℕ) → order < 64 → (Contains (listed_for result order) other ↔ (other ≡ order)) }
+    ensures each { (order other : ℕ) → order < 64
+        → (Contains (listed_for result order) other ↔ (other ≡ order)) }
 {
     let mut rows = empty_rows();
     for order in 0..64 {
@@ -32,8 +33,10 @@ pub fn orders_for(rows: &[Batch; 64], order: u32) -> Batch
 
 // For each order of a batch the same set.
 fn set_rows(rows: &mut [Batch; 64], batch: Batch, orders: Batch)
-    ensures there { (order : ℕ) → order < 64 → Contains batch order → listed_for rows.new order ≡ orders }
-    ensures elsewhere { (order : ℕ) → order < 64 → (Contains batch order → ⊥) → listed_for rows.new order ≡ listed_for rows.old order }
+    ensures there { (order : ℕ) → order < 64 → Contains batch order
+        → listed_for rows.new order ≡ orders }
+    ensures elsewhere { (order : ℕ) → order < 64 → (Contains batch order → ⊥)
+        → listed_for rows.new order ≡ listed_for rows.old order }
 {
     for order in 0..64 {
         if batch.has(order) {
@@ -45,8 +48,10 @@ fn set_rows(rows: &mut [Batch; 64], batch: Batch, orders: Batch)
 // For each order of a batch some further orders.
 fn widen_rows(rows: &mut [Batch; 64], batch: Batch, orders: Batch)
     ensures there { (order other : ℕ) → order < 64 → Contains batch order
-        → (Contains (listed_for rows.new order) other ↔ (Contains (listed_for rows.old order) other ⊎ Contains orders other)) }
-    ensures elsewhere { (order : ℕ) → order < 64 → (Contains batch order → ⊥) → listed_for rows.new order ≡ listed_for rows.old order }
+        → (Contains (listed_for rows.new order) other
+        ↔ (Contains (listed_for rows.old order) other ⊎ Contains orders other)) }
+    ensures elsewhere { (order : ℕ) → order < 64 → (Contains batch order → ⊥)
+        → listed_for rows.new order ≡ listed_for rows.old order }
 {
     for order in 0..64 {
         if batch.has(order) {
@@ -78,7 +83,8 @@ pub fn settle(
 )
     requires first { first < 64 }
     requires second { second < 64 }
-    ensures joins { together ≡ true → JoinsClasses joined.old joined.new parted.old parted.new first second }
+    ensures joins { together ≡ true → JoinsClasses joined.old joined.new parted.old parted.new first
+        second }
     ensures keeps { together ≡ false → joined.new ≡ joined.old }
     ensures parts { together ≡ false → PartsClasses joined.old parted.old parted.new first second }
 {

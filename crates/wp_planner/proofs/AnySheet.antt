@@ -17,7 +17,7 @@ use Rattle.wp_planner.specs.Released.{IsReleased}
 use Rattle.wp_planner.proofs.BatchSlots.{batches_slots}
 use Rattle.wp_planner.proofs.Certified.{sheet_tells}
 use Rattle.wp_planner.proofs.RuleWalks.{rule_walk_there}
-use Rattle.wp_planner.specs.Sheets.{AreParts, FollowsPicks, IsPart, IsSheet}
+use Rattle.wp_planner.specs.Sheets.{AreParts, FollowsPicks, IsBatchPart, IsSheet}
 use Rattle.wp_planner.specs.Terms.{Terms}
 use Rattle.wp_planner.specs.declared.planner.WavePlan.{WavePlan}
 
@@ -44,7 +44,7 @@ any_parts stock released wave rules number (batch ∷ batches) total slots (firs
     let walk = shortest.some.0 in
     let lines = batch_text number released stock batch first walk picks.0 in
     let after = any_after rules wave batch first (All-head P batch batches slots) in
-    let part : IsPart stock released wave rules number batch (lines ++ after.0) = record {
+    let part : IsBatchPart stock released wave rules number batch (lines ++ after.0) = record {
       total = first;
       walk = walk;
       tours = record { shortest = shortest; tour = shortest.some.1 };

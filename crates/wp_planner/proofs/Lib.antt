@@ -13,3 +13,4 @@ pub mod Served
 pub mod AnySheet
 pub mod ListedBatches
 pub mod Certified
+pub mod RootDuals

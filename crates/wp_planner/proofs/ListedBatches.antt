@@ -12,7 +12,7 @@ use Rattle.wp_model.specs.Warehouse.{Layout}
 use Rattle.wp_planner.proofs.BatchLengths.{few_batches}
 use Rattle.wp_planner.proofs.SheetParts.{one_more_item}
 use Rattle.wp_planner.specs.Crews.{AreLengths, AreListed, DayBatch, MayBeDealt, day_batches, sent_batches, wave_batches}
-use Rattle.wp_planner.specs.Sent.{ArePlanned, IsPlanned, Sent, plans_of, waves_of}
+use Rattle.wp_planner.specs.Sent.{ArePlanned, IsPlanned, Sent, plans_of, sent_waves}
 use Rattle.wp_planner.specs.Terms.{Terms}
 use Rattle.wp_planner.specs.declared.crew.DayBatches.{DayBatches}
 
@@ -97,7 +97,7 @@ sent_more sent i one there =
 
 -- the batches of waves that have plans, wave by wave
 pub day_batches_are : (layout : Layout) (opening : Opening) (terms : Terms) (sent : List Sent) → ArePlanned layout opening terms sent
-    → flat_map sent_batches sent ≡ day_batches (waves_of sent) (plans_of sent)
+    → flat_map sent_batches sent ≡ day_batches (sent_waves sent) (plans_of sent)
 unfolding day_batches
 day_batches_are layout opening terms [] planned = refl
 day_batches_are layout opening terms (one ∷ sent) planned =

@@ -8,7 +8,7 @@ use Rattle.wp_machine.specs.declared.outcome.WaveHolds.{WaveHolds}
 use Rattle.wp_lengths.specs.Waves.{WavePicks}
 use Rattle.wp_model.specs.Opening.{Stock}
 use Rattle.wp_outside.specs.Sections.{GrowsBy}
-use Rattle.wp_planner.specs.Sheets.{AreParts, IsPart}
+use Rattle.wp_planner.specs.Sheets.{AreParts, IsBatchPart}
 
 -- what is added after a part is added makes one longer part
 pub then_more : (old part more mid new : List ℕ) → mid ≡ old ++ part → new ≡ mid ++ more → new ≡ old ++ (part ++ more)
@@ -16,13 +16,13 @@ then_more old part more mid new one two = two ∙ (ap (λ (text : List ℕ). tex
 
 -- the parts of batches and that of one more, which has the next number
 parts_more : (stock : Stock) (released : WaveHolds) (wave : WavePicks) (rules : Bool) (number last : ℕ) (batches : List (List ℕ)) (batch parts part : List ℕ)
-    → last ≡ number + length batches → AreParts stock released wave rules number batches parts → IsPart stock released wave rules last batch part
+    → last ≡ number + length batches → AreParts stock released wave rules number batches parts → IsBatchPart stock released wave rules last batch part
     → AreParts stock released wave rules number (batches ++ batch ∷ []) (parts ++ part)
 parts_more stock released wave rules number last [] batch parts part counted are is =
     let first : last ≡ number = omega (arith, counted) in (
       part,
       [],
-      subst (λ (n : ℕ). IsPart stock released wave rules n batch part) first is,
+      subst (λ (n : ℕ). IsBatchPart stock released wave rules n batch part) first is,
       refl,
       ap (λ (before : List ℕ). before ++ part) are ∙ sym (append-nil part),
     )
@@ -36,7 +36,8 @@ parts_more stock released wave rules number last (b ∷ batches) batch parts par
 
 -- a text that has grown by parts grows by one more
 pub grown_more : (stock : Stock) (released : WaveHolds) (wave : WavePicks) (rules : Bool) (last : ℕ) (batches : List (List ℕ)) (batch old mid new : List ℕ)
-    → last ≡ 1 + length batches → GrowsBy (AreParts stock released wave rules 1 batches) old mid → GrowsBy (IsPart stock released wave rules last batch) mid new
+    → last ≡ 1 + length batches → GrowsBy (AreParts stock released wave rules 1 batches) old mid
+    → GrowsBy (IsBatchPart stock released wave rules last batch) mid new
     → GrowsBy (AreParts stock released wave rules 1 (batches ++ batch ∷ [])) old new
 grown_more stock released wave rules last batches batch old mid new counted before here = (
   before.0 ++ here.0,

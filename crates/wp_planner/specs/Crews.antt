@@ -60,7 +60,7 @@ pub record AreListed (batches : List DayBatch) (listed : DayBatches) : Type 0 wh
 
 -- batches are dealt to so many pickers: the crew is settled, no crew's longest load is below the least that it tells,
 -- and its longest load is near the mean
-pub record AreDealt (pickers : ℕ) (batches : List DayBatch) (dealt : DayCrew) : Type 0 where
+pub record IsDealtCrew (pickers : ℕ) (batches : List DayBatch) (dealt : DayCrew) : Type 0 where
   pub listed : AreListed batches dealt.batches
   pub crew : IsCrew dealt.batches.lengths.items pickers dealt.crew.picker_of.items dealt.crew.loads.items
       dealt.crew.longest dealt.crew.least
@@ -71,7 +71,7 @@ pub record AreDealt (pickers : ℕ) (batches : List DayBatch) (dealt : DayCrew) 
 -- where there are pickers, batches are dealt to them, and else there is no crew
 abbrev pub IsCrewFor : ℕ → List DayBatch → Option DayCrew → Type 0
 IsCrewFor pickers batches None = pickers ≡ 0
-IsCrewFor pickers batches (Some dealt) = (1 ≤ pickers) × AreDealt pickers batches dealt
+IsCrewFor pickers batches (Some dealt) = (1 ≤ pickers) × IsDealtCrew pickers batches dealt
 
 -- the section of a crew, if there is one
 abbrev pub crew_text : Option DayCrew → List ℕ

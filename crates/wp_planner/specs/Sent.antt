@@ -26,8 +26,8 @@ abbrev pub ArePlanned : Layout → Opening → Terms → List Sent → Type 0
 ArePlanned layout opening terms sent = All (IsPlanned layout opening terms) sent
 
 -- the waves that went out
-abbrev pub waves_of : List Sent → List WaveHolds
-waves_of sent = map (λ s. s.wave) sent
+abbrev pub sent_waves : List Sent → List WaveHolds
+sent_waves sent = map (λ s. s.wave) sent
 
 -- their plans
 abbrev pub plans_of : List Sent → List WavePlan

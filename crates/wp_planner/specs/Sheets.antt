@@ -48,7 +48,7 @@ FollowsPicks false wave batch total text = text ≡ []
 
 -- the part of a batch on a wave's sheet: its number, the length of its tour, its orders, a shortest tour, its picks by
 -- row, and what follows them
-pub record IsPart (stock : Stock) (released : WaveHolds) (wave : WavePicks) (rules : Bool) (number : ℕ)
+pub record IsBatchPart (stock : Stock) (released : WaveHolds) (wave : WavePicks) (rules : Bool) (number : ℕ)
     (batch part : List ℕ) : Type 0 where
   pub total : ℕ
   pub walk : List Point
@@ -63,7 +63,7 @@ pub record IsPart (stock : Stock) (released : WaveHolds) (wave : WavePicks) (rul
 abbrev pub AreParts : Stock → WaveHolds → WavePicks → Bool → ℕ → List (List ℕ) → List ℕ → Type 0
 AreParts stock released wave rules number [] parts = parts ≡ []
 AreParts stock released wave rules number (batch ∷ batches) parts =
-    (first : List ℕ) × (others : List ℕ) × IsPart stock released wave rules number batch first
+    (first : List ℕ) × (others : List ℕ) × IsBatchPart stock released wave rules number batch first
     × AreParts stock released wave rules (number + 1) batches others × (parts ≡ first ++ others)
 
 -- a plan is open: its bound is below its cost
@@ -78,7 +78,8 @@ plan_line units released capacity planned cancelled_later =
 
 -- the line of a plan's certificate
 abbrev pub certificate_line : WavePicks → ℕ → Planned → List ℕ
-certificate_line wave capacity planned = line (codes "certificate " ++ certificate_text (wave_places wave) wave.cart capacity planned.tree.nodes)
+certificate_line wave capacity planned = line
+    (codes "certificate " ++ certificate_text (wave_places wave) wave.cart capacity planned.tree.nodes)
 
 -- the certificate of a sheet tells the bound of its first line, by the words that a check goes by
 abbrev pub TellsTheBound : WavePicks → ℕ → Planned → Type 0

@@ -5,7 +5,7 @@ ghost use Rattle.wp_model.specs.Opening.{Opening as OpeningData};
 ghost use Rattle.wp_model.specs.Warehouse.{Layout as Block};
 ghost use Rattle.wp_planner.specs.Crews.{AreListed, DayBatch, GoesSomewhere, IsCrewFor, day_batches, sent_batches};
 ghost use Rattle.wp_planner.specs.Crews.{wave_batches};
-ghost use Rattle.wp_planner.specs.Sent.{ArePlanned, IsPlanned, plans_of, waves_of};
+ghost use Rattle.wp_planner.specs.Sent.{ArePlanned, IsPlanned, plans_of, sent_waves};
 ghost use Rattle.wp_planner.specs.Terms.{Terms as TermsData};
 
 use crate::planner::WavePlan;
@@ -112,7 +112,7 @@ pub fn crew_for(
     requires few { length sent.now ≤ 10000 }
     requires most { pickers ≤ 100 }
     ensures { IfOk result (IsCrewFor pickers
-        (day_batches (waves_of sent.now) (plans_of sent.now))) }
+        (day_batches (sent_waves sent.now) (plans_of sent.now))) }
 {
     if pickers == 0 {
         return Ok(None);

@@ -2,6 +2,7 @@
 //! day are dealt.
 #![tactic(auto)]
 
+mod bracket;
 mod crew;
 mod day_planner;
 mod laws;

@@ -5,9 +5,10 @@ ghost use Rattle.wp_model.specs.Opening.{Opening as OpeningData};
 ghost use Rattle.wp_model.specs.Warehouse.{Layout as Block};
 ghost use Rattle.wp_planner.specs.Plans.{IsCertified, IsPlanFor, IsPlanOf};
 ghost use Rattle.wp_planner.specs.Released.{IsWaveOf, LiesIn};
-ghost use Rattle.wp_planner.specs.Roots.{IsRootFor, rounds_of};
+ghost use Rattle.wp_planner.specs.Roots.{IsRootFor};
 ghost use Rattle.wp_planner.specs.Terms.{budget_of};
 
+use crate::bracket::root_of;
 use crate::released::ReleasedWave;
 use crate::terms::Terms;
 use crate::waves::wave_of;
@@ -15,10 +16,10 @@ use std::alloc::Global;
 use std::thread::Threads;
 use wp_graph::Layout;
 use wp_lengths::Wave;
-use wp_lp::{Root, root_pair};
+use wp_lp::Root;
 use wp_machine::{Opening, WaveHolds};
 use wp_model::Memory;
-use wp_node::{pays, price_of};
+use wp_node::pays;
 use wp_outside::Gate;
 use wp_pairs::Capacity;
 use wp_search::{Planned, plan_wave};
@@ -48,7 +49,7 @@ pub struct WavePlan {
 
 // What is searched for while a wave's lengths are kept: its plan, and the bracket.
 #[derive(Drop)]
-struct Found {
+struct FoundPlan {
     planned: Planned,
     root: Option<Root>,
 }
@@ -81,39 +82,13 @@ fn kept_orders(wave: &Wave, capacity: Capacity, budget: u64) -> u32
     }
 }
 
-// How many rounds the budget pays for: one for each node with duals of its own for which it would.
-fn rounds_for(wave: &Wave, terms: &Terms) -> u64
-    ensures { result ≡ rounds_of wave.now terms.now }
-{
-    let price = price_of(wave.orders(), terms.capacity());
-    (u128::from(terms.budget_for(wave.orders())) / price) as u64
-}
-
-// The bracket of a wave's linear bound, where the terms ask for one.
-fn root_of<R: Threads + Sync, G: Gate>(
-    planning: &Planning<'_, R, G>,
-    alloc: Global,
-    wave: &Wave,
-) -> Result<Option<Root>, Memory>
-    ensures { IfOk result (IsRootFor planning.now.terms.now wave.now) }
-{
-    let terms = planning.terms;
-    if !terms.root() {
-        return Ok(None);
-    }
-    let capacity = terms.capacity().most;
-    let rounds = rounds_for(wave, terms);
-    let root = root_pair(planning.rt, alloc, wave, capacity, rounds, terms.workers())?;
-    Ok(Some(root))
-}
-
 // The plan of a wave, and the bracket of its linear bound. Where the wave is one that went out, the text of the plan's
 // certificate tells its bound.
 fn searched<R: Threads + Sync, G: Gate>(
     planning: &Planning<'_, R, G>,
     alloc: Global,
     wave: &Wave,
-) -> Result<Found, Memory>
+) -> Result<FoundPlan, Memory>
     ensures plan { IfOk result (λ found. IsGoodPlan wave.now planning.now.terms.now.capacity
         (budget_of (length wave.now.orders) planning.now.terms.now) found.planned) }
     ensures root { IfOk result (λ found. IsRootFor planning.now.terms.now wave.now found.root) }
@@ -133,8 +108,8 @@ fn searched<R: Threads + Sync, G: Gate>(
         workers,
         planning.gate,
     )?;
-    let root = root_of(planning, alloc, wave)?;
-    Ok(Found { planned, root })
+    let root = root_of(planning, alloc, wave, &planned)?;
+    Ok(FoundPlan { planned, root })
 }
 
 // The plan of a wave that went out: a good plan, for the terms' capacity and what they spend on it, of the wave whose
@@ -154,7 +129,7 @@ fn plan_of<R: Threads + Sync, G: Gate>(
     let budget = planning.terms.budget_for(wave.orders());
     let kept = kept_orders(&wave, planning.terms.capacity(), budget);
     wave.keep_lengths_by(planning.rt, alloc, kept, planning.terms.workers())?;
-    let Found { planned, root } = searched(planning, alloc, &wave)?;
+    let FoundPlan { planned, root } = searched(planning, alloc, &wave)?;
     wave.keep_lengths(alloc, 0)?;
     Ok(WavePlan {
         wave,

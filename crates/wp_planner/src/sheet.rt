@@ -5,7 +5,7 @@ ghost use Rattle.wp_cert.specs.TextData.{HaveDualsWithin};
 ghost use Rattle.wp_planner.specs.Plans.{IsPlanOf};
 ghost use Rattle.wp_planner.specs.Released.{IsReleased};
 ghost use Rattle.wp_outside.specs.Sections.{GrowsBy};
-ghost use Rattle.wp_planner.specs.Sheets.{AreParts, FollowsPicks, IsPart, IsRulesLine, IsSheet, IsShortestTour};
+ghost use Rattle.wp_planner.specs.Sheets.{AreParts, FollowsPicks, IsBatchPart, IsRulesLine, IsSheet, IsShortestTour};
 ghost use Rattle.wp_planner.specs.Sheets.{certificate_line};
 ghost use Rattle.wp_planner.specs.Roots.{is_narrow as is_narrow_state, root_text};
 ghost use Rattle.wp_planner.specs.Sheets.{is_open as is_open_state, plan_line};
@@ -97,7 +97,8 @@ fn print_part(
     requires rows { All (λ hold. hold.row < length sent.now.opening.now.stock.rows)
         sent.now.released.now.holds }
     ensures { IfOk result (λ _. GrowsBy
-        (IsPart sent.now.opening.now.stock sent.now.released.now sent.now.plan.now.wave sent.now.terms.now.rules number
+        (IsBatchPart sent.now.opening.now.stock sent.now.released.now sent.now.plan.now.wave sent.now.terms.now.rules
+        number
         batch) text.old.items text.new.items) }
 {
     let sheet = sheet_of(alloc, &sent.plan.wave, batch)?;

@@ -78,8 +78,7 @@ impl Terms {
           budget = budget;
           nodes = None;
           workers = workers;
-          rules
-              = false;
+          rules = false;
           pickers = 0;
           root = false;
         }) }
@@ -88,8 +87,7 @@ impl Terms {
           budget = budget;
           nodes = None;
           workers = workers;
-          rules
-              = false;
+          rules = false;
           pickers = 0;
           root = false;
         } }

@@ -24,12 +24,14 @@ no_better_itself None = tt
 no_better_itself (Some best) = no_worse_itself best
 
 -- what isn't better than a best isn't better than the better of this and another
-no_better_on : (one : LeastBatch) (best : Option LeastBatch) (better : LeastBatch) → IfSome best (IsNoWorse better) → IsNoBetter one best → IsNoBetter one (Some better)
+no_better_on : (one : LeastBatch) (best : Option LeastBatch) (better : LeastBatch) → IfSome best (IsNoWorse better) → IsNoBetter one best
+    → IsNoBetter one (Some better)
 no_better_on one None better no_worse no_better = absurd no_better
 no_better_on one (Some best) better no_worse no_better = no_worse_on better best one no_worse no_better
 
 -- which holds of each that is known
-each_no_better_on : (some best : Option LeastBatch) (better : LeastBatch) → IfSome best (IsNoWorse better) → IfSome some (λ (one : LeastBatch). IsNoBetter one best)
+each_no_better_on : (some best : Option LeastBatch) (better : LeastBatch) → IfSome best (IsNoWorse better)
+    → IfSome some (λ (one : LeastBatch). IsNoBetter one best)
     → IfSome some (λ (one : LeastBatch). IsNoBetter one (Some better))
 each_no_better_on None best better no_worse no_better = tt
 each_no_better_on (Some one) best better no_worse no_better = no_better_on one best better no_worse no_better

@@ -7,7 +7,8 @@ use Rattle.wp_lengths.specs.Lengths.{IsLengthOf}
 use Rattle.wp_lengths.specs.Duals.{AreFeasible, duals_of}
 use Rattle.wp_lengths.proofs.FewerOrders.{same_length}
 use Rattle.wp_price.specs.declared.best.LeastBatch.{LeastBatch}
-use Rattle.wp_price.specs.Searches.{IsBeaten, IsRaised, Task, raise}
+use Rattle.wp_visit.specs.Places.{Task}
+use Rattle.wp_price.specs.Searches.{IsBeaten, IsRaised, raise}
 use Rattle.wp_price.specs.Slacks.{IsCandidate, IsLeastSlack, IsSlack}
 
 -- a candidate is a permitted batch

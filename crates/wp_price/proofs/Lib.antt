@@ -1,7 +1,6 @@
 pub mod Options
 pub mod Lists
 pub mod Children
-pub mod Reaches
 pub mod Bests
 pub mod Extensions
 pub mod Searching

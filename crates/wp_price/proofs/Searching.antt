@@ -1,17 +1,24 @@
--- The search, step by step: what the best is known to be better than, after each order.
+-- The search, step by step: what the best is known to be better than, after each place.
 use Rattle.std.proofs.Common.{◌≡◌, ℕ, zero, suc, ◌+◌, ◌-◌, ◌<◌, ◌≤◌, false, List, arith, rules, refl, ap, ◌↔◌, sym, ◌∙◌, subst, inl, inr, ◌⊎◌, ⊎_elim}
 use Rattle.std.proofs.Common.{Contains, length}
-use Rattle.std.specs.Prelude.{Option, Some, None, IfSome, slice_index_or}
+use Rattle.std.specs.Prelude.{Option, Some, None, Result, Ok, IfSome, slice_index_or, ⊤}
 use Rattle.wp_pairs.specs.Permitted.{AreJoined, IsPermitted, itself}
-use Rattle.wp_lengths.specs.Visits.{AddsItem}
-use Rattle.wp_lengths.proofs.Visits.{Extends, IsPlace}
+use Rattle.wp_lengths.specs.Visits.{AddsItem, Children, Due, Place}
+use Rattle.wp_lengths.proofs.Visits.{Extends, IsPlace, permitted_place}
+use Rattle.wp_visit.specs.declared.step.Step.{Step}
+use Rattle.wp_visit.specs.declared.step.Step.TheVariants as step
+use Rattle.wp_visit.specs.Courses.{Entering, HasVisited}
+use Rattle.wp_visit.specs.Courses as course
+use Rattle.wp_visit.specs.Places.{IsNoChild, Task}
+use Rattle.wp_visit.proofs.Extensions.{past_no_child, past_same, with_or_after}
 use Rattle.wp_price.specs.declared.best.LeastBatch.{LeastBatch}
+use Rattle.wp_price.specs.declared.least.BestSoFar.{BestSoFar}
 use Rattle.wp_price.specs.Bests.{IsBestAmong, IsBetterOf, IsNoBetter, IsNoWorse}
-use Rattle.wp_price.specs.Searches.{AreItemsSearched, AreSharesOf, AreSharesSearched, IsBeaten, IsFound, IsItemPast, IsNoChild, IsRaised, IsSearched, Task}
+use Rattle.wp_price.specs.Searches.{AreItemsSearched, AreSharesOf, AreSharesSearched, EntersBest, IsBeaten, IsLeastFound, IsItemPast, IsRaised, IsSearched}
 use Rattle.wp_price.specs.Shares.{IsDealt}
 use Rattle.wp_price.specs.Slacks.{comes_before}
 use Rattle.wp_price.proofs.Bests.{no_worse_on}
-use Rattle.wp_price.proofs.Extensions.{known_beaten, past_no_child, past_same, with_or_after}
+use Rattle.wp_price.proofs.Extensions.{known_beaten}
 use Rattle.wp_price.proofs.Lists.{never_before_itself}
 
 -- what is no better than the old best is no better than one that is no worse
@@ -21,7 +28,7 @@ beaten_on task None best batch no_worse beaten = absurd beaten
 beaten_on task (Some old) best batch no_worse beaten = λ raised is. no_worse_on best old _ no_worse (beaten raised is)
 
 -- the old best is itself
-found_self : (task : Task) (place : List ℕ) (old : Option LeastBatch) → IfSome old (λ (b : LeastBatch). (old ≡ Some b) ⊎ IsFound task place b)
+found_self : (task : Task) (place : List ℕ) (old : Option LeastBatch) → IfSome old (λ (b : LeastBatch). (old ≡ Some b) ⊎ IsLeastFound task place b)
 found_self task place None = search rules
 found_self task place (Some best) = inl refl
 
@@ -37,46 +44,14 @@ pass_item task place order best closed adds_none = record {
 same_best : (one other : LeastBatch) → Some one ≡ Some other → one ≡ other
 same_best one other e = cc e
 
--- the better of the best and a child is the old best, or has all orders of the place
-found_better : (task : Task) (place union : List ℕ) (order raised : ℕ) (old best : Option LeastBatch) (next : LeastBatch) → AddsItem task.pairing place order union
-    → IsPermitted task.pairing union → IsRaised task union raised → IfSome best (λ (b : LeastBatch). (old ≡ Some b) ⊎ IsFound task place b)
-    → IsBetterOf best (record { batch = union; raised = raised }) next → (old ≡ Some next) ⊎ IsFound task place next
-found_better task place union order raised old best next adds permitted is found better = ⊎_elim
-    (λ e. inr (subst (IsFound task place) (sym e) (record { permitted = permitted; holds = λ x has. (adds.orders x).1 (inl has); is = is })))
-    (λ (e : best ≡ Some next). subst (λ (b : Option LeastBatch). IfSome b (λ (b : LeastBatch). (old ≡ Some b) ⊎ IsFound task place b)) e found)
-    better.either
-
--- the best after a child's search is the old best, or has all orders of the place
-found_below : (task : Task) (place union : List ℕ) (order : ℕ) (old : Option LeastBatch) (next : LeastBatch) (result : Option LeastBatch)
-    → AddsItem task.pairing place order union → (old ≡ Some next) ⊎ IsFound task place next
-    → IfSome result (λ (b : LeastBatch). (Some next ≡ Some b) ⊎ IsFound task union b) → IfSome result (λ (b : LeastBatch). (old ≡ Some b) ⊎ IsFound task place b)
-found_below task place union order old next None adds before after = search rules
-found_below task place union order old next (Some b) adds before after = ⊎_elim
-    (λ (e : Some next ≡ Some b). subst (λ (b : LeastBatch). (old ≡ Some b) ⊎ IsFound task place b) (same_best next b e) before)
-    (λ (f : IsFound task union b). inr (record { permitted = f.permitted; holds = λ x has. f.holds x ((adds.orders x).1 (inl has)); is = f.is }))
-    after
-
--- a child was compared with the best, and what extends it was searched
-pub enter_item : (task : Task) (place union : List ℕ) (order raised : ℕ) (old : Option LeastBatch) (next : LeastBatch) (result : Option LeastBatch)
-    → AddsItem task.pairing place order union → IsPermitted task.pairing union → IsRaised task union raised
-    → IsBetterOf old (record { batch = union; raised = raised }) next → IsSearched task union (order + 1) (Some next) result
-    → AreItemsSearched task place (λ (item : ℕ). item ≡ order) old result
-enter_item task place union order raised old next result adds permitted is better below = record {
-  found = found_below task place union order old next result adds
-      (found_better task place union order raised old old next adds permitted is (found_self task place old) better) below.found;
-  kept = λ batch beaten. below.kept batch (beaten_on task old next batch better.best_no_better beaten);
-  past = λ item e. subst (IsItemPast task place result) (sym e) (λ batch extends.
-      ⊎_elim (λ (u : Extends task.pairing union (order + 1) batch). inr (below.covered batch u)) (λ past. inl past)
-      (with_or_after task.pairing place union batch order adds extends));
-}
-
 -- what was found after more items is the old best, or has all orders of the place
-found_on : (task : Task) (place : List ℕ) (old best next : Option LeastBatch) → IfSome best (λ (b : LeastBatch). (old ≡ Some b) ⊎ IsFound task place b)
-    → IfSome next (λ (b : LeastBatch). (best ≡ Some b) ⊎ IsFound task place b) → IfSome next (λ (b : LeastBatch). (old ≡ Some b) ⊎ IsFound task place b)
+found_on : (task : Task) (place : List ℕ) (old best next : Option LeastBatch) → IfSome best (λ (b : LeastBatch). (old ≡ Some b) ⊎ IsLeastFound task place b)
+    → IfSome next (λ (b : LeastBatch). (best ≡ Some b) ⊎ IsLeastFound task place b)
+    → IfSome next (λ (b : LeastBatch). (old ≡ Some b) ⊎ IsLeastFound task place b)
 found_on task place old best None before after = search rules
 found_on task place old best (Some next) before after = ⊎_elim
-    (λ (e : best ≡ Some next). subst (λ (o : Option LeastBatch). IfSome o (λ (b : LeastBatch). (old ≡ Some b) ⊎ IsFound task place b)) e before)
-    (λ (f : IsFound task place next). inr f) after
+    (λ (e : best ≡ Some next). subst (λ (o : Option LeastBatch). IfSome o (λ (b : LeastBatch). (old ≡ Some b) ⊎ IsLeastFound task place b)) e before)
+    (λ (f : IsLeastFound task place next). inr f) after
 
 -- after some items one more was searched
 pub then_item : (task : Task) (place : List ℕ) (before after : ℕ → Type 0) (order : ℕ) (old best next : Option LeastBatch)
@@ -126,15 +101,99 @@ covered_all task place from order old best closed begun past known kept items ba
     (λ beaten. beaten)
     (past_items task place from (order - from) best (λ item low high. items item low (omega (arith, high, begun))) batch extends)
 
--- where all items from an order on were searched, all that extends the place was
-pub end_search : (task : Task) (place : List ℕ) (from order : ℕ) (old best : Option LeastBatch) → IsPlace task.pairing place → from ≤ order
-    → task.pairing.orders ≤ order → (IsPermitted task.pairing place → IsBeaten task old place)
-    → AreItemsSearched task place (λ (item : ℕ). (from ≤ item) × (item < order)) old best → IsSearched task place from old best
-end_search task place from order old best closed begun past known has = record {
-  found = has.found;
-  kept = has.kept;
-  covered = covered_all task place from order old best closed begun past known has.kept (λ item low high. has.past item (low, high));
+-- what has all orders of a place with one more item has all of the place
+found_under : (task : Task) (place union : List ℕ) (order : ℕ) (old best : Option LeastBatch) → AddsItem task.pairing place order union
+    → IfSome best (λ (b : LeastBatch). (old ≡ Some b) ⊎ IsLeastFound task union b)
+    → IfSome best (λ (b : LeastBatch). (old ≡ Some b) ⊎ IsLeastFound task place b)
+found_under task place union order old None adds found = search rules
+found_under task place union order old (Some b) adds found = ⊎_elim (λ (e : old ≡ Some b). inl e)
+    (λ (f : IsLeastFound task union b). inr (record { permitted = f.permitted; holds = λ x has. f.holds x ((adds.orders x).1 (inl has)); is = f.is })) found
+
+-- what extends a child was searched, and the child itself
+pub child_item : (task : Task) (place union : List ℕ) (order : ℕ) (old best : Option LeastBatch) → AddsItem task.pairing place order union
+    → IsSearched task union (order + 1) old best → AreItemsSearched task place (λ (item : ℕ). item ≡ order) old best
+child_item task place union order old best adds searched = record {
+  found = found_under task place union order old best adds searched.found;
+  kept = searched.kept;
+  past = λ item e. subst (IsItemPast task place best) (sym e) (λ batch extends.
+      ⊎_elim (λ (u : Extends task.pairing union (order + 1) batch). inr (searched.covered batch u)) (λ past. inl past)
+      (with_or_after task.pairing place union batch order adds extends));
 }
+
+-- the better of the old best and a place is the old best, or the place
+found_entered : (task : Task) (place : List ℕ) (raised : ℕ) (old : Option LeastBatch) (next : LeastBatch) → IsPermitted task.pairing place
+    → IsRaised task place raised → IsBetterOf old (record { batch = place; raised = raised }) next → (old ≡ Some next) ⊎ IsLeastFound task place next
+found_entered task place raised old next permitted is better = ⊎_elim
+    (λ e. inr (subst (IsLeastFound task place) (sym e) (record { permitted = permitted; holds = λ x has. has; is = is })))
+    (λ (e : old ≡ Some next). inl e) better.either
+
+found_then : (task : Task) (place : List ℕ) (old : Option LeastBatch) (next : LeastBatch) (best : Option LeastBatch)
+    → (old ≡ Some next) ⊎ IsLeastFound task place next → IfSome best (λ (b : LeastBatch). (Some next ≡ Some b) ⊎ IsLeastFound task place b)
+    → IfSome best (λ (b : LeastBatch). (old ≡ Some b) ⊎ IsLeastFound task place b)
+found_then task place old next None before after = search rules
+found_then task place old next (Some b) before after = ⊎_elim
+    (λ (e : Some next ≡ Some b). subst (λ (b : LeastBatch). (old ≡ Some b) ⊎ IsLeastFound task place b) (same_best next b e) before)
+    (λ (f : IsLeastFound task place b). inr f) after
+
+-- a place was entered, and what extends it was searched from there
+after_entering : {E : Type 0} (task : Task) (place : List ℕ) (from : ℕ) (answer : Result Step E) (old new best : Option LeastBatch)
+    → IsPermitted task.pairing place → EntersBest task old place from answer new → IsSearched task place from new best → IsSearched task place from old best
+after_entering task place from answer old new best permitted entered below =
+    let then = subst (λ (o : Option LeastBatch). IsSearched task place from o best) entered.is below in record {
+      found = found_then task place old entered.next best
+          (found_entered task place entered.raised old entered.next permitted entered.slack entered.better) then.found;
+      kept = λ batch beaten. then.kept batch (beaten_on task old entered.next batch entered.better.best_no_better beaten);
+      covered = then.covered;
+    }
+
+-- a place that was entered is no better than the best
+entered_beaten : {E : Type 0} (task : Task) (place : List ℕ) (from : ℕ) (answer : Result Step E) (old new : Option LeastBatch)
+    → EntersBest task old place from answer new → IsBeaten task new place
+entered_beaten task place from answer old new entered = subst (λ (o : Option LeastBatch). IsBeaten task o place) (sym entered.is)
+    (known_beaten task entered.next place entered.raised entered.slack entered.better.next_no_better)
+
+-- how the best so far enters a place
+abbrev pub entering_best : {E : Type 0} → Task → Entering BestSoFar E
+entering_best task old place from answer new = EntersBest task old.best place from answer new.best
+
+-- what the course of the best so far says of a place, or of its children where the place is no better than the best already
+abbrev pub SaysBest : Task → Due → Option LeastBatch → Option LeastBatch → Type 0
+SaysBest task (Place place from) old best = IsPlace task.pairing place → IsPermitted task.pairing place → IsSearched task place from old best
+SaysBest task (Children place from) old best = IsPlace task.pairing place → (IsPermitted task.pairing place → IsBeaten task old place)
+    → IsSearched task place from old best
+
+pub best_says : {E : Type 0} (task : Task) (due : Due) (old new : BestSoFar) (end : Result ⊤ E)
+    → HasVisited task.pairing (entering_best {E = E} task) due old end new → end ≡ Ok tt → SaysBest task due old.best new.best
+best_says task _ old new _ (course.failed entered) e = absurd (cc e)
+best_says {E = E} task _ old new _ (course.past {place} {from} entered) e = λ closed permitted.
+    after_entering {E = E} task place from (Ok step.Past) old.best new.best new.best permitted entered
+    (subst (λ (o : Option LeastBatch). IsSearched task place from o o) (sym entered.is) (closed_search task place from entered.next (entered.past refl)))
+best_says {E = E} task _ old new end (course.deeper {place} {from} {between} entered below) e = λ closed permitted.
+    after_entering {E = E} task place from (Ok step.Deeper) old.best between.best new.best permitted entered
+    (best_says task (Children place from) between new end below e closed
+    (λ _. entered_beaten {E = E} task place from (Ok step.Deeper) old.best between.best entered))
+best_says task _ old _ _ (course.all_added {place} {from} over) e = λ closed known. record {
+  found = found_self task place old.best;
+  kept = λ batch beaten. beaten;
+  covered = λ batch extends. let same = past_same task.pairing place batch from closed over extends in
+      subst (IsBeaten task old.best) (sym same) (known (subst (IsPermitted task.pairing) same extends.permitted));
+}
+best_says task _ old new end (course.no_child {place} {from} none rest) e = λ closed known.
+    let after = best_says task (Children place (from + 1)) old new end rest e closed known in record {
+      found = after.found;
+      kept = after.kept;
+      covered = λ batch extends. after.covered batch (past_no_child task.pairing place batch from closed none extends);
+    }
+best_says task _ old new _ (course.broken_off item adds permitted first) e = absurd (cc e)
+best_says task _ old new end (course.onward {place} {batch = union} {from} {between} item adds permitted first rest) e = λ closed known.
+    let begun = best_says task (Place union (from + 1)) old between (Ok tt) first refl (permitted_place task.pairing union permitted) permitted in
+    let after = best_says task (Children place (from + 1)) between new end rest e closed (λ p. begun.kept place (known p)) in record {
+      found = found_on task place old.best between.best new.best (found_under task place union from old.best between.best adds begun.found) after.found;
+      kept = λ batch beaten. after.kept batch (begun.kept batch beaten);
+      covered = λ batch extends. ⊎_elim (λ (u : Extends task.pairing union (from + 1) batch). after.kept batch (begun.covered batch u))
+          (λ (past : Extends task.pairing place (from + 1) batch). after.covered batch past)
+          (with_or_after task.pairing place union batch from adds extends);
+    }
 
 -- what is no better than the old best is no better than one that the old best isn't better than
 beaten_by : (task : Task) (old best : Option LeastBatch) (batch : List ℕ) → IfSome old (λ (one : LeastBatch). IsNoBetter one best) → IsBeaten task old batch
@@ -146,11 +205,12 @@ beaten_by task (Some old) (Some best) batch no_better beaten = beaten_on task (S
 -- the best of what workers found is the old one or one of theirs
 found_among : (task : Task) (place : List ℕ) (shares : List (List ℕ)) (old : Option LeastBatch) (found : List (Option LeastBatch)) (best : Option LeastBatch)
     → length found ≡ length shares → AreSharesSearched task place shares old found → IsBestAmong old found (length found) best
-    → IfSome best (λ (b : LeastBatch). (old ≡ Some b) ⊎ IsFound task place b)
+    → IfSome best (λ (b : LeastBatch). (old ≡ Some b) ⊎ IsLeastFound task place b)
 found_among task place shares old found best count searched is = ⊎_elim
-    (λ (e : best ≡ old). subst (λ (o : Option LeastBatch). IfSome o (λ (b : LeastBatch). (old ≡ Some b) ⊎ IsFound task place b)) (sym e) (found_self task place old))
+    (λ (e : best ≡ old). subst (λ (o : Option LeastBatch). IfSome o (λ (b : LeastBatch). (old ≡ Some b) ⊎ IsLeastFound task place b)) (sym e)
+    (found_self task place old))
     (λ (one : (at : ℕ) × (at < length found) × (slice_index_or found at best ≡ best)).
-    subst (λ (o : Option LeastBatch). IfSome o (λ (b : LeastBatch). (old ≡ Some b) ⊎ IsFound task place b)) one.2
+    subst (λ (o : Option LeastBatch). IfSome o (λ (b : LeastBatch). (old ≡ Some b) ⊎ IsLeastFound task place b)) one.2
     (searched one.0 best (omega (arith, one.1, count))).found) is.either
 
 -- an item that a worker searched is past, and so is an order that names no first item
@@ -164,7 +224,8 @@ past_shares task place shares old found best closed all count searched is item k
     (λ none. inl (past_no_child task.pairing place batch item closed none extends)) (all item known)
 
 -- where workers searched all first items, the best of what they found is that of all that extends the place
-pub put_together : (task : Task) (place : List ℕ) (shares : List (List ℕ)) (old : Option LeastBatch) (found : List (Option LeastBatch)) (best : Option LeastBatch)
+pub put_together : (task : Task) (place : List ℕ) (shares : List (List ℕ)) (old : Option LeastBatch) (found : List (Option LeastBatch))
+    (best : Option LeastBatch)
     → IsPlace task.pairing place → (IsPermitted task.pairing place → IsBeaten task old place) → AreSharesOf task place shares
     → length found ≡ length shares → AreSharesSearched task place shares old found → IsBestAmong old found (length found) best
     → IsSearched task place 0 old best
@@ -186,9 +247,9 @@ alone_beaten task best place e is = known_beaten task best place best.raised is 
 -- what the search of a class found has the order of the class
 pub found_candidate : (task : Task) (place : List ℕ) (order : ℕ) (alone best : LeastBatch) → alone.batch ≡ place
     → ((other : ℕ) → Contains place other ↔ AreJoined task.pairing.pairs order other) → IsPermitted task.pairing place
-    → (Some alone ≡ Some best) ⊎ IsFound task place best → IsPermitted task.pairing best.batch × Contains best.batch order
+    → (Some alone ≡ Some best) ⊎ IsLeastFound task place best → IsPermitted task.pairing best.batch × Contains best.batch order
 found_candidate task place order alone best e is permitted found = ⊎_elim
     (λ (same : Some alone ≡ Some best).
     let there : place ≡ best.batch = sym e ∙ ap (λ (b : LeastBatch). b.batch) (same_best alone best same) in
     subst (λ (xs : List ℕ). IsPermitted task.pairing xs × Contains xs order) there (permitted, (is order).1 itself))
-    (λ (f : IsFound task place best). (f.permitted, f.holds order ((is order).1 itself))) found
+    (λ (f : IsLeastFound task place best). (f.permitted, f.holds order ((is order).1 itself))) found

@@ -3,7 +3,8 @@ use Rattle.std.specs.Prelude.{◌≡◌, ℕ, ◌<◌, ◌≤◌, ◌⊎◌, fal
 use Rattle.wp_price.specs.declared.best.LeastBatch.{LeastBatch}
 use Rattle.wp_price.specs.Slacks.{comes_before}
 
--- one batch is no worse than another: it has no more slack, and where both have the same the other doesn't come before it
+-- one batch is no worse than another: it has no more slack, and where both have the same the other doesn't come before
+-- it
 pub record IsNoWorse (one other : LeastBatch) : Type 0 where
   pub low : one.raised ≤ other.raised
   pub first : one.raised ≡ other.raised → comes_before other.batch one.batch ≡ false
@@ -20,7 +21,9 @@ IsNoBetter one None = ⊥
 IsNoBetter one (Some best) = IsNoWorse best one
 
 -- the best of a first one and of the others below an end: it is one of them, and none of them is better
-pub record IsBestAmong (first : Option LeastBatch) (others : List (Option LeastBatch)) (end : ℕ) (best : Option LeastBatch) : Type 0 where
+pub record IsBestAmong (first : Option LeastBatch) (others : List (Option LeastBatch)) (end : ℕ)
+    (best : Option LeastBatch) : Type 0 where
   pub either : (best ≡ first) ⊎ ((at : ℕ) × (at < end) × (slice_index_or others at best ≡ best))
   pub first_no_better : IfSome first (λ (one : LeastBatch). IsNoBetter one best)
-  pub no_better : (at : ℕ) (d : Option LeastBatch) → at < end → IfSome (slice_index_or others at d) (λ (one : LeastBatch). IsNoBetter one best)
+  pub no_better : (at : ℕ) (d : Option LeastBatch) → at < end
+      → IfSome (slice_index_or others at d) (λ (one : LeastBatch). IsNoBetter one best)

@@ -1,6 +1,5 @@
 pub mod Slacks
 pub mod ShortMarks
-pub mod Items
 pub mod Bests
 pub mod Shares
 pub mod Searches

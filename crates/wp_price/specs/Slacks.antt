@@ -1,5 +1,6 @@
 -- The slack of a batch, and the batch of least slack among those that are permitted.
-use Rattle.std.specs.Prelude.{◌≡◌, ℕ, Bool, true, false, List, [], ◌∷◌, Option, Some, None, Contains, if◌then◌else◌, nat_lt, ℤ, pos, ◌+ℤ◌, ◌≤ℤ◌}
+use Rattle.std.specs.Prelude.{◌≡◌, ℕ, Bool, true, false, List, [], ◌∷◌, Option, Some, None, Contains, if◌then◌else◌}
+use Rattle.std.specs.Prelude.{nat_lt, ℤ, pos, ◌+ℤ◌, ◌≤ℤ◌}
 use Rattle.wp_pairs.specs.Permitted.{IsPermitted, Pairing}
 use Rattle.wp_lengths.specs.Lengths.{IsLengthOf}
 use Rattle.wp_lengths.specs.Waves.{WavePicks}
@@ -11,7 +12,8 @@ pub record IsSlack (wave : WavePicks) (duals batch : List ℕ) (slack : ℤ) : T
   pub long : IsLengthOf wave batch total
   pub is : slack +ℤ pos (duals_of duals batch) ≡ pos (sixtieths_of total)
 
--- a list of orders comes before another: it has a lower order at the first place where they differ, or it is a beginning of it
+-- a list of orders comes before another: it has a lower order at the first place where they differ, or it is a
+-- beginning of it
 abbrev pub comes_before : List ℕ → List ℕ → Bool
 comes_before [] [] = false
 comes_before [] (order ∷ orders) = true
@@ -25,11 +27,14 @@ IsCandidate pairing None batch = IsPermitted pairing batch
 IsCandidate pairing (Some order) batch = IsPermitted pairing batch × Contains batch order
 
 -- a candidate has this slack, no candidate has less, and none with the same slack comes before it
-pub record IsLeastSlack (wave : WavePicks) (pairing : Pairing) (duals : List ℕ) (through : Option ℕ) (batch : List ℕ) (slack : ℤ) : Type 0 where
+pub record IsLeastSlack (wave : WavePicks) (pairing : Pairing) (duals : List ℕ) (through : Option ℕ) (batch : List ℕ)
+    (slack : ℤ) : Type 0 where
   pub candidate : IsCandidate pairing through batch
   pub is : IsSlack wave duals batch slack
-  pub least : (other : List ℕ) (more : ℤ) → IsCandidate pairing through other → IsSlack wave duals other more → slack ≤ℤ more
-  pub first : (other : List ℕ) → IsCandidate pairing through other → IsSlack wave duals other slack → comes_before other batch ≡ false
+  pub least : (other : List ℕ) (more : ℤ) → IsCandidate pairing through other → IsSlack wave duals other more
+      → slack ≤ℤ more
+  pub first : (other : List ℕ) → IsCandidate pairing through other → IsSlack wave duals other slack
+      → comes_before other batch ≡ false
 
 -- there is no candidate
 abbrev pub HasNoCandidate : Pairing → Option ℕ → Type 0

@@ -1,99 +1,81 @@
-ghost use Rattle.std.specs.Prelude.{◌≡◌, ◌+◌, ◌<◌, ◌≤◌, ◌↔◌, List, ℕ, Contains, IfNone, IfOk, IfSome, Some, false};
+ghost use Rattle.std.specs.Prelude.{◌≡◌, ◌<◌, ◌≤◌, ◌↔◌, List, ℕ, Contains, IfNone, IfOk, IfSome, Option, Some, false};
 ghost use Rattle.wp_pairs.specs.Permitted.{AreJoined, IsPermitted};
 ghost use Rattle.wp_lengths.proofs.Visits.{Extends};
+ghost use Rattle.wp_visit.specs.Places.{IsAt};
 ghost use Rattle.wp_price.specs.Bests.{IsNoWorse};
-ghost use Rattle.wp_price.specs.Searches.{AreItemsSearched, IsAt, IsBeaten, IsRaised, IsSearched};
+ghost use Rattle.wp_price.specs.Searches.{HasDuals, IsBeaten, IsRaised};
 ghost use Rattle.wp_price.specs.Slacks.{HasNoCandidate, IsCandidate};
 
 use crate::best::{LeastBatch, better_of};
-use crate::place::Place;
 use crate::search::SlackSearch;
 use crate::workers::Workers;
+use std::convert::Infallible;
 use std::thread::Threads;
 use wp_lengths::{GREATEST_DUAL, SIXTIETHS};
 use wp_model::Memory;
 use wp_outside::Gate;
+use wp_visit::{Place, Step, Visit, Visitor};
 
 /// By how much slacks are raised: eight times the greatest dual.
 pub const RAISE: u64 = 8 * GREATEST_DUAL;
 
+/// The slack of a place, raised.
+pub fn raised_of(visit: &Visit<'_>, place: &Place) -> u64
+    requires at { IsAt visit.now place.now }
+    requires duals { HasDuals visit.now }
+    ensures { IsRaised visit.now place.now.batch result }
+{
+    let _room = visit.room_at(place);
+    SIXTIETHS * visit.length_of(place) + RAISE - place.sum
+}
+
+// Whether a batch that extends a place may be better than the best.
+fn can_better(visit: &Visit<'_>, place: &Place, raised: u64, best: &LeastBatch) -> bool
+    requires place { IsAt visit.now place.now }
+    requires raised { IsRaised visit.now place.now.batch raised }
+    requires best { IsNoWorse best.now (record { batch = place.now.batch; raised = raised }) }
+    ensures { result ≡ false → (batch : List ℕ)
+        → Extends visit.now.pairing place.now.batch place.now.from batch
+        → IsBeaten visit.now (Some best.now) batch }
+{
+    visit.room_at(place) > 0 && raised - best.raised <= visit.reach_of(place)
+}
+
+/// The visitor that keeps the best batch so far, and goes deeper only where one that extends a place may be better.
+#[derive(Drop)]
+pub struct BestSoFar {
+    pub best: Option<LeastBatch>,
+}
+
+impl Visitor for BestSoFar {
+    type Fault = Infallible;
+
+    ghost use Rattle.wp_price.specs.Searches.{HasDuals, EntersBest};
+
+    ghost fits = { λ visitor task. HasDuals task };
+
+    ghost enters = { λ task old place from answer new. EntersBest task old.best place from answer new.best };
+
+    fn enter(&mut self, visit: &Visit<'_>, place: &Place) -> Result<Step, Infallible> {
+        let raised = raised_of(visit, place);
+        let batch = place.batch;
+        let next = better_of(self.best, LeastBatch { batch, raised });
+        self.best = Some(next);
+        if can_better(visit, place, raised, &next) {
+            Ok(Step::Deeper)
+        } else {
+            Ok(Step::Past)
+        }
+    }
+}
+
 impl SlackSearch<'_> {
-    // The slack of a place, raised.
-    fn raised_of(&self, place: &Place) -> u64
-        requires { IsAt self.now place.now }
-        ensures { IsRaised self.now place.now.batch result }
-    {
-        let _room = self.room_at(place);
-        SIXTIETHS * self.length_of(place) + RAISE - place.sum
-    }
-
-    // A place as the best, with its slack, raised.
-    fn best_at(&self, place: &Place) -> LeastBatch
-        requires { IsAt self.now place.now }
-        ensures batch { result.batch ≡ place.now.batch }
-        ensures is { IsRaised self.now place.now.batch result.raised }
-    {
-        LeastBatch {
-            batch: place.batch,
-            raised: self.raised_of(place),
-        }
-    }
-
-    // Whether a batch that extends a place, with items after this order, may be better than the best.
-    fn can_better(&self, order: u32, place: &Place, raised: u64, best: &LeastBatch) -> bool
-        requires known { order < self.now.pairing.orders }
-        requires place { IsAt self.now place.now }
-        requires raised { IsRaised self.now place.now.batch raised }
-        requires best { IsNoWorse best.now (record { batch = place.now.batch; raised = raised }) }
-        ensures { result ≡ false → (batch : List ℕ) → Extends self.now.pairing place.now.batch (order + 1) batch → IsBeaten self.now (Some best.now) batch }
-    {
-        self.room_at(place) > 0 && raised - best.raised <= self.reach_after(order, place)
-    }
-
-    /// The best of the best batch so far and all batches that extend a place with the item that an order names, and with items of
-    /// later orders.
-    #[cycle(search)]
-    pub fn search_item(
-        &self,
-        place: &Place,
-        order: u32,
-        best: Option<LeastBatch>,
-    ) -> Option<LeastBatch>
-        requires known { order < self.now.pairing.orders }
-        requires place { IsAt self.now place.now }
-        ensures { AreItemsSearched self.now place.now.batch (λ item. item ≡ order) best result }
-    {
-        let Some(child) = self.child_of(place, order) else {
-            return best;
-        };
-        let raised = self.raised_of(&child);
-        let batch = child.batch;
-        let next = better_of(best, LeastBatch { batch, raised });
-        if self.can_better(order, &child, raised, &next) {
-            return self.search(&child, order + 1, Some(next));
-        }
-        Some(next)
-    }
-
-    // The best of the best batch so far and all batches that extend a place, with items from an order on.
-    #[cycle(search)]
-    fn search(&self, place: &Place, from: u32, best: Option<LeastBatch>) -> Option<LeastBatch>
-        requires place { IsAt self.now place.now }
-        requires known { IsPermitted self.now.pairing place.now.batch → IsBeaten self.now best place.now.batch }
-        ensures { IsSearched self.now place.now.batch from best result }
-    {
-        let mut found = best;
-        for order in from..self.orders() {
-            found = self.search_item(place, order, found);
-        }
-        found
-    }
-
     // The place of the orders that are joined to an order. None comes exactly where they aren't a permitted batch.
     fn place_through(&self, order: u32) -> Option<Place>
         requires { order < self.now.pairing.orders }
         ensures at { IfSome result (IsAt self.now) }
-        ensures class { IfSome result (λ place. (other : ℕ) → Contains place.batch other ↔ AreJoined self.now.pairing.pairs order other) }
+        ensures class { IfSome result (λ place. (other : ℕ) → Contains place.batch other
+            ↔ AreJoined self.now.pairing.pairs order other) }
         ensures permitted { IfSome result (λ place. IsPermitted self.now.pairing place.batch) }
         ensures none { IfNone result (HasNoCandidate self.now.pairing (Some order)) }
     {
@@ -108,9 +90,12 @@ impl SlackSearch<'_> {
         through: Option<u32>,
     ) -> Result<Option<LeastBatch>, Memory>
         requires { IfSome through (λ order. order < self.now.pairing.orders) }
-        ensures candidate { IfOk result (λ found. IfSome found (λ best. IsCandidate self.now.pairing through best.batch)) }
-        ensures is { IfOk result (λ found. IfSome found (λ best. IsRaised self.now best.batch best.raised)) }
-        ensures all { IfOk result (λ found. (batch : List ℕ) → IsCandidate self.now.pairing through batch → IsBeaten self.now found batch) }
+        ensures candidate { IfOk result (λ found. IfSome found
+            (λ best. IsCandidate self.now.pairing through best.batch)) }
+        ensures is { IfOk result (λ found. IfSome found
+            (λ best. IsRaised self.now best.batch best.raised)) }
+        ensures all { IfOk result (λ found. (batch : List ℕ)
+            → IsCandidate self.now.pairing through batch → IsBeaten self.now found batch) }
     {
         match through {
             None => self.best_of_all(workers),
@@ -123,9 +108,12 @@ impl SlackSearch<'_> {
         &self,
         workers: &Workers<'_, R, G>,
     ) -> Result<Option<LeastBatch>, Memory>
-        ensures candidate { IfOk result (λ found. IfSome found (λ best. IsPermitted self.now.pairing best.batch)) }
-        ensures is { IfOk result (λ found. IfSome found (λ best. IsRaised self.now best.batch best.raised)) }
-        ensures all { IfOk result (λ found. (batch : List ℕ) → IsPermitted self.now.pairing batch → IsBeaten self.now found batch) }
+        ensures candidate { IfOk result (λ found. IfSome found
+            (λ best. IsPermitted self.now.pairing best.batch)) }
+        ensures is { IfOk result (λ found. IfSome found
+            (λ best. IsRaised self.now best.batch best.raised)) }
+        ensures all { IfOk result (λ found. (batch : List ℕ) → IsPermitted self.now.pairing batch
+            → IsBeaten self.now found batch) }
     {
         self.search_below(workers, &self.root(), None)
     }
@@ -137,9 +125,12 @@ impl SlackSearch<'_> {
         order: u32,
     ) -> Result<Option<LeastBatch>, Memory>
         requires { order < self.now.pairing.orders }
-        ensures candidate { IfOk result (λ found. IfSome found (λ best. IsCandidate self.now.pairing (Some order) best.batch)) }
-        ensures is { IfOk result (λ found. IfSome found (λ best. IsRaised self.now best.batch best.raised)) }
-        ensures all { IfOk result (λ found. (batch : List ℕ) → IsCandidate self.now.pairing (Some order) batch → IsBeaten self.now found batch) }
+        ensures candidate { IfOk result (λ found. IfSome found
+            (λ best. IsCandidate self.now.pairing (Some order) best.batch)) }
+        ensures is { IfOk result (λ found. IfSome found
+            (λ best. IsRaised self.now best.batch best.raised)) }
+        ensures all { IfOk result (λ found. (batch : List ℕ)
+            → IsCandidate self.now.pairing (Some order) batch → IsBeaten self.now found batch) }
     {
         let Some(place) = self.place_through(order) else {
             return Ok(None);

@@ -2,10 +2,8 @@
 #![tactic(auto)]
 
 mod best;
-mod item;
 mod least;
 mod marking;
-mod place;
 mod priced;
 mod pricing;
 mod search;

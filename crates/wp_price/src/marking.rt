@@ -1,7 +1,10 @@
 //! Short marks, found by workers that run beside each other.
-ghost use Rattle.std.specs.Prelude.{◌≡◌, ◌<◌, ◌≤◌, ◌++◌, ℕ, [], Contains, IfNone, IfOk, IfSome, OnOk, length, slice_index_or};
-ghost use Rattle.wp_price.specs.ItemMarks.{AddsAllItems, AddsItemMarks, AreItemMarks, AreMarksAt, AreMarksFound, AreNoMarksFound, AreShareMarks};
-ghost use Rattle.wp_price.specs.Searches.{AreSharesOf, IsNoChild};
+ghost use Rattle.std.specs.Prelude.{◌≡◌, ◌<◌, ◌≤◌, ◌++◌, ℕ, [], Contains, IfNone, IfOk, IfSome, OnOk, length};
+ghost use Rattle.std.specs.Prelude.{slice_index_or};
+ghost use Rattle.wp_price.specs.ItemMarks.{AddsAllItems, AddsItemMarks, AreItemMarks, AreMarksAt, AreMarksFound};
+ghost use Rattle.wp_price.specs.ItemMarks.{AreNoMarksFound, AreShareMarks};
+ghost use Rattle.wp_visit.specs.Places.{IsNoChild};
+ghost use Rattle.wp_price.specs.Searches.{AreSharesOf};
 ghost use Rattle.wp_price.specs.ShortMarks.{AreShortMarks};
 
 use crate::search::SlackSearch;
@@ -15,8 +18,8 @@ use wp_model::Memory;
 use wp_outside::Gate;
 use wp_pairs::Batch;
 
-/// For each order of a wave the short marks of the subtree of the first item that it names; none where it names none, or where it is
-/// of another worker's share.
+/// For each order of a wave the short marks of the subtree of the first item that it names; none where it names none,
+/// or where it is of another worker's share.
 #[derive(Drop)]
 pub struct ShareMarks {
     of_order: Vec<Option<Marks>>,
@@ -50,9 +53,7 @@ impl SlackSearch<'_> {
         let Some(child) = self.child_of(&self.root(), order) else {
             return Ok(None);
         };
-        let reach = self.reach_after(order, &child);
-        let mut marks = Marks::new(alloc);
-        self.push_marks(&child, order + 1, reach, &mut marks)?;
+        let marks = self.push_marks(&child, Marks::new(alloc))?;
         Ok(Some(marks))
     }
 
@@ -60,7 +61,8 @@ impl SlackSearch<'_> {
     fn marks_within(&self, alloc: Global, share: Batch, order: u32) -> Result<Option<Marks>, Memory>
         requires { order < self.now.pairing.orders }
         ensures marks { IfOk result (λ found. IfSome found (AreItemMarks self.now order)) }
-        ensures none { IfOk result (λ found. Contains share order → IfNone found (IsNoChild self.now.pairing [] order)) }
+        ensures none { IfOk result (λ found. Contains share order
+            → IfNone found (IsNoChild self.now.pairing [] order)) }
     {
         if share.has(order) {
             self.item_marks(alloc, order)
@@ -97,7 +99,8 @@ impl SlackSearch<'_> {
             shares.len(),
             &|worker: usize| -> Result<ShareMarks, Memory>
                 requires { worker < length shares.now }
-                ensures { IfOk result (AreShareMarks search.entry.now (slice_index_or shares.entry.now worker []) search.entry.now.pairing.orders) }
+                ensures { IfOk result (AreShareMarks search.entry.now
+                    (slice_index_or shares.entry.now worker []) search.entry.now.pairing.orders) }
             { search.share_marks(alloc, shares[worker]) },
         )?;
         Ok(found)
@@ -110,8 +113,10 @@ impl SlackSearch<'_> {
         order: u32,
         marks: &mut Marks,
     ) -> Result<(), Memory>
-        requires found { (worker : ℕ) (d : _) → worker < length found.now → AreMarksAt self.now order (slice_index_or found.now worker d) }
-        requires none { AreNoMarksFound found.now (length found.now) order → IsNoChild self.now.pairing [] order }
+        requires found { (worker : ℕ) (d : _) → worker < length found.now
+            → AreMarksAt self.now order (slice_index_or found.now worker d) }
+        requires none { AreNoMarksFound found.now (length found.now) order
+            → IsNoChild self.now.pairing [] order }
         ensures { OnOk result (AddsItemMarks self.now order marks.old marks.new) }
     {
         for worker in 0..found.len() {
@@ -158,8 +163,8 @@ impl SlackSearch<'_> {
         self.push_items(shares.as_slice(), found.as_slice(), marks)
     }
 
-    /// The short marks, found by workers: the mark of the place of no order, and where it is entered the marks of the subtrees of
-    /// its first items, in their order.
+    /// The short marks, found by workers: the mark of the place of no order, and where it is entered the marks of the
+    /// subtrees of its first items, in their order.
     pub fn all_marks<R: Threads + Sync, G: Gate>(
         &self,
         workers: &Workers<'_, R, G>,
@@ -167,8 +172,7 @@ impl SlackSearch<'_> {
         ensures { IfOk result (AreShortMarks self.now.wave self.now.pairing self.now.duals) }
     {
         let mut marks = Marks::new(workers.alloc);
-        let root = self.root();
-        if self.is_closed(&root, self.whole_reach()) {
+        if self.is_root_closed() {
             marks.push(false)?;
             return Ok(marks);
         }

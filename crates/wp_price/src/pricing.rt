@@ -1,4 +1,5 @@
-ghost use Rattle.std.specs.Prelude.{◌≡◌, ◌≤◌, ◌<◌, ◌↔◌, [], All, IfOk, IfSome, IfNone, IsSome, IsTrue, None, length, pos, ◌≤ℤ◌};
+ghost use Rattle.std.specs.Prelude.{◌≡◌, ◌≤◌, ◌<◌, ◌↔◌, [], All, IfOk, IfSome, IfNone, IsSome, IsTrue, None, length};
+ghost use Rattle.std.specs.Prelude.{pos, ◌≤ℤ◌};
 ghost use Rattle.wp_lengths.specs.Duals.{AreFeasible, greatest_dual};
 ghost use Rattle.wp_lengths.specs.Visits.{IsVisitOfAll, Passed};
 ghost use Rattle.wp_price.specs.ShortMarks.{AreShortMarks};
@@ -21,9 +22,11 @@ fn marks_of<R: Threads + Sync, G: Gate>(
     through: Option<u32>,
     slack: i64,
 ) -> Result<Option<Marks>, Memory>
-    requires { through ≡ None → pos 0 ≤ℤ slack → AreFeasible search.now.wave search.now.pairing search.now.duals }
+    requires { through ≡ None → pos 0 ≤ℤ slack
+        → AreFeasible search.now.wave search.now.pairing search.now.duals }
     ensures marked { IfOk result (λ marks. IsSome marks ↔ ((through ≡ None) × (pos 0 ≤ℤ slack))) }
-    ensures short { IfOk result (λ marks. IfSome marks (AreShortMarks search.now.wave search.now.pairing search.now.duals)) }
+    ensures short { IfOk result (λ marks. IfSome marks
+        (AreShortMarks search.now.wave search.now.pairing search.now.duals)) }
     ensures pass { IfOk result (λ marks. IfSome marks (λ marks.
         IsVisitOfAll search.now.wave search.now.pairing search.now.duals marks (Passed []))) }
 {
@@ -43,7 +46,8 @@ fn price<R: Threads + Sync, G: Gate>(
     ensures none { IfOk result (λ found. IfNone found (HasNoCandidate search.now.pairing through)) }
     ensures least { IfOk result (λ found. IfSome found (λ priced.
         IsLeastSlack search.now.wave search.now.pairing search.now.duals through priced.batch priced.slack)) }
-    ensures marked { IfOk result (λ found. IfSome found (λ priced. IsSome priced.marks ↔ ((through ≡ None) × (pos 0 ≤ℤ priced.slack)))) }
+    ensures marked { IfOk result (λ found. IfSome found
+        (λ priced. IsSome priced.marks ↔ ((through ≡ None) × (pos 0 ≤ℤ priced.slack)))) }
     ensures short { IfOk result (λ found. IfSome found (λ priced.
         IfSome priced.marks (AreShortMarks search.now.wave search.now.pairing search.now.duals))) }
     ensures pass { IfOk result (λ found. IfSome found (λ priced. IfSome priced.marks (λ marks.
@@ -62,25 +66,28 @@ fn price<R: Threads + Sync, G: Gate>(
     }))
 }
 
-/// The permitted batch of least slack, of those with an order where one is given: sixty times its length less the duals of
-/// its orders. Of batches with the same slack it is
-/// the one whose list of orders comes first. None comes exactly where there is no such batch. Where no order is given and
-/// the slack isn't below 0 the duals are feasible, and their short marks come with it.
+/// The permitted batch of least slack, of those with an order where one is given: sixty times its length less the duals
+/// of its orders. Of batches with the same slack it is
+/// the one whose list of orders comes first. None comes exactly where there is no such batch. Where no order is given
+/// and the slack isn't below 0 the duals are feasible, and their short marks come with it.
 ///
-/// Up to so many workers, 1 to 16, search the subtrees of the first items. No more take part than there are batches for; but where no
-/// order is given and there are two workers and two first items, at least two search beside each other. Where an order is given,
-/// one worker may search alone: to begin a thread for few batches takes longer than to search them. A worker passes the gate by its
-/// own number, 1 at first, before it searches the subtree of a first item. The answer doesn't depend on the workers.
+/// Up to so many workers, 1 to 16, search the subtrees of the first items. No more take part than there are batches
+/// for; but where no order is given and there are two workers and two first items, at least two search beside each
+/// other. Where an order is given, one worker may search alone: to begin a thread for few batches takes longer than to
+/// search them. A worker passes the gate by its own number, 1 at first, before it searches the subtree of a first item.
+/// The answer doesn't depend on the workers.
 pub fn least_slack_by<R: Threads + Sync, G: Gate>(
     workers: &Workers<'_, R, G>,
     given: &DualWave<'_>,
     through: Option<u32>,
 ) -> Result<Option<Priced>, Memory>
     requires { IfSome through (λ order. order < length given.now.wave.now.orders) }
-    ensures none { IfOk result (λ found. IfNone found (HasNoCandidate given.now.pairs.now through)) }
+    ensures none { IfOk result (λ found. IfNone found
+        (HasNoCandidate given.now.pairs.now through)) }
     ensures least { IfOk result (λ found. IfSome found (λ priced.
         IsLeastSlack given.now.wave.now given.now.pairs.now given.now.duals.now through priced.batch priced.slack)) }
-    ensures marked { IfOk result (λ found. IfSome found (λ priced. IsSome priced.marks ↔ ((through ≡ None) × (pos 0 ≤ℤ priced.slack)))) }
+    ensures marked { IfOk result (λ found. IfSome found
+        (λ priced. IsSome priced.marks ↔ ((through ≡ None) × (pos 0 ≤ℤ priced.slack)))) }
     ensures short { IfOk result (λ found. IfSome found (λ priced.
         IfSome priced.marks (AreShortMarks given.now.wave.now given.now.pairs.now given.now.duals.now))) }
     ensures pass { IfOk result (λ found. IfSome found (λ priced. IfSome priced.marks (λ marks.
@@ -95,7 +102,8 @@ pub fn are_feasible<R: Threads + Sync, G: Gate>(
     workers: &Workers<'_, R, G>,
     given: &DualWave<'_>,
 ) -> Result<bool, Memory>
-    ensures { IfOk result (λ feasible. IsTrue feasible ↔ AreFeasible given.now.wave.now given.now.pairs.now given.now.duals.now) }
+    ensures { IfOk result (λ feasible. IsTrue feasible
+        ↔ AreFeasible given.now.wave.now given.now.pairs.now given.now.duals.now) }
 {
     let search = SlackSearch::of(workers.alloc, given)?;
     match search.best(workers, None)? {
@@ -109,12 +117,14 @@ pub fn short_marks<R: Threads + Sync, G: Gate>(
     workers: &Workers<'_, R, G>,
     given: &DualWave<'_>,
 ) -> Result<Marks, Memory>
-    ensures short { IfOk result (AreShortMarks given.now.wave.now given.now.pairs.now given.now.duals.now) }
+    ensures short { IfOk result (AreShortMarks given.now.wave.now given.now.pairs.now
+        given.now.duals.now) }
 {
     SlackSearch::of(workers.alloc, given)?.all_marks(workers)
 }
 
-/// The same for a wave, pairs for its orders and its cart, and workers that are handed in one by one: up to so many workers, 1 to 16.
+/// The same for a wave, pairs for its orders and its cart, and workers that are handed in one by one: up to so many
+/// workers, 1 to 16.
 pub fn least_slack<R: Threads + Sync, G: Gate>(
     rt: &R,
     alloc: Global,
@@ -135,8 +145,10 @@ pub fn least_slack<R: Threads + Sync, G: Gate>(
     ensures none { IfOk result (λ found. IfNone found (HasNoCandidate pairs.now through)) }
     ensures least { IfOk result (λ found. IfSome found (λ priced.
         IsLeastSlack wave.now pairs.now duals.now.items through priced.batch priced.slack)) }
-    ensures marked { IfOk result (λ found. IfSome found (λ priced. IsSome priced.marks ↔ ((through ≡ None) × (pos 0 ≤ℤ priced.slack)))) }
-    ensures short { IfOk result (λ found. IfSome found (λ priced. IfSome priced.marks (AreShortMarks wave.now pairs.now duals.now.items))) }
+    ensures marked { IfOk result (λ found. IfSome found
+        (λ priced. IsSome priced.marks ↔ ((through ≡ None) × (pos 0 ≤ℤ priced.slack)))) }
+    ensures short { IfOk result (λ found. IfSome found
+        (λ priced. IfSome priced.marks (AreShortMarks wave.now pairs.now duals.now.items))) }
     ensures pass { IfOk result (λ found. IfSome found (λ priced. IfSome priced.marks (λ marks.
         IsVisitOfAll wave.now pairs.now duals.now.items marks (Passed [])))) }
 {

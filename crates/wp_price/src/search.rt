@@ -1,51 +1,41 @@
-ghost use Rattle.std.specs.Prelude.{◌≡◌, ◌+◌, ◌<◌, ◌≤◌, ◌^◌, ◌↔◌, [], ℕ, Contains, IfNone, IfOk, IfSome, List, length, pos, ◌+ℤ◌};
+ghost use Rattle.std.specs.Prelude.{◌≡◌, ◌+◌, ◌<◌, ◌≤◌, ◌^◌, ◌↔◌, [], ℕ, Contains, IfNone, IfOk, IfSome, List};
+ghost use Rattle.std.specs.Prelude.{length, pos, ◌+ℤ◌};
 ghost use Rattle.wp_pairs.specs.Kept.{IsPairing};
 ghost use Rattle.wp_pairs.specs.Permitted.{AreJoined, IsPermitted};
-ghost use Rattle.wp_lengths.specs.Lengths.{IsLengthOf};
 ghost use Rattle.wp_lengths.specs.Duals.{duals_of, sixtieths_of};
-ghost use Rattle.wp_lengths.specs.Visits.{AddsItem, IsItem, IsReach};
-ghost use Rattle.wp_price.specs.Items.{AreItemsBelow};
-ghost use Rattle.wp_price.specs.Searches.{IsAt, IsNoChild, raise};
+ghost use Rattle.wp_lengths.specs.Visits.{AddsItem, IsItem, IsReach, Place as PlaceDue};
+ghost use Rattle.wp_visit.specs.Places.{IsAt, IsNoChild};
+ghost use Rattle.wp_price.specs.Searches.{IsRaised, IsSearched, NamesBelow, raise};
+ghost use Rattle.wp_price.specs.ShortMarks.{AddsShort, IsMarked};
 ghost use Rattle.wp_price.specs.Slacks.{IsSlack};
 
-use crate::item::{Item, item_of, whole_reach};
-use crate::place::Place;
+use crate::best::LeastBatch;
+use crate::least::{BestSoFar, raised_of};
+use crate::short::{MarksSoFar, is_closed};
 use std::alloc::Global;
 use std::marker::Model;
-use wp_lengths::{DualWave, OrderDuals, SIXTIETHS, Wave};
+use wp_lengths::{DualWave, Marks, OrderDuals, PairedWave, SIXTIETHS, Wave};
 use wp_model::Memory;
-use wp_pairs::{Batch, Pairs};
+use wp_pairs::Batch;
+use wp_visit::{Place, Visit};
 
-/// A search of all permitted batches: a wave, its pairs and the duals of its orders, and what each order brings to a place.
+/// A search of all permitted batches: a visit of them, with a wave and the duals of its orders.
 #[derive(Drop)]
 pub struct SlackSearch<'a> {
+    visit: Visit<'a>,
     wave: &'a Wave,
-    pairs: &'a Pairs,
     duals: &'a OrderDuals,
-    items: Vec<Item>,
 }
 
 impl<'a> Model for SlackSearch<'a> {
-    ghost use Rattle.wp_price.specs.Searches.{IsTask, Task};
+    ghost use Rattle.wp_visit.specs.Places.{Task};
+    ghost use Rattle.wp_price.specs.Searches.{IsSearchOf};
 
     ghost Value = { Task };
 
-    ghost view = { λ s. record { wave = s.wave.now; pairing = s.pairs.now; duals = s.duals.now } };
+    ghost view = { λ s. s.visit };
 
-    ghost invariant = { λ s. IsTask (record { wave = s.wave.now; pairing = s.pairs.now; duals = s.duals.now }) s.items.items };
-}
-
-// What each order of the wave brings to a place.
-fn items_of(alloc: Global, given: &DualWave<'_>) -> Result<Vec<Item>, Memory>
-    ensures valid { IsPairing given.now.pairs.now }
-    ensures count { IfOk result (λ items. length items.items ≡ given.now.pairs.now.orders) }
-    ensures items { IfOk result (λ items. AreItemsBelow given.now.pairs.now given.now.duals.now given.now.pairs.now.orders items.items) }
-{
-    let mut items = Vec::new(alloc);
-    for order in 0..given.pairs.orders() {
-        items.push(item_of(given, order))?;
-    }
-    Ok(items)
+    ghost invariant = { λ s. IsSearchOf s.visit s.wave.now s.duals.now };
 }
 
 // Sixty times a length less a sum of duals.
@@ -60,74 +50,73 @@ fn slack_between(length: u64, sum: u64) -> i64
 impl<'a> SlackSearch<'a> {
     /// A search with a wave's pairs and duals.
     pub fn of(alloc: Global, given: &DualWave<'a>) -> Result<SlackSearch<'a>, Memory>
-        ensures { IfOk result (λ search. search ≡ record { wave = given.now.wave.now; pairing = given.now.pairs.now; duals = given.now.duals.now }) }
+        ensures { IfOk result (λ search. search ≡
+            record { wave = given.now.wave.now; pairing = given.now.pairs.now; duals = given.now.duals.now }) }
     {
         let DualWave { wave, pairs, duals } = *given;
         let _count = duals.len();
-        let items = items_of(alloc, given)?;
-        Ok(SlackSearch {
-            wave,
-            pairs,
-            duals,
-            items,
-        })
+        let _orders = pairs.orders();
+        let paired = PairedWave::of(wave, pairs);
+        let visit = Visit::of(alloc, &paired, duals.as_slice())?;
+        Ok(SlackSearch { visit, wave, duals })
     }
 }
 
 impl SlackSearch<'_> {
+    /// The best of a best so far, of a place that is a permitted batch, and of all batches that extend it.
+    pub fn search_from(&self, place: &Place, best: Option<LeastBatch>) -> Option<LeastBatch>
+        requires place { IsAt self.now place.now }
+        requires permitted { IsPermitted self.now.pairing place.now.batch }
+        ensures { IsSearched self.now place.now.batch place.now.from best result }
+    {
+        let mut visitor = BestSoFar { best };
+        match self.visit.visit_from(place, &mut visitor) {
+            Ok(()) => visitor.best,
+        }
+    }
+
+    /// Pushes the short marks of a place.
+    pub fn push_marks(&self, place: &Place, marks: Marks) -> Result<Marks, Memory>
+        requires place { IsAt self.now place.now }
+        requires past { NamesBelow self.now.pairing place.now.batch place.now.from }
+        ensures { IfOk result
+            (AddsShort self.now.wave self.now.pairing self.now.duals (PlaceDue place.now.batch place.now.from) marks) }
+    {
+        let mut visitor = MarksSoFar { marks };
+        self.visit.visit_from(place, &mut visitor)?;
+        Ok(visitor.marks)
+    }
+
+    /// Whether the reach of the place of no order doesn't make it too much, so that it isn't entered.
+    pub fn is_root_closed(&self) -> bool
+        ensures { (reach : ℕ) × IsReach self.now.pairing self.now.duals [] 0 reach
+            × IsMarked self.now.wave self.now.duals [] reach result }
+    {
+        is_closed(&self.visit, &self.visit.root())
+    }
+
     /// The place with the item that an order names, where both together are a permitted batch.
     pub fn child_of(&self, place: &Place, order: u32) -> Option<Place>
         requires known { order < self.now.pairing.orders }
         requires place { IsAt self.now place.now }
         ensures at { IfSome result (IsAt self.now) }
+        ensures from { IfSome result (λ child. child.from ≡ order + 1) }
         ensures item { IfSome result (λ child. IsItem self.now.pairing order) }
-        ensures adds { IfSome result (λ child. AddsItem self.now.pairing place.now.batch order child.batch) }
+        ensures adds { IfSome result (λ child. AddsItem self.now.pairing place.now.batch order
+            child.batch) }
         ensures permitted { IfSome result (λ child. IsPermitted self.now.pairing child.batch) }
-        ensures few { IfSome result (λ child. self.now.pairing.orders ≤ 64) }
         ensures none { IfNone result (IsNoChild self.now.pairing place.now.batch order) }
     {
-        let item = &self.items[order as usize];
-        let batch = place.batch.union(item.class);
-        if place.batch.has(order) {
-            return None;
-        }
-        if !item.usable {
-            return None;
-        }
-        if place.blocked.has(order) {
-            return None;
-        }
-        let capacity = self.pairs.capacity();
-        let size = place.size + item.size;
-        if capacity < size {
-            return None;
-        }
-        let load = place.load + item.load;
-        if !self.pairs.carries(load) {
-            return None;
-        }
-        Some(Place {
-            batch,
-            size,
-            load,
-            sum: place.sum + item.sum,
-            blocked: place.blocked.union(item.parted),
-        })
+        self.visit.child_of(place, order)
     }
 
     /// The place of no order.
     pub fn root(&self) -> Place
         ensures at { IsAt self.now result }
         ensures batch { result.batch ≡ [] }
+        ensures from { result.from ≡ 0 }
     {
-        let _capacity = self.pairs.capacity();
-        Place {
-            batch: Batch::empty(),
-            size: 0,
-            load: 0,
-            sum: 0,
-            blocked: Batch::empty(),
-        }
+        self.visit.root()
     }
 
     /// The number of orders of the wave, 1 to 64.
@@ -135,7 +124,7 @@ impl SlackSearch<'_> {
         ensures value { result ≡ self.now.pairing.orders }
         ensures few { result ≤ 64 }
     {
-        self.pairs.orders()
+        self.visit.orders()
     }
 
     /// How many orders more a place has room for.
@@ -144,54 +133,37 @@ impl SlackSearch<'_> {
         ensures room { result + length place.now.batch ≡ self.now.pairing.capacity }
         ensures few { self.now.pairing.capacity ≤ 8 }
     {
-        self.pairs.capacity() - place.size
-    }
-
-    /// The length of a shortest tour of a place, below 2 ^ 28.
-    pub fn length_of(&self, place: &Place) -> u64
-        requires { IsAt self.now place.now }
-        ensures is { IsLengthOf self.now.wave place.now.batch result }
-        ensures small { result < 2 ^ 28 }
-    {
-        self.wave.batch_length(place.batch)
-    }
-
-    /// The reach of a place whose later items begin after an order.
-    pub fn reach_after(&self, order: u32, place: &Place) -> u64
-        requires known { order < self.now.pairing.orders }
-        requires place { IsAt self.now place.now }
-        ensures { IsReach self.now.pairing self.now.duals place.now.batch (order + 1) result }
-    {
-        let item = &self.items[order as usize];
-        item.reach[self.room_at(place) as usize]
-    }
-
-    /// The reach of the place of no order.
-    pub fn whole_reach(&self) -> u64
-        ensures { IsReach self.now.pairing self.now.duals [] 0 result }
-    {
-        whole_reach(&DualWave {
-            wave: self.wave,
-            pairs: self.pairs,
-            duals: self.duals,
-        })
+        self.visit.room_at(place)
     }
 
     /// The orders that are joined to an order.
     pub fn joined_to(&self, order: u32) -> Batch
         requires { order < self.now.pairing.orders }
-        ensures orders { (other : ℕ) → Contains result other ↔ AreJoined self.now.pairing.pairs order other }
+        ensures orders { (other : ℕ) → Contains result other
+            ↔ AreJoined self.now.pairing.pairs order other }
         ensures valid { IsPairing self.now.pairing }
     {
-        let _pairs = &self.pairs;
-        self.pairs.joined_to(order)
+        self.visit.joined_to(order)
+    }
+
+    /// A place as the best, with its slack, raised.
+    pub fn best_at(&self, place: &Place) -> LeastBatch
+        requires { IsAt self.now place.now }
+        ensures batch { result.batch ≡ place.now.batch }
+        ensures is { IsRaised self.now place.now.batch result.raised }
+    {
+        LeastBatch {
+            batch: place.batch,
+            raised: raised_of(&self.visit, place),
+        }
     }
 
     /// The slack of a permitted batch: sixty times its length less what its orders have in duals.
     pub fn slack_of(&self, batch: Batch) -> i64
         requires { IsPermitted self.now.pairing batch }
         ensures is { IsSlack self.now.wave self.now.duals batch result }
-        ensures small { (other : List ℕ) → IsPermitted self.now.pairing other → duals_of self.now.duals other ≤ raise }
+        ensures small { (other : List ℕ) → IsPermitted self.now.pairing other
+            → duals_of self.now.duals other ≤ raise }
     {
         let length = self.wave.batch_length(batch);
         slack_between(length, self.duals.sum_of(batch))

@@ -20,13 +20,14 @@ fn turn_after(dealt: u32, workers: u32) -> u32
     }
 }
 
-/// Deals first items out to workers, one by one, along the row of workers and back again: the lower the order that names an item,
-/// the more items may follow it. A share is the set of the orders that name its items.
+/// Deals first items out to workers, one by one, along the row of workers and back again: the lower the order that
+/// names an item, the more items may follow it. A share is the set of the orders that name its items.
 pub fn deal(alloc: Global, orders: u32, firsts: Batch, workers: u32) -> Result<Vec<Batch>, Memory>
     requires few { orders ≤ 64 }
     requires some { 0 < workers }
     ensures count { IfOk result (λ shares. length shares.items ≡ workers) }
-    ensures dealt { IfOk result (λ shares. (order : ℕ) → order < orders → Contains firsts order → IsDealt shares.items order) }
+    ensures dealt { IfOk result (λ shares. (order : ℕ) → order < orders → Contains firsts order
+        → IsDealt shares.items order) }
 {
     let mut shares = vec![in alloc; Batch::empty(); workers as usize]?;
     let mut dealt = 0;

@@ -1,47 +1,46 @@
-ghost use Rattle.std.specs.Prelude.{◌≡◌, ◌≤◌, OnOk, []};
-ghost use Rattle.wp_lengths.specs.Visits.{IsReach, Place as PlaceDue};
-ghost use Rattle.wp_price.specs.Searches.{IsAt, NamesBelow};
-ghost use Rattle.wp_price.specs.ShortMarks.{AddsShort, IsMarked};
+ghost use Rattle.std.specs.Prelude.{◌≡◌, ℕ};
+ghost use Rattle.wp_lengths.specs.Visits.{IsReach};
+ghost use Rattle.wp_visit.specs.Places.{IsAt};
+ghost use Rattle.wp_price.specs.ShortMarks.{IsMarked};
 
-use crate::place::Place;
-use crate::search::SlackSearch;
 use wp_lengths::{Marks, SIXTIETHS};
 use wp_model::Memory;
+use wp_visit::{Place, Step, Visit, Visitor};
 
-impl SlackSearch<'_> {
-    /// Whether the reach of a place doesn't make it too much, so that it isn't entered.
-    pub fn is_closed(&self, place: &Place, reach: u64) -> bool
-        requires { IsAt self.now place.now }
-        ensures { IsMarked self.now.wave self.now.duals place.now.batch reach result }
-    {
-        let most = SIXTIETHS * self.length_of(place);
-        place.sum <= most && reach <= most - place.sum
-    }
+/// Whether the reach of a place doesn't make it too much, so that it isn't entered.
+pub fn is_closed(visit: &Visit<'_>, place: &Place) -> bool
+    requires { IsAt visit.now place.now }
+    ensures { (reach : ℕ) × IsReach visit.now.pairing visit.now.duals place.now.batch place.now.from
+        reach
+        × IsMarked visit.now.wave visit.now.duals place.now.batch reach result }
+{
+    let most = SIXTIETHS * visit.length_of(place);
+    let reach = visit.reach_of(place);
+    place.sum <= most && reach <= most - place.sum
+}
 
-    /// Pushes the short marks of a place whose later items begin from an order on, and which has this reach.
-    pub fn push_marks(
-        &self,
-        place: &Place,
-        from: u32,
-        reach: u64,
-        marks: &mut Marks,
-    ) -> Result<(), Memory>
-        requires place { IsAt self.now place.now }
-        requires reach { IsReach self.now.pairing self.now.duals place.now.batch from reach }
-        requires past { NamesBelow self.now.pairing place.now.batch from }
-        ensures { OnOk result (AddsShort self.now.wave self.now.pairing self.now.duals (PlaceDue place.now.batch from) marks.old marks.new) }
-    {
-        if self.is_closed(place, reach) {
-            marks.push(false)?;
-            return Ok(());
+/// The visitor that writes the short marks of the places that it enters behind others.
+#[derive(Drop)]
+pub struct MarksSoFar {
+    pub marks: Marks,
+}
+
+impl Visitor for MarksSoFar {
+    type Fault = Memory;
+
+    ghost use Rattle.std.specs.Prelude.{⊤};
+    ghost use Rattle.wp_price.specs.ShortMarks.{EntersMarks};
+
+    ghost fits = { λ visitor task. ⊤ };
+
+    ghost enters = { λ task old place from answer new. EntersMarks task old.marks place from answer new.marks };
+
+    fn enter(&mut self, visit: &Visit<'_>, place: &Place) -> Result<Step, Memory> {
+        if is_closed(visit, place) {
+            self.marks.push(false)?;
+            return Ok(Step::Past);
         }
-        marks.push(true)?;
-        for order in from..self.orders() {
-            if let Some(child) = self.child_of(place, order) {
-                let reach = self.reach_after(order, &child);
-                self.push_marks(&child, order + 1, reach, marks)?;
-            }
-        }
-        Ok(())
+        self.marks.push(true)?;
+        Ok(Step::Deeper)
     }
 }

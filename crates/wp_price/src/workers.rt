@@ -1,10 +1,11 @@
 //! A search by workers that run beside each other.
 ghost use Rattle.std.specs.Prelude.{◌≡◌, ◌<◌, ◌≤◌, ℕ, [], Contains, IfOk, length, slice_index_or};
 ghost use Rattle.wp_pairs.specs.Permitted.{IsPermitted};
-ghost use Rattle.wp_price.specs.Searches.{AreItemsSearched, AreSharesOf, AreSharesSearched, InShare, IsAt, IsBeaten, IsNoChild, IsSearched};
+ghost use Rattle.wp_visit.specs.Places.{IsAt, IsNoChild};
+ghost use Rattle.wp_price.specs.Searches.{AreItemsSearched, AreSharesOf, AreSharesSearched, InShare, IsBeaten};
+ghost use Rattle.wp_price.specs.Searches.{IsSearched};
 
 use crate::best::{LeastBatch, best_of};
-use crate::place::Place;
 use crate::search::SlackSearch;
 use crate::share::deal;
 use std::alloc::Global;
@@ -13,9 +14,10 @@ use std::thread::Threads;
 use wp_model::Memory;
 use wp_outside::{Gate, Moment};
 use wp_pairs::Batch;
+use wp_visit::Place;
 
-/// Who searches: up to so many workers, 1 to 16, each in a thread of its own but for one, and the gate that they pass. The
-/// allocator gives the memory for what they make.
+/// Who searches: up to so many workers, 1 to 16, each in a thread of its own but for one, and the gate that they pass.
+/// The allocator gives the memory for what they make.
 #[derive(Drop)]
 pub struct Workers<'a, R, G> {
     pub rt: &'a R,
@@ -49,8 +51,8 @@ fn batches_of(items: u32, room: u32) -> u64 {
 }
 
 impl<R, G> Workers<'_, R, G> {
-    /// How many workers are to share the batches that so many items make, where there is room for so many of them: no more than
-    /// the batches are worth, and at least one.
+    /// How many workers are to share the batches that so many items make, where there is room for so many of them: no
+    /// more than the batches are worth, and at least one.
     pub fn worth(&self, items: u32, room: u32) -> u32
         ensures some { 0 < result }
         ensures most { result ≤ 16 }
@@ -64,7 +66,8 @@ impl SlackSearch<'_> {
     // The orders that name first items of a place: those with which it makes a permitted batch.
     fn first_items(&self, place: &Place) -> Batch
         requires { IsAt self.now place.now }
-        ensures { (order : ℕ) → order < self.now.pairing.orders → (Contains result order → ⊥) → IsNoChild self.now.pairing place.now.batch order }
+        ensures { (order : ℕ) → order < self.now.pairing.orders → (Contains result order → ⊥)
+            → IsNoChild self.now.pairing place.now.batch order }
     {
         let mut firsts = Batch::empty();
         for order in 0..self.orders() {
@@ -75,6 +78,19 @@ impl SlackSearch<'_> {
         firsts
     }
 
+    // The best of the best batch so far and all batches that extend a place with the item that an order names, and with
+    // items of later orders.
+    fn search_item(&self, place: &Place, order: u32, best: Option<LeastBatch>) -> Option<LeastBatch>
+        requires known { order < self.now.pairing.orders }
+        requires place { IsAt self.now place.now }
+        ensures { AreItemsSearched self.now place.now.batch (λ item. item ≡ order) best result }
+    {
+        match self.child_of(place, order) {
+            Some(child) => self.search_from(&child, best),
+            None => best,
+        }
+    }
+
     // Searches the items of a worker's share, one after the other, and passes the gate before each.
     fn search_share<G: Gate>(
         &self,
@@ -83,7 +99,8 @@ impl SlackSearch<'_> {
         best: Option<LeastBatch>,
     ) -> Option<LeastBatch>
         requires { IsAt self.now place.now }
-        ensures { AreItemsSearched self.now place.now.batch (InShare self.now worker.now.share) best result }
+        ensures { AreItemsSearched self.now place.now.batch
+            (InShare self.now worker.now.share) best result }
     {
         let mut found = best;
         for order in 0..self.orders() {
@@ -106,7 +123,8 @@ impl SlackSearch<'_> {
         requires place { IsAt self.now place.now }
         requires few { length shares.now ≤ 16 }
         ensures count { IfOk result (λ found. length found.items ≡ length shares.now) }
-        ensures searched { IfOk result (λ found. AreSharesSearched self.now place.now.batch shares.now best.now found.items) }
+        ensures searched { IfOk result (λ found.
+            AreSharesSearched self.now place.now.batch shares.now best.now found.items) }
     {
         let search = self;
         let gate = workers.gate;
@@ -115,8 +133,10 @@ impl SlackSearch<'_> {
             workers.alloc,
             shares.len(),
             &|worker: usize| -> Option<LeastBatch>
-                requires { worker < length shares.now × (length shares.now ≤ 16) × IsAt search.now place.now }
-                ensures { AreItemsSearched search.entry.now place.entry.now.batch (InShare search.entry.now (slice_index_or shares.entry.now worker []))
+                requires { worker < length shares.now × (length shares.now ≤ 16)
+                    × IsAt search.now place.now }
+                ensures { AreItemsSearched search.entry.now place.entry.now.batch
+                    (InShare search.entry.now (slice_index_or shares.entry.now worker []))
                     best.entry.now result }
             {
                 let worker = Worker {
@@ -130,8 +150,8 @@ impl SlackSearch<'_> {
         Ok(found)
     }
 
-    // How many workers take part in a search below a place that has these first items: no more than the batches are worth that there
-    // may be, but at the root two where there are two first items.
+    // How many workers take part in a search below a place that has these first items: no more than the batches are
+    // worth that there may be, but at the root two where there are two first items.
     fn workers_for(&self, place: &Place, firsts: Batch, workers: u32) -> u32
         requires workers { workers ≤ 16 }
         requires place { IsAt self.now place.now }
@@ -160,8 +180,8 @@ impl SlackSearch<'_> {
         deal(workers.alloc, self.orders(), firsts, taking_part)
     }
 
-    /// The best of the best batch so far and all batches that extend a place. The subtrees of the place's first items are searched by
-    /// workers beside each other.
+    /// The best of the best batch so far and all batches that extend a place. The subtrees of the place's first items
+    /// are searched by workers beside each other.
     pub fn search_below<R: Threads + Sync, G: Gate>(
         &self,
         workers: &Workers<'_, R, G>,
@@ -169,7 +189,8 @@ impl SlackSearch<'_> {
         best: Option<LeastBatch>,
     ) -> Result<Option<LeastBatch>, Memory>
         requires place { IsAt self.now place.now }
-        requires known { IsPermitted self.now.pairing place.now.batch → IsBeaten self.now best place.now.batch }
+        requires known { IsPermitted self.now.pairing place.now.batch
+            → IsBeaten self.now best place.now.batch }
         ensures { IfOk result (IsSearched self.now place.now.batch 0 best) }
     {
         let shares = self.shares_of(workers, place)?;

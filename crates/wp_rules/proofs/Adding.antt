@@ -1,5 +1,6 @@
 -- What is added so far and what is left to add are the whole.
-use Rattle.std.proofs.Common.{◌≡◌, ℕ, suc, ◌+◌, ◌-◌, ◌<◌, ◌≤◌, ◌==◌, Bool, true, false, List, [], ◌∷◌, ◌++◌, length, reverse, filter, get_or, take, drop, arith, refl, sym, ap, ◌∙◌, inl, inr}
+use Rattle.std.proofs.Common.{◌≡◌, ℕ, suc, ◌+◌, ◌-◌, ◌<◌, ◌≤◌, ◌==◌, Bool, true, false, List, [], ◌∷◌, ◌++◌, length, reverse, filter, get_or, take, drop, arith}
+use Rattle.std.proofs.Common.{refl, sym, ap, ◌∙◌, inl, inr}
 use Rattle.std.specs.List.{flat_map, range_with_len}
 use Rattle.std.proofs.lemmas.Bool.{cases_Bool, cond-true, cond-false, eqb-true, false≢true, or_cases}
 use Rattle.std.proofs.lemmas.List.{append-nil, append_assoc, at_drop_all, at_drop_more, length-append, reverse-append, take_all}
@@ -12,7 +13,8 @@ use Rattle.wp_graph.specs.PickSets.{HaveSlotIn}
 use Rattle.wp_graph.proofs.Members.{Contains-from_among}
 use Rattle.wp_graph.proofs.Places.{range_parts}
 use Rattle.wp_classes.specs.Paths.{ahead, at, behind}
-use Rattle.wp_rules.specs.Rules.{around, around_gaps, far, far_part, from_far, from_home, has_pick, home, home_part, in_turn, last_of, return_stops, stop, through}
+use Rattle.wp_rules.specs.Rules.{around, around_gaps, far, far_part, from_far, from_home, has_pick, home, home_part, in_turn, last_of, return_stops, stop}
+use Rattle.wp_rules.specs.Rules.{through}
 use Rattle.wp_rules.specs.Straight.{leftward, past, past_length, rightward, straight, straight_length}
 
 -- some of what is left is added

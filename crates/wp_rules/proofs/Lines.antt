@@ -134,7 +134,8 @@ straight_path layout from to is = elim (cases_eq from.aisle to.aisle) [
       let long : apart (distance layout from.slot) (distance layout to.slot) ≡ straight_length layout from to = omega (arith, length_is layout from to, same) in
       subst (λ (points : List Point). Path layout from points to (straight_length layout from to)) (sym (straight_in from to e))
       (subst (λ (t : ℕ). Path layout from (in_aisle from.aisle from.slot to.slot) to t) long
-      (subst (λ (a : ℕ). Path layout from (in_aisle from.aisle from.slot to.slot) (at a to.slot) (apart (distance layout from.slot) (distance layout to.slot))) e
+      (subst (λ (a : ℕ). Path layout from (in_aisle from.aisle from.slot to.slot) (at a to.slot) (apart (distance layout from.slot) (distance layout to.slot)))
+      e
       (in_aisle_path layout from.aisle from.slot to.slot is.from_point.aisle is.from_point.slot is.to_point.slot)))
   | inr ne ↦ elim is.line [
     | inl e ↦ absurd (ne e)

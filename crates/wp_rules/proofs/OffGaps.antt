@@ -124,7 +124,10 @@ deepest_shallower test n m e failed = ap (deepest_where test) e ∙ deepest_befo
 one_on : (n : ℕ) → suc n ≡ n + 1
 one_on n = omega arith
 
-pub widest_at_end : (layout : Layout) (test : ℕ → Bool) (last depth n : ℕ) → n ≡ 0 → widest_where layout test last depth n ≡ record { shallow = last; deep = depth }
+pub widest_at_end : (layout : Layout) (test : ℕ → Bool) (last depth n : ℕ) → n ≡ 0 → widest_where layout test last depth n ≡ record {
+  shallow = last;
+  deep = depth;
+}
 widest_at_end layout test last depth n e = ap (λ k. widest_where layout test last depth k) e ∙ widest-zero layout test last depth
 
 pub widest_at_pick : (layout : Layout) (test : ℕ → Bool) (last depth n m : ℕ) → n ≡ suc m → test depth ≡ true

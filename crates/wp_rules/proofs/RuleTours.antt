@@ -1,5 +1,6 @@
 -- The walk of each rule is a tour: a closed walk past all picks.
-use Rattle.std.proofs.Common.{◌≡◌, ℕ, zero, suc, ◌+◌, ◌-◌, ◌<◌, ◌≤◌, Bool, true, false, List, [], ◌∷◌, ◌++◌, reverse, filter, All, arith, refl, sym, ap, ◌∙◌, subst, inl, inr}
+use Rattle.std.proofs.Common.{◌≡◌, ℕ, zero, suc, ◌+◌, ◌-◌, ◌<◌, ◌≤◌, Bool, true, false, List, [], ◌∷◌, ◌++◌, reverse, filter, All, arith, refl, sym, ap, ◌∙◌}
+use Rattle.std.proofs.Common.{subst, inl, inr}
 use Rattle.std.specs.List.{flat_map, range_with_len}
 use Rattle.std.proofs.lemmas.List.Sorted.{Contains-permutation, IsPermutation-reverse, IsPermutation-sym}
 use Rattle.std.proofs.lemmas.Bool.Decides.{nat_tests}
@@ -16,12 +17,15 @@ use Rattle.wp_graph.proofs.PointTests.{among_has}
 use Rattle.wp_classes.specs.Paths.{On, Path, at}
 use Rattle.wp_classes.proofs.Paths.{on_start}
 use Rattle.wp_classes.proofs.Rounds.{tour_of_round}
-use Rattle.wp_rules.specs.Rules.{AreAisles, around, around_gaps, far_part, has_pick, home_part, in_turn, last_of, picked_aisles, place_of, return_stops, stops_between, stops_of, through, walk_of_rule}
+use Rattle.wp_rules.specs.Rules.{AreAisles, around, around_gaps, far_part, has_pick, home_part, in_turn, last_of, picked_aisles, place_of, return_stops}
+use Rattle.wp_rules.specs.Rules.{stops_between, stops_of, through, walk_of_rule}
 use Rattle.wp_rules.specs.Straight.{past, past_length}
 use Rattle.wp_rules.specs.declared.rule.Rule.{Rule}
 use Rattle.wp_rules.specs.declared.rule.Rule.TheVariants.{SShape, Return, LargestGap}
-use Rattle.wp_rules.proofs.Served.{IsPickAt, depth_of, depth_told, depth_within, down_passes, down_trip, far_part_trip, far_place, home_is_end, home_part_trip, home_place, home_within, parts_pass, return_passes, return_trip, up_passes, up_trip}
-use Rattle.wp_rules.proofs.Trips.{AlwaysPass, EndTrip, Trip, along_end_line, end_trip-append, end_trip-flat_map, end_trip-nil, enter, pass-append_left, pass-append_right, pass-flat_map, passes_first, trip_join, trip_path, trip_points}
+use Rattle.wp_rules.proofs.Served.{IsPickAt, depth_of, depth_told, depth_within, down_passes, down_trip, far_part_trip, far_place, home_is_end, home_part_trip}
+use Rattle.wp_rules.proofs.Served.{home_place, home_within, parts_pass, return_passes, return_trip, up_passes, up_trip}
+use Rattle.wp_rules.proofs.Trips.{AlwaysPass, EndTrip, Trip, along_end_line, end_trip-append, end_trip-flat_map, end_trip-nil, enter, pass-append_left}
+use Rattle.wp_rules.proofs.Trips.{pass-append_right, pass-flat_map, passes_first, trip_join, trip_path, trip_points}
 
 -- the aisle of a pick has one
 has_pick_of : (picks : List Point) (p : Point) → Among picks p → has_pick picks p.aisle ≡ true

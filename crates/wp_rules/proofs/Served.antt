@@ -162,11 +162,13 @@ parts_pass layout picks p depth is =
 -- through an aisle passes all of it
 pub up_trip : (layout : Layout) (aisle : ℕ) → IsUpTo layout.aisles aisle
     → EndTrip layout (home_place layout) (far_place layout) (enter aisle (home_place layout) (far_place layout))
-up_trip layout aisle within = enter_trip layout aisle (home_place layout) (far_place layout) within (home_is_end layout) (home_within layout) (far_within layout)
+up_trip layout aisle within = enter_trip layout aisle (home_place layout) (far_place layout) within (home_is_end layout) (home_within layout)
+    (far_within layout)
 
 pub down_trip : (layout : Layout) (aisle : ℕ) → IsUpTo layout.aisles aisle
     → EndTrip layout (far_place layout) (home_place layout) (enter aisle (far_place layout) (home_place layout))
-down_trip layout aisle within = enter_trip layout aisle (far_place layout) (home_place layout) within (far_is_end layout) (far_within layout) (home_within layout)
+down_trip layout aisle within = enter_trip layout aisle (far_place layout) (home_place layout) within (far_is_end layout) (far_within layout)
+    (home_within layout)
 
 pub up_passes : (layout : Layout) (picks : List Point) (p : Point) (depth : ℕ) → IsPickAt layout picks p depth
     → AlwaysPass layout (home_place layout) (enter p.aisle (home_place layout) (far_place layout)) p

@@ -58,7 +58,8 @@ Passes from stops point = On from (past from stops) point
 pub passes_first : (layout : Layout) (from mid : Point) (first second : List Point) (p : Point) → Trip layout from first mid → Passes from first p
     → Passes from (first ++ second) p
 passes_first layout from mid first second p trip on =
-    subst (λ (points : List Point). On from points p) (sym (past_join layout from mid first second trip)) (on_first from (past from first) (past mid second) p on)
+    subst (λ (points : List Point). On from points p) (sym (past_join layout from mid first second trip))
+    (on_first from (past from first) (past mid second) p on)
 
 pub passes_second : (layout : Layout) (from mid : Point) (first second : List Point) (p : Point) → Trip layout from first mid → Passes mid second p
     → Passes from (first ++ second) p

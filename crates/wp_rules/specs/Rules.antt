@@ -1,6 +1,7 @@
--- The stops of three usual rules. Home is the depot's end of each aisle, and far is the other end; depths are counted from home.
--- S-shape and largest gap: Hall, IIE Transactions 25, 1993.
-use Rattle.std.specs.Prelude.{ℕ, zero, suc, ◌+◌, ◌-◌, ◌==◌, nat_lt, Bool, true, false, List, [], ◌∷◌, ◌++◌, filter, if◌then◌else◌, reverse}
+-- The stops of three usual rules. Home is the depot's end of each aisle, and far is the other end; depths are counted
+-- from home. S-shape and largest gap: Hall, IIE Transactions 25, 1993.
+use Rattle.std.specs.Prelude.{ℕ, zero, suc, ◌+◌, ◌-◌, ◌==◌, nat_lt, Bool, true, false, List, [], ◌∷◌, ◌++◌, filter}
+use Rattle.std.specs.Prelude.{if◌then◌else◌, reverse}
 use Rattle.std.specs.List.{flat_map, list_any, range_with_len}
 use Rattle.wp_model.specs.declared.point.Point.{Point}
 use Rattle.wp_model.specs.Warehouse.{End, IsUpTo, Layout, back_end, depot_point}
@@ -48,8 +49,8 @@ width layout gap = distance layout gap.deep - distance layout gap.shallow
 abbrev pub wider : Layout → Gap → Gap → Gap
 wider layout gap deeper = if nat_lt (width layout gap) (width layout deeper) then deeper else gap
 
--- the widest of the gaps between neighbours of a list: a last depth, those of so many from a depth on at which a test passes, and the
--- depth after them
+-- the widest of the gaps between neighbours of a list: a last depth, those of so many from a depth on at which a test
+-- passes, and the depth after them
 unfoldable pub widest_where : Layout → (ℕ → Bool) → ℕ → ℕ → ℕ → Gap
 widest_where layout test last depth zero = record { shallow = last; deep = depth }
 widest_where layout test last depth (suc n) = if test depth
@@ -62,11 +63,13 @@ gap_of layout picks aisle = widest_where layout (is_picked layout picks aisle) 0
 
 -- into an aisle from home to a depth and back, where there is anything to pick
 abbrev pub from_home : Layout → ℕ → ℕ → List Point
-from_home layout aisle depth = if depth == 0 then [] else home layout aisle ∷ stop layout aisle depth ∷ home layout aisle ∷ []
+from_home layout aisle depth = if depth == 0 then []
+    else home layout aisle ∷ stop layout aisle depth ∷ home layout aisle ∷ []
 
 -- into an aisle from far to a depth and back, where there is anything to pick
 abbrev pub from_far : Layout → ℕ → ℕ → List Point
-from_far layout aisle depth = if depth == back_end layout then [] else far layout aisle ∷ stop layout aisle depth ∷ far layout aisle ∷ []
+from_far layout aisle depth = if depth == back_end layout then []
+    else far layout aisle ∷ stop layout aisle depth ∷ far layout aisle ∷ []
 
 -- an aisle as the rule of return serves it: to its deepest pick and back
 abbrev pub return_stops : Layout → List Point → ℕ → List Point
@@ -104,9 +107,11 @@ unfoldable pub through : Layout → List Point → Bool → List ℕ → List Po
 through layout picks at_far [] = []
 through layout picks true (aisle ∷ aisles) = far layout aisle ∷ home layout aisle ∷ through layout picks false aisles
 through layout picks false (aisle ∷ []) = return_stops layout picks aisle
-through layout picks false (aisle ∷ next ∷ aisles) = home layout aisle ∷ far layout aisle ∷ through layout picks true (next ∷ aisles)
+through layout picks false (aisle ∷ next ∷ aisles)
+    = home layout aisle ∷ far layout aisle ∷ through layout picks true (next ∷ aisles)
 
--- up the first aisle, along far to the far parts of those between, down the last, and along home to the home parts of those between
+-- up the first aisle, along far to the far parts of those between, down the last, and along home to the home parts of
+-- those between
 unfoldable pub around : Layout → List Point → ℕ → ℕ → List Point
 around layout picks first last =
     let between = range_with_len (first + 1) (last - first - 1) in

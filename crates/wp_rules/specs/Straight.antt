@@ -26,7 +26,8 @@ along_end place from to = if nat_le from to then rightward from place (to - from
 
 -- the points after a stop, straight to the next one
 unfoldable pub straight : Point → Point → List Point
-straight from to = if from.aisle == to.aisle then in_aisle from.aisle from.slot to.slot else along_end from.slot from.aisle to.aisle
+straight from to = if from.aisle == to.aisle then in_aisle from.aisle from.slot to.slot
+    else along_end from.slot from.aisle to.aisle
 
 -- how far two numbers lie apart
 abbrev pub apart : ℕ → ℕ → ℕ

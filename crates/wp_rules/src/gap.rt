@@ -34,7 +34,8 @@ fn widest_from(layout: &Layout, picks: &Picks, aisle: u32, last: u32, depth: u32
     requires some { 1 ≤ depth }
     requires order { last ≤ depth }
     requires depth { depth ≤ back_end layout.now }
-    ensures value { result ≡ widest_where layout.now (is_picked layout.now picks.now.points aisle) last depth (back_end layout.now - depth) }
+    ensures value { result ≡ widest_where layout.now
+        (is_picked layout.now picks.now.points aisle) last depth (back_end layout.now - depth) }
     ensures order { result.shallow ≤ result.deep }
     ensures within { result.deep ≤ back_end layout.now }
 {

@@ -3,7 +3,8 @@ ghost use Rattle.std.specs.Prelude.{◌≡◌, ◌+◌, ◌-◌, ◌*◌, ◌<�
 ghost use Rattle.std.specs.List.{flat_map, range_with_len};
 ghost use Rattle.wp_model.specs.Warehouse.{IsLayout, back_end};
 ghost use Rattle.wp_graph.specs.PickSets.{AreSlots};
-ghost use Rattle.wp_rules.specs.Rules.{AreAisles, around, around_gaps, far, far_part, from_far, from_home, home, home_part, in_turn, picked_aisles, stops_between, stops_of, through};
+ghost use Rattle.wp_rules.specs.Rules.{AreAisles, around, around_gaps, far, far_part, from_far, from_home, home};
+ghost use Rattle.wp_rules.specs.Rules.{home_part, in_turn, picked_aisles, stops_between, stops_of, through};
 
 use crate::aisles::{last_of, picked_aisles};
 use crate::depths::{deepest, far, home, stop};
@@ -103,7 +104,8 @@ fn add_far_parts(stops: &mut Stops, layout: &Layout, picks: &Picks, first: u32, 
     requires picks { picks.now.layout ≡ layout.now }
     requires first { first ≤ 64 }
     requires room { length stops.old + 3 * (last - first - 1) ≤ 400 }
-    ensures value { stops.new ≡ stops.old ++ flat_map (far_part layout.now picks.now.points) (range_with_len (first + 1) (last - first - 1)) }
+    ensures value { stops.new ≡ stops.old ++ flat_map (far_part layout.now picks.now.points)
+        (range_with_len (first + 1) (last - first - 1)) }
     ensures most { length stops.new ≤ length stops.old + 3 * (last - first - 1) }
 {
     for aisle in first + 1..last {
@@ -117,7 +119,8 @@ fn add_home_parts(stops: &mut Stops, layout: &Layout, picks: &Picks, first: u32,
     requires first { first ≤ 64 }
     requires last { last ≤ 64 }
     requires room { length stops.old + 3 * (last - first - 1) ≤ 400 }
-    ensures value { stops.new ≡ stops.old ++ flat_map (home_part layout.now picks.now.points) (reverse (range_with_len (first + 1) (last - first - 1))) }
+    ensures value { stops.new ≡ stops.old ++ flat_map (home_part layout.now picks.now.points)
+        (reverse (range_with_len (first + 1) (last - first - 1))) }
     ensures most { length stops.new ≤ length stops.old + 3 * (last - first - 1) }
 {
     for back in first + 1..last {

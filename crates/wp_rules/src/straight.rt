@@ -106,7 +106,8 @@ fn add_left(points: &mut Vec<Point>, slot: u32, from: u32, to: u32) -> Result<()
 
 // Adds the points after one in an aisle, up to another one.
 fn add_in_aisle(points: &mut Vec<Point>, from: Point, to: u32) -> Result<(), Memory>
-    ensures { OnOk result (points.new.items ≡ points.old.items ++ in_aisle from.aisle from.slot to) }
+    ensures { OnOk result (points.new.items ≡ points.old.items
+        ++ in_aisle from.aisle from.slot to) }
 {
     if from.slot <= to {
         add_ahead(points, from.aisle, from.slot, to)?;
@@ -118,7 +119,8 @@ fn add_in_aisle(points: &mut Vec<Point>, from: Point, to: u32) -> Result<(), Mem
 
 // Adds the points after one along an end, up to that of an aisle.
 fn add_along_end(points: &mut Vec<Point>, from: Point, to: u32) -> Result<(), Memory>
-    ensures { OnOk result (points.new.items ≡ points.old.items ++ along_end from.slot from.aisle to) }
+    ensures { OnOk result (points.new.items ≡ points.old.items
+        ++ along_end from.slot from.aisle to) }
 {
     if from.aisle <= to {
         add_right(points, from.slot, from.aisle, to)?;

@@ -39,11 +39,12 @@ fn add_past(points: &mut Vec<Point>, from: Point, stops: &[Point]) -> Result<(),
     Ok(())
 }
 
-/// How long the walk of a rule past the picks is: from the depot past the rule's stops and back to the depot. The walk is a tour, so
-/// this is no less than the length of a shortest one. It takes no memory.
+/// How long the walk of a rule past the picks is: from the depot past the rule's stops and back to the depot. The walk
+/// is a tour, so this is no less than the length of a shortest one. It takes no memory.
 pub fn rule_length(layout: &Layout, picks: &Picks, rule: Rule) -> u64
     requires { picks.now.layout ≡ layout.now }
-    ensures { IsTour layout.now picks.now.points (walk_of_rule layout.now picks.now.points rule) result }
+    ensures { IsTour layout.now picks.now.points
+        (walk_of_rule layout.now picks.now.points rule) result }
 {
     let stops = stops_of(layout, picks, rule);
     length_past(layout, layout.depot_point(), stops.points())

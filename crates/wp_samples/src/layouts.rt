@@ -14,8 +14,8 @@ pub fn small_layout(depot: u32) -> Option<Layout> {
     layout_of([3, 4, 2, 1, 5, depot])
 }
 
-/// The small layout with these lengths from its first and from its second aisle to the next one, and with its depot at the
-/// back end of this aisle or at the front one.
+/// The small layout with these lengths from its first and from its second aisle to the next one, and with its depot at
+/// the back end of this aisle or at the front one.
 pub fn crossed_layout(spacings: [u32; 2], depot: u32, back: bool) -> Option<Layout> {
     Layout::with(3, 4, 2, 1, &spacings, depot, back)
 }

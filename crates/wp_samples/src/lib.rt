@@ -1,4 +1,5 @@
-//! What tests are made with: small layouts, picks, waves, pairs of orders, batches, draws of further ones, and a place where two threads meet.
+//! What tests are made with: small layouts, picks, waves, pairs of orders, batches, draws of further ones, and a place
+//! where two threads meet.
 #![tactic(auto)]
 
 mod batches;

@@ -27,7 +27,8 @@ pub fn order_of(layout: &Layout, slots: &[(u32, u32)]) -> Option<Picks>
 
 /// What the orders pick, as often as they are repeated.
 pub fn orders_of(alloc: Global, layout: &Layout, orders: &[Slots], times: u32) -> Option<Vec<Picks>>
-    ensures layout { IfSome result (λ picked. All (λ picks. picks.layout ≡ layout.now) picked.items) }
+    ensures layout { IfSome result (λ picked. All
+        (λ picks. picks.layout ≡ layout.now) picked.items) }
     ensures filled { IfSome result (λ picked. All (λ picks. 0 < length picks.points) picked.items) }
 {
     let mut all = Vec::new(alloc);
@@ -57,8 +58,8 @@ pub fn wave_of(alloc: Global, orders: &[Slots], times: u32) -> Option<Wave> {
     wave_in(alloc, layout, &picks)
 }
 
-/// The wave of these orders in the small layout with its depot at the first aisle, and a cart of so many units with what each
-/// order loads.
+/// The wave of these orders in the small layout with its depot at the first aisle, and a cart of so many units with
+/// what each order loads.
 pub fn cart_wave_of(alloc: Global, orders: &[Slots], units: u32, loads: &[u32]) -> Option<Wave> {
     let layout = small_layout(1)?;
     let picks = orders_of(alloc, &layout, orders, 1)?;
@@ -100,7 +101,8 @@ fn made_order(layout: &Layout, draws: &mut Draws) -> Option<Picks>
 
 // The orders of the next wave, so many.
 fn made_orders(alloc: Global, layout: &Layout, draws: &mut Draws, count: u32) -> Option<Vec<Picks>>
-    ensures layout { IfSome result (λ picked. All (λ picks. picks.layout ≡ layout.now) picked.items) }
+    ensures layout { IfSome result (λ picked. All
+        (λ picks. picks.layout ≡ layout.now) picked.items) }
     ensures filled { IfSome result (λ picked. All (λ picks. 0 < length picks.points) picked.items) }
 {
     let mut orders = Vec::new(alloc);

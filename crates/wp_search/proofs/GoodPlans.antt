@@ -31,9 +31,11 @@ module _ (wave : WavePicks) (capacity : ℕ) (shares : List ℕ) (search : TreeS
   all_paid = ap (λ (k : ℕ). k * price (length wave.orders) capacity) (own_listed search.tree) ∙ sym is.paid
 
   -- where the budget doesn't pay for a further node, it pays for no more than there are
-  all_worked : (nodes : ℕ) → search.budget < search.spent + price (length wave.orders) capacity → nodes * price (length wave.orders) capacity ≤ search.budget → nodes ≤ own_nodes (nodes_of search.tree)
+  all_worked : (nodes : ℕ) → search.budget < search.spent + price (length wave.orders) capacity → nodes * price (length wave.orders) capacity ≤ search.budget
+      → nodes ≤ own_nodes (nodes_of search.tree)
   all_worked nodes short enough = ⊎_elim (λ (few : nodes ≤ own_nodes (nodes_of search.tree)). few)
-      (λ (more : own_nodes (nodes_of search.tree) + 1 ≤ nodes). absurd (omega (arith, mul-le-mul_right (price (length wave.orders) capacity) more, all_paid, short, enough)))
+      (λ (more : own_nodes (nodes_of search.tree) + 1 ≤ nodes). absurd
+      (omega (arith, mul-le-mul_right (price (length wave.orders) capacity) more, all_paid, short, enough)))
       (few_or_more nodes (own_nodes (nodes_of search.tree)))
     where
       few_or_more : (a b : ℕ) → (a ≤ b) ⊎ (b + 1 ≤ a)

@@ -1,5 +1,6 @@
 -- Searches: what their trees show, and what a turn makes of them.
-use Rattle.std.proofs.Common.{◌≡◌, ℕ, ◌+◌, ◌-◌, ◌*◌, ◌<◌, ◌≤◌, ◌⊎◌, ◌↔◌, Bool, true, false, List, [], ◌∷◌, ◌++◌, length, arith, refl, ap, sym, ◌∙◌, subst, inl, inr, ⊎_elim}
+use Rattle.std.proofs.Common.{◌≡◌, ℕ, ◌+◌, ◌-◌, ◌*◌, ◌<◌, ◌≤◌, ◌⊎◌, ◌↔◌, Bool, true, false, List, [], ◌∷◌, ◌++◌, length, arith, refl, ap, sym, ◌∙◌, subst, inl}
+use Rattle.std.proofs.Common.{inr, ⊎_elim}
 use Rattle.std.proofs.Math.Nat.{mul-le-mul_left}
 use Rattle.std.proofs.lemmas.List.{append-nil, append_assoc}
 use Rattle.std.proofs.lemmas.List.Elements.{All-append, All-cons, All-nil}
@@ -189,7 +190,8 @@ cost_reached wave capacity bound shares search some are is at low =
     ) in
     inr (at ∙ ap (λ (k : ℕ). Some k) same)
 
-module _ (wave : WavePicks) (capacity shares bound : ℕ) (pays : Bool) (before : TreeSearch) (tree : Branch) (turn : LeafTurn) (is : IsSearch wave capacity shares before)
+module _ (wave : WavePicks) (capacity shares bound : ℕ) (pays : Bool) (before : TreeSearch) (tree : Branch) (turn : LeafTurn)
+    (is : IsSearch wave capacity shares before)
     (at : bound_of (units_of shares) before.tree ≡ Some bound)
     (turned : IsTurned wave (no_pairs wave capacity) shares pays bound before.tree tree turn) where
   cuts_after : (new : ℕ) → bound_of (units_of shares) tree ≡ Some new → AreCutsWithin new tree

@@ -24,7 +24,8 @@ use Rattle.wp_node.proofs.Owns.{right_below}
 
 -- what is permitted with a further pair is permitted without it
 pub permitted_before : (pairing : Pairing) (new : OrderPair) (batch : List ℕ)
-    → IsPermitted (record { orders = pairing.orders; capacity = pairing.capacity; cart = pairing.cart; pairs = pairing.pairs ++ new ∷ [] }) batch → IsPermitted pairing batch
+    → IsPermitted (record { orders = pairing.orders; capacity = pairing.capacity; cart = pairing.cart; pairs = pairing.pairs ++ new ∷ [] }) batch
+    → IsPermitted pairing batch
 permitted_before pairing new batch p = record {
   ascending = p.ascending;
   filled = p.filled;
@@ -148,7 +149,8 @@ kept_least cut together apart = record {
   least = lower_of (bound_of (own_bound cut.worked) together) (bound_of (own_bound cut.worked) apart);
 }
 
-module _ (wave : WavePicks) (pairing : Pairing) (above : ℕ) (pays : Bool) (least : ℕ) (cut cut_after : Cut) (together apart after : Branch) (turn : LeafTurn) where
+module _ (wave : WavePicks) (pairing : Pairing) (above : ℕ) (pays : Bool) (least : ℕ) (cut cut_after : Cut) (together apart after : Branch)
+    (turn : LeafTurn) where
   more_left : turns_left after + turns_left apart + turns_left together ≡ turns_left together + turns_left apart + turns_left after
   more_left = omega arith
 
@@ -190,7 +192,8 @@ module _ (wave : WavePicks) (pairing : Pairing) (above : ℕ) (pays : Bool) (lea
       })
 
 -- a turn at a leaf that keeps the duals above it
-pub kept_turned : (wave : WavePicks) (built pairing : Pairing) (above : ℕ) (pays : Bool) (leaf : Option Worked) (result : Result TurnedBranch Memory) → built ≡ pairing
+pub kept_turned : (wave : WavePicks) (built pairing : Pairing) (above : ℕ) (pays : Bool) (leaf : Option Worked) (result : Result TurnedBranch Memory)
+    → built ≡ pairing
     → leaf ≡ None → IfOk result (λ turned. IsTurned wave built above pays (units_of above) (Leaf None) turned.branch turned.turn)
     → IfOk result (λ turned. (least : ℕ) → bound_of (units_of above) (Leaf leaf) ≡ Some least
     → IsTurned wave pairing above pays least (Leaf leaf) turned.branch turned.turn)

@@ -29,7 +29,8 @@ one_more_apart wave capacity batches count covered wider batch is permitted apar
           (λ (ne : place ≢ count). inl (before.held order place (omega (arith, low, ne)) has)) (cases_eq place count));
       once = λ order left right l r has has_too. ⊎_elim
           (λ (e : left ≡ count). ⊎_elim (λ (f : right ≡ count). e ∙ sym f)
-          (λ (ne : right ≢ count). absurd (apart order (before.held order right (omega (arith, r, ne)) has_too) (here order left e has))) (cases_eq right count))
+          (λ (ne : right ≢ count). absurd (apart order (before.held order right (omega (arith, r, ne)) has_too) (here order left e has)))
+          (cases_eq right count))
           (λ (ne : left ≢ count). ⊎_elim
           (λ (f : right ≡ count). absurd (apart order (before.held order left (omega (arith, l, ne)) has) (here order right f has_too)))
           (λ (nf : right ≢ count). before.once order left right (omega (arith, l, ne)) (omega (arith, r, nf)) has has_too) (cases_eq right count))

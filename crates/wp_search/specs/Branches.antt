@@ -23,7 +23,8 @@ abbrev pub nodes_of : Branch → List Node
 nodes_of (Leaf None) = node.Leaf None ∷ []
 nodes_of (Leaf (Some worked)) = node.Leaf (Some (as_own worked.own)) ∷ []
 nodes_of (Dead order) = node.Dead order ∷ []
-nodes_of (Split' cut p together q apart) = node.Split cut.first cut.second (Some (as_own cut.worked.own)) ∷ (nodes_of together ++ nodes_of apart)
+nodes_of (Split' cut p together q apart)
+    = node.Split cut.first cut.second (Some (as_own cut.worked.own)) ∷ (nodes_of together ++ nodes_of apart)
 
 -- a leaf that isn't dead
 abbrev pub IsLeaf : Branch → Type 0
@@ -40,7 +41,8 @@ abbrev pub bound_of : ℕ → Branch → Option ℕ
 bound_of above (Leaf None) = Some above
 bound_of above (Leaf (Some worked)) = Some (own_bound worked)
 bound_of above (Dead order) = None
-bound_of above (Split' cut p together q apart) = lower_of (bound_of (own_bound cut.worked) together) (bound_of (own_bound cut.worked) apart)
+bound_of above (Split' cut p together q apart)
+    = lower_of (bound_of (own_bound cut.worked) together) (bound_of (own_bound cut.worked) apart)
 
 -- a subtree's bound can be told at once: a leaf's from its duals, and a node that is split keeps it
 abbrev pub HasBound : Branch → Type 0
@@ -66,7 +68,8 @@ IsBranch wave pairing above (Leaf None) = ⊤
 IsBranch wave pairing above (Leaf (Some worked)) = IsWorked wave pairing above worked
 IsBranch wave pairing above (Dead order) = IsDead pairing order
 IsBranch wave pairing above (Split' cut p together q apart) =
-    IsCut wave pairing above cut × (cut.least ≡ lower_of (bound_of (own_bound cut.worked) together) (bound_of (own_bound cut.worked) apart))
+    IsCut wave pairing above cut × (cut.least
+    ≡ lower_of (bound_of (own_bound cut.worked) together) (bound_of (own_bound cut.worked) apart))
     × IsBranch wave (with_pair pairing cut.first cut.second true) (sum cut.worked.own.duals) together
     × IsBranch wave (with_pair pairing cut.first cut.second false) (sum cut.worked.own.duals) apart
 
@@ -81,10 +84,11 @@ own_count (Split' cut p together q apart) = own_count together + own_count apart
 abbrev pub AreCutsWithin : ℕ → Branch → Type 0
 AreCutsWithin bound (Leaf leaf) = ⊤
 AreCutsWithin bound (Dead order) = ⊤
-AreCutsWithin bound (Split' cut p together q apart) = (own_bound cut.worked ≤ bound) × AreCutsWithin bound together × AreCutsWithin bound apart
+AreCutsWithin bound (Split' cut p together q apart)
+    = (own_bound cut.worked ≤ bound) × AreCutsWithin bound together × AreCutsWithin bound apart
 
--- how many turns its leaves may still take, but for those that the budget pays: one for a kept leaf, and for one with duals of its own three, since it may be
--- split into two kept leaves
+-- how many turns its leaves may still take, but for those that the budget pays: one for a kept leaf, and for one with
+-- duals of its own three, since it may be split into two kept leaves
 abbrev pub turns_left : Branch → ℕ
 turns_left (Leaf None) = 1
 turns_left (Leaf (Some worked)) = 3

@@ -18,8 +18,9 @@ pub record IsBest (wave : WavePicks) (capacity : ℕ) (best : BestBatching) : Ty
 abbrev pub KeepsBest : BestBatching → BestBatching → Type 0
 KeepsBest before after = (after ≡ before) ⊎ (after.cost < before.cost)
 
--- A search for a wave and a capacity, at whose root stand share duals that come to this: its tree is right; it has spent the price of each node with duals of
--- its own, and no more than its budget; and each node that is split has a bound that the tree's isn't below.
+-- A search for a wave and a capacity, at whose root stand share duals that come to this: its tree is right; it has
+-- spent the price of each node with duals of its own, and no more than its budget; and each node that is split has a
+-- bound that the tree's isn't below.
 pub record IsSearch (wave : WavePicks) (capacity shares : ℕ) (search : TreeSearch) : Type 0 where
   pub best : IsBest wave capacity search.best
   pub right : IsBranch wave (no_pairs wave capacity) shares search.tree
@@ -34,7 +35,8 @@ turns_within search = 3 * (search.budget - search.spent) + turns_left search.tre
 -- why a search ends: the budget doesn't pay for a further node, or the best batching costs the tree's bound
 abbrev pub HasEnded : WavePicks → ℕ → ℕ → TreeSearch → Type 0
 HasEnded wave capacity shares search =
-    (search.budget < search.spent + price (length wave.orders) capacity) ⊎ (bound_of (units_of shares) search.tree ≡ Some search.best.cost)
+    (search.budget < search.spent + price (length wave.orders) capacity)
+    ⊎ (bound_of (units_of shares) search.tree ≡ Some search.best.cost)
 
 -- what a turn makes of a search
 pub record IsOnward (wave : WavePicks) (capacity shares : ℕ) (before after : TreeSearch) (goes_on : Bool) : Type 0 where

@@ -24,9 +24,9 @@ pub record IsProper (wave : WavePicks) (capacity : ℕ) (batches : List (List �
   pub joined : NoJoinGains wave capacity batches
 
 -- a batching that was found, if one was
-abbrev pub IsFound : WavePicks → ℕ → Option (List (List ℕ)) → Type 0
-IsFound wave capacity None = ⊤
-IsFound wave capacity (Some batches) = IsProper wave capacity batches
+abbrev pub IsRestFound : WavePicks → ℕ → Option (List (List ℕ)) → Type 0
+IsRestFound wave capacity None = ⊤
+IsRestFound wave capacity (Some batches) = IsProper wave capacity batches
 
 -- a batching whose cost is this
 pub record IsSettled (wave : WavePicks) (capacity total : ℕ) (batches : List (List ℕ)) : Type 0 where
@@ -41,7 +41,8 @@ made_by _ = 0
 
 -- why a turn ended as it did, where the budget pays for a node or doesn't, and the bound of its leaf is this
 abbrev pub HasReason : WavePicks → ℕ → Bool → ℕ → Branch → Branch → LeafTurn → Type 0
-HasReason wave capacity pays least before after (Worked found) = (pays ≡ true) × IsFound wave capacity found × (turns_left after ≤ turns_left before + 2)
+HasReason wave capacity pays least before after (Worked found)
+    = (pays ≡ true) × IsRestFound wave capacity found × (turns_left after ≤ turns_left before + 2)
 HasReason wave capacity pays least before after Onward = turns_left after + 1 ≤ turns_left before
 HasReason wave capacity pays least before after Spent = pays ≡ false
 HasReason wave capacity pays least before after (Settled batching) = IsSettled wave capacity least batching
@@ -53,8 +54,8 @@ LeavesBound Onward = ⊥
 LeavesBound Spent = ⊤
 LeavesBound (Settled batching) = ⊤
 
--- of the leaves whose bound is the least, the first one changes: of two subtrees the first whose bound is the least changes in this way, and the other has the
--- nodes that it had
+-- of the leaves whose bound is the least, the first one changes: of two subtrees the first whose bound is the least
+-- changes in this way, and the other has the nodes that it had
 abbrev pub ChangesFirst : ℕ → ℕ → Branch → Branch → Type 0
 ChangesFirst least above (Split' cut p together q apart) (Split' cut_after r together_after s apart_after) =
     (bound_of (own_bound cut.worked) together ≡ Some least
@@ -63,9 +64,10 @@ ChangesFirst least above (Split' cut p together q apart) (Split' cut_after r tog
     → (nodes_of together_after ≡ nodes_of together) × ChangesFirst least (own_bound cut.worked) apart apart_after)
 ChangesFirst least above before after = ⊤
 
--- What a turn at the first leaf with the least bound makes of a subtree: it is right still, no bound of it has fallen, as many more nodes have duals of their
--- own as the turn made, and only nodes with that bound were split.
-pub record IsTurned (wave : WavePicks) (pairing : Pairing) (above : ℕ) (pays : Bool) (least : ℕ) (before after : Branch) (turn : LeafTurn) : Type 0 where
+-- What a turn at the first leaf with the least bound makes of a subtree: it is right still, no bound of it has fallen,
+-- as many more nodes have duals of their own as the turn made, and only nodes with that bound were split.
+pub record IsTurned (wave : WavePicks) (pairing : Pairing) (above : ℕ) (pays : Bool) (least : ℕ) (before after : Branch)
+    (turn : LeafTurn) : Type 0 where
   pub right : IsBranch wave pairing above after
   pub first : ChangesFirst least (units_of above) before after
   pub risen : IsNoLower (bound_of (units_of above) before) (bound_of (units_of above) after)

@@ -1,7 +1,7 @@
 ghost use Rattle.std.specs.Prelude.{◌≡◌, ◌≤◌, ◌⊎◌, ℕ, IfSome, Some, length};
 ghost use Rattle.wp_lengths.specs.Batchings.{IsCost};
 ghost use Rattle.wp_search.specs.Searches.{IsBest, KeepsBest};
-ghost use Rattle.wp_search.specs.Turns.{IsFound, IsProper};
+ghost use Rattle.wp_search.specs.Turns.{IsRestFound, IsProper};
 
 use crate::cost::cost_of;
 use wp_lengths::{Batching, Wave};
@@ -23,8 +23,8 @@ pub fn best_of(wave: &Wave, capacity: u32, batching: Batching) -> BestBatching
     BestBatching { batching, cost }
 }
 
-/// The cheaper of the best batching and one that was found, if one was. Of two that cost the same it is the one that was the
-/// best before.
+/// The cheaper of the best batching and one that was found, if one was. Of two that cost the same it is the one that
+/// was the best before.
 pub fn cheaper_of(
     wave: &Wave,
     capacity: u32,
@@ -32,11 +32,12 @@ pub fn cheaper_of(
     found: Option<Batching>,
 ) -> BestBatching
     requires best { IsBest wave.now capacity best }
-    requires found { IsFound wave.now capacity found }
+    requires found { IsRestFound wave.now capacity found }
     ensures best { IsBest wave.now capacity result }
     ensures either { (result ≡ best) ⊎ (found ≡ Some result.batching) }
     ensures kept { KeepsBest best result }
-    ensures no_dearer { IfSome found (λ batching. (cost : ℕ) → IsCost wave.now batching cost → result.cost ≤ cost) }
+    ensures no_dearer { IfSome found (λ batching. (cost : ℕ) → IsCost wave.now batching cost
+        → result.cost ≤ cost) }
 {
     let Some(batching) = found else {
         return best;

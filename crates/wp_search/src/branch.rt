@@ -15,8 +15,8 @@ pub enum Branch {
     Split(Cut, Box<Branch>, Box<Branch>),
 }
 
-/// A node that is split on a pair of orders, the lower first: what it has of its own, and the least bound below it, in units of
-/// length, which it has not where all leaves below it are dead.
+/// A node that is split on a pair of orders, the lower first: what it has of its own, and the least bound below it, in
+/// units of length, which it has not where all leaves below it are dead.
 #[derive(Drop)]
 pub struct Cut {
     pub first: u32,
@@ -37,8 +37,8 @@ pub fn lower_bound(left: Option<u64>, right: Option<u64>) -> Option<u64>
 }
 
 impl Branch {
-    /// The least bound of its leaves that aren't dead, in units of length, where the duals of the node above give this bound. None
-    /// comes exactly where all leaves are dead.
+    /// The least bound of its leaves that aren't dead, in units of length, where the duals of the node above give this
+    /// bound. None comes exactly where all leaves are dead.
     pub fn bound(&self, above: u64) -> Option<u64>
         requires { HasBound self.now }
         ensures { result ≡ least_of above self.now }

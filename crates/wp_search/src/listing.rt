@@ -40,7 +40,8 @@ fn split_node(cut: Cut) -> Node
 // Takes a subtree apart: its node goes behind others, and the subtrees below it onto those that are
 // left, the one with the pair together on top.
 fn list_top(branch: Branch, left: &mut Vec<Branch>, nodes: &mut Vec<Node>) -> Result<(), Memory>
-    ensures listed { OnOk result (nodes.new.items ++ stacked_nodes left.new.items ≡ nodes.old.items ++ (nodes_of branch ++ stacked_nodes left.old.items)) }
+    ensures listed { OnOk result (nodes.new.items ++ stacked_nodes left.new.items ≡ nodes.old.items
+        ++ (nodes_of branch ++ stacked_nodes left.old.items)) }
     ensures one { OnOk result (length nodes.new.items ≡ length nodes.old.items + 1) }
 {
     match branch {

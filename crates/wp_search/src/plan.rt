@@ -10,8 +10,8 @@ pub enum State {
     Open,
 }
 
-/// A plan of a wave: its batches, listed by their least orders; their cost, in units of length; a right tree and its bound,
-/// below which no batching costs; and whether the bound is the cost.
+/// A plan of a wave: its batches, listed by their least orders; their cost, in units of length; a right tree and its
+/// bound, below which no batching costs; and whether the bound is the cost.
 #[derive(Drop)]
 pub struct Planned {
     pub batching: Batching,

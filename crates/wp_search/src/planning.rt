@@ -53,7 +53,8 @@ fn plan_of(alloc: Global, search: TreeSearch, bound: u64) -> Result<Planned, Mem
     ensures cost { IfOk result (λ planned. planned.cost ≡ search.best.cost) }
     ensures nodes { IfOk result (λ planned. planned.tree.nodes ≡ nodes_of search.tree) }
     ensures bound { IfOk result (λ planned. planned.bound ≡ bound) }
-    ensures state { IfOk result (λ planned. (planned.state ≡ state.Proven) ↔ (bound ≡ search.best.cost)) }
+    ensures state { IfOk result (λ planned. (planned.state ≡ state.Proven)
+        ↔ (bound ≡ search.best.cost)) }
 {
     let best = search.best;
     let state = state_of(bound, best.cost);
@@ -72,10 +73,10 @@ fn rounds_of(orders: u32, budget: u64) -> u32 {
     1 + (budget / BUDGET_FOR_ONE).min(u64::from(orders / ORDERS_FOR_ONE)) as u32
 }
 
-/// A good plan of a wave for a capacity, 1 to 8, and a budget, 0 to 10 ^ 18. The search is that of branch and price (Ryan and
-/// Foster, 1981): of the leaves of its tree whose bound is the least the first takes a turn, until that bound is the cost of
-/// the best batching, or the budget doesn't pay for the leaf's own duals. The workers, 1 to 16, and the gate that they pass are
-/// handed to the pricing. `Memory` comes only where memory is wanting.
+/// A good plan of a wave for a capacity, 1 to 8, and a budget, 0 to 10 ^ 18. The search is that of branch and price
+/// (Ryan and Foster, 1981): of the leaves of its tree whose bound is the least the first takes a turn, until that bound
+/// is the cost of the best batching, or the budget doesn't pay for the leaf's own duals. The workers, 1 to 16, and the
+/// gate that they pass are handed to the pricing. `Memory` comes only where memory is wanting.
 pub fn plan_wave<R: Threads + Sync, G: Gate>(
     rt: &R,
     alloc: Global,

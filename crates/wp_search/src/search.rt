@@ -4,7 +4,7 @@ ghost use Rattle.wp_lengths.specs.Duals.{AreShares, units_of};
 ghost use Rattle.wp_search.specs.Branches.{HasBound, IsBranch, bound_of as least_of};
 ghost use Rattle.wp_node.specs.Prices.{price};
 ghost use Rattle.wp_search.specs.Searches.{HasEnded, IsBest, IsOnward, IsSearch, KeepsBest};
-ghost use Rattle.wp_search.specs.Turns.{IsFound, IsProper, IsTurned};
+ghost use Rattle.wp_search.specs.Turns.{IsRestFound, IsProper, IsTurned};
 
 use crate::best::{BestBatching, best_of, cheaper_of};
 use crate::branch::Branch;
@@ -48,9 +48,11 @@ fn turn_at_root<R: Threads + Sync, G: Gate>(
     search: &mut TreeSearch,
 ) -> Result<LeafTurn, Memory>
     requires shares { AreShares turner.now.wave.now turner.now.capacity.most shares.now }
-    requires tree { IsBranch turner.now.wave.now (no_pairs turner.now.wave.now turner.now.capacity.most) (sum shares.now) search.old.tree }
+    requires tree { IsBranch turner.now.wave.now
+        (no_pairs turner.now.wave.now turner.now.capacity.most) (sum shares.now) search.old.tree }
     requires bound { least_of (units_of (sum shares.now)) search.old.tree ≡ Some turner.now.least }
-    ensures turned { IfOk result (IsTurned turner.now.wave.now (no_pairs turner.now.wave.now turner.now.capacity.most) (sum shares.now)
+    ensures turned { IfOk result (IsTurned turner.now.wave.now
+        (no_pairs turner.now.wave.now turner.now.capacity.most) (sum shares.now)
         turner.now.pays turner.now.least search.old.tree search.new.tree) }
     ensures best { OnOk result (search.new.best ≡ search.old.best) }
     ensures budget { OnOk result (search.new.budget ≡ search.old.budget) }
@@ -65,7 +67,7 @@ fn turn_at_root<R: Threads + Sync, G: Gate>(
 fn paid(wave: &Wave, capacity: Capacity, search: TreeSearch, found: Option<Batching>) -> TreeSearch
     requires pays { search.spent + price (length wave.now.orders) capacity.most ≤ search.budget }
     requires best { IsBest wave.now capacity.most search.best }
-    requires found { IsFound wave.now capacity.most found }
+    requires found { IsRestFound wave.now capacity.most found }
     ensures best { IsBest wave.now capacity.most result.best }
     ensures kept { KeepsBest search.best result.best }
     ensures tree { result.tree ≡ search.tree }
@@ -107,10 +109,13 @@ fn take_step<R: Threads + Sync, G: Gate>(
     bound: u64,
 ) -> Result<SearchStep, Memory>
     requires shares { AreShares root.now.wave.now root.now.capacity.most root.now.shares.now }
-    requires search { IsSearch root.now.wave.now root.now.capacity.most (sum root.now.shares.now) search }
+    requires search { IsSearch root.now.wave.now root.now.capacity.most
+        (sum root.now.shares.now) search }
     requires bound { least_of (units_of (sum root.now.shares.now)) search.tree ≡ Some bound }
-    ensures onward { IfOk result (λ step. IsOnward root.now.wave.now root.now.capacity.most (sum root.now.shares.now) search step.search step.goes_on) }
-    ensures kept { IfOk result (λ step. bound < search.best.cost → KeepsBest search.best step.search.best) }
+    ensures onward { IfOk result (λ step. IsOnward root.now.wave.now root.now.capacity.most
+        (sum root.now.shares.now) search step.search step.goes_on) }
+    ensures kept { IfOk result (λ step. bound < search.best.cost
+        → KeepsBest search.best step.search.best) }
 {
     let SearchRoot {
         wave,
@@ -147,18 +152,21 @@ fn take_step<R: Threads + Sync, G: Gate>(
     })
 }
 
-/// Searches until the best batching costs the tree's bound, or the budget doesn't pay for a further node: of the leaves whose
-/// bound is the least the first takes a turn. Above the root stand the share duals.
+/// Searches until the best batching costs the tree's bound, or the budget doesn't pay for a further node: of the leaves
+/// whose bound is the least the first takes a turn. Above the root stand the share duals.
 pub fn search_on<R: Threads + Sync, G: Gate>(
     workers: &Workers<'_, R, G>,
     root: &SearchRoot<'_>,
     start: TreeSearch,
 ) -> Result<TreeSearch, Memory>
     requires shares { AreShares root.now.wave.now root.now.capacity.most root.now.shares.now }
-    requires start { IsSearch root.now.wave.now root.now.capacity.most (sum root.now.shares.now) start }
-    ensures search { IfOk result (IsSearch root.now.wave.now root.now.capacity.most (sum root.now.shares.now)) }
+    requires start { IsSearch root.now.wave.now root.now.capacity.most
+        (sum root.now.shares.now) start }
+    ensures search { IfOk result (IsSearch root.now.wave.now root.now.capacity.most
+        (sum root.now.shares.now)) }
     ensures budget { IfOk result (λ search. search.budget ≡ start.budget) }
-    ensures ended { IfOk result (HasEnded root.now.wave.now root.now.capacity.most (sum root.now.shares.now)) }
+    ensures ended { IfOk result (HasEnded root.now.wave.now root.now.capacity.most
+        (sum root.now.shares.now)) }
     ensures kept { IfOk result (λ search. KeepsBest start.best search.best) }
 {
     let _orders = root.wave.orders();

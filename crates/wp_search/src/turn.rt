@@ -3,7 +3,8 @@ ghost use Rattle.wp_cert.specs.Paths.{IsPath, pairing_of};
 ghost use Rattle.wp_cert.specs.Trees.{lower_of, with_pair};
 ghost use Rattle.wp_lengths.specs.Duals.{units_of};
 ghost use Rattle.wp_pairs.specs.Permitted.{AreUndecided};
-ghost use Rattle.wp_search.specs.Branches.{HasBound, IsBranch, IsCut, IsFreshSplit, IsLeaf, IsWorked, bound_of as least_of, own_bound};
+ghost use Rattle.wp_search.specs.Branches.{HasBound, IsBranch, IsCut, IsFreshSplit, IsLeaf, IsWorked};
+ghost use Rattle.wp_search.specs.Branches.{bound_of as least_of, own_bound};
 ghost use Rattle.wp_node.specs.Raises.{AreFeasibleDuals};
 ghost use Rattle.wp_search.specs.Turns.{IsTurned};
 ghost use Rattle.wp_search.specs.declared.branch.Branch.TheVariants as branches;
@@ -20,8 +21,8 @@ use wp_outside::Gate;
 use wp_pairs::{Batch, Capacity, OrderPair};
 use wp_price::Workers;
 
-/// What stays the same in a turn: the workers, the wave and the capacity; the bound of the leaf that takes it, which is the
-/// least; what the best batching costs; and whether the budget pays for a node.
+/// What stays the same in a turn: the workers, the wave and the capacity; the bound of the leaf that takes it, which is
+/// the least; what the best batching costs; and whether the budget pays for a node.
 #[derive(Clone, Copy)]
 pub struct Turner<'a, R, G> {
     pub workers: &'a Workers<'a, R, G>,
@@ -60,7 +61,8 @@ fn turn_kept<R: Threads + Sync, G: Gate>(
     columns: &[Batch],
 ) -> Result<TurnedBranch, Memory>
     requires above { AreFeasibleDuals paired.now.wave.now paired.now.pairs.now above.now }
-    ensures { IfOk result (λ turned. IsTurned paired.now.wave.now paired.now.pairs.now (sum above.now) turner.now.pays (units_of (sum above.now))
+    ensures { IfOk result (λ turned. IsTurned paired.now.wave.now paired.now.pairs.now
+        (sum above.now) turner.now.pays (units_of (sum above.now))
         (branches.Leaf None) turned.branch turned.turn) }
 {
     if let Some(order) = paired.pairs.dead() {
@@ -89,7 +91,12 @@ fn turn_kept<R: Threads + Sync, G: Gate>(
 
 // A node that is split on a pair: below it are two leaves that keep its duals.
 fn split_on(alloc: Global, first: u32, second: u32, worked: Worked) -> Result<Branch, Memory>
-    ensures { IfOk result (IsFreshSplit (record { first = first; second = second; worked = worked; least = Some (own_bound worked) })) }
+    ensures { IfOk result (IsFreshSplit (record {
+      first = first;
+      second = second;
+      worked = worked;
+      least = Some (own_bound worked);
+    })) }
 {
     let least = worked.own.duals.bound();
     let together = Box::new(alloc, Branch::Leaf(None))?;
@@ -111,7 +118,8 @@ fn turn_worked<R: Threads + Sync, G: Gate>(
 ) -> Result<TurnedBranch, Memory>
     requires worked { IsWorked paired.now.wave.now paired.now.pairs.now 0 worked }
     ensures { IfOk result (λ turned. (above : ℕ) → above ≤ sum worked.own.duals
-        → IsTurned paired.now.wave.now paired.now.pairs.now above turner.now.pays (own_bound worked) (branches.Leaf (Some worked)) turned.branch turned.turn) }
+        → IsTurned paired.now.wave.now paired.now.pairs.now above turner.now.pays (own_bound worked)
+        (branches.Leaf (Some worked)) turned.branch turned.turn) }
 {
     match choose_pair(turner.workers.alloc, paired.pairs, &worked, turner.cost)? {
         Some((first, second)) => Ok(TurnedBranch {
@@ -142,11 +150,15 @@ fn turn_leaf<R: Threads + Sync, G: Gate>(
     leaf: Option<Worked>,
 ) -> Result<TurnedBranch, Memory>
     requires path { IsPath turner.now.wave.now turner.now.capacity.most path.now.items }
-    requires above { AreFeasibleDuals turner.now.wave.now (pairing_of turner.now.wave.now turner.now.capacity.most path.now.items) above.now }
-    requires leaf { IsBranch turner.now.wave.now (pairing_of turner.now.wave.now turner.now.capacity.most path.now.items) (sum above.now)
+    requires above { AreFeasibleDuals turner.now.wave.now
+        (pairing_of turner.now.wave.now turner.now.capacity.most path.now.items) above.now }
+    requires leaf { IsBranch turner.now.wave.now
+        (pairing_of turner.now.wave.now turner.now.capacity.most path.now.items) (sum above.now)
         (branches.Leaf leaf) }
-    ensures { IfOk result (λ turned. (least : ℕ) → least_of (units_of (sum above.now)) (branches.Leaf leaf) ≡ Some least
-        → IsTurned turner.now.wave.now (pairing_of turner.now.wave.now turner.now.capacity.most path.now.items) (sum above.now)
+    ensures { IfOk result (λ turned. (least : ℕ)
+        → least_of (units_of (sum above.now)) (branches.Leaf leaf) ≡ Some least
+        → IsTurned turner.now.wave.now (pairing_of turner.now.wave.now turner.now.capacity.most path.now.items)
+        (sum above.now)
         turner.now.pays least (branches.Leaf leaf) turned.branch turned.turn) }
 {
     let pairs = pairs_of(turner.wave, turner.capacity, path);
@@ -171,12 +183,15 @@ fn turn_in_place<R: Threads + Sync, G: Gate>(
     branch: &mut Branch,
 ) -> Result<LeafTurn, Memory>
     requires path { IsPath turner.now.wave.now turner.now.capacity.most path.now.items }
-    requires above { AreFeasibleDuals turner.now.wave.now (pairing_of turner.now.wave.now turner.now.capacity.most path.now.items) above.now }
+    requires above { AreFeasibleDuals turner.now.wave.now
+        (pairing_of turner.now.wave.now turner.now.capacity.most path.now.items) above.now }
     requires leaf { IsLeaf branch.old }
-    requires branch { IsBranch turner.now.wave.now (pairing_of turner.now.wave.now turner.now.capacity.most path.now.items) (sum above.now)
+    requires branch { IsBranch turner.now.wave.now
+        (pairing_of turner.now.wave.now turner.now.capacity.most path.now.items) (sum above.now)
         branch.old }
     requires least { least_of (units_of (sum above.now)) branch.old ≡ Some turner.now.least }
-    ensures { IfOk result (IsTurned turner.now.wave.now (pairing_of turner.now.wave.now turner.now.capacity.most path.now.items)
+    ensures { IfOk result (IsTurned turner.now.wave.now
+        (pairing_of turner.now.wave.now turner.now.capacity.most path.now.items)
         (sum above.now) turner.now.pays turner.now.least branch.old branch.new) }
 {
     match branch {
@@ -194,7 +209,11 @@ fn turn_in_place<R: Threads + Sync, G: Gate>(
 fn pair_of(cut: &Cut, together: bool) -> OrderPair
     requires first { cut.now.first < 64 }
     requires second { cut.now.second < 64 }
-    ensures { result ≡ record { first = cut.now.first; second = cut.now.second; together = together } }
+    ensures { result ≡ record {
+      first = cut.now.first;
+      second = cut.now.second;
+      together = together;
+    } }
 {
     OrderPair {
         first: cut.first as u8,
@@ -211,7 +230,8 @@ fn keep_least(cut: &mut Cut, together: &Branch, apart: &Branch)
       first = cut.old.first;
       second = cut.old.second;
       worked = cut.old.worked;
-      least = lower_of (least_of (own_bound cut.old.worked) together.now) (least_of (own_bound cut.old.worked) apart.now);
+      least = lower_of (least_of (own_bound cut.old.worked) together.now)
+          (least_of (own_bound cut.old.worked) apart.now);
     } }
 {
     let above = cut.worked.own.duals.bound();
@@ -226,9 +246,9 @@ fn is_together(cut: &Cut, together: &Branch, least: u64) -> bool
     together.bound(cut.worked.own.duals.bound()) == Some(least)
 }
 
-/// A turn at the first leaf of a subtree, in preorder, whose bound is the least. The subtree is at the end of a path of pairs, below
-/// a node with these duals and columns; where the budget doesn't pay for a node, none gets duals of its own. After `Memory`,
-/// which comes only where memory is wanting, nothing is said of the subtree.
+/// A turn at the first leaf of a subtree, in preorder, whose bound is the least. The subtree is at the end of a path of
+/// pairs, below a node with these duals and columns; where the budget doesn't pay for a node, none gets duals of its
+/// own. After `Memory`, which comes only where memory is wanting, nothing is said of the subtree.
 #[cycle(turns)]
 pub fn take_turn<R: Threads + Sync, G: Gate>(
     turner: &Turner<'_, R, G>,
@@ -238,11 +258,14 @@ pub fn take_turn<R: Threads + Sync, G: Gate>(
     branch: &mut Branch,
 ) -> Result<LeafTurn, Memory>
     requires path { IsPath turner.now.wave.now turner.now.capacity.most path.old.items }
-    requires above { AreFeasibleDuals turner.now.wave.now (pairing_of turner.now.wave.now turner.now.capacity.most path.old.items) above.now }
-    requires branch { IsBranch turner.now.wave.now (pairing_of turner.now.wave.now turner.now.capacity.most path.old.items) (sum above.now)
+    requires above { AreFeasibleDuals turner.now.wave.now
+        (pairing_of turner.now.wave.now turner.now.capacity.most path.old.items) above.now }
+    requires branch { IsBranch turner.now.wave.now
+        (pairing_of turner.now.wave.now turner.now.capacity.most path.old.items) (sum above.now)
         branch.old }
     requires least { least_of (units_of (sum above.now)) branch.old ≡ Some turner.now.least }
-    ensures turned { IfOk result (IsTurned turner.now.wave.now (pairing_of turner.now.wave.now turner.now.capacity.most path.old.items)
+    ensures turned { IfOk result (IsTurned turner.now.wave.now
+        (pairing_of turner.now.wave.now turner.now.capacity.most path.old.items)
         (sum above.now) turner.now.pays turner.now.least branch.old branch.new) }
     ensures path { OnOk result (path.new.items ≡ path.old.items) }
 {
@@ -274,13 +297,17 @@ fn take_turn_below<R: Threads + Sync, G: Gate>(
     branch: &mut Branch,
 ) -> Result<LeafTurn, Memory>
     requires path { IsPath turner.now.wave.now turner.now.capacity.most path.old.items }
-    requires pair { AreUndecided (pairing_of turner.now.wave.now turner.now.capacity.most path.old.items) pair.first pair.second }
-    requires worked { IsWorked turner.now.wave.now (pairing_of turner.now.wave.now turner.now.capacity.most path.old.items) 0 worked.now }
+    requires pair { AreUndecided (pairing_of turner.now.wave.now turner.now.capacity.most
+        path.old.items) pair.first pair.second }
+    requires worked { IsWorked turner.now.wave.now
+        (pairing_of turner.now.wave.now turner.now.capacity.most path.old.items) 0 worked.now }
     requires branch { IsBranch turner.now.wave.now
-        (pairing_of turner.now.wave.now turner.now.capacity.most (path.old.items ++ pair ∷ [])) (sum worked.now.own.duals) branch.old }
+        (pairing_of turner.now.wave.now turner.now.capacity.most (path.old.items ++ pair ∷ []))
+        (sum worked.now.own.duals) branch.old }
     requires least { least_of (own_bound worked.now) branch.old ≡ Some turner.now.least }
     ensures turned { IfOk result (IsTurned turner.now.wave.now
-        (pairing_of turner.now.wave.now turner.now.capacity.most (path.old.items ++ pair ∷ [])) (sum worked.now.own.duals)
+        (pairing_of turner.now.wave.now turner.now.capacity.most (path.old.items ++ pair ∷ []))
+        (sum worked.now.own.duals)
         turner.now.pays turner.now.least branch.old branch.new) }
     ensures path { OnOk result (path.new.items ≡ path.old.items) }
 {

@@ -1,6 +1,6 @@
 ghost use Rattle.std.specs.Prelude.{◌<◌, ℕ, Contains, IfOk, IsTrue, length};
 ghost use Rattle.wp_lengths.specs.Batchings.{IsBatching};
-ghost use Rattle.wp_search.specs.Turns.{IsFound};
+ghost use Rattle.wp_search.specs.Turns.{IsRestFound};
 
 use std::alloc::Global;
 use wp_batch::improved;
@@ -20,8 +20,8 @@ fn has_all(orders: u32, batch: Batch) -> bool
     true
 }
 
-/// Whether batches are a batching of a wave within a capacity: each is permitted and fits the cart, if the wave has one, no two
-/// meet, and each order is in one.
+/// Whether batches are a batching of a wave within a capacity: each is permitted and fits the cart, if the wave has
+/// one, no two meet, and each order is in one.
 pub fn is_batching(wave: &Wave, capacity: Capacity, batches: &[Batch]) -> bool
     ensures { IsTrue result → IsBatching wave.now capacity.most batches.now }
 {
@@ -36,15 +36,15 @@ pub fn is_batching(wave: &Wave, capacity: Capacity, batches: &[Batch]) -> bool
     has_all(wave.orders(), covered)
 }
 
-/// The batching that batches are, improved by moves and joins that save. None comes where they are no batching of the wave within
-/// the capacity. `Memory` comes only where memory is wanting.
+/// The batching that batches are, improved by moves and joins that save. None comes where they are no batching of the
+/// wave within the capacity. `Memory` comes only where memory is wanting.
 pub fn better_batching(
     alloc: Global,
     wave: &Wave,
     capacity: Capacity,
     batches: &[Batch],
 ) -> Result<Option<Batching>, Memory>
-    ensures { IfOk result (IsFound wave.now capacity.most) }
+    ensures { IfOk result (IsRestFound wave.now capacity.most) }
 {
     if !is_batching(wave, capacity, batches) {
         return Ok(None);

@@ -22,15 +22,18 @@ given_to picker (owner ∷ owners) (name ∷ names) (number ∷ numbers) =
 -- the line of a picker, from 0, who is printed from 1
 abbrev pub picker_line : Crew → List (List ℕ) → List ℕ → ℕ → List ℕ
 picker_line crew names numbers picker =
-    line (codes "picker" ++ number_after_space (picker + 1) ++ codes " load" ++ number_after_space (slice_index crew.loads.items picker)
+    line (codes "picker" ++ number_after_space (picker + 1) ++ codes " load"
+    ++ number_after_space (slice_index crew.loads.items picker)
     ++ codes " batches" ++ given_to picker crew.picker_of.items names numbers)
 
 -- the first line of a crew: its longest load, and what no crew's longest load is below
 abbrev pub longest_line : Crew → List ℕ
-longest_line crew = line (codes "crew longest" ++ number_after_space crew.longest ++ codes " least" ++ number_after_space crew.least)
+longest_line crew = line (codes "crew longest" ++ number_after_space crew.longest ++ codes " least"
+    ++ number_after_space crew.least)
 
 -- the section of a crew: its longest load and what no crew's longest load is below, a line for each picker, and a last
 -- line
 abbrev pub crew_section : Crew → List (List ℕ) → List ℕ → List ℕ
 crew_section crew names numbers =
-    longest_line crew ++ flat_map (picker_line crew names numbers) (range_with_len 0 (length crew.loads.items)) ++ line (codes "end crew")
+    longest_line crew ++ flat_map (picker_line crew names numbers) (range_with_len 0 (length crew.loads.items))
+    ++ line (codes "end crew")

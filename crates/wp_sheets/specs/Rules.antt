@@ -9,4 +9,5 @@ rule_words walked shortest = number_after_space walked ++ number_after_space (wa
 -- the line of what three usual rules would walk
 abbrev pub rules_line : ℕ → ℕ → ℕ → ℕ → List ℕ
 rules_line shape back gap shortest =
-    line (codes "rules s-shape" ++ rule_words shape shortest ++ codes " return" ++ rule_words back shortest ++ codes " largest-gap" ++ rule_words gap shortest)
+    line (codes "rules s-shape" ++ rule_words shape shortest ++ codes " return" ++ rule_words back shortest
+    ++ codes " largest-gap" ++ rule_words gap shortest)

@@ -26,7 +26,8 @@ later_text false = []
 -- them a batch may have
 abbrev pub wave_words : WaveHolds → ℕ → List ℕ
 wave_words wave capacity =
-    codes "wave" ++ after_space wave.wave ++ codes " entry" ++ number_after_space wave.number ++ codes " orders" ++ number_after_space (length wave.orders)
+    codes "wave" ++ after_space wave.wave ++ codes " entry" ++ number_after_space wave.number ++ codes " orders"
+    ++ number_after_space (length wave.orders)
     ++ codes " capacity" ++ number_after_space capacity
 
 -- what it adds where carts hold a number of units
@@ -37,7 +38,8 @@ units_words (Some units) = codes " units" ++ number_after_space units
 -- what it says of the search: the cost of the batching, a bound that no batching costs less than, and the state
 abbrev pub search_words : ℕ → ℕ → Bool → List ℕ
 search_words cost bound state_open =
-    codes " cost" ++ number_after_space cost ++ codes " bound" ++ number_after_space bound ++ after_space (state_text state_open)
+    codes " cost" ++ number_after_space cost ++ codes " bound" ++ number_after_space bound
+    ++ after_space (state_text state_open)
 
 -- the first line of a wave's sheet
 abbrev pub heading_line : WaveHolds → ℕ → Option ℕ → ℕ → ℕ → Bool → Bool → List ℕ
@@ -56,7 +58,8 @@ order_after_space wave order = after_space (name_of_order wave order)
 -- the first line of a batch: its number, the length of its tour, and the names of its orders
 abbrev pub batch_line : ℕ → WaveHolds → List ℕ → ℕ → List ℕ
 batch_line number wave batch tour_length =
-    line (codes "batch" ++ number_after_space number ++ codes " length" ++ number_after_space tour_length ++ codes " orders"
+    line (codes "batch" ++ number_after_space number ++ codes " length" ++ number_after_space tour_length
+    ++ codes " orders"
     ++ flat_map (order_after_space wave) batch)
 
 -- a point: its aisle, a dash and its slot
@@ -79,7 +82,8 @@ article_after_space stock number = option_map_or (λ row. after_space (name_of_a
 -- the line of a pick: where it lies, the article, how many units, and the order that they are for
 abbrev pub pick_line : WaveHolds → Stock → Hold → List ℕ
 pick_line wave stock pick =
-    line (codes "pick" ++ location_after_space stock pick.row ++ article_after_space stock pick.row ++ number_after_space pick.quantity
+    line (codes "pick" ++ location_after_space stock pick.row ++ article_after_space stock pick.row
+    ++ number_after_space pick.quantity
     ++ order_after_space wave pick.order)
 
 -- the part of a batch: its first line, its tour, and its picks

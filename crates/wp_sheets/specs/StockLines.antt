@@ -20,7 +20,8 @@ location_after_space stock number = option_map_or (λ row. after_space (location
 -- the line of one row from which a refill took: the entry's number, the wave, the order, the location and the units
 abbrev pub refill_line : Stock → Refill → Hold → List ℕ
 refill_line stock refill hold =
-    line (codes "refill" ++ number_after_space refill.number ++ after_space refill.wave ++ after_space refill.order ++ location_after_space stock hold.row
+    line (codes "refill" ++ number_after_space refill.number ++ after_space refill.wave ++ after_space refill.order
+    ++ location_after_space stock hold.row
     ++ number_after_space hold.quantity)
 
 -- the lines of a refill, a hold after the other

@@ -1,7 +1,7 @@
 //! The lines of refills and of rows as they stand.
 ghost use Rattle.std.specs.Prelude.{◌≡◌, ◌<◌, ◌++◌, length, IfOk};
 ghost use Rattle.std.specs.List.{All};
-ghost use Rattle.wp_sheets.specs.StockLines.{article_line, name_of_article, refill_line, refill_lines, row_line};
+ghost use Rattle.wp_sheets.specs.StockLines.{name_of_article, refill_line, refill_lines, row_line};
 
 use std::alloc::Global;
 use std::io::Write;

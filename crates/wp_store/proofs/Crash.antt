@@ -1,5 +1,6 @@
 -- What a crash leaves in each step of an append and of a repair, where a file is records' bytes and what stands behind them.
-use Rattle.std.proofs.Common.{◌≡◌, inl, inr, refl, sym, ◌∙◌, ap, subst, ℕ, ◌+◌, ◌-◌, ◌≤◌, ◌<◌, List, [], ◌∷◌, ◌++◌, length, get_or, take, drop, arith, length-append, length-take, length-drop, take-append-drop}
+use Rattle.std.proofs.Common.{◌≡◌, inl, inr, refl, sym, ◌∙◌, ap, subst, ℕ, ◌+◌, ◌-◌, ◌≤◌, ◌<◌, List, [], ◌∷◌, ◌++◌, length, get_or, take, drop, arith}
+use Rattle.std.proofs.Common.{length-append, length-take, length-drop, take-append-drop}
 use Rattle.std.proofs.lemmas.Bool.{cases_eq}
 use Rattle.std.proofs.lemmas.List.{append-nil, append_assoc, take_at, drop_at, drop_more, take_all, drop_all}
 use Rattle.std.proofs.Math.Seq.{take-append-add}
@@ -34,7 +35,8 @@ module _ (front : List ℕ) (bodies : List (List ℕ)) (left : ℕ) (are : AreRe
   torn_behind n c torn =
       let kept : take (length front + 1) c ≡ front ++ 0 ∷ [] = torn.before ∙ take_all _ _ (omega (arith, length-closed)) in
       let whole : c ≡ front ++ 0 ∷ drop (length front + 1) c =
-      sym (take-append-drop (length front + 1) c) ∙ ap (λ (l : List ℕ). l ++ drop (length front + 1) c) kept ∙ append_assoc front (0 ∷ []) (drop (length front + 1) c) in
+      sym (take-append-drop (length front + 1) c) ∙ ap (λ (l : List ℕ). l ++ drop (length front + 1) c) kept ∙ append_assoc front (0 ∷ [])
+      (drop (length front + 1) c) in
       ap records_of whole ∙ closed_alone (drop (length front + 1) c)
 
   -- the file with a piece behind the closed byte
@@ -65,7 +67,8 @@ module _ (front : List ℕ) (bodies : List (List ℕ)) (left : ℕ) (are : AreRe
     with_it : records_of (front ++ 1 ∷ piece) ≡ after
     with_it =
         ap records_of opened_is
-        ∙ records_alone (front ++ record_of body) after (0 ∷ []) (left - 1) are_with counts_with (read_none (left - 1) (0 ∷ []) (none_in_few (0 ∷ []) (omega arith)))
+        ∙ records_alone (front ++ record_of body) after (0 ∷ []) (left - 1) are_with counts_with
+        (read_none (left - 1) (0 ∷ []) (none_in_few (0 ∷ []) (omega arith)))
 
     -- whatever stands in the place of the closed byte, the record counts or it doesn't
     with_any_mark : (mark : ℕ) → IsWithOrWithout bodies body (front ++ mark ∷ piece)
@@ -80,7 +83,8 @@ module _ (front : List ℕ) (bodies : List (List ℕ)) (left : ℕ) (are : AreRe
         let long : length (front ++ 0 ∷ piece) ≡ length front + (1 + length piece) = omega (arith, length-append front (0 ∷ piece)) in
         let mark = get_or c (length front) 0 in
         let behind : drop (length front + 1) (front ++ 0 ∷ piece) ≡ piece =
-        ap (λ (l : List ℕ). drop (length front + 1) l) (sym (append_assoc front (0 ∷ []) piece)) ∙ drop_at (front ++ 0 ∷ []) piece (length front + 1) length-closed in
+        ap (λ (l : List ℕ). drop (length front + 1) l) (sym (append_assoc front (0 ∷ []) piece)) ∙ drop_at (front ++ 0 ∷ []) piece
+        (length front + 1) length-closed in
         let rest : drop (length front) c ≡ mark ∷ piece =
         drop_more c (length front) 0 (omega (arith, torn.no_shorter)) ∙ ap (λ (l : List ℕ). mark ∷ l) (torn.after ∙ behind) in
         let whole : c ≡ front ++ mark ∷ piece =
@@ -92,12 +96,15 @@ module _ (front : List ℕ) (bodies : List (List ℕ)) (left : ℕ) (are : AreRe
     pub opened : written_over (length front) (1 ∷ []) (front ++ 0 ∷ piece) ≡ front ++ record_of body ++ 0 ∷ []
     opened =
         ap (λ (l : List ℕ). l ++ (1 ∷ []) ++ drop (length front + 1) (front ++ 0 ∷ piece)) (take_at front (0 ∷ piece) (length front) refl)
-        ∙ ap (λ (l : List ℕ). front ++ (1 ∷ []) ++ l) (ap (λ (l : List ℕ). drop (length front + 1) l) (sym (append_assoc front (0 ∷ []) piece)) ∙ drop_at (front ++ 0 ∷ []) piece (length front + 1) length-closed)
+        ∙ ap (λ (l : List ℕ). front ++ (1 ∷ []) ++ l)
+        (ap (λ (l : List ℕ). drop (length front + 1) l) (sym (append_assoc front (0 ∷ []) piece)) ∙ drop_at (front ++ 0 ∷ []) piece
+        (length front + 1) length-closed)
         ∙ append_assoc front (1 ∷ []) piece
         ∙ opened_is
 
 -- whole records and a closed byte are a file at rest
-pub rests : (front : List ℕ) (bodies : List (List ℕ)) (left : ℕ) → AreRecords front bodies → length bodies + left ≡ most_records → length front ≡ stored_bytes bodies
+pub rests : (front : List ℕ) (bodies : List (List ℕ)) (left : ℕ) → AreRecords front bodies → length bodies + left ≡ most_records
+    → length front ≡ stored_bytes bodies
     → (records_of (front ++ 0 ∷ []) ≡ bodies) × IsAtRest (front ++ 0 ∷ [])
 rests front bodies left are counts size =
     let is : records_of (front ++ 0 ∷ []) ≡ bodies = closed_alone front bodies left are counts [] in

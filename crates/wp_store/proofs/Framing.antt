@@ -1,5 +1,6 @@
 -- Records at the front of bytes.
-use Rattle.std.proofs.Common.{◌≡◌, ◌≢◌, ◌⊎◌, inl, inr, refl, sym, ◌∙◌, ap, subst, ℕ, zero, suc, ◌+◌, ◌/◌, ◌%◌, ◌≤◌, List, [], ◌∷◌, ◌++◌, length, take, drop, Option, Some, None, arith, length-append, length-take, length-drop, take-append-drop}
+use Rattle.std.proofs.Common.{◌≡◌, ◌≢◌, ◌⊎◌, inl, inr, refl, sym, ◌∙◌, ap, subst, ℕ, zero, suc, ◌+◌, ◌/◌, ◌%◌, ◌≤◌, List, [], ◌∷◌, ◌++◌, length, take, drop}
+use Rattle.std.proofs.Common.{Option, Some, None, arith, length-append, length-take, length-drop, take-append-drop}
 use Rattle.std.proofs.lemmas.List.{append_assoc, take_at, drop_at, take-append-le, drop-append-le, drop-drop}
 use Rattle.std.proofs.lemmas.List.Sums.{sum_by-cons}
 use Rattle.std.proofs.lemmas.Bool.Decides.{nat_tests}
@@ -22,7 +23,8 @@ Fits n behind = (1 ≤ n) × (n ≤ most_body_bytes) × (n ≤ length behind)
 
 -- a head whose length fits says a record
 read : (mark a b c d : ℕ) (behind : List ℕ) → mark ≡ 1 → Fits (length_of_bytes a b c d) behind
-    → first_record (mark ∷ a ∷ b ∷ c ∷ d ∷ behind) ≡ Some (record { body = take (length_of_bytes a b c d) behind; rest = drop (length_of_bytes a b c d) behind })
+    → first_record (mark ∷ a ∷ b ∷ c ∷ d ∷ behind)
+    ≡ Some (record { body = take (length_of_bytes a b c d) behind; rest = drop (length_of_bytes a b c d) behind })
 read mark a b c d behind one fits = grind (arith, nat_tests)
 
 -- and one that doesn't says none
@@ -132,7 +134,8 @@ pub are_none : AreRecords [] []
 are_none most behind = ap (λ (k : ℕ). records_up_to k behind) (omega arith)
 
 -- one record before these
-pub are_after : (chunk body front : List ℕ) (bodies : List (List ℕ)) → IsRecord chunk body → AreRecords front bodies → AreRecords (chunk ++ front) (body ∷ bodies)
+pub are_after : (chunk body front : List ℕ) (bodies : List (List ℕ)) → IsRecord chunk body → AreRecords front bodies
+    → AreRecords (chunk ++ front) (body ∷ bodies)
 are_after chunk body front bodies is are most behind =
     let count : length (body ∷ bodies) + most ≡ suc (length bodies + most) = omega arith in
     ap (λ (k : ℕ). records_up_to k (chunk ++ front ++ behind)) count
@@ -141,7 +144,8 @@ are_after chunk body front bodies is are most behind =
     ∙ ap (λ (l : List (List ℕ)). body ∷ l) (are most behind)
 
 -- one record after these
-pub are_before : (front chunk body : List ℕ) (bodies : List (List ℕ)) → AreRecords front bodies → IsRecord chunk body → AreRecords (front ++ chunk) (bodies ++ body ∷ [])
+pub are_before : (front chunk body : List ℕ) (bodies : List (List ℕ)) → AreRecords front bodies → IsRecord chunk body
+    → AreRecords (front ++ chunk) (bodies ++ body ∷ [])
 are_before front chunk body bodies are is most behind =
     let count : length (bodies ++ body ∷ []) + most ≡ length bodies + suc most = omega (arith, length-append bodies (body ∷ [])) in
     ap (λ (k : ℕ). records_up_to k (front ++ chunk ++ behind)) count
@@ -187,8 +191,10 @@ parts (suc most) bytes = elim (option_cases (first_record bytes)) [
         end = rest.end;
         left = rest.left;
         split = here.split ∙ ap (λ (l : List ℕ). here.chunk ++ l) rest.split ∙ sym (append_assoc here.chunk rest.front rest.end);
-        whole = subst (λ (l : List (List ℕ)). AreRecords (here.chunk ++ rest.front) l) (sym all) (are_after here.chunk first.body rest.front (records_up_to most first.rest) here.is rest.whole);
-        size = omega (arith, length-append here.chunk rest.front, here.size, rest.size, stored_more first.body (records_up_to most first.rest)) ∙ ap stored_bytes (sym all);
+        whole = subst (λ (l : List (List ℕ)). AreRecords (here.chunk ++ rest.front) l) (sym all)
+            (are_after here.chunk first.body rest.front (records_up_to most first.rest) here.is rest.whole);
+        size = omega (arith, length-append here.chunk rest.front, here.size, rest.size, stored_more first.body (records_up_to most first.rest)) ∙ ap
+            stored_bytes (sym all);
         counts = ap (λ (l : List (List ℕ)). length l + rest.left) all ∙ omega (arith, rest.counts);
         nothing = rest.nothing;
       }
@@ -202,7 +208,8 @@ read_at bytes place first within is =
     let here = starts (drop place bytes) first is in
     let whole : head_bytes ≤ length here.chunk = omega (arith, here.size) in
     let body : drop head_bytes (drop place bytes) ≡ first.body ++ first.rest =
-    ap (λ (l : List ℕ). drop head_bytes l) here.split ∙ drop-append-le head_bytes here.chunk first.rest whole ∙ ap (λ (l : List ℕ). l ++ first.rest) here.body_is in (
+    ap (λ (l : List ℕ). drop head_bytes l) here.split ∙ drop-append-le head_bytes here.chunk first.rest whole ∙ ap
+    (λ (l : List ℕ). l ++ first.rest) here.body_is in (
       ap (λ (l : List ℕ). take (length first.body) l) (sym (drop-drop head_bytes place bytes) ∙ body) ∙ take_at first.body first.rest (length first.body) refl,
       sym (drop-drop (head_bytes + length first.body) place bytes) ∙ ap (λ (l : List ℕ). drop (head_bytes + length first.body) l) here.split
           ∙ drop_at here.chunk first.rest (head_bytes + length first.body) here.size,

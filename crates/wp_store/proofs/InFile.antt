@@ -2,7 +2,8 @@
 use Rattle.std.proofs.Common.{◌≡◌, inr, refl, sym, subst, ℕ, ◌≤◌, Bool, true, false, List, ◌∷◌, length, take}
 use Rattle.wp_store.specs.Disk.{DiskTold, OneCall, Stays, Torn, Cut, written_over}
 use Rattle.wp_store.specs.DiskFile.{FileCall}
-use Rattle.wp_store.specs.InMemory.{DiskCall, DiskInMemory, Wrote, CutTo, IsImage, after_cut, after_done, after_read, after_write, disk_bytes, mem_told, next_fails, write_fails}
+use Rattle.wp_store.specs.InMemory.{DiskCall, DiskInMemory, Wrote, CutTo, IsImage, after_cut, after_done, after_read, after_write, disk_bytes, mem_told}
+use Rattle.wp_store.specs.InMemory.{next_fails, write_fails}
 use Rattle.wp_store.proofs.Overwriting.{torn_wider}
 use Rattle.wp_store.proofs.Tearing.{cut_call, cut_not, read_call, torn_not, write_call}
 
@@ -12,7 +13,8 @@ read_file_call old new is = subst (λ (disk : DiskInMemory). FileCall Stays (mem
     (record { call = read_call old Stays (λ image. refl) (next_fails old.calls); unsynced = refl; kept = λ image now. now })
 
 -- a call that fails changes no image, and one that is done keeps each that was
-kept_after_done : (disk : DiskInMemory) (call : DiskCall) → ((image : List ℕ) → IsImage disk.first disk.done image → IsImage disk.first (call ∷ disk.done) image)
+kept_after_done : (disk : DiskInMemory) (call : DiskCall)
+    → ((image : List ℕ) → IsImage disk.first disk.done image → IsImage disk.first (call ∷ disk.done) image)
     → (failed : Bool) (image : List ℕ) → (mem_told disk).images image → (mem_told (after_done disk failed call)).images image
 kept_after_done disk call kept true image now = now
 kept_after_done disk call kept false image now = kept image now

@@ -13,7 +13,8 @@ pub goes_on : (Step : List ℕ → List ℕ → Type 0) (old mid new : DiskTold)
 goes_on Step old mid new P so_far call here = record {
   later = omega (arith, so_far.later, call.later);
   each = λ image since. ⊎_elim (so_far.each image) (here image) (call.nothing_else old.moment image so_far.later since);
-  before = λ t image le since. ⊎_elim (so_far.before t image le) (λ now. inr (here image now)) (call.nothing_else t image (omega (arith, le, so_far.later)) since);
+  before = λ t image le since. ⊎_elim (so_far.before t image le) (λ now. inr (here image now))
+      (call.nothing_else t image (omega (arith, le, so_far.later)) since);
 }
 
 -- calls after which others come
@@ -70,8 +71,10 @@ synced_course Step old new call = record {
   least_syncs = ⊎_elim (λ none. omega (arith, none)) (λ one. omega (arith, one.counted)) call.syncs;
   most_syncs = ⊎_elim (λ none. omega (arith, none)) (λ one. omega (arith, one.counted)) call.syncs;
   sync_at = call.sync_at;
-  syncs_later = λ k more few. ⊎_elim (λ none. absurd (omega (arith, more, few, none))) (λ one. let at = at_last k more few one in omega (arith, at, one.later)) call.syncs;
-  syncs_by_now = λ k more few. ⊎_elim (λ none. absurd (omega (arith, more, few, none))) (λ one. let at = at_last k more few one in omega (arith, at)) call.syncs;
+  syncs_later = λ k more few. ⊎_elim (λ none. absurd (omega (arith, more, few, none)))
+      (λ one. let at = at_last k more few one in omega (arith, at, one.later)) call.syncs;
+  syncs_by_now = λ k more few. ⊎_elim (λ none. absurd (omega (arith, more, few, none)))
+      (λ one. let at = at_last k more few one in omega (arith, at)) call.syncs;
   least_calls = omega (arith, call.calls);
   most_calls = omega (arith, call.calls);
   faults = call.faults;

@@ -1,5 +1,6 @@
 -- Pieces that are written one after the other, and what a crash makes of a file meanwhile.
-use Rattle.std.proofs.Common.{◌≡◌, ◌∙◌, refl, sym, subst, ap, ℕ, ◌+◌, ◌-◌, ◌≤◌, max, List, ◌++◌, length, take, drop, Option, Some, None, arith, length-append, length-take, length-drop}
+use Rattle.std.proofs.Common.{◌≡◌, ◌∙◌, refl, sym, subst, ap, ℕ, ◌+◌, ◌-◌, ◌≤◌, max, List, ◌++◌, length, take, drop, Option, Some, None, arith, length-append}
+use Rattle.std.proofs.Common.{length-take, length-drop}
 use Rattle.std.proofs.Math.Seq.{take-add}
 use Rattle.std.proofs.lemmas.List.{take_at, drop_at, append_assoc, take-take, take_all, drop-drop, length-take-le}
 use Rattle.std.specs.Prelude.{option_map}
@@ -52,7 +53,8 @@ written_on place one two bytes within =
     let size : length front ≡ place + length one = omega (arith, length-append (take place bytes) one, length-take place bytes) in
     let kept : take (place + length one) (front ++ behind) ≡ front = take_at front behind (place + length one) size in
     let left : drop (place + length one + length two) (front ++ behind) ≡ drop (place + length (one ++ two)) bytes =
-    sym (drop-drop (length two) (place + length one) (front ++ behind)) ∙ ap (λ (l : List ℕ). drop (length two) l) (drop_at front behind (place + length one) size)
+    sym (drop-drop (length two) (place + length one) (front ++ behind)) ∙ ap (λ (l : List ℕ). drop (length two) l)
+    (drop_at front behind (place + length one) size)
     ∙ drop-drop (length two) (place + length one) bytes
     ∙ ap (λ (k : ℕ). drop k bytes) (omega (arith, length-append one two)) in
     ap (λ (l : List ℕ). l ++ two ++ drop (place + length one + length two) (front ++ behind)) kept

@@ -6,7 +6,7 @@ use Rattle.std.proofs.lemmas.Grind.{elements}
 use Rattle.std.proofs.lemmas.List.Sums.{sum_by_push}
 use Rattle.wp_store.specs.Records.{First, first_record, records_of, records_up_to, stored_bytes, head_bytes, most_records}
 use Rattle.wp_store.specs.Spans.{body_at, LieWithin}
-use Rattle.wp_store.specs.declared.bodies.Span.{Span}
+use Rattle.wp_store.specs.declared.bodies.BodySpan.{BodySpan}
 use Rattle.wp_store.proofs.Framing.{read_at, read_one, read_none}
 
 pub record Found (o : Option First) (n : ℕ) : Type 0 where
@@ -22,10 +22,10 @@ none_found : (o : Option First) → option_map (λ first. length first.body) o �
 none_found None says = refl
 none_found (Some first) says = absurd (cc (says))
 
-abbrev pub span : ℕ → ℕ → Span
+abbrev pub span : ℕ → ℕ → BodySpan
 span end n = record { place = end + 5; length = n }
 
-module _ (bytes : List ℕ) (spans : List Span) (end : ℕ) (within : end ≤ length bytes) where
+module _ (bytes : List ℕ) (spans : List BodySpan) (end : ℕ) (within : end ≤ length bytes) where
   abbrev so_far : List (List ℕ)
   so_far = map (body_at bytes) spans
 
@@ -74,10 +74,12 @@ unfolding records_of
 read_first bytes = refl
 
 -- one span more that lies within
-pub within_more : (bytes : List ℕ) (spans : List Span) (s : Span) → LieWithin bytes spans → s.place + s.length ≤ length bytes → LieWithin bytes (spans ++ s ∷ [])
+pub within_more : (bytes : List ℕ) (spans : List BodySpan) (s : BodySpan) → LieWithin bytes spans → s.place + s.length ≤ length bytes
+    → LieWithin bytes (spans ++ s ∷ [])
 within_more bytes spans s all here = grind (arith, elements)
 
 -- what stands behind a place, by its length
-pub says_there : (bytes : List ℕ) (end : ℕ) (r : Option ℕ) → r ≡ option_map (λ first. length first.body) (first_record (take (length bytes - end) (drop end bytes)))
+pub says_there : (bytes : List ℕ) (end : ℕ) (r : Option ℕ)
+    → r ≡ option_map (λ first. length first.body) (first_record (take (length bytes - end) (drop end bytes)))
     → option_map (λ first. length first.body) (first_record (drop end bytes)) ≡ r
 says_there bytes end r is = ap (λ (l : List ℕ). option_map (λ first. length first.body) (first_record l)) (sym (take_rest bytes end)) ∙ sym is

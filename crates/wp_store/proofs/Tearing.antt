@@ -1,9 +1,11 @@
 -- What a crash makes of a file while it is written or cut, and the images of a disk in memory.
-use Rattle.std.proofs.Common.{◌≡◌, ◌⊎◌, inl, inr, ⊎_elim, refl, sym, ◌∙◌, ap, subst, ℕ, ◌+◌, ◌-◌, ◌≤◌, Bool, true, false, List, [], ◌∷◌, ◌++◌, length, take, drop, arith, length-append, length-take, length-drop}
+use Rattle.std.proofs.Common.{◌≡◌, ◌⊎◌, inl, inr, ⊎_elim, refl, sym, ◌∙◌, ap, subst, ℕ, ◌+◌, ◌-◌, ◌≤◌, Bool, true, false, List, [], ◌∷◌, ◌++◌, length, take}
+use Rattle.std.proofs.Common.{drop, arith, length-append, length-take, length-drop}
 use Rattle.std.proofs.lemmas.List.{take_at, drop_at, take_all, append_assoc, take_min}
 use Rattle.std.proofs.lemmas.Bool.Decides.{nat_tests}
 use Rattle.wp_store.specs.Disk.{Torn, Cut, Stays, OneCall, written_over}
-use Rattle.wp_store.specs.InMemory.{DiskCall, Wrote, CutTo, Synced, IsImage, kept_after, DiskInMemory, disk_bytes, write_fails, next_fails, after_call, after_cut, after_done, after_sync, after_write, mem_told, sync_count, sync_moment}
+use Rattle.wp_store.specs.InMemory.{DiskCall, Wrote, CutTo, Synced, IsImage, kept_after, DiskInMemory, disk_bytes, write_fails, next_fails, after_call}
+use Rattle.wp_store.specs.InMemory.{after_cut, after_done, after_sync, after_write, mem_told, sync_count, sync_moment}
 use Rattle.wp_store.specs.Moments.{read_is_image}
 
 -- nothing done yet
@@ -97,7 +99,12 @@ write_call disk place piece within =
   where
     torn : (image : List ℕ) → IsImage disk.first (Wrote place (length piece) (written_over place piece (disk_bytes disk)) ∷ disk.done) image
         → (from : List ℕ) × IsImage disk.first disk.done from × Torn place (length piece) from image
-    torn image (inl is) = (disk_bytes disk, read_is_image disk.first disk.done, subst (λ (c : List ℕ). Torn place (length piece) (disk_bytes disk) c) (sym is) (torn_done place piece (disk_bytes disk) within))
+    torn image (inl is) = (
+      disk_bytes disk,
+      read_is_image disk.first disk.done,
+      subst (λ (c : List ℕ). Torn place (length piece) (disk_bytes disk) c) (sym is)
+          (torn_done place piece (disk_bytes disk) within),
+    )
     torn image (inr from) = from
 
 pub cut_call : (disk : DiskInMemory) (n : ℕ) → OneCall (Cut n) (mem_told disk) (mem_told (after_cut disk n))
@@ -106,7 +113,12 @@ cut_call disk n =
   where
     cut : (image : List ℕ) → IsImage disk.first (CutTo n (take n (disk_bytes disk)) ∷ disk.done) image
         → (from : List ℕ) × IsImage disk.first disk.done from × Cut n from image
-    cut image (inl is) = (disk_bytes disk, read_is_image disk.first disk.done, subst (λ (c : List ℕ). Cut n (disk_bytes disk) c) (sym is) (cut_done n (disk_bytes disk)))
+    cut image (inl is) = (
+      disk_bytes disk,
+      read_is_image disk.first disk.done,
+      subst (λ (c : List ℕ). Cut n (disk_bytes disk) c) (sym is)
+          (cut_done n (disk_bytes disk)),
+    )
     cut image (inr from) = from
 
 pub sync_call : (disk : DiskInMemory) → OneCall Stays (mem_told disk) (mem_told (after_sync disk))

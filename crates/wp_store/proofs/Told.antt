@@ -7,7 +7,8 @@ pub record Before (old : Option (List ℕ)) (change : List ℕ → List ℕ) (no
   pub told : old ≡ Some bytes
   pub now_is : now ≡ change bytes
 
-pub told_before : (old : Option (List ℕ)) (change : List ℕ → List ℕ) (now : List ℕ) → ◌≡◌ {A = Option (List ℕ)} (Some now) (option_map change old) → Before old change now
+pub told_before : (old : Option (List ℕ)) (change : List ℕ → List ℕ) (now : List ℕ) → ◌≡◌ {A = Option (List ℕ)} (Some now) (option_map change old)
+    → Before old change now
 told_before None change now is = absurd (cc (is))
 told_before (Some bytes) change now is = record { bytes = bytes; told = refl; now_is = cc (is) }
 

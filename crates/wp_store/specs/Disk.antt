@@ -1,5 +1,7 @@
--- What a disk tells, what the calls of a disk do to its file, and what a crash may leave of it. An image is a content of the file that a crash leaves.
-use Rattle.std.specs.Prelude.{◌≡◌, ◌⊎◌, ℕ, ◌+◌, ◌-◌, ◌^◌, ◌<◌, ◌≤◌, max, min, List, ◌++◌, length, take, drop, Option, Some, is_some}
+-- What a disk tells, what the calls of a disk do to its file, and what a crash may leave of it. An image is a content
+-- of the file that a crash leaves.
+use Rattle.std.specs.Prelude.{◌≡◌, ◌⊎◌, ℕ, ◌+◌, ◌-◌, ◌^◌, ◌<◌, ◌≤◌, max, min, List, ◌++◌, length, take, drop, Option}
+use Rattle.std.specs.Prelude.{Some, is_some}
 use Rattle.wp_store.specs.Records.{most_store_bytes}
 
 -- what a disk tells
@@ -35,8 +37,8 @@ IsTooLong bytes = most_store_bytes < length bytes
 abbrev pub written_over : ℕ → List ℕ → List ℕ → List ℕ
 written_over place piece bytes = take place bytes ++ piece ++ drop (place + length piece) bytes
 
--- What a crash makes of a file while n bytes are written at a place: those bytes, and what stands past the old end, are any bytes, and what stands
--- past the old end may be missing. All other bytes stay.
+-- What a crash makes of a file while n bytes are written at a place: those bytes, and what stands past the old end, are
+-- any bytes, and what stands past the old end may be missing. All other bytes stay.
 pub record Torn (place n : ℕ) (old new : List ℕ) : Type 0 where
   pub before : take place new ≡ take place old
   pub after : drop (place + n) new ≡ drop (place + n) old
@@ -70,21 +72,24 @@ pub record OneSync (old new : DiskTold) : Type 0 where
   pub now : new.sync_at new.syncs ≡ new.moment
   pub later : old.moment < new.moment
 
--- What one call on a disk may change of what it tells, where it makes this step of a file. Whether its bytes are told stays. Each image is one from before
--- the call after the step. Time goes on: an image at some moment since t is one of those that there might have been before, or one of those of now. The
--- syncs that had succeeded stay as they are. No count falls, and it is one call more.
+-- What one call on a disk may change of what it tells, where it makes this step of a file. Whether its bytes are told
+-- stays. Each image is one from before the call after the step. Time goes on: an image at some moment since t is one of
+-- those that there might have been before, or one of those of now. The syncs that had succeeded stay as they are. No
+-- count falls, and it is one call more.
 pub record OneCall (Step : List ℕ → List ℕ → Type 0) (old new : DiskTold) : Type 0 where
   pub told : is_some new.holds ≡ is_some old.holds
   pub images : (image : List ℕ) → new.images image → (from : List ℕ) × old.images from × Step from image
   pub later : old.moment ≤ new.moment
-  pub nothing_else : (t : ℕ) (image : List ℕ) → t ≤ old.moment → new.images_since t image → old.images_since t image ⊎ new.images image
+  pub nothing_else : (t : ℕ) (image : List ℕ) → t ≤ old.moment → new.images_since t image
+      → old.images_since t image ⊎ new.images image
   pub keeps : (t : ℕ) (image : List ℕ) → t ≤ old.moment → old.images_since t image → new.images_since t image
   pub syncs : NoSync old new ⊎ OneSync old new
   pub sync_at : (k : ℕ) → k ≤ old.syncs → new.sync_at k ≡ old.sync_at k
   pub faults : old.faults ≤ new.faults
   pub calls : new.calls ≡ one_more old.calls
 
--- What several calls may change of what a disk tells, of which so many at most are made, and so many syncs at most succeed.
+-- What several calls may change of what a disk tells, of which so many at most are made, and so many syncs at most
+-- succeed.
 pub record GoesOn (calls syncs : ℕ) (old new : DiskTold) : Type 0 where
   pub told : is_some new.holds ≡ is_some old.holds
   pub later : old.moment ≤ new.moment

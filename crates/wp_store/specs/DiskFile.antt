@@ -12,8 +12,8 @@ pub record TellsCountsAlone (file : DiskTold) : Type 0 where
   pub syncs : file.syncs ≡ 0
   pub sync_at : (k : ℕ) → file.sync_at k ≡ 0
 
--- What one call on a file that syncs nothing may change of what it tells, where it makes this step of a file: what a call on a disk may, and each image
--- from before is still one.
+-- What one call on a file that syncs nothing may change of what it tells, where it makes this step of a file: what a
+-- call on a disk may, and each image from before is still one.
 pub record FileCall (Step : List ℕ → List ℕ → Type 0) (old new : DiskTold) : Type 0 where
   pub call : OneCall Step old new
   pub unsynced : NoSync old new
@@ -44,7 +44,14 @@ recounted file calls law = record {
 
 -- a file that tells nothing else tells its counts alone
 pub untold_alone : (counts : Counts) → TellsCountsAlone (untold counts)
-untold_alone counts = record { images = λ image. tt; images_since = λ t image. tt; moment = refl; syncs = refl; sync_at = λ k. refl }
+untold_alone counts = record {
+  images = λ image. tt;
+  images_since = λ t image.
+      tt;
+  moment = refl;
+  syncs = refl;
+  sync_at = λ k. refl;
+}
 
 -- a file in memory: the disk in memory that has its bytes, and where the next read or write begins
 pub record FileInMemory : Type 0 where

@@ -1,5 +1,6 @@
 -- A disk in memory, as clauses see it.
-use Rattle.std.specs.Prelude.{◌≡◌, ◌⊎◌, ℕ, ◌+◌, ◌≤◌, Bool, false, ◌==◌, ◌||◌, nat_le, nat_lt, if◌then◌else◌, List, [], ◌∷◌, length, take, map, reverse, vec_len, vec_capacity, Vec, Option, Some, None}
+use Rattle.std.specs.Prelude.{◌≡◌, ◌⊎◌, ℕ, ◌+◌, ◌≤◌, Bool, false, ◌==◌, ◌||◌, nat_le, nat_lt, if◌then◌else◌, List, []}
+use Rattle.std.specs.Prelude.{◌∷◌, length, take, map, reverse, vec_len, vec_capacity, Vec, Option, Some, None}
 use Rattle.std.specs.declared.alloc.Global.{Global}
 use Rattle.std.specs.List.{list_any}
 use Rattle.wp_store.specs.Disk.{DiskTold, Torn, Cut, one_more, written_over}
@@ -7,7 +8,8 @@ use Rattle.wp_store.specs.declared.done.Done.{Done}
 use Rattle.wp_store.specs.declared.done.Kind.{Kind}
 use Rattle.wp_store.specs.declared.done.Kind.TheVariants as kind
 
--- a call that was done, with what a read gives after it: a write of so many bytes at a place, a cut to a length, or a sync
+-- a call that was done, with what a read gives after it: a write of so many bytes at a place, a cut to a length, or a
+-- sync
 pub data DiskCall : Type 0 where
   Wrote : ℕ → ℕ → List ℕ → DiskCall
   CutTo : ℕ → List ℕ → DiskCall
@@ -25,8 +27,8 @@ call_of done = call_of_kind done.kind done.after.value.items
 abbrev pub newest_first : List Done → List DiskCall
 newest_first done = reverse (map call_of done)
 
--- which calls, counted from 1, are to fail: those with these numbers, those after so many, where that is given, and those after the most; with the
--- most bytes that the file may have, how many calls were made, and how many failed
+-- which calls, counted from 1, are to fail: those with these numbers, those after so many, where that is given, and
+-- those after the most; with the most bytes that the file may have, how many calls were made, and how many failed
 pub record PlannedCalls : Type 0 where
   pub fails : List ℕ
   pub stop : Option ℕ
@@ -42,11 +44,15 @@ is_stopped (Some most) made = nat_le most made
 
 -- the next call is to fail
 abbrev pub next_fails : PlannedCalls → Bool
-next_fails calls = nat_le calls.most calls.made || is_stopped calls.stop calls.made || list_any (λ number. number == calls.made + 1) calls.fails
+next_fails calls = nat_le calls.most calls.made || is_stopped calls.stop calls.made || list_any
+    (λ number. number == calls.made + 1) calls.fails
 
 -- one more call, which failed or didn't
 abbrev pub after_call : PlannedCalls → Bool → PlannedCalls
-after_call calls failed = record calls { made = one_more calls.made; faults = if failed then one_more calls.faults else calls.faults }
+after_call calls failed = record calls {
+  made = one_more calls.made;
+  faults = if failed then one_more calls.faults else calls.faults;
+}
 
 -- a disk in memory: the bytes as it was made, the calls that were done, the newest first, and which calls fail
 pub record DiskInMemory : Type 0 where
@@ -68,18 +74,21 @@ kept_after first (Wrote place n after ∷ done) = kept_after first done
 kept_after first (CutTo n after ∷ done) = kept_after first done
 kept_after first (Synced after ∷ done) = after
 
--- The images. After a write or a cut they are what a read gives, and what each image from before it is where a crash comes while it is done. After a
--- sync there is one.
+-- The images. After a write or a cut they are what a read gives, and what each image from before it is where a crash
+-- comes while it is done. After a sync there is one.
 abbrev pub IsImage : List ℕ → List DiskCall → List ℕ → Type 0
 IsImage first [] image = image ≡ first
-IsImage first (Wrote place n after ∷ done) image = (image ≡ after) ⊎ ((from : List ℕ) × IsImage first done from × Torn place n from image)
-IsImage first (CutTo n after ∷ done) image = (image ≡ after) ⊎ ((from : List ℕ) × IsImage first done from × Cut n from image)
+IsImage first (Wrote place n after ∷ done) image
+    = (image ≡ after) ⊎ ((from : List ℕ) × IsImage first done from × Torn place n from image)
+IsImage first (CutTo n after ∷ done) image
+    = (image ≡ after) ⊎ ((from : List ℕ) × IsImage first done from × Cut n from image)
 IsImage first (Synced after ∷ done) image = image ≡ after
 
 -- the images at some moment since t, where moments are counted by the calls that were done
 abbrev pub IsImageSince : List ℕ → List DiskCall → ℕ → List ℕ → Type 0
 IsImageSince first [] t image = (t ≤ 0) × (image ≡ first)
-IsImageSince first (call ∷ done) t image = ((t ≤ length done + 1) × IsImage first (call ∷ done) image) ⊎ IsImageSince first done t image
+IsImageSince first (call ∷ done) t image
+    = ((t ≤ length done + 1) × IsImage first (call ∷ done) image) ⊎ IsImageSince first done t image
 
 -- how many syncs were done
 abbrev pub sync_count : List DiskCall → ℕ
@@ -123,7 +132,8 @@ mem_told disk = record {
 
 -- the disk after a write, a cut, a sync and a read
 abbrev pub after_write : DiskInMemory → ℕ → List ℕ → DiskInMemory
-after_write disk place piece = after_done disk (write_fails disk place piece) (Wrote place (length piece) (written_over place piece (disk_bytes disk)))
+after_write disk place piece = after_done disk (write_fails disk place piece)
+    (Wrote place (length piece) (written_over place piece (disk_bytes disk)))
 
 abbrev pub after_cut : DiskInMemory → ℕ → DiskInMemory
 after_cut disk n = after_done disk (next_fails disk.calls) (CutTo n (take n (disk_bytes disk)))
@@ -134,7 +144,8 @@ after_sync disk = after_done disk (next_fails disk.calls) (Synced (disk_bytes di
 abbrev pub after_read : DiskInMemory → DiskInMemory
 after_read disk = record disk { calls = after_call disk.calls (next_fails disk.calls) }
 
--- what a disk in memory keeps: the bytes that a read gives, those that a crash leaves at least, and room for the calls and bytes that it may come to
+-- what a disk in memory keeps: the bytes that a read gives, those that a crash leaves at least, and room for the calls
+-- and bytes that it may come to
 pub record HasRoom (first bytes kept : Vec ℕ Global) (done : Vec Done Global) (calls : PlannedCalls) : Type 0 where
   pub bytes_are : bytes.items ≡ bytes_after first.items (newest_first done.items)
   pub kept_are : kept.items ≡ kept_after first.items (newest_first done.items)

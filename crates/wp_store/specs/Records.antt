@@ -1,5 +1,6 @@
 -- What the bytes of a store's file stand for.
-use Rattle.std.specs.Prelude.{◌≡◌, ℕ, zero, suc, ◌+◌, ◌*◌, ◌/◌, ◌%◌, Bool, ◌==◌, ◌&&◌, nat_le, if◌then◌else◌, sum_by, List, [], ◌∷◌, ◌++◌, length, take, drop, Option, Some, None}
+use Rattle.std.specs.Prelude.{◌≡◌, ℕ, zero, suc, ◌+◌, ◌*◌, ◌/◌, ◌%◌, Bool, ◌==◌, ◌&&◌, nat_le, if◌then◌else◌, sum_by}
+use Rattle.std.specs.Prelude.{List, [], ◌∷◌, ◌++◌, length, take, drop, Option, Some, None}
 
 -- the most records that a store may have
 abbrev pub most_records : ℕ
@@ -38,18 +39,23 @@ pub record First : Type 0 where
 abbrev pub is_body_length : ℕ → ℕ → Bool
 is_body_length n left = nat_le 1 n && nat_le n most_body_bytes && nat_le n left
 
--- The record at the front of these bytes: the byte 1, a length n from 1 to the most, most significant byte first, and n bytes. There is none where one
--- of these is missing.
+-- The record at the front of these bytes: the byte 1, a length n from 1 to the most, most significant byte first, and n
+-- bytes. There is none where one of these is missing.
 abbrev pub first_record : List ℕ → Option First
 first_record (mark ∷ a ∷ b ∷ c ∷ d ∷ behind) =
     let n = length_of_bytes a b c d in
-    if mark == 1 && is_body_length n (length behind) then Some (record { body = take n behind; rest = drop n behind }) else None
+    if mark == 1 && is_body_length n (length behind) then Some (record { body = take n behind; rest = drop n behind })
+    else None
 first_record bytes = None
 
 -- the bodies of the records at the front of these bytes, at most so many
 abbrev pub records_up_to : ℕ → List ℕ → List (List ℕ)
 records_up_to zero bytes = []
-records_up_to (suc most) bytes = elim (first_record bytes) [ None ↦ [] | Some first ↦ first.body ∷ records_up_to most first.rest ]
+records_up_to (suc most) bytes = elim (first_record bytes) [
+  | None ↦ []
+  | Some first ↦ first.body
+      ∷ records_up_to most first.rest
+]
 
 -- the bodies of the records that a file stands for
 unfoldable pub records_of : List ℕ → List (List ℕ)
@@ -61,7 +67,8 @@ stored_bytes bodies = sum_by (λ body. head_bytes + length body) bodies
 
 -- these bytes are whole records with these bodies, whatever stands behind them
 abbrev pub AreRecords : List ℕ → List (List ℕ) → Type 0
-AreRecords front bodies = (most : ℕ) (behind : List ℕ) → records_up_to (length bodies + most) (front ++ behind) ≡ bodies ++ records_up_to most behind
+AreRecords front bodies = (most : ℕ) (behind : List ℕ)
+    → records_up_to (length bodies + most) (front ++ behind) ≡ bodies ++ records_up_to most behind
 
 -- a record of this body, opened
 abbrev pub record_of : List ℕ → List ℕ

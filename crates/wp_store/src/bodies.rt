@@ -1,5 +1,7 @@
-ghost use Rattle.std.specs.Prelude.{◌≡◌, ◌+◌, ◌*◌, ◌<◌, ◌≤◌, length, map, option_map, Some, vec_len, vec_capacity, slice_get, IfOk, IfSome};
-ghost use Rattle.wp_store.specs.Records.{first_record, length_of_bytes, records_of, stored_bytes, room_bytes, most_records, most_body_bytes};
+ghost use Rattle.std.specs.Prelude.{◌≡◌, ◌+◌, ◌*◌, ◌<◌, ◌≤◌, length, map, option_map, Some, vec_len, vec_capacity};
+ghost use Rattle.std.specs.Prelude.{slice_get, IfOk, IfSome};
+ghost use Rattle.wp_store.specs.Records.{first_record, length_of_bytes, records_of, stored_bytes, room_bytes};
+ghost use Rattle.wp_store.specs.Records.{most_records, most_body_bytes};
 ghost use Rattle.wp_store.specs.Spans.{body_at, LieWithin};
 
 use crate::records::{HEAD_BYTES, MOST_BODY_BYTES, MOST_RECORDS};
@@ -8,7 +10,7 @@ use std::marker::Model;
 
 /// Where a body stands in a file, and how many bytes it has.
 #[derive(Clone, Copy)]
-pub(crate) struct Span {
+pub(crate) struct BodySpan {
     place: usize,
     length: usize,
 }
@@ -17,7 +19,7 @@ pub(crate) struct Span {
 #[derive(Drop)]
 pub struct Bodies {
     bytes: Vec<u8>,
-    spans: Vec<Span>,
+    spans: Vec<BodySpan>,
 }
 
 impl Model for Bodies {
@@ -75,12 +77,13 @@ pub(crate) fn read_bodies(alloc: Global, bytes: Vec<u8>) -> Result<Read, AllocEr
 
 #[derive(Drop)]
 struct Spans {
-    spans: Vec<Span>,
+    spans: Vec<BodySpan>,
     end: usize,
 }
 
 fn read_spans(alloc: Global, bytes: &[u8]) -> Result<Spans, AllocError>
-    ensures bodies { IfOk result (λ read. map (body_at bytes.now) read.spans.items ≡ records_of bytes.now) }
+    ensures bodies { IfOk result (λ read. map (body_at bytes.now) read.spans.items
+        ≡ records_of bytes.now) }
     ensures end { IfOk result (λ read. read.end ≡ stored_bytes (records_of bytes.now)) }
     ensures inside { IfOk result (λ read. LieWithin bytes.now read.spans.items) }
     ensures within { IfOk result (λ read. read.end ≤ length bytes.now) }
@@ -94,7 +97,7 @@ fn read_spans(alloc: Global, bytes: &[u8]) -> Result<Spans, AllocError>
             break 'spans;
         };
         let place = end + HEAD_BYTES;
-        spans.push(Span { place, length })?;
+        spans.push(BodySpan { place, length })?;
         end = place + length;
     }
     Ok(Spans { spans, end })

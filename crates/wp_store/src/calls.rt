@@ -5,7 +5,7 @@ use std::marker::Model;
 
 /// Calls that are counted from 1, and which of them are to fail.
 #[derive(Drop)]
-pub(crate) struct Calls {
+pub(crate) struct DiskCalls {
     fails: Vec<u64>,
     stop: Option<u64>,
     most: u32,
@@ -14,20 +14,27 @@ pub(crate) struct Calls {
     faults: u64,
 }
 
-impl Model for Calls {
+impl Model for DiskCalls {
     ghost use Rattle.wp_store.specs.InMemory.{PlannedCalls};
 
     ghost Value = { PlannedCalls };
 
-    ghost view = { λ s. record { fails = s.fails.items; stop = s.stop; most = s.most; size = s.size; made = s.made; faults = s.faults } };
+    ghost view = { λ s. record {
+      fails = s.fails.items;
+      stop = s.stop;
+      most = s.most;
+      size = s.size;
+      made = s.made;
+      faults = s.faults;
+    } };
 }
 
-impl Calls {
-    pub(crate) fn of(fails: Vec<u64>, stop: Option<u64>, most: u32, size: u64) -> Calls
+impl DiskCalls {
+    pub(crate) fn of(fails: Vec<u64>, stop: Option<u64>, most: u32, size: u64) -> DiskCalls
         ensures { result
             ≡ record { fails = fails.items; stop = stop; most = most; size = size; made = 0; faults = 0 } }
     {
-        Calls {
+        DiskCalls {
             fails,
             stop,
             most,

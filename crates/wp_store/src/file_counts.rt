@@ -36,7 +36,8 @@ impl FileCounts {
     /// One call more that answers so. Each error is a fault.
     pub(crate) fn told<T>(&mut self, answer: io::Result<T>) -> Result<T, DiskFailed>
         ensures called { self.new.calls ≡ one_more self.old.calls }
-        ensures given { IfOk answer (λ value. (result ≡ Ok value) × (self.new.faults ≡ self.old.faults)) }
+        ensures given { IfOk answer (λ value. (result ≡ Ok value)
+            × (self.new.faults ≡ self.old.faults)) }
         ensures fault { OnErr answer (IsErr result × (self.new.faults ≡ one_more self.old.faults)) }
         ensures rises { self.old.faults ≤ self.new.faults }
     {
@@ -53,7 +54,8 @@ impl FileCounts {
     /// One read more that answers so. Each error but want of memory is a fault.
     pub(crate) fn told_by_read<T>(&mut self, answer: io::Result<T>) -> Result<T, DiskFault>
         ensures called { self.new.calls ≡ one_more self.old.calls }
-        ensures given { IfOk answer (λ value. (result ≡ Ok value) × (self.new.faults ≡ self.old.faults)) }
+        ensures given { IfOk answer (λ value. (result ≡ Ok value)
+            × (self.new.faults ≡ self.old.faults)) }
         ensures lacks { IfErr answer (λ error. error_kind error ≡ OutOfMemory
             → IsErrOf result MemoryFault × (self.new.faults ≡ self.old.faults)) }
         ensures fault { IfErr answer (λ error. error_kind error ≢ OutOfMemory

@@ -1,9 +1,11 @@
-ghost use Rattle.std.specs.Prelude.{◌≡◌, ◌≤◌, ◌↔◌, [], Some, length, is_err, vec_len, if◌then◌else◌, IsTrue, IfOk, OnOk, OnErr, IsErrOf};
+ghost use Rattle.std.specs.Prelude.{◌≡◌, ◌≤◌, ◌↔◌, [], Some, length, is_err, vec_len, if◌then◌else◌, IsTrue, IfOk};
+ghost use Rattle.std.specs.Prelude.{OnOk, OnErr, IsErrOf};
 ghost use Rattle.wp_store.specs.Disk.{WhereTold, Rose, IsTooLong, Torn, Cut, Stays, OneCall, NoSync, OneSync};
-ghost use Rattle.wp_store.specs.InMemory.{disk_bytes, kept_after, mem_told, after_write, after_cut, after_sync, after_read, write_fails, next_fails, IsImage};
+ghost use Rattle.wp_store.specs.InMemory.{disk_bytes, kept_after, mem_told, after_write, after_cut, after_sync};
+ghost use Rattle.wp_store.specs.InMemory.{after_read, write_fails, next_fails, IsImage};
 ghost use Rattle.wp_store.specs.Moments.{mem_is_disk};
 
-use crate::calls::Calls;
+use crate::calls::DiskCalls;
 use crate::disk::{Disk, DiskFailed, DiskFault};
 use crate::done::{Done, Kind};
 use crate::records::MOST_STORE_BYTES;
@@ -21,7 +23,7 @@ pub struct MemDisk {
     bytes: Vec<u8>,
     kept: Vec<u8>,
     done: Vec<Done>,
-    calls: Calls,
+    calls: DiskCalls,
 }
 
 impl Model for MemDisk {
@@ -36,8 +38,9 @@ impl Model for MemDisk {
 }
 
 impl MemDisk {
-    /// A disk that holds these bytes, with room for `size` bytes and `calls` calls. A call past either fails, and so do the
-    /// calls whose numbers, counted from 1, stand in `fails`, and each call after the first `stop`, where that is given.
+    /// A disk that holds these bytes, with room for `size` bytes and `calls` calls. A call past either fails, and so do
+    /// the calls whose numbers, counted from 1, stand in `fails`, and each call after the first `stop`, where that is
+    /// given.
     pub fn new(
         alloc: Global,
         bytes: Vec<u8>,
@@ -63,12 +66,12 @@ impl MemDisk {
             bytes: room,
             kept,
             done,
-            calls: Calls::of(fails, stop, calls, size),
+            calls: DiskCalls::of(fails, stop, calls, size),
         })
     }
 
-    /// One of its images now: where `kept` is true the bytes that a read gives, else the bytes as they stood after the last
-    /// sync, or before the first sync as the disk was made.
+    /// One of its images now: where `kept` is true the bytes that a read gives, else the bytes as they stood after the
+    /// last sync, or before the first sync as the disk was made.
     #[tactic(auto, using(crate::proofs::Tearing::kept_is_image))]
     pub fn image(&self, alloc: Global, kept: bool) -> Result<Vec<u8>, Memory>
         ensures bytes { IfOk result (λ image. image.items
@@ -92,11 +95,15 @@ impl Disk for MemDisk {
         ensures planned { IsErrOf result DiskFault.Failed ↔ IsTrue (next_fails self.old.calls) }
         ensures after { self.new ≡ after_read self.old }
         ensures bytes { IfOk result (λ read. read.items ≡ disk_bytes self.old) }
-        ensures too_long { IsErrOf result DiskFault.TooLong → WhereTold (Some (disk_bytes self.old)) IsTooLong }
-        ensures short { OnOk result (WhereTold (Some (disk_bytes self.old)) (λ bytes. IsTooLong bytes → ⊥)) }
+        ensures too_long { IsErrOf result DiskFault.TooLong
+            → WhereTold (Some (disk_bytes self.old)) IsTooLong }
+        ensures short { OnOk result (WhereTold (Some (disk_bytes self.old))
+            (λ bytes. IsTooLong bytes → ⊥)) }
         ensures calls { OneCall Stays (mem_told self.old) (mem_told self.new) }
-        ensures failed { IsErrOf result DiskFault.Failed → Rose self.old.calls.faults self.new.calls.faults }
-        ensures sound { (IsErrOf result DiskFault.Failed → ⊥) → self.new.calls.faults ≡ self.old.calls.faults }
+        ensures failed { IsErrOf result DiskFault.Failed
+            → Rose self.old.calls.faults self.new.calls.faults }
+        ensures sound { (IsErrOf result DiskFault.Failed → ⊥)
+            → self.new.calls.faults ≡ self.old.calls.faults }
     {
         let fails = self.calls.next_fails();
         self.calls.count(fails);
@@ -114,7 +121,8 @@ impl Disk for MemDisk {
         requires { place ≤ length (disk_bytes self.old) }
         ensures planned { is_err result ≡ write_fails self.old place piece.now }
         ensures after { self.new ≡ after_write self.old place piece.now }
-        ensures calls { OneCall (Torn place (length piece.now)) (mem_told self.old) (mem_told self.new) }
+        ensures calls { OneCall (Torn place (length piece.now)) (mem_told self.old)
+            (mem_told self.new) }
         ensures unsynced { NoSync (mem_told self.old) (mem_told self.new) }
         ensures failed { OnErr result (Rose self.old.calls.faults self.new.calls.faults) }
         ensures sound { OnOk result (self.new.calls.faults ≡ self.old.calls.faults) }

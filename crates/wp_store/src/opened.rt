@@ -1,4 +1,5 @@
-ghost use Rattle.std.specs.Prelude.{◌≡◌, ◌↔◌, ◌+◌, ◌*◌, ◌<◌, ◌≤◌, ◌++◌, [], ◌∷◌, ℕ, List, true, false, length, is_err, vec_capacity, OnOk, OnErr, IsErrOf};
+ghost use Rattle.std.specs.Prelude.{◌≡◌, ◌↔◌, ◌+◌, ◌*◌, ◌<◌, ◌≤◌, ◌++◌, [], ◌∷◌, ℕ, List, true, false, length, is_err};
+ghost use Rattle.std.specs.Prelude.{vec_capacity, OnOk, OnErr, IsErrOf};
 ghost use Rattle.std.proofs.Props.{props};
 ghost use Rattle.wp_store.specs.Disk.{WhereTold, Rose, GoesOn, EndsSynced, LeavesOnly};
 ghost use Rattle.wp_store.specs.Records.{records_of, most_records, room_bytes, most_body_bytes};
@@ -75,16 +76,18 @@ impl<'a, D: Disk> Store<'a, D> {
     pub fn count(&self) -> u32
         ensures count { result ≡ self.now.count }
         ensures most { result ≤ most_records }
-        ensures records { self.now.is_broken ≡ false → HasCounted (D.told self.now.disk.now) result }
+        ensures records { self.now.is_broken ≡ false
+            → HasCounted (D.told self.now.disk.now) result }
     {
         self.count
     }
 
-    /// Stores a record. At `Ok` it is acknowledged: from then on every image has it. At every moment of the call, and after
-    /// `Disk`, every image has the records from before it, or these and the body. It makes four calls at most, of which two are
-    /// syncs; at `Ok` both have succeeded, the second as it ended. `Disk` comes only where the disk's count of faults rose in
-    /// this call, and without it the count stands. `Broken` comes exactly where an earlier append of this store answered `Disk`; then nothing is called
-    /// on the disk, and the store is to be opened again. It takes no memory.
+    /// Stores a record. At `Ok` it is acknowledged: from then on every image has it. At every moment of the call, and
+    /// after `Disk`, every image has the records from before it, or these and the body. It makes four calls at most, of
+    /// which two are syncs; at `Ok` both have succeeded, the second as it ended. `Disk` comes only where the disk's
+    /// count of faults rose in this call, and without it the count stands. `Broken` comes exactly where an earlier
+    /// append of this store answered `Disk`; then nothing is called on the disk, and the store is to be opened again.
+    /// It takes no memory.
     pub fn append(&mut self, body: &[u8]) -> Result<(), AppendFault>
         requires some { 1 ≤ length body.now }
         requires few { length body.now ≤ most_body_bytes }
@@ -95,11 +98,15 @@ impl<'a, D: Disk> Store<'a, D> {
         ensures untouched { self.old.is_broken ≡ true → self.new.disk.now ≡ self.old.disk.now }
         ensures count { OnOk result (self.new.count ≡ self.old.count + 1) }
         ensures same_count { OnErr result (self.new.count ≡ self.old.count) }
-        ensures stored { OnOk result (GainsRecord (D.told self.old.disk.now) (D.told self.new.disk.now) body.now) }
-        ensures acknowledged { OnOk result (WhereTold (D.told self.old.disk.now).holds (λ bytes. (image : List ℕ)
+        ensures stored { OnOk result (GainsRecord (D.told self.old.disk.now)
+            (D.told self.new.disk.now) body.now) }
+        ensures acknowledged { OnOk result (WhereTold (D.told self.old.disk.now).holds
+            (λ bytes. (image : List ℕ)
             → (D.told self.new.disk.now).images image → StandsFor (records_of bytes ++ body.now ∷ []) image)) }
-        ensures any_moment { self.old.is_broken ≡ false → WhereTold (D.told self.old.disk.now).holds (λ bytes.
-            LeavesOnly (D.told self.old.disk.now) (D.told self.new.disk.now) (IsWithOrWithout (records_of bytes) body.now)) }
+        ensures any_moment { self.old.is_broken ≡ false
+            → WhereTold (D.told self.old.disk.now).holds (λ bytes.
+            LeavesOnly (D.told self.old.disk.now) (D.told self.new.disk.now)
+            (IsWithOrWithout (records_of bytes) body.now)) }
         ensures course { GoesOn 4 2 (D.told self.old.disk.now) (D.told self.new.disk.now) }
         ensures synced { OnOk result (WhereTold (D.told self.old.disk.now).holds (λ _.
             EndsSynced 2 (D.told self.old.disk.now) (D.told self.new.disk.now))) }

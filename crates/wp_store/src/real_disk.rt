@@ -1,5 +1,7 @@
-ghost use Rattle.std.specs.Prelude.{◌≡◌, ◌+◌, ◌≤◌, ◌↔◌, length, take, is_some, option_map, vec_len, IfOk, OnOk, OnErr, IsErrOf};
-ghost use Rattle.wp_store.specs.Disk.{WhereTold, IsTooLong, written_over, Torn, Cut, Stays, Only, OneCall, NoSync, OneSync, one_more};
+ghost use Rattle.std.specs.Prelude.{◌≡◌, ◌+◌, ◌≤◌, ◌↔◌, length, take, is_some, option_map, vec_len, IfOk, OnOk, OnErr};
+ghost use Rattle.std.specs.Prelude.{IsErrOf};
+ghost use Rattle.wp_store.specs.Disk.{WhereTold, IsTooLong, written_over, Torn, Cut, Stays, Only, OneCall, NoSync};
+ghost use Rattle.wp_store.specs.Disk.{OneSync, one_more};
 ghost use Rattle.wp_store.specs.DiskFile.{AsOneCall, over_told, recounted};
 ghost use Rattle.wp_store.specs.Records.{most_store_bytes};
 
@@ -51,17 +53,21 @@ impl<F: DiskFile + Drop> Disk for RealDisk<F> {
     /// No more than `MOST_STORE_BYTES` and one byte are read. It fails as soon as a call of the file does, which is
     /// then the last: the file's count of faults is the disk's, and rises by one.
     fn read(&mut self, alloc: Global) -> Result<Vec<u8>, DiskFault>
-        ensures most { (IsErrOf result DiskFault.Failed → ⊥) → WhereTold (F.told self.old.file).holds (λ _.
+        ensures most { (IsErrOf result DiskFault.Failed → ⊥)
+            → WhereTold (F.told self.old.file).holds (λ _.
             F.position self.new.file ≤ most_store_bytes + 1) }
         ensures failed { IsErrOf result DiskFault.Failed
             → (F.told self.new.file).faults ≡ one_more (F.told self.old.file).faults }
         ensures sound { (IsErrOf result DiskFault.Failed → ⊥)
             → (F.told self.new.file).faults ≡ (F.told self.old.file).faults }
 
-        ensures bytes { IfOk result (λ read. WhereTold (F.told self.old.file).holds (λ bytes. read.items ≡ bytes)) }
+        ensures bytes { IfOk result (λ read. WhereTold (F.told self.old.file).holds
+            (λ bytes. read.items ≡ bytes)) }
         ensures same { (F.told self.new.file).holds ≡ (F.told self.old.file).holds }
-        ensures too_long { IsErrOf result DiskFault.TooLong → WhereTold (F.told self.old.file).holds IsTooLong }
-        ensures short { OnOk result (WhereTold (F.told self.old.file).holds (λ bytes. IsTooLong bytes → ⊥)) }
+        ensures too_long { IsErrOf result DiskFault.TooLong
+            → WhereTold (F.told self.old.file).holds IsTooLong }
+        ensures short { OnOk result (WhereTold (F.told self.old.file).holds
+            (λ bytes. IsTooLong bytes → ⊥)) }
         ensures calls { OneCall Stays (over_told F.told self.old) (over_told F.told self.new) }
         ensures unsynced { (F.told self.new.file).syncs ≡ (F.told self.old.file).syncs }
     {
@@ -72,8 +78,10 @@ impl<F: DiskFile + Drop> Disk for RealDisk<F> {
     /// It fails as soon as a call of the file does, which is then the last.
     fn write_at(&mut self, place: u64, piece: &[u8]) -> Result<(), DiskFailed>
         requires { WhereTold (F.told self.old.file).holds (λ bytes. place ≤ length bytes) }
-        ensures failed { OnErr result ((F.told self.new.file).faults ≡ one_more (F.told self.old.file).faults) }
-        ensures sound { OnOk result ((F.told self.new.file).faults ≡ (F.told self.old.file).faults) }
+        ensures failed { OnErr result ((F.told self.new.file).faults
+            ≡ one_more (F.told self.old.file).faults) }
+        ensures sound { OnOk result ((F.told self.new.file).faults
+            ≡ (F.told self.old.file).faults) }
 
         ensures written { OnOk result
             ((F.told self.new.file).holds ≡ option_map (written_over place piece.now) (F.told self.old.file).holds) }
@@ -88,8 +96,10 @@ impl<F: DiskFile + Drop> Disk for RealDisk<F> {
     /// The file is called once, and fails where the disk does.
     fn cut(&mut self, size: u64) -> Result<(), DiskFailed>
         requires { WhereTold (F.told self.old.file).holds (λ bytes. size ≤ length bytes) }
-        ensures failed { OnErr result ((F.told self.new.file).faults ≡ one_more (F.told self.old.file).faults) }
-        ensures sound { OnOk result ((F.told self.new.file).faults ≡ (F.told self.old.file).faults) }
+        ensures failed { OnErr result ((F.told self.new.file).faults
+            ≡ one_more (F.told self.old.file).faults) }
+        ensures sound { OnOk result ((F.told self.new.file).faults
+            ≡ (F.told self.old.file).faults) }
         ensures once { (F.told self.new.file).calls ≡ one_more (F.told self.old.file).calls }
 
         ensures written { OnOk result
@@ -103,8 +113,10 @@ impl<F: DiskFile + Drop> Disk for RealDisk<F> {
 
     /// The file is called once, and fails where the disk does.
     fn sync(&mut self) -> Result<(), DiskFailed>
-        ensures failed { OnErr result ((F.told self.new.file).faults ≡ one_more (F.told self.old.file).faults) }
-        ensures sound { OnOk result ((F.told self.new.file).faults ≡ (F.told self.old.file).faults) }
+        ensures failed { OnErr result ((F.told self.new.file).faults
+            ≡ one_more (F.told self.old.file).faults) }
+        ensures sound { OnOk result ((F.told self.new.file).faults
+            ≡ (F.told self.old.file).faults) }
         ensures once { (F.told self.new.file).calls ≡ one_more (F.told self.old.file).calls }
 
         ensures same { OnOk result ((F.told self.new.file).holds ≡ (F.told self.old.file).holds) }
@@ -113,7 +125,8 @@ impl<F: DiskFile + Drop> Disk for RealDisk<F> {
         ensures calls { OneCall Stays (over_told F.told self.old) (over_told F.told self.new) }
         ensures synced { OnOk result (WhereTold (F.told self.old.file).holds (λ _.
             OneSync (over_told F.told self.old) (over_told F.told self.new))) }
-        ensures unsynced { OnErr result ((F.told self.new.file).syncs ≡ (F.told self.old.file).syncs) }
+        ensures unsynced { OnErr result ((F.told self.new.file).syncs
+            ≡ (F.told self.old.file).syncs) }
     {
         self.count();
         self.file.sync()
@@ -122,15 +135,20 @@ impl<F: DiskFile + Drop> Disk for RealDisk<F> {
 
 /// All the bytes, unless they are too many. No more are read than the first that is too many.
 fn read_whole<F: DiskFile>(file: &mut F, alloc: Global) -> Result<Vec<u8>, DiskFault>
-    ensures bytes { IfOk result (λ read. WhereTold (F.told file.old).holds (λ bytes. read.items ≡ bytes)) }
+    ensures bytes { IfOk result (λ read. WhereTold (F.told file.old).holds
+        (λ bytes. read.items ≡ bytes)) }
     ensures fits { IfOk result (λ read. vec_len read ≤ most_store_bytes) }
-    ensures too_long { IsErrOf result DiskFault.TooLong → WhereTold (F.told file.old).holds IsTooLong }
+    ensures too_long { IsErrOf result DiskFault.TooLong
+        → WhereTold (F.told file.old).holds IsTooLong }
     ensures most { (IsErrOf result DiskFault.Failed → ⊥) → WhereTold (F.told file.old).holds (λ _.
         F.position file.new ≤ most_store_bytes + 1) }
     ensures same { (F.told file.new).holds ≡ (F.told file.old).holds }
-    ensures calls { WhereTold (F.told file.old).holds (λ _. AsOneCall Stays (F.told file.old) (F.told file.new)) }
-    ensures failed { IsErrOf result DiskFault.Failed → (F.told file.new).faults ≡ one_more (F.told file.old).faults }
-    ensures sound { (IsErrOf result DiskFault.Failed → ⊥) → (F.told file.new).faults ≡ (F.told file.old).faults }
+    ensures calls { WhereTold (F.told file.old).holds
+        (λ _. AsOneCall Stays (F.told file.old) (F.told file.new)) }
+    ensures failed { IsErrOf result DiskFault.Failed
+        → (F.told file.new).faults ≡ one_more (F.told file.old).faults }
+    ensures sound { (IsErrOf result DiskFault.Failed → ⊥)
+        → (F.told file.new).faults ≡ (F.told file.old).faults }
 {
     file.seek(0)?;
     read_to_limit(file, alloc)
@@ -139,14 +157,20 @@ fn read_whole<F: DiskFile>(file: &mut F, alloc: Global) -> Result<Vec<u8>, DiskF
 /// The bytes from the next on, unless they are too many.
 fn read_to_limit<F: DiskFile>(file: &mut F, alloc: Global) -> Result<Vec<u8>, DiskFault>
     requires { WhereTold (F.told file.old).holds (λ _. F.position file.old ≡ 0) }
-    ensures bytes { IfOk result (λ read. WhereTold (F.told file.old).holds (λ bytes. read.items ≡ bytes)) }
+    ensures bytes { IfOk result (λ read. WhereTold (F.told file.old).holds
+        (λ bytes. read.items ≡ bytes)) }
     ensures fits { IfOk result (λ read. vec_len read ≤ most_store_bytes) }
-    ensures too_long { IsErrOf result DiskFault.TooLong → WhereTold (F.told file.old).holds IsTooLong }
-    ensures most { WhereTold (F.told file.old).holds (λ _. F.position file.new ≤ most_store_bytes + 1) }
+    ensures too_long { IsErrOf result DiskFault.TooLong
+        → WhereTold (F.told file.old).holds IsTooLong }
+    ensures most { WhereTold (F.told file.old).holds
+        (λ _. F.position file.new ≤ most_store_bytes + 1) }
     ensures same { (F.told file.new).holds ≡ (F.told file.old).holds }
-    ensures calls { WhereTold (F.told file.old).holds (λ _. AsOneCall Stays (F.told file.old) (F.told file.new)) }
-    ensures failed { IsErrOf result DiskFault.Failed → (F.told file.new).faults ≡ one_more (F.told file.old).faults }
-    ensures sound { (IsErrOf result DiskFault.Failed → ⊥) → (F.told file.new).faults ≡ (F.told file.old).faults }
+    ensures calls { WhereTold (F.told file.old).holds
+        (λ _. AsOneCall Stays (F.told file.old) (F.told file.new)) }
+    ensures failed { IsErrOf result DiskFault.Failed
+        → (F.told file.new).faults ≡ one_more (F.told file.old).faults }
+    ensures sound { (IsErrOf result DiskFault.Failed → ⊥)
+        → (F.told file.new).faults ≡ (F.told file.old).faults }
 {
     let mut bytes = Vec::new(alloc);
     let mut piece = room_for_a_piece(alloc)?;

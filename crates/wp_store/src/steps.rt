@@ -33,7 +33,8 @@ pub(crate) fn write_and_sync<D: Disk>(
 pub(crate) fn cut_and_sync<D: Disk>(disk: &mut D, size: u64) -> Result<(), DiskFailed>
     requires within { WhereTold (D.told disk.old).holds (λ bytes. size ≤ length bytes) }
     requires durable { IsDurable (D.told disk.old) }
-    ensures written { OnOk result ((D.told disk.new).holds ≡ option_map (take size) (D.told disk.old).holds) }
+    ensures written { OnOk result ((D.told disk.new).holds
+        ≡ option_map (take size) (D.told disk.old).holds) }
     ensures durable { OnOk result (IsDurable (D.told disk.new)) }
     ensures any_moment { WhereTold (D.told disk.old).holds (λ bytes.
         LeavesOnly (D.told disk.old) (D.told disk.new) (Cut size bytes)) }

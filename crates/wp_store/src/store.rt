@@ -23,8 +23,8 @@ pub(crate) fn fill(room: &mut Vec<u8>, body: &[u8])
     let _closed = room.push(0);
 }
 
-/// Writes a piece, which is a length, a body and a closed byte, behind the closed byte at a place; then opens that byte. Each
-/// of the two is on the disk before the next call.
+/// Writes a piece, which is a length, a body and a closed byte, behind the closed byte at a place; then opens that
+/// byte. Each of the two is on the disk before the next call.
 pub(crate) fn append_at<D: Disk>(
     disk: &mut D,
     place: u64,
@@ -33,7 +33,8 @@ pub(crate) fn append_at<D: Disk>(
 ) -> Result<(), DiskFailed>
     requires settled { IsSettledAt (D.told disk.old) place }
     requires fits { place + 1 < 2 ^ 64 }
-    requires room { WhereTold (D.told disk.old).holds (λ bytes. length (records_of bytes) < most_records) }
+    requires room { WhereTold (D.told disk.old).holds
+        (λ bytes. length (records_of bytes) < most_records) }
     requires piece { piece.now ≡ length_bytes (length body.now) ++ body.now ++ 0 ∷ [] }
     requires some { 1 ≤ length body.now }
     requires few { length body.now ≤ most_body_bytes }

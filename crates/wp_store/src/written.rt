@@ -38,7 +38,8 @@ pub(crate) fn keep(kept: &mut Vec<u8>, bytes: &[u8])
 /// Notes a call that was done, where there is room.
 pub(crate) fn note(done: &mut Vec<Done>, kind: Kind, bytes: &Vec<u8>)
     requires { vec_len done.old < vec_capacity done.old }
-    ensures noted { newest_first done.new.items ≡ call_of_kind kind bytes.now.items ∷ newest_first done.old.items }
+    ensures noted { newest_first done.new.items
+        ≡ call_of_kind kind bytes.now.items ∷ newest_first done.old.items }
     ensures len { vec_len done.new ≡ vec_len done.old + 1 }
     ensures capacity { vec_capacity done.new ≡ vec_capacity done.old }
 {

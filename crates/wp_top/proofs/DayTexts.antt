@@ -13,7 +13,7 @@ use Rattle.wp_planner.specs.declared.crew.DayCrew.{DayCrew}
 use Rattle.wp_planner.specs.declared.planner.WavePlan.{WavePlan}
 use Rattle.wp_top.proofs.SectionTexts.{any_sheets}
 use Rattle.wp_top.proofs.WavesOut.{waves_are}
-use Rattle.wp_planner.specs.Sent.{plans_of, waves_of}
+use Rattle.wp_planner.specs.Sent.{plans_of, sent_waves}
 use Rattle.wp_top.specs.Planned.{HasCrew, IsToldOf, day_told}
 use Rattle.wp_top.specs.Runs.{IsTextOf}
 use Rattle.wp_top.specs.Sections.{output_of, refills_and_end, refills_section, stock_section}
@@ -35,7 +35,7 @@ in_order history sheets told crew =
 -- this is the text of a day
 pub text_is : (layout : Layout) (terms : Terms) (start : History) (day : DayRun (Option WavePlan)) (crew : Option DayCrew) (sheets text : List ℕ)
     → IsToldOf layout terms start day → HasCrew terms day crew
-    → AreSheets day.machine terms (waves_of day.plans.items) (plans_of day.plans.items) sheets
+    → AreSheets day.machine terms (sent_waves day.plans.items) (plans_of day.plans.items) sheets
     → text ≡ journal day.machine.entries ++ (sheets ++ refills_and_end day.machine day.refills.items (crew_text crew))
     → IsTextOf terms (day_told start day) text
 text_is layout terms start day crew sheets text told dealt are is =

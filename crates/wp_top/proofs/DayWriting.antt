@@ -17,7 +17,7 @@ use Rattle.wp_planner.specs.declared.crew.DayCrew.{DayCrew}
 use Rattle.wp_planner.specs.declared.planner.WavePlan.{WavePlan}
 use Rattle.wp_top.proofs.DayTexts.{any_text, text_is}
 use Rattle.wp_top.proofs.SectionTexts.{lines_fail, lines_then, lines_then_fail, sheets_are}
-use Rattle.wp_planner.specs.Sent.{Sent, plans_of, waves_of}
+use Rattle.wp_planner.specs.Sent.{Sent, plans_of, sent_waves}
 use Rattle.wp_top.specs.Planned.{HasCrew, IsSheetAt, IsToldOf, day_told}
 use Rattle.wp_top.specs.Sections.{IsTextAt, refills_and_end}
 use Rattle.wp_top.specs.Sheets.{AreSheets}
@@ -27,10 +27,10 @@ use Rattle.wp_top.specs.Runs.{IsTextOf}
 pub sheets_fail : (history : History) (terms : Terms) (listed sent : List Sent) (count : ℕ) (more waited : List ℕ) (fault : SinkFault) (old new : SinkTold)
     → count ≡ length listed → listed ≡ sent
     → (text : List ℕ) × IsSection [] count (IsSheetAt history terms listed) [] text × Fails fault old new (waited ++ text)
-    → (sheets : List ℕ) × AreSheets history terms (waves_of sent) (plans_of sent) sheets × Fails fault old new (waited ++ (sheets ++ more))
+    → (sheets : List ℕ) × AreSheets history terms (sent_waves sent) (plans_of sent) sheets × Fails fault old new (waited ++ (sheets ++ more))
 sheets_fail history terms listed sent count more waited fault old new all same (text, said, fails) = (
   text,
-  subst (λ (s : List Sent). AreSheets history terms (waves_of s) (plans_of s) text) same (sheets_are history terms listed count text all said),
+  subst (λ (s : List Sent). AreSheets history terms (sent_waves s) (plans_of s) text) same (sheets_are history terms listed count text all said),
   Fails-before fault old new waited text more fails,
 )
 
@@ -39,10 +39,10 @@ pub sheets_then : (history : History) (terms : Terms) (listed sent : List Sent) 
     → count ≡ length listed → listed ≡ sent
     → (text : List ℕ) × IsSection [] count (IsSheetAt history terms listed) [] text × Writes old mid waited between text
     → Writes mid new between waits more
-    → (sheets : List ℕ) × AreSheets history terms (waves_of sent) (plans_of sent) sheets × Writes old new waited waits (sheets ++ more)
+    → (sheets : List ℕ) × AreSheets history terms (sent_waves sent) (plans_of sent) sheets × Writes old new waited waits (sheets ++ more)
 sheets_then history terms listed sent count more waited between waits old mid new all same (text, said, writes) rest = (
   text,
-  subst (λ (s : List Sent). AreSheets history terms (waves_of s) (plans_of s) text) same (sheets_are history terms listed count text all said),
+  subst (λ (s : List Sent). AreSheets history terms (sent_waves s) (plans_of s) text) same (sheets_are history terms listed count text all said),
   Writes-then old mid new waited between waits text more writes rest,
 )
 
@@ -51,10 +51,10 @@ pub sheets_then_fail : (history : History) (terms : Terms) (listed sent : List S
     (old mid new : SinkTold) → count ≡ length listed → listed ≡ sent
     → (text : List ℕ) × IsSection [] count (IsSheetAt history terms listed) [] text × Writes old mid waited between text
     → Fails fault mid new (between ++ more)
-    → (sheets : List ℕ) × AreSheets history terms (waves_of sent) (plans_of sent) sheets × Fails fault old new (waited ++ (sheets ++ more))
+    → (sheets : List ℕ) × AreSheets history terms (sent_waves sent) (plans_of sent) sheets × Fails fault old new (waited ++ (sheets ++ more))
 sheets_then_fail history terms listed sent count more waited between fault old mid new all same (text, said, writes) rest = (
   text,
-  subst (λ (s : List Sent). AreSheets history terms (waves_of s) (plans_of s) text) same (sheets_are history terms listed count text all said),
+  subst (λ (s : List Sent). AreSheets history terms (sent_waves s) (plans_of s) text) same (sheets_are history terms listed count text all said),
   Fails-then fault old mid new waited between text more writes rest,
 )
 
@@ -83,7 +83,7 @@ pub day_then : (layout : Layout) (terms : Terms) (start : History) (day : DayRun
     (waited between : List ℕ)
     (old mid new : SinkTold) → IsToldOf layout terms start day → HasCrew terms day crew → entries ≡ day.machine.entries → count ≡ length entries → waited ≡ []
     → (text : List ℕ) × Lines entries count text × Writes old mid waited between text
-    → (sheets : List ℕ) × AreSheets day.machine terms (waves_of day.plans.items) (plans_of day.plans.items) sheets
+    → (sheets : List ℕ) × AreSheets day.machine terms (sent_waves day.plans.items) (plans_of day.plans.items) sheets
     × Writes mid new between [] (sheets ++ refills_and_end day.machine day.refills.items (crew_text crew))
     → (text : List ℕ) × IsTextOf terms (day_told start day) text × Writes old new [] [] text
 day_then layout terms start day crew entries count waited between old mid new told dealt all count_is none section (sheets, are, rest) =
@@ -102,7 +102,7 @@ pub day_then_fails : (layout : Layout) (terms : Terms) (start : History) (day : 
     (fault : SinkFault) (old mid new : SinkTold) → IsToldOf layout terms start day → HasCrew terms day crew → entries ≡ day.machine.entries
     → count ≡ length entries → waited ≡ []
     → (text : List ℕ) × Lines entries count text × Writes old mid waited between text
-    → (sheets : List ℕ) × AreSheets day.machine terms (waves_of day.plans.items) (plans_of day.plans.items) sheets
+    → (sheets : List ℕ) × AreSheets day.machine terms (sent_waves day.plans.items) (plans_of day.plans.items) sheets
     × Fails fault mid new (between ++ (sheets ++ refills_and_end day.machine day.refills.items (crew_text crew)))
     → (text : List ℕ) × IsTextOf terms (day_told start day) text × Fails fault old new text
 day_then_fails layout terms start day crew entries count waited between fault old mid new told dealt all count_is none section (sheets, are, rest) =

@@ -10,7 +10,7 @@ use Rattle.wp_outside.specs.declared.sink.SinkFault.TheVariants as sink_fault
 use Rattle.wp_outside.proofs.Steps.{Writes-whole}
 use Rattle.wp_outside.specs.Writing.{Fails, Writes}
 use Rattle.wp_top.specs.Ends.{Asked, IsOutput, of_run}
-use Rattle.wp_top.specs.Stops.{Finishes, FinishesJob, HasEnded, IsEndOf, IsEnding, IsOfInput, StopsFor, end_of, gives, number_of, of_store, status_of}
+use Rattle.wp_top.specs.Stops.{Finishes, FinishesJob, HasEnded, IsEndOf, IsEnding, IsOfInput, StopsFor, end_of, gives, status_number, of_store, status_of}
 use Rattle.wp_top.specs.Stops.{status_when}
 use Rattle.wp_top.specs.Stores.{DiskCourse}
 use Rattle.wp_top.specs.declared.complaint.Complaint.TheVariants as complaint
@@ -91,7 +91,7 @@ stopped_not_of_input disk opening commands sink sink' stop.Memory ended stops (i
 stopped_not_of_input disk opening commands sink sink' stop.Memory ended stops (inr (is, same)) of = subst IsOfInput is of
 
 -- a number from 1 to 3 is that of such a complaint
-pub is_of_input : (ended : Status) → 1 ≤ number_of ended → number_of ended ≤ 3 → IsOfInput ended
+pub is_of_input : (ended : Status) → 1 ≤ status_number ended → status_number ended ≤ 3 → IsOfInput ended
 is_of_input status.Done some few = absurd (omega (arith, some))
 is_of_input status.BadWords some few = tt
 is_of_input status.Refused some few = tt

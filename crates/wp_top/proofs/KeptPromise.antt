@@ -13,7 +13,7 @@ use Rattle.wp_outside.specs.Outside.{Grows, NoneFalls, SameBytes, SinkTold}
 use Rattle.wp_top.specs.Ends.{AreNewIn, Asked, EndsAt, HasRisen, IsRefused, ReadsWithin, most_reads}
 use Rattle.wp_top.specs.Promise.{AreGoodFiles, AsksForStore, Course, IsBadFile, Keeps, StoreStands}
 use Rattle.wp_top.specs.Runs.{ComesTo, IsRight, IsWrong, UsesStore, command_count}
-use Rattle.wp_top.specs.Stops.{End, Finishes, HasEnded, IsEnding, IsOfInput, complains, gives, number_of, status_of, text_of}
+use Rattle.wp_top.specs.Stops.{End, Finishes, HasEnded, IsEnding, IsOfInput, complains, gives, status_number, status_of, text_of}
 use Rattle.wp_top.specs.Stores.{AreSomeKept, DiskCourse, GoesOnFromStore, HasFailed, Held, IsRefusedStore}
 use Rattle.wp_top.specs.Texts.{HaveSaid, IsHeld, Said, files_of, opening_with}
 use Rattle.wp_top.specs.declared.complaint.Complaint.TheVariants as complaint
@@ -37,7 +37,7 @@ pub not_both : {A E : Type 0} (o : Result A E) (a : A) (e : E) → o ≡ Ok a �
 not_both o a e ok err = let same : Ok a ≡ Err e = sym ok ∙ err in cc same
 
 ends_for_words : (asked : Asked) (run : Course) (e : End) (why : WordsFault) → IsEnding asked run.disk run.files run.files' e → asked ≡ Err why
-    → number_of (status_of e) ≡ 1
+    → status_number (status_of e) ≡ 1
 ends_for_words asked run (gives text) w is bad = absurd (not_both asked is.job w is.asked_for bad)
 ends_for_words asked run (complains (complaint.Words why)) w is bad = refl
 ends_for_words asked run (complains (complaint.Refused f why)) w is bad = absurd (not_both asked is.0 w is.1 bad)
@@ -49,7 +49,7 @@ job_is : (asked : Asked) (a b : JobNames) → asked ≡ Ok a → asked ≡ Ok b 
 job_is asked a b p q = let same : ◌≡◌ {A = Asked} (Ok a) (Ok b) = sym p ∙ q in cc same
 
 ends_for_bad_file : (asked : Asked) (run : Course) (e : End) → IsEnding asked run.disk run.files run.files' e → IsBadFile asked run
-    → number_of (status_of e) ≡ 2
+    → status_number (status_of e) ≡ 2
 ends_for_bad_file asked run (gives text) is bad =
     absurd (none_told run.files.holds (files_of bad.job) bad.before bad.file bad.later is.said bad.said bad.text bad.why
     (subst (λ (j : JobNames). HaveSaid (IsHeld run.files.holds) (files_of j) is.said) (job_is asked is.job bad.job is.asked_for bad.asked_for) is.accepted)
@@ -136,7 +136,7 @@ said_is asked run job other said more good asked_for have =
 
 ends_for_wrong : (asked : Asked) (run : Course) (e : End) (job : JobNames) (said : Said) (found : Finding)
     → IsEnding asked run.disk run.files run.files' e → AreGoodFiles asked run job said → StoreStands run job → IsWrong run.disk.old.holds job said found
-    → number_of (status_of e) ≡ 6
+    → status_number (status_of e) ≡ 6
 ends_for_wrong asked run (gives text) job said found is good store wrong =
     let same = said_is asked run job is.job said is.said good is.asked_for is.accepted in
     absurd (right_no_wrong run job said found store (right_output run.disk job said text
@@ -154,7 +154,7 @@ ends_for_wrong asked run (complains complaint.Store) job said found is good stor
     absurd (no_store_fault run job is.job store (job_is asked is.job job is.asked_for good.asked_for) is.comes)
 
 ends_for_good : (asked : Asked) (run : Course) (e : End) (job : JobNames) (said : Said) → IsEnding asked run.disk run.files run.files' e
-    → AreGoodFiles asked run job said → StoreStands run job → IsRight run.disk.old.holds job said → number_of (status_of e) ≡ 0
+    → AreGoodFiles asked run job said → StoreStands run job → IsRight run.disk.old.holds job said → status_number (status_of e) ≡ 0
 ends_for_good asked run (gives text) job said is good store right = refl
 ends_for_good asked run (complains (complaint.Words why)) job said is good store right = absurd (not_both asked job why good.asked_for is.0)
 ends_for_good asked run (complains (complaint.Refused f why)) job said is good store right =
@@ -190,7 +190,7 @@ pub record LeavesDisk {D : Type 0} (asked : Asked) (ended : Status) (disk disk' 
 -- a run that ended so keeps its promise
 keeps : {D : Type 0} (asked : Asked) (run : Course) (disk disk' : D) (ended : Status) (e : End) → IsFrame asked run → LeavesDisk asked ended disk disk'
     → IsEnding asked run.disk run.files run.files' e
-    → Finishes e run.sink run.sink' ended → Keeps asked run disk disk' (number_of ended)
+    → Finishes e run.sink run.sink' ended → Keeps asked run disk disk' (status_number ended)
 keeps asked run disk disk' ended e frame left cause finishes =
     record {
       done = λ status. let t = whole asked run ended 0 e finishes status (inl (omega arith)) in when_done asked run e cause t.is t.took;
@@ -255,7 +255,7 @@ keeps_nothing asked run disk disk' frame untouched same = record {
 -- a run that ended so, with an end or for want of memory before it had one
 pub run_keeps : {D : Type 0} (asked : Asked) (run : Course) (disk disk' : D) (ended : Status) → IsFrame asked run → LeavesDisk asked ended disk disk'
     → HasEnded asked run.disk run.files run.files' run.sink run.sink' ended
-    → Keeps asked run disk disk' (number_of ended)
+    → Keeps asked run disk disk' (status_number ended)
 run_keeps asked run disk disk' ended frame left (inl (e, cause, finishes)) = keeps asked run disk disk' ended e frame left cause finishes
 run_keeps asked run disk disk' ended frame left (inr (none, same)) =
-    subst (Keeps asked run disk disk') (ap number_of (sym none)) (keeps_nothing asked run disk disk' frame left.untouched same)
+    subst (Keeps asked run disk disk') (ap status_number (sym none)) (keeps_nothing asked run disk disk' frame left.untouched same)

@@ -19,7 +19,7 @@ use Rattle.wp_model.specs.Warehouse.{Layout}
 use Rattle.wp_model.specs.declared.entry.Entry.{Entry}
 use Rattle.wp_planner.specs.Roots.{IsRootFor}
 use Rattle.wp_planner.specs.Terms.{Terms}
-use Rattle.wp_planner.specs.Sent.{ArePlanned, IsPlanned, Sent, plans_of, waves_of}
+use Rattle.wp_planner.specs.Sent.{ArePlanned, IsPlanned, Sent, plans_of, sent_waves}
 use Rattle.wp_top.specs.Summaries.{AreGoodPlans, AreWholePlans, is_proven, proven_plans, releases, total_bound, total_cost}
 use Rattle.wp_planner.specs.declared.planner.WavePlan.{WavePlan}
 use Rattle.wp_top.specs.Planned.{IsToldOf}
@@ -57,7 +57,7 @@ released_count history legal = released_from history.opening 0 (opening_state hi
 
 -- the plans of waves that went out, each with a whole one
 pub whole_plans : (layout : Layout) (opening : Opening) (terms : Terms) (sent : List Sent) → ArePlanned layout opening terms sent
-    → AreWholePlans layout opening terms (waves_of sent) (plans_of sent)
+    → AreWholePlans layout opening terms (sent_waves sent) (plans_of sent)
 whole_plans layout opening terms [] planned = tt
 whole_plans layout opening terms (one ∷ sent) planned =
     let P : Sent → Type 0 = IsPlanned layout opening terms in

@@ -19,7 +19,7 @@ use Rattle.wp_top.proofs.Writing.{flat_map-next, take_all}
 use Rattle.wp_machine.specs.Outcome.{is_cancelled_later}
 use Rattle.wp_model.specs.Opening.{Stock}
 use Rattle.wp_machine.specs.declared.outcome.Refill.{Refill}
-use Rattle.wp_planner.specs.Sent.{ArePlanned, IsPlanned, Sent, plans_of, waves_of}
+use Rattle.wp_planner.specs.Sent.{ArePlanned, IsPlanned, Sent, plans_of, sent_waves}
 use Rattle.wp_top.specs.Planned.{IsSheetAt}
 use Rattle.wp_top.specs.Sections.{IsTextAt, refills_section}
 use Rattle.wp_top.specs.Sheets.{AreSheets}
@@ -87,21 +87,21 @@ one_text write item = sym (append-nil (flat_map write (item ∷ [])) ∙ append-
 
 -- the first sheets are those of the first parts
 first_sheets : (history : History) (terms : Terms) (sent : List Sent) (count : ℕ) (text : List ℕ)
-    → AreParts (IsSheetAt history terms sent) count text → GrowsBy (AreSheets history terms (waves_of (take count sent)) (plans_of (take count sent))) [] text
+    → AreParts (IsSheetAt history terms sent) count text → GrowsBy (AreSheets history terms (sent_waves (take count sent)) (plans_of (take count sent))) [] text
 first_sheets history terms sent zero text are = subst (GrowsBy (AreSheets history terms [] []) []) (sym are) (grown_by_none history terms [])
 first_sheets history terms sent (suc last) text (before, are, (sheet, (one, there, is), grown)) =
     let next : last + 1 ≡ suc last = omega arith in
-    subst (λ (n : ℕ). GrowsBy (AreSheets history terms (waves_of (take n sent)) (plans_of (take n sent))) [] text) next
+    subst (λ (n : ℕ). GrowsBy (AreSheets history terms (sent_waves (take n sent)) (plans_of (take n sent))) [] text) next
     (grown_next history terms sent last one [] before text there (first_sheets history terms sent last before are) (sheet, is, grown))
 
 -- a section of sheets
 pub sheets_are : (history : History) (terms : Terms) (sent : List Sent) (count : ℕ) (text : List ℕ) → count ≡ length sent
-    → IsSection [] count (IsSheetAt history terms sent) [] text → AreSheets history terms (waves_of sent) (plans_of sent) text
+    → IsSection [] count (IsSheetAt history terms sent) [] text → AreSheets history terms (sent_waves sent) (plans_of sent) text
 sheets_are history terms sent count text all (middle, are, is) =
     let whole : take count sent ≡ sent = ap (λ (n : ℕ). take n sent) all ∙ take_all sent in
-    let grown = subst (λ (s : List Sent). GrowsBy (AreSheets history terms (waves_of s) (plans_of s)) [] middle) whole
+    let grown = subst (λ (s : List Sent). GrowsBy (AreSheets history terms (sent_waves s) (plans_of s)) [] middle) whole
     (first_sheets history terms sent count middle are) in
-    subst (AreSheets history terms (waves_of sent) (plans_of sent)) (sym (is ∙ (append-nil middle ∙ grown.2))) grown.1
+    subst (AreSheets history terms (sent_waves sent) (plans_of sent)) (sym (is ∙ (append-nil middle ∙ grown.2))) grown.1
 
 -- a wave that went out and has a good plan has a sheet
 pub sheets_there : (layout : Layout) (history : History) (terms : Terms) (sent : List Sent) (count : ℕ) → count ≡ length sent
@@ -114,7 +114,7 @@ sheets_there layout history terms sent count all planned number within =
 
 -- so waves that went out have sheets together
 pub any_sheets : (layout : Layout) (history : History) (terms : Terms) (sent : List Sent) → ArePlanned layout history.opening terms sent
-    → (sheets : List ℕ) × AreSheets history terms (waves_of sent) (plans_of sent) sheets
+    → (sheets : List ℕ) × AreSheets history terms (sent_waves sent) (plans_of sent) sheets
 any_sheets layout history terms [] planned = ([], refl)
 any_sheets layout history terms (one ∷ sent) planned =
     let is = All-head (IsPlanned layout history.opening terms) one sent planned in

@@ -9,7 +9,7 @@ use Rattle.wp_planner.specs.declared.planner.WavePlan.{WavePlan}
 use Rattle.wp_top.proofs.MadeDays.{plans_more}
 use Rattle.wp_top.proofs.Waves.{one_wave_more}
 use Rattle.wp_top.proofs.Writing.{take_more}
-use Rattle.wp_planner.specs.Sent.{Sent, plans_of, waves_of}
+use Rattle.wp_planner.specs.Sent.{Sent, plans_of, sent_waves}
 use Rattle.wp_top.specs.Planned.{IsSentSheet}
 use Rattle.wp_top.specs.Sheets.{AreSheets, IsSheetOf}
 
@@ -49,14 +49,14 @@ one_plan one plan is = rw is refl
 
 -- a text that grew by the sheets of the first waves grows by that of the next
 pub grown_next : (history : History) (terms : Terms) (sent : List Sent) (i : ℕ) (one : Sent) (old mid new : List ℕ)
-    → slice_get sent i ≡ Some one → GrowsBy (AreSheets history terms (waves_of (take i sent)) (plans_of (take i sent))) old mid
+    → slice_get sent i ≡ Some one → GrowsBy (AreSheets history terms (sent_waves (take i sent)) (plans_of (take i sent))) old mid
     → GrowsBy (IsSentSheet history terms one) mid new
-    → GrowsBy (AreSheets history terms (waves_of (take (i + 1) sent)) (plans_of (take (i + 1) sent))) old new
+    → GrowsBy (AreSheets history terms (sent_waves (take (i + 1) sent)) (plans_of (take (i + 1) sent))) old new
 grown_next history terms sent i one old mid new at so_far (sheet, (plan, there, is), grows) =
-    let waves : waves_of (take (i + 1) sent) ≡ waves_of (take i sent) ++ one.wave ∷ [] =
-    ap waves_of (take_more sent i one at) ∙ one_wave_more (take i sent) one in
+    let waves : sent_waves (take (i + 1) sent) ≡ sent_waves (take i sent) ++ one.wave ∷ [] =
+    ap sent_waves (take_more sent i one at) ∙ one_wave_more (take i sent) one in
     let plans : plans_of (take (i + 1) sent) ≡ plans_of (take i sent) ++ plan ∷ [] =
     plans_more sent i one at ∙ ap (λ (more : List WavePlan). plans_of (take i sent) ++ more) (one_plan one plan there) in
     subst (λ (ws : List WaveHolds). GrowsBy (AreSheets history terms ws (plans_of (take (i + 1) sent))) old new) (sym waves)
-    (subst (λ (ps : List WavePlan). GrowsBy (AreSheets history terms (waves_of (take i sent) ++ one.wave ∷ []) ps) old new) (sym plans)
-    (grown_more history terms (waves_of (take i sent)) (plans_of (take i sent)) one.wave plan old mid new so_far (sheet, is, grows)))
+    (subst (λ (ps : List WavePlan). GrowsBy (AreSheets history terms (sent_waves (take i sent) ++ one.wave ∷ []) ps) old new) (sym plans)
+    (grown_more history terms (sent_waves (take i sent)) (plans_of (take i sent)) one.wave plan old mid new so_far (sheet, is, grows)))

@@ -24,13 +24,13 @@ use Rattle.wp_planner.specs.Plans.{IsPlanFor}
 use Rattle.wp_planner.specs.Released.{IsReleased}
 use Rattle.wp_planner.specs.Terms.{Terms}
 use Rattle.wp_planner.specs.declared.planner.WavePlan.{WavePlan}
-use Rattle.wp_planner.specs.Sent.{ArePlanned, IsPlanned, Sent, waves_of}
+use Rattle.wp_planner.specs.Sent.{ArePlanned, IsPlanned, Sent, sent_waves}
 use Rattle.wp_top.specs.Planned.{AreMadeBy, IsToldOf}
 use Rattle.wp_top.specs.Runs.{IsHistoryOf}
 use Rattle.wp_top.specs.Sections.{refills_told}
 
 -- one more
-pub one_wave_more : (sent : List Sent) (one : Sent) → waves_of (sent ++ one ∷ []) ≡ waves_of sent ++ one.wave ∷ []
+pub one_wave_more : (sent : List Sent) (one : Sent) → sent_waves (sent ++ one ∷ []) ≡ sent_waves sent ++ one.wave ∷ []
 one_wave_more [] one = refl
 one_wave_more (first ∷ sent) one = ap (λ waves. first.wave ∷ waves) (one_wave_more sent one)
 
@@ -77,14 +77,14 @@ one_planned layout opening terms sent None same is released = absurd (cc (is.the
 
 -- so it is with each
 each_planned : (layout : Layout) (opening : Opening) (terms : Terms) (sent : List Sent) → All (λ s. IsPlanFor layout opening terms s.wave s.plan) sent
-    → All (IsReleased opening) (waves_of sent) → ArePlanned layout opening terms sent
+    → All (IsReleased opening) (sent_waves sent) → ArePlanned layout opening terms sent
 each_planned layout opening terms [] plans released = All-nil (IsPlanned layout opening terms)
 each_planned layout opening terms (one ∷ sent) plans released =
     let P : Sent → Type 0 = λ s. IsPlanFor layout opening terms s.wave s.plan in
     let R : WaveHolds → Type 0 = IsReleased opening in
     All-cons (IsPlanned layout opening terms) one sent
-    (one_planned layout opening terms one one.plan refl (All-head P one sent plans) (All-head R one.wave (waves_of sent) released))
-    (each_planned layout opening terms sent (All-tail P one sent plans) (All-tail R one.wave (waves_of sent) released))
+    (one_planned layout opening terms one one.plan refl (All-head P one sent plans) (All-head R one.wave (sent_waves sent) released))
+    (each_planned layout opening terms sent (All-tail P one sent plans) (All-tail R one.wave (sent_waves sent) released))
 
 -- what the desks of an opening that was read answer is its day's history
 pub history_of : (opening : Opening) (scripts : List Script) (start : History) (result : Result (DayRun (Option WavePlan)) Memory)
@@ -104,7 +104,7 @@ history_of opening scripts start (Ok day) starts goes_on legal parts sound read 
 -- a day of an opening that was read tells what the steps of its history tell, where whatever may be made of a wave is a plan for it
 pub told_as : (layout : Layout) (terms : Terms) (opening : Opening) (scripts : List Script) (start : History) (makes : WaveHolds → Option WavePlan → Type 0)
     (result : Result (DayRun (Option WavePlan)) Memory) → IsReadOpening opening → IfOk result (λ day. IsHistoryOf opening scripts start day.machine)
-    → IfOk result (λ day. waves_of day.plans.items ≡ released_after start (new_entries start day.machine))
+    → IfOk result (λ day. sent_waves day.plans.items ≡ released_after start (new_entries start day.machine))
     → IfOk result (λ day. day.refills.items ≡ refills_told start day.machine)
     → IfOk result (λ day. AreMadeBy makes day.plans.items)
     → ((wave : WaveHolds) (plan : Option WavePlan) → makes wave plan → IsPlanFor layout opening terms wave plan)

@@ -66,7 +66,8 @@ finding_text (finding.Store found) = codes "store" ++ after_space (store_finding
 -- journal or a store that isn't right, and of a store whose disk failed
 abbrev pub complaint_text : Complaint → List ℕ
 complaint_text (complaint.Words why) = codes "refused words" ++ after_space (fault_text why)
-complaint_text (complaint.Refused file why) = codes "refused" ++ after_space (input_text file) ++ after_space (refusal_text why)
+complaint_text (complaint.Refused file why)
+    = codes "refused" ++ after_space (input_text file) ++ after_space (refusal_text why)
 complaint_text (complaint.Fault file) = codes "read fault" ++ after_space (input_text file)
 complaint_text (complaint.Wrong found) = codes "refused" ++ after_space (finding_text found)
 complaint_text complaint.Store = codes "store fault"

@@ -13,7 +13,7 @@ use Rattle.wp_model.specs.History.{History, Script}
 use Rattle.wp_model.specs.Opening.{Opening}
 use Rattle.wp_model.specs.Warehouse.{Layout}
 use Rattle.wp_planner.specs.Crews.{IsCrewFor, day_batches}
-use Rattle.wp_planner.specs.Sent.{ArePlanned, Sent, plans_of, waves_of}
+use Rattle.wp_planner.specs.Sent.{ArePlanned, Sent, plans_of, sent_waves}
 use Rattle.wp_planner.specs.Terms.{Terms}
 use Rattle.wp_planner.specs.declared.crew.DayCrew.{DayCrew}
 use Rattle.wp_planner.specs.declared.planner.WavePlan.{WavePlan}
@@ -36,7 +36,7 @@ pub record AreMadeBy (makes : WaveHolds → Option WavePlan → Type 0) (sent : 
 -- went out has a good plan
 pub record IsToldOf (layout : Layout) (terms : Terms) (start : History) (day : DayRun (Option WavePlan)) : Type 0 where
   pub goes_on : GoesOnFrom start day.machine
-  pub waves : waves_of day.plans.items ≡ released_after start (new_entries start day.machine)
+  pub waves : sent_waves day.plans.items ≡ released_after start (new_entries start day.machine)
   pub planned : ArePlanned layout day.machine.opening terms day.plans.items
   pub refills : day.refills.items ≡ refills_told start day.machine
 
@@ -47,7 +47,7 @@ day_told start day = record { start = start; history = day.machine; plans = plan
 -- and where the terms have pickers, all batches of a day are dealt to them
 abbrev pub HasCrew : Terms → DayRun (Option WavePlan) → Option DayCrew → Type 0
 HasCrew terms day crew = IsCrewFor terms.pickers
-    (day_batches (waves_of day.plans.items) (plans_of day.plans.items)) crew
+    (day_batches (sent_waves day.plans.items) (plans_of day.plans.items)) crew
 
 -- a day that is planned and was run over a disk: it began as the words say, answers the scripts, tells what its new
 -- entries tell, its batches are dealt, and where the words have a store all its new entries are there

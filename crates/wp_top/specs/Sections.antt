@@ -42,7 +42,8 @@ refills_told start history = flat_map refill_in (told_after start (new_entries s
 
 -- the refills, one after the other
 abbrev pub refills_section : Stock → List Refill → List ℕ
-refills_section stock refills = line (codes "refills") ++ flat_map (refill_lines stock) refills ++ line (codes "end refills")
+refills_section stock refills = line (codes "refills") ++ flat_map (refill_lines stock) refills
+    ++ line (codes "end refills")
 
 -- the rows as they stand, one after the other
 abbrev pub stock_section : Stock → List Row → List ℕ

@@ -210,15 +210,15 @@ status_of (complains (complaint.Wrong found)) = status.Wrong
 status_of (complains complaint.Store) = status.StoreFault
 
 -- the number of a status
-abbrev pub number_of : Status → ℕ
-number_of status.Done = 0
-number_of status.BadWords = 1
-number_of status.Refused = 2
-number_of status.ReadFault = 3
-number_of status.WriteFault = 4
-number_of status.OutOfMemory = 5
-number_of status.Wrong = 6
-number_of status.StoreFault = 7
+abbrev pub status_number : Status → ℕ
+status_number status.Done = 0
+status_number status.BadWords = 1
+status_number status.Refused = 2
+status_number status.ReadFault = 3
+status_number status.WriteFault = 4
+status_number status.OutOfMemory = 5
+status_number status.Wrong = 6
+status_number status.StoreFault = 7
 
 -- the status is that of a complaint of words, of a refused file or of one that couldn't be read
 abbrev pub IsOfInput : Status → Type 0

@@ -107,13 +107,15 @@ made_line number size = codes "made number" ++ number_after_space number ++ size
 -- held at the end
 abbrev pub commands_line : History → List ℕ
 commands_line history =
-    line (codes "commands" ++ number_after_space (length history.entries) ++ codes " released" ++ number_after_space (releases history.entries)
+    line (codes "commands" ++ number_after_space (length history.entries) ++ codes " released"
+    ++ number_after_space (releases history.entries)
     ++ codes " units" ++ number_after_space (held_units (state_after history).rows))
 
 -- the line of what the plans come to
 abbrev pub plans_line : List WavePlan → List ℕ
 plans_line plans =
-    line (codes "cost" ++ number_after_space (total_cost plans) ++ codes " bound" ++ number_after_space (total_bound plans)
+    line (codes "cost" ++ number_after_space (total_cost plans) ++ codes " bound"
+    ++ number_after_space (total_bound plans)
     ++ codes " proven" ++ number_after_space (proven_plans plans))
 
 -- the summary of a history and of the plans of its waves

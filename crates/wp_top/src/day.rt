@@ -3,7 +3,7 @@ ghost use Rattle.std.specs.Prelude.{◌≡◌, ◌<◌, IfOk, length};
 ghost use Rattle.wp_model.specs.Tables.{AreReadScripts, IsReadOpening};
 ghost use Rattle.wp_planner.specs.Plans.{IsPlanFor};
 ghost use Rattle.wp_planner.specs.Released.{LiesIn};
-ghost use Rattle.wp_planner.specs.Sent.{waves_of};
+ghost use Rattle.wp_planner.specs.Sent.{sent_waves};
 ghost use Rattle.wp_top.specs.Planned.{AreMadeBy, HasCrew, IsToldOf};
 ghost use Rattle.wp_desk.specs.GoingOn.{new_entries, released_after};
 ghost use Rattle.wp_top.specs.Sections.{refills_told};
@@ -58,7 +58,7 @@ fn run_planned<'a, R: Threads + Wait + Sync, C: PlansWaves, G: Gate>(
     requires few { length machine.entries < most_opened }
     ensures history { IsReadOpening opening.now
         → IfOk result (λ day. IsHistoryOf opening.now scripts.now machine.entry day.machine) }
-    ensures waves { IfOk result (λ day. waves_of day.plans.items
+    ensures waves { IfOk result (λ day. sent_waves day.plans.items
         ≡ released_after machine.entry (new_entries machine.entry day.machine)) }
     ensures plans { IfOk result (λ day. AreMadeBy (C.makes calls) day.plans.items) }
     ensures refills { IfOk result (λ day. day.refills.items

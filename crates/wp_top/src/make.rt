@@ -56,7 +56,8 @@ fn add_name(alloc: Global, names: &mut Vec<String>, name: &str) -> Result<(), Me
 
 // The names by which the files of a made day are read.
 fn file_names(alloc: Global) -> Result<Vec<String>, Memory>
-    ensures bytes { IfOk result (λ names. map string_bytes names.items ≡ codes "layout" ∷ codes "stock" ∷ codes "orders" ∷ codes "desks" ∷ []) }
+    ensures bytes { IfOk result (λ names. map string_bytes names.items ≡ codes "layout"
+        ∷ codes "stock" ∷ codes "orders" ∷ codes "desks" ∷ []) }
     ensures count { IfOk result (λ names. vec_len names ≡ 4) }
 {
     let mut names = Vec::new(alloc);

@@ -6,7 +6,7 @@ ghost use Rattle.wp_model.specs.Journal.{entry_line};
 ghost use Rattle.wp_model.specs.Warehouse.{Layout as Block};
 ghost use Rattle.wp_outside.specs.Sections.{GrowsBy};
 ghost use Rattle.wp_sheets.specs.StockLines.{refill_lines, row_line};
-ghost use Rattle.wp_planner.specs.Crews.{AreDealt, DayBatch, IsCrewFor, crew_text};
+ghost use Rattle.wp_planner.specs.Crews.{IsDealtCrew, DayBatch, IsCrewFor, crew_text};
 ghost use Rattle.wp_planner.specs.Sent.{ArePlanned, IsPlanned};
 ghost use Rattle.wp_top.specs.Planned.{IsSentSheet, IsSheetAt};
 ghost use Rattle.wp_top.specs.Sections.{IsTextAt};
@@ -140,7 +140,7 @@ pub struct CrewLines<'a> {
 
 // Adds the section of a crew.
 fn print_dealt(text: &mut Vec<u8>, dealt: &DayCrew) -> Result<(), Memory>
-    requires { (pickers : ℕ) × (batches : List DayBatch) × AreDealt pickers batches dealt.now }
+    requires { (pickers : ℕ) × (batches : List DayBatch) × IsDealtCrew pickers batches dealt.now }
     ensures { IfOk result (λ _. text.new.items ≡ text.old.items ++ crew_text (Some dealt.now)) }
 {
     let batches = &dealt.batches;

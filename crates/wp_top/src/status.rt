@@ -1,5 +1,5 @@
 ghost use Rattle.std.specs.Prelude.{◌≡◌};
-ghost use Rattle.wp_top.specs.Stops.{number_of, status_when};
+ghost use Rattle.wp_top.specs.Stops.{status_number, status_when};
 
 use wp_outside::SinkFault;
 
@@ -19,7 +19,7 @@ pub enum Status {
 impl Status {
     /// The number with which the program ends.
     pub fn number(self) -> u8
-        ensures { result ≡ number_of self }
+        ensures { result ≡ status_number self }
     {
         self as u8
     }

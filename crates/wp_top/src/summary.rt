@@ -2,7 +2,7 @@
 ghost use Rattle.std.specs.Prelude.{◌≡◌, ◌<◌, ◌≤◌, ◌+◌, ◌-◌, ◌^◌, ◌∷◌, ◌++◌, [], IfOk, string_bytes};
 ghost use Rattle.wp_machine.specs.Outcome.{released_of};
 ghost use Rattle.wp_model.specs.History.{IsLegal, state_after};
-ghost use Rattle.wp_planner.specs.Sent.{plans_of, waves_of};
+ghost use Rattle.wp_planner.specs.Sent.{plans_of, sent_waves};
 ghost use Rattle.wp_top.specs.Summaries.{commands_line, held_units, is_proven, made_line, plans_line, proven_plans};
 ghost use Rattle.wp_top.specs.Summaries.{releases, size_words, summary_of, total_bound, total_cost};
 ghost use Rattle.wp_words.specs.Reading.{make_numbers};
@@ -151,7 +151,7 @@ pub fn summary_text(
     day: &DayRun<'_, Option<WavePlan>>,
 ) -> Result<Vec<u8>, Memory>
     requires legal { IsLegal day.now.machine }
-    requires waves { waves_of day.now.plans.items ≡ released_of day.now.machine }
+    requires waves { sent_waves day.now.plans.items ≡ released_of day.now.machine }
     ensures { IfOk result (λ text. text.items
         ≡ summary_of (make_numbers words.now) day.now.machine (plans_of day.now.plans.items)) }
 {

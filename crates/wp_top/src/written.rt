@@ -5,7 +5,7 @@ ghost use Rattle.wp_model.specs.Journal.{journal};
 ghost use Rattle.wp_model.specs.Warehouse.{Layout as Block};
 ghost use Rattle.wp_outside.specs.Writing.{Fails, Writes};
 ghost use Rattle.wp_planner.specs.Crews.{crew_text};
-ghost use Rattle.wp_planner.specs.Sent.{plans_of, waves_of};
+ghost use Rattle.wp_planner.specs.Sent.{plans_of, sent_waves};
 ghost use Rattle.wp_top.specs.Planned.{HasCrew, IsToldOf, day_told};
 ghost use Rattle.wp_top.specs.Sections.{crew_and_end, refills_and_end, stock_and_end};
 ghost use Rattle.wp_top.specs.Sheets.{AreSheets};
@@ -118,14 +118,14 @@ fn write_sheets<K: Sink>(
         × IsToldOf layout day.now.terms.now start day.now.run.now }
     requires dealt { HasCrew day.now.terms.now day.now.run.now day.now.crew.now }
     ensures writes { OnOk result ((sheets : List ℕ)
-        × AreSheets day.now.run.now.machine day.now.terms.now (waves_of day.now.run.now.plans.items)
+        × AreSheets day.now.run.now.machine day.now.terms.now (sent_waves day.now.run.now.plans.items)
         (plans_of day.now.run.now.plans.items) sheets
         × Writes (K.told out.old) (K.told out.new) waiting.old.items []
         (sheets ++ refills_and_end day.now.run.now.machine day.now.run.now.refills.items
         (crew_text day.now.crew.now))) }
     ensures fails { IfErr result (λ fault. (sheets : List ℕ)
         × AreSheets day.now.run.now.machine day.now.terms.now
-        (waves_of day.now.run.now.plans.items) (plans_of day.now.run.now.plans.items) sheets
+        (sent_waves day.now.run.now.plans.items) (plans_of day.now.run.now.plans.items) sheets
         × Fails fault (K.told out.old) (K.told out.new)
         (waiting.old.items ++ (sheets ++ refills_and_end day.now.run.now.machine day.now.run.now.refills.items
         (crew_text day.now.crew.now)))) }

@@ -39,8 +39,8 @@ type Worked = (
     u64,
 );
 
-/// Crews that were worked out by hand, where no two lengths are the same: without lengths, with idle pickers and with one; and
-/// pickers whose first lengths aren't their longest.
+/// Crews that were worked out by hand, where no two lengths are the same: without lengths, with idle pickers and with
+/// one; and pickers whose first lengths aren't their longest.
 const WORKED: &[Worked] = &[
     (&[26, 22], 2, &[0, 1], &[26, 22], 26, 26),
     (&[], 2, &[], &[0, 0], 0, 0),
@@ -134,8 +134,8 @@ fn drawn_lengths(alloc: Global, draws: &mut Draws) -> Option<Vec<u64>> {
     Some(lengths)
 }
 
-/// Whether a crew's longest load is between the best of all assignments and 4/3 of that less a third of a picker's part of it
-/// (Graham, 1969), and the best is no less than what the crew tells.
+/// Whether a crew's longest load is between the best of all assignments and 4/3 of that less a third of a picker's part
+/// of it (Graham, 1969), and the best is no less than what the crew tells.
 fn is_near_the_best(crew: &Crew, pickers: u64, best: u64) -> bool {
     let most = pickers
         .saturating_mul(4)

@@ -9,8 +9,8 @@ use wp_graph::{Layout, Picks, walk_length};
 use wp_samples::{At, add_slot, crossed_layout};
 use wp_walk::walk_of;
 
-/// The lengths from the first and from the second aisle of the small layout to the next one, the depot's aisle, whether it
-/// lies at the back, the picks, and the length of the shortest tour.
+/// The lengths from the first and from the second aisle of the small layout to the next one, the depot's aisle, whether
+/// it lies at the back, the picks, and the length of the shortest tour.
 type Row = ([u32; 2], u32, bool, &'static [At], u64);
 
 const ROWS: &[Row] = &[

@@ -61,7 +61,8 @@ fn made_point(layout: &Layout, state: u64) -> At {
     (aisle as u32 + 1, slot as u32 + 1)
 }
 
-/// The place of the first made tour whose length isn't that of the classes, while one made slot after another is joined.
+/// The place of the first made tour whose length isn't that of the classes, while one made slot after another is
+/// joined.
 fn differing_step(layout: &Layout, seed: u64) -> Option<u64> {
     let mut picks = Picks::new(layout);
     let mut runs = Runs::of(layout, &picks);
@@ -107,8 +108,8 @@ fn made_tours_are_as_long_as_by_the_classes(rt: HostRuntime) {
     assert_eq!(rt; differing_layout(), None);
 }
 
-/// The ways of an aisle with a pick, of one without, of one where each way is the greatest number, and the length of a tour
-/// of this aisle alone.
+/// The ways of an aisle with a pick, of one without, of one where each way is the greatest number, and the length of a
+/// tour of this aisle alone.
 const AISLES: &[(AisleWays, u64)] = &[
     (
         AisleWays {

@@ -1,6 +1,6 @@
-//! Tests of the crates of layouts, picks and tours: which layouts there are, the moves in them and the lengths of walks, sets of picks
-//! and the ways through their aisles; tours that were worked out by hand or are made, whose lengths and walks every crate gives
-//! alike; crews, and the walks of rules.
+//! Tests of the crates of layouts, picks and tours: which layouts there are, the moves in them and the lengths of
+//! walks, sets of picks and the ways through their aisles; tours that were worked out by hand or are made, whose
+//! lengths and walks every crate gives alike; crews, and the walks of rules.
 #![tactic(auto)]
 
 #[cfg(test)]

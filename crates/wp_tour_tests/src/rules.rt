@@ -65,8 +65,8 @@ fn worked_picks_have_the_lengths_of_the_rules(rt: HostRuntime) {
     assert_eq!(rt; mismeasured(), None);
 }
 
-/// A walk worked by hand: the lengths between the aisles of the small layout, the depot's aisle, the picks, the rule, its length, and
-/// its points.
+/// A walk worked by hand: the lengths between the aisles of the small layout, the depot's aisle, the picks, the rule,
+/// its length, and its points.
 type Walked = ([u32; 2], u32, &'static [At], Rule, u64, &'static [At]);
 
 /// Walks with the depot in front. Seen from the other side of the warehouse they are those with the depot at the back.
@@ -537,7 +537,8 @@ fn drawn_walks_are_closed_and_never_shorter_than_a_tour(rt: HostRuntime) {
     assert_eq!(rt; mismeasured_drawn(rt.alloc()), None);
 }
 
-/// The lengths in the greatest layout with all slots picked: a pass of each aisle; to each last slot and back; and the gaps.
+/// The lengths in the greatest layout with all slots picked: a pass of each aisle; to each last slot and back; and the
+/// gaps.
 fn greatest_lengths() -> Option<[u64; 3]> {
     let layout = layout_of([64, 200, 1, 1, 1, 1])?;
     Some(lengths_of(&layout, &all_picked(&layout)))

@@ -8,4 +8,8 @@ use Rattle.wp_turn.specs.declared.view.View.{View}
 
 -- so many caller numbers are still to be drawn, and each comes with its calls
 abbrev pub Deals : {T E : Type 0} → Opening T → ℕ → Me T (View T E) → Type 0
-Deals turn pending me = me ≡ (numbering (turn.start ∷ []) [] 0 [] (pending * most_calls) (turn.made - pending) pending, [])
+Deals turn pending me = me ≡ (
+  numbering (turn.start ∷ []) [] 0 [] (pending * most_calls)
+      (turn.made - pending) pending,
+  [],
+)

@@ -36,11 +36,24 @@ module _ {T E : Type 0} where
 
   -- the pass, as it is once it has seen these calls
   abbrev pub seeing : List (ℕ × E) → Known T E → Known T E
-  seeing calls pass = record { id = pass.id; start = pass.start; caller = pass.caller; callers = pass.callers; calls = calls }
+  seeing calls pass = record {
+    id = pass.id;
+    start = pass.start;
+    caller = pass.caller;
+    callers = pass.callers;
+    calls = calls;
+  }
 
   -- the first pass, as it is once it stands for the callers of both and has seen these calls
   abbrev pub standing_for_both : List (ℕ × E) → Known T E → Known T E → Known T E
-  standing_for_both calls a b = record { id = a.id; start = a.start; caller = a.caller; callers = a.callers ++ b.callers; calls = calls }
+  standing_for_both calls a b = record {
+    id = a.id;
+    start = a.start;
+    caller = a.caller;
+    callers = a.callers
+        ++ b.callers;
+    calls = calls;
+  }
 
   -- the entries of the calls of the pass's own caller, since the opening
   abbrev pub own_calls : Known T E → List E
@@ -52,7 +65,14 @@ module _ {T E : Type 0} where
 
   -- a pass at the opening: it has seen no call, and stands for its own caller alone
   abbrev pub new_pass : Opening T → ℕ → Known T E
-  new_pass turn number = record { id = turn.id; start = turn.start ∷ []; caller = number; callers = number ∷ []; calls = [] }
+  new_pass turn number = record {
+    id = turn.id;
+    start = turn.start ∷ [];
+    caller = number;
+    callers = number
+        ∷ [];
+    calls = [];
+  }
 
   -- the passes at the opening, numbered from 1
   abbrev pub new_passes : Opening T → ℕ → List (Known T E)
@@ -74,13 +94,19 @@ module _ {T E : Type 0} where
 
 module _ {T E S : Type 0} (entries : T → List E) (setting : T → S) where
   -- what a call promises
-  pub record Called {R O : Type 0} (entry : S → List E → ℕ → R → E) (answer : S → List E → ℕ → R → O) (start : T) (pass : Known T E) (ready : R)
+  pub record Called {R O : Type 0} (entry : S → List E → ℕ → R → E) (answer : S → List E → ℕ → R → O) (start : T)
+      (pass : Known T E) (ready : R)
       (after : Known T E) (number : ℕ) (out : O) : Type 0 where
-    -- the calls before this one begin with those that the pass had seen, and have no others of the callers that it stands for
+    -- the calls before this one begin with those that the pass had seen, and have no others of the callers that it
+    -- stands for
     pub before : List (ℕ × E)
     pub follow : Follow pass before
     -- the pass has then seen them and, last, this call
-    pub last : after ≡ seeing (before ++ (pass.caller, entry (setting start) (listed entries start before) pass.caller ready) ∷ []) pass
+    pub last : after ≡ seeing (before ++ (
+      pass.caller,
+      entry (setting start)
+          (listed entries start before) pass.caller ready,
+    ) ∷ []) pass
     -- the receipt has the entry's number and the step's answer
     pub numbered : number ≡ length (listed entries start before)
     pub answered : out ≡ answer (setting start) (listed entries start before) pass.caller ready

@@ -14,7 +14,13 @@ IsLaid id callers made = (id.words ≡ 3) × (id.slots ≡ 1) × (callers ≡ ma
 
 -- what contracts see of a pass, by its seat and its caller number
 abbrev pub known_by : {T E : Type 0} → TableId → View T E → ℕ → Known T E
-known_by id view caller = record { id = id; start = view.start; caller = caller; callers = view.callers; calls = view.calls }
+known_by id view caller = record {
+  id = id;
+  start = view.start;
+  caller = caller;
+  callers = view.callers;
+  calls = view.calls;
+}
 
 module _ {T E : Type 0} (entries : T → List E) where
   pub record Rests (me : Me T (View T E)) (caller seen stands made : ℕ) : Type 0 where

@@ -25,7 +25,8 @@ most_opened = 2147483648
 abbrev pub most_steps : ℕ
 most_steps = 4294967295
 
--- the most places that are ever drawn, with those that still may be: the entries at the opening, and all calls of all callers
+-- the most places that are ever drawn, with those that still may be: the entries at the opening, and all calls of all
+-- callers
 abbrev pub most_places : ℕ
 most_places = 3221225472
 
@@ -37,7 +38,8 @@ module _ {T E S : Type 0} (entries : T → List E) (setting : T → S) where
     pub other_seen : IsPrefix view.other_calls calls
     -- of each caller that it stands for, it has seen every call
     pub own : (caller : ℕ) → IsAmong caller view.callers → calls_of caller view.calls ≡ calls_of caller calls
-    pub other_own : (caller : ℕ) → IsAmong caller view.other_callers → calls_of caller view.other_calls ≡ calls_of caller calls
+    pub other_own : (caller : ℕ) → IsAmong caller view.other_callers
+        → calls_of caller view.other_calls ≡ calls_of caller calls
     -- it waits at a place only if it stands for a caller
     pub idle : length view.callers ≡ 0 → view.place ≡ []
     -- it has taken the slot only if its place is due, and it has then seen all
@@ -58,7 +60,8 @@ module _ {T E S : Type 0} (entries : T → List E) (setting : T → S) where
     -- each pass's view fits
     pub views : (id : ℕ) (view : View T E) → get_elem? s.views id ≡ some view → Fits start callers calls drawn view
     -- each place from the counting word up to the word of places stands in one view, and no other place does
-    pub queue : (f : ℕ → ℕ) → total (weight_of_place f) s.views + below f (length (listed entries start calls)) ≡ below f places
+    pub queue : (f : ℕ → ℕ) → total (weight_of_place f) s.views + below f (length (listed entries start calls))
+        ≡ below f places
     -- each caller number that was drawn stands in one view, and no other number does
     pub standing : (f : ℕ → ℕ) → total (weight_of_callers f) s.views ≡ up_to f drawn
     -- a caller number that isn't drawn yet has no call
@@ -72,6 +75,8 @@ module _ {T E S : Type 0} (entries : T → List E) (setting : T → S) where
     pub enough : drawn ≤ callers
     pub few_callers : callers ≤ most_callers
     -- the value at home has the history as its list, and the setting that it had at the opening
-    pub home : (value : T) → get_elem? s.homes 0 ≡ some (some value) → (entries value ≡ listed entries start calls) × (setting value ≡ setting start)
+    pub home : (value : T) → get_elem? s.homes 0 ≡ some (some value)
+        → (entries value ≡ listed entries start calls) × (setting value ≡ setting start)
     -- it is at home unless a view has taken it
-    pub at_home : ((id : ℕ) (view : View T E) → get_elem? s.views id ≡ some view → view.holds ≡ false) → (value : T) × (get_elem? s.homes 0 ≡ some (some value))
+    pub at_home : ((id : ℕ) (view : View T E) → get_elem? s.views id ≡ some view → view.holds ≡ false)
+        → (value : T) × (get_elem? s.homes 0 ≡ some (some value))

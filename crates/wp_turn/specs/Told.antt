@@ -1,4 +1,5 @@
--- What each step tells the pass that makes it: of the step, the pass's view before, the number found, and the view after.
+-- What each step tells the pass that makes it: of the step, the pass's view before, the number found, and the view
+-- after.
 use Rattle.std.specs.Prelude.{◌≡◌, ℕ, ◌+◌, ◌-◌, ◌<◌, ◌≤◌, List, [], ◌∷◌, ◌++◌, length, true, false}
 use mathlib.Core.List.{IsPrefix}
 use Rattle.atomic_table.specs.Table.{Me, Step}
@@ -24,7 +25,11 @@ module _ {T E S : Type 0} (entries : T → List E) (setting : T → S) where
   -- the history up to now was seen
   pub record Looked (s : Step T) (before : Me T (View T E)) (found : ℕ) (after : Me T (View T E)) : Type 0 where
     pub calls : List (ℕ × E)
-    pub view : after ≡ (rested before.0.start calls before.0.caller (before.0.callers ++ before.0.other_callers) before.0.left, before.1)
+    pub view : after ≡ (
+      rested before.0.start calls before.0.caller
+          (before.0.callers ++ before.0.other_callers) before.0.left,
+      before.1,
+    )
     pub extends : Extends before.0.calls before.0.callers calls
     pub other_extends : Extends before.0.other_calls before.0.other_callers calls
     pub counts : found ≡ length (opened entries before.0.start ++ entries_of calls)
@@ -33,14 +38,22 @@ module _ {T E S : Type 0} (entries : T → List E) (setting : T → S) where
   -- a place was drawn
   abbrev pub Drew : Step T → Me T (View T E) → ℕ → Me T (View T E) → Type 0
   Drew s before found after =
-      after ≡ (waiting before.0.start before.0.calls before.0.caller before.0.callers found false (before.0.left - 1), before.1)
+      after ≡ (
+        waiting before.0.start before.0.calls before.0.caller before.0.callers found false
+            (before.0.left - 1),
+        before.1,
+      )
 
   -- the history up to now was seen, and if the place is due, the slot was taken
   pub record Came (s : Step T) (before : Me T (View T E)) (found : ℕ) (after : Me T (View T E)) : Type 0 where
     pub calls : List (ℕ × E)
     pub extends : Extends before.0.calls before.0.callers calls
     pub due : (place : ℕ) → before.0.place ≡ place ∷ [] → place ≡ found → (value : T)
-        × (after ≡ (waiting before.0.start calls before.0.caller before.0.callers place true before.0.left, (0, value) ∷ []))
+        × (after ≡ (
+          waiting before.0.start calls before.0.caller before.0.callers place true before.0.left,
+          (0, value)
+              ∷ [],
+        ))
         × (entries value ≡ opened entries before.0.start ++ entries_of calls)
         × ((start : T) → before.0.start ≡ start ∷ [] → setting value ≡ setting start)
         × (found ≡ length (opened entries before.0.start ++ entries_of calls))
@@ -52,5 +65,9 @@ module _ {T E S : Type 0} (entries : T → List E) (setting : T → S) where
   abbrev pub Committed : Step T → Me T (View T E) → ℕ → Me T (View T E) → Type 0
   Committed s before found after = (value : T) → before.1 ≡ (0, value) ∷ [] → (entry : E)
       × (entries value ≡ (opened entries before.0.start ++ entries_of before.0.calls) ++ entry ∷ [])
-      × (after ≡ (rested before.0.start (before.0.calls ++ (before.0.caller, entry) ∷ []) before.0.caller before.0.callers before.0.left, []))
+      × (after ≡ (
+        rested before.0.start (before.0.calls ++ (before.0.caller, entry) ∷ []) before.0.caller
+            before.0.callers before.0.left,
+        [],
+      ))
       × (found ≡ length (opened entries before.0.start ++ entries_of before.0.calls))

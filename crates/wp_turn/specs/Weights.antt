@@ -1,4 +1,5 @@
--- Lists of numbers are compared by weight: two lists with the same weight under every function have the same numbers, as many times each.
+-- Lists of numbers are compared by weight: two lists with the same weight under every function have the same numbers,
+-- as many times each.
 use Rattle.std.specs.Prelude.{ℕ, zero, suc, ◌+◌, ◌==◌, cond, List, [], ◌∷◌}
 
 -- the weight of a list

@@ -23,7 +23,8 @@ impl<V: Turned> Model for Passes<V> {
 
     ghost view = { λ p. record { list = p.list.items; room = p.room } };
 
-    ghost invariant = { λ p. (length p.list.items ≤ p.room) × (p.room ≤ vec_capacity p.list) × (p.room ≤ most_callers) };
+    ghost invariant = { λ p. (length p.list.items ≤ p.room) × (p.room ≤ vec_capacity p.list)
+        × (p.room ≤ most_callers) };
 }
 
 impl<V: Turned> Passes<V> {

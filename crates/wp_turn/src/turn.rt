@@ -1,5 +1,7 @@
-ghost use Rattle.std.specs.Prelude.{◌≡◌, ◌<◌, ◌≤◌, ◌+◌, ◌-◌, [], ◌++◌, length, IfOk, IfErr, IsErr, ◌↔◌, All, vec_capacity};
-ghost use Rattle.wp_turn.specs.Promises.{Called, Closed, Ended, Follow, IsOf, given_by, new_pass, new_passes, own_calls, seeing, standing_for_both, callers_of};
+ghost use Rattle.std.specs.Prelude.{◌≡◌, ◌<◌, ◌≤◌, ◌+◌, ◌-◌, [], ◌++◌, length, IfOk, IfErr, IsErr, ◌↔◌, All};
+ghost use Rattle.std.specs.Prelude.{vec_capacity};
+ghost use Rattle.wp_turn.specs.Promises.{Called, Closed, Ended, Follow, IsOf, given_by, new_pass, new_passes};
+ghost use Rattle.wp_turn.specs.Promises.{own_calls, seeing, standing_for_both, callers_of};
 ghost use Rattle.wp_turn.specs.Rule.{most_callers, most_calls, most_opened};
 ghost use Rattle.wp_turn.specs.Dealt.{Deals};
 
@@ -33,15 +35,19 @@ impl<V: Turned> Model for Turn<V> {
 
     ghost Value = { Opening V };
 
-    ghost view = { λ t. record { id = t.table.shared.table_id; start = t.table.shared.key.value.value; made = t.made } };
+    ghost view = { λ t. record {
+      id = t.table.shared.table_id;
+      start = t.table.shared.key.value.value;
+      made = t.made;
+    } };
 
     ghost invariant = { λ t. IsLaid t.table.shared.table_id t.table.shared.key.callers t.made };
 }
 
 impl<V: Turned> Turn<V> {
-    /// A turn over the value, and as many passes, numbered from 1 in the order of the list. Each has seen the entries that
-    /// the value has. There are 1 to 64 callers, and fewer than 2,147,483,648 entries. After want of memory the value is
-    /// dropped.
+    /// A turn over the value, and as many passes, numbered from 1 in the order of the list. Each has seen the entries
+    /// that the value has. There are 1 to 64 callers, and fewer than 2,147,483,648 entries. After want of memory the
+    /// value is dropped.
     pub fn open(alloc: Global, value: V, callers: u32) -> Result<(Turn<V>, Passes<V>), Memory>
     where
         V: Drop,
@@ -142,9 +148,9 @@ impl<V: Turned> Turn<V> {
         (pass, next)
     }
 
-    /// Waits for the turn, steps the value once, and gives the turn back. The history that the pass has then seen begins
-    /// with the one that it had seen, has no other call of its callers, and ends with this call. The Ready fits the
-    /// setting, and the caller made fewer than 16,777,216 calls.
+    /// Waits for the turn, steps the value once, and gives the turn back. The history that the pass has then seen
+    /// begins with the one that it had seen, has no other call of its callers, and ends with this call. The Ready fits
+    /// the setting, and the caller made fewer than 16,777,216 calls.
     pub fn call<R: Wait>(
         &self,
         rt: &R,
@@ -154,7 +160,8 @@ impl<V: Turned> Turn<V> {
         requires own { IsOf self.now pass }
         requires fits { V.fits (V.setting self.now.start) ready }
         requires few { length (own_calls pass) < most_calls }
-        ensures call { Called V.entries V.setting V.entry V.answer self.now.start pass ready result.0 result.1.number result.1.out }
+        ensures call { Called V.entries V.setting V.entry V.answer self.now.start pass ready
+            result.0 result.1.number result.1.out }
         ensures made { length (own_calls result.0) ≡ length (own_calls pass) + 1 }
     {
         let Pass {
@@ -205,8 +212,8 @@ impl<V: Turned> Turn<V> {
         shared.peek(1) == shared.peek(0)
     }
 
-    // What who waits does between two looks: it yields its processor, and sleeps once it has looked often enough. The word
-    // of caller numbers stands still after the opening, so a sleep on it ends with its time.
+    // What who waits does between two looks: it yields its processor, and sleeps once it has looked often enough. The
+    // word of caller numbers stands still after the opening, so a sleep on it ends with its time.
     fn rest<R: Wait>(&self, rt: &R, looks: u32, awake: u32) {
         match sleep_after(looks, awake) {
             None => yield_now(),
@@ -279,9 +286,11 @@ impl<V: Turned> Turn<V> {
     /// exactly where the passes stand for fewer callers than there are.
     pub fn close(self, passes: Passes<V>) -> Result<V, NotAll<V>>
         requires own { All (λ pass. IsOf self pass) passes.list }
-        ensures value { IfOk result (λ value. Closed V.entries V.setting self.start passes.list value) }
+        ensures value { IfOk result (λ value. Closed V.entries V.setting self.start passes.list
+            value) }
         ensures not_all { IsErr result ↔ (given_by passes.list < self.made) }
-        ensures unchanged { IfErr result (λ n. (n.turn ≡ self) × (n.passes ≡ passes) × (n.given ≡ given_by passes.list) × (n.made ≡ self.made)) }
+        ensures unchanged { IfErr result (λ n. (n.turn ≡ self) × (n.passes ≡ passes)
+            × (n.given ≡ given_by passes.list) × (n.made ≡ self.made)) }
     {
         let given = passes.given();
         let made = self.made;

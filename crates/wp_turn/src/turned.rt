@@ -39,7 +39,8 @@ pub trait Turned {
     fn step(&mut self, caller: u32, ready: Self::Ready) -> Self::Out
         requires fits { fits (setting self.old) ready }
         requires room { length (entries self.old) < most_steps }
-        ensures appends { entries self.new ≡ entries self.old ++ entry (setting self.old) (entries self.old) caller ready ∷ [] }
+        ensures appends { entries self.new ≡ entries self.old
+            ++ entry (setting self.old) (entries self.old) caller ready ∷ [] }
         ensures answers { result ≡ answer (setting self.old) (entries self.old) caller ready }
         ensures setting { setting self.new ≡ setting self.old };
 }

@@ -18,7 +18,7 @@ use Rattle.wp_classes.specs.declared.class.Way.TheVariants.{Pass, Back, Front, G
 use Rattle.wp_classes.specs.Parts.{AreNeighbours, AreTurns}
 use Rattle.wp_classes.specs.Tables.{way_length}
 use Rattle.wp_classes.proofs.Rounds.{some_turns}
-use Rattle.wp_walk.specs.declared.turns.Reached.{Reached}
+use Rattle.wp_walk.specs.declared.turns.RequiredPlaces.{RequiredPlaces}
 use Rattle.wp_walk.specs.ReachedPlaces.{IsReached, Sums, first_required, reach_place}
 
 -- the depot's place is required
@@ -59,7 +59,7 @@ neighbours_stay places near far place h = record {
 }
 
 -- what some places come to, with one more place, is what they come to together
-pub reached_more : (layout : Layout) (places : List ℕ) (reached : Option Reached) (place : ℕ) → IsReached layout places reached
+pub reached_more : (layout : Layout) (places : List ℕ) (reached : Option RequiredPlaces) (place : ℕ) → IsReached layout places reached
     → IsReached layout (places ++ place ∷ []) (reach_place layout reached place)
 reached_more layout places None place is =
     subst (λ xs. IsReached layout (xs ++ place ∷ []) (reach_place layout None place)) (sym is)
@@ -121,7 +121,7 @@ looked_more layout picks aisle n =
     ∙ ap (λ a. filter test (range_with_len 0 n) ++ filter test (range_with_len a 1)) zero_add
 
 -- where the next place is required, the pass takes it in
-pub looked_yes : (layout : Layout) (picks : List Point) (aisle n : ℕ) (reached : Option Reached) → is_required layout picks aisle n ≡ true
+pub looked_yes : (layout : Layout) (picks : List Point) (aisle n : ℕ) (reached : Option RequiredPlaces) → is_required layout picks aisle n ≡ true
     → IsReached layout (first_required layout picks aisle n) reached →
     IsReached layout (first_required layout picks aisle (n + 1)) (reach_place layout reached n)
 looked_yes layout picks aisle n reached on is =
@@ -129,7 +129,7 @@ looked_yes layout picks aisle n reached on is =
     subst (λ xs. IsReached layout xs (reach_place layout reached n)) (sym more) (reached_more layout (first_required layout picks aisle n) reached n is)
 
 -- where the next place is not required, the pass leaves it out
-pub looked_no : (layout : Layout) (picks : List Point) (aisle n : ℕ) (reached : Option Reached) → is_required layout picks aisle n ≡ false
+pub looked_no : (layout : Layout) (picks : List Point) (aisle n : ℕ) (reached : Option RequiredPlaces) → is_required layout picks aisle n ≡ false
     → IsReached layout (first_required layout picks aisle n) reached →
     IsReached layout (first_required layout picks aisle (n + 1)) reached
 looked_no layout picks aisle n reached off is =
@@ -138,7 +138,7 @@ looked_no layout picks aisle n reached off is =
     subst (λ xs. IsReached layout xs reached) (sym more) is
 
 -- a pass over all places of an aisle comes to what its required places come to
-pub looked_all : (layout : Layout) (picks : List Point) (aisle n : ℕ) (reached : Option Reached) → n ≡ layout.slots + 2
+pub looked_all : (layout : Layout) (picks : List Point) (aisle n : ℕ) (reached : Option RequiredPlaces) → n ≡ layout.slots + 2
     → IsReached layout (first_required layout picks aisle n) reached → IsReached layout (required_places layout picks aisle) reached
 unfolding site_places
 looked_all layout picks aisle n reached all is = subst (λ k. IsReached layout (first_required layout picks aisle k) reached) all is
@@ -167,7 +167,8 @@ turns_none layout picks aisle Double w none applies = tt
 turns_none layout picks aisle Skip w none applies = tt
 
 -- each way but the gap way turns, if at all, at the last required place from the front or the first from the back
-pub turns_ends : (layout : Layout) (picks : List Point) (aisle : ℕ) (way : Way) (reached : Reached) → Sums layout reached (required_places layout picks aisle)
+pub turns_ends : (layout : Layout) (picks : List Point) (aisle : ℕ) (way : Way) (reached : RequiredPlaces)
+    → Sums layout reached (required_places layout picks aisle)
     → (way ≡ Gap → ⊥) → AreTurns layout picks aisle way reached.last reached.first
 turns_ends layout picks aisle Pass reached is other = tt
 turns_ends layout picks aisle Back reached is other = is.first
@@ -178,7 +179,7 @@ turns_ends layout picks aisle Double reached is other = tt
 turns_ends layout picks aisle Skip reached is other = tt
 
 -- the gap way turns at the two places around a largest gap
-pub turns_gap : (layout : Layout) (picks : List Point) (aisle : ℕ) (reached : Reached) (w : ℕ) → Sums layout reached (required_places layout picks aisle)
+pub turns_gap : (layout : Layout) (picks : List Point) (aisle : ℕ) (reached : RequiredPlaces) (w : ℕ) → Sums layout reached (required_places layout picks aisle)
     → way_length (ways_of layout picks aisle) Gap ≡ Some w → AreTurns layout picks aisle Gap reached.near reached.far
 turns_gap layout picks aisle reached w is applies =
     let turns = some_turns layout picks aisle Gap w applies in

@@ -13,7 +13,8 @@ use Rattle.wp_classes.specs.Rounds.{IsPart}
 use Rattle.wp_walk.specs.declared.walk.Walked.{Walked}
 
 -- a way through an aisle that turns where it has to
-pub record TakesAisle (layout : Layout) (picks : List Point) (aisle : ℕ) (way : Way) (before after : Walked) : Type 0 where
+pub record TakesAisle (layout : Layout) (picks : List Point) (aisle : ℕ) (way : Way)
+    (before after : Walked) : Type 0 where
   pub slots : AreSlots layout picks
   pub near : ℕ
   pub far : ℕ
@@ -27,7 +28,8 @@ pub record IsWalked (layout : Layout) (picks : List Point) (aisle : ℕ) (walked
   pub part : IsPart layout picks aisle aisle walked.class walked.paths total
 
 -- a crossing and a way that the tables allow from a class, and the way applies
-pub record IsStep (layout : Layout) (picks : List Point) (left : ℕ) (cross : Cross) (way : Way) (class : Class) : Type 0 where
+pub record IsStep (layout : Layout) (picks : List Point) (left : ℕ) (cross : Cross) (way : Way)
+    (class : Class) : Type 0 where
   pub between : Class
   pub next : Class
   pub length : ℕ
@@ -36,7 +38,8 @@ pub record IsStep (layout : Layout) (picks : List Point) (left : ℕ) (cross : C
   pub applies : way_length (ways_of layout picks (left + 1)) way ≡ Some length
 
 -- a part with a crossing to the next aisle and a way through it
-pub record IsStepped (layout : Layout) (picks : List Point) (left : ℕ) (cross : Cross) (way : Way) (before after : Walked) : Type 0 where
+pub record IsStepped (layout : Layout) (picks : List Point) (left : ℕ) (cross : Cross) (way : Way)
+    (before after : Walked) : Type 0 where
   pub crossed : Walked
   pub crosses : class_after_cross before.class cross ≡ Some crossed.class
   pub paths : crossed.paths ≡ with_cross layout left before.class cross before.paths

@@ -1,6 +1,7 @@
 ghost use Rattle.std.specs.Prelude.{◌≡◌, ◌+◌, ◌≤◌, ◌<◌, ◌^◌, ◌++◌, IfOk};
 ghost use Rattle.wp_model.specs.Warehouse.{back_end};
-ghost use Rattle.wp_classes.specs.Paths.{ahead as places_ahead, behind as places_behind, from_back as way_from_back, from_front as way_from_front};
+ghost use Rattle.wp_classes.specs.Paths.{ahead as places_ahead, behind as places_behind, from_back as way_from_back};
+ghost use Rattle.wp_classes.specs.Paths.{from_front as way_from_front};
 ghost use Rattle.wp_classes.specs.Paths.{pass_down as way_down, pass_up as way_up};
 
 use crate::ends::at;

@@ -23,7 +23,8 @@ impl Ends {
     /// From the back end along a path to the next aisle's back end.
     pub(crate) fn along_back(self, path: Path) -> Result<Path, Memory>
         requires { self.aisle < 2 ^ 31 }
-        ensures { IfOk result (λ p. p ≡ point_at self.aisle self.back ∷ path ++ point_at (suc self.aisle) self.back ∷ []) }
+        ensures { IfOk result (λ p. p ≡ point_at self.aisle self.back ∷ path
+            ++ point_at (suc self.aisle) self.back ∷ []) }
     {
         path.between(at(self.aisle, self.back), at(self.aisle + 1, self.back))
     }
@@ -31,7 +32,8 @@ impl Ends {
     /// From the front end along a path to the next aisle's front end.
     pub(crate) fn along_front(self, path: Path) -> Result<Path, Memory>
         requires { self.aisle < 2 ^ 31 }
-        ensures { IfOk result (λ p. p ≡ point_at self.aisle 0 ∷ path ++ point_at (suc self.aisle) 0 ∷ []) }
+        ensures { IfOk result (λ p. p ≡ point_at self.aisle 0 ∷ path ++ point_at (suc self.aisle) 0
+            ∷ []) }
     {
         path.between(at(self.aisle, 0), at(self.aisle + 1, 0))
     }
@@ -39,7 +41,8 @@ impl Ends {
     /// From the back end along a path to the next aisle's front end.
     pub(crate) fn back_to_front(self, path: Path) -> Result<Path, Memory>
         requires { self.aisle < 2 ^ 31 }
-        ensures { IfOk result (λ p. p ≡ point_at self.aisle self.back ∷ path ++ point_at (suc self.aisle) 0 ∷ []) }
+        ensures { IfOk result (λ p. p ≡ point_at self.aisle self.back ∷ path
+            ++ point_at (suc self.aisle) 0 ∷ []) }
     {
         path.between(at(self.aisle, self.back), at(self.aisle + 1, 0))
     }
@@ -47,7 +50,8 @@ impl Ends {
     /// From the front end along a path to the next aisle's back end.
     pub(crate) fn front_to_back(self, path: Path) -> Result<Path, Memory>
         requires { self.aisle < 2 ^ 31 }
-        ensures { IfOk result (λ p. p ≡ point_at self.aisle 0 ∷ path ++ point_at (suc self.aisle) self.back ∷ []) }
+        ensures { IfOk result (λ p. p ≡ point_at self.aisle 0 ∷ path
+            ++ point_at (suc self.aisle) self.back ∷ []) }
     {
         path.between(at(self.aisle, 0), at(self.aisle + 1, self.back))
     }

@@ -1,7 +1,9 @@
 ghost use Rattle.std.specs.Prelude.{◌≡◌, suc, ◌≤◌, ◌<◌, ◌^◌, [], ◌∷◌, ◌++◌, IfOk};
 ghost use Rattle.wp_model.specs.Warehouse.{Layout as LayoutData, back_end, depot_point};
-ghost use Rattle.wp_classes.specs.Parts.{class_with_back, class_with_pass, round_points, round_start, with_back as part_with_back};
-ghost use Rattle.wp_classes.specs.Parts.{with_cross as part_with_cross, with_front as part_with_front, with_pass as part_with_pass};
+ghost use Rattle.wp_classes.specs.Parts.{class_with_back, class_with_pass, round_points, round_start};
+ghost use Rattle.wp_classes.specs.Parts.{with_back as part_with_back};
+ghost use Rattle.wp_classes.specs.Parts.{with_cross as part_with_cross, with_front as part_with_front};
+ghost use Rattle.wp_classes.specs.Parts.{with_pass as part_with_pass};
 ghost use Rattle.wp_classes.specs.Parts.{with_way as part_with_way};
 ghost use Rattle.wp_classes.specs.Paths.{at as point_at};
 ghost use Rattle.wp_classes.specs.declared.class.Class.TheVariants.{E01, EE1, Z00, ZE1};
@@ -15,7 +17,8 @@ use wp_classes::{Class, Cross, Way};
 use wp_graph::{Layout, Point};
 use wp_model::Memory;
 
-/// The part of a tour left of and with an aisle: at most two paths between ends of the aisle, without their first points.
+/// The part of a tour left of and with an aisle: at most two paths between ends of the aisle, without their first
+/// points.
 #[derive(Drop)]
 pub(crate) struct Paths {
     start: Point,
@@ -166,7 +169,8 @@ impl Paths {
     ) -> Result<Paths, Memory>
         requires near { turns.near ≤ back_end layout.now }
         requires far { turns.far ≤ back_end layout.now }
-        ensures { IfOk result (λ p. p ≡ part_with_way layout.now aisle turns.near turns.far class way self) }
+        ensures { IfOk result (λ p. p ≡ part_with_way layout.now aisle turns.near turns.far class
+            way self) }
     {
         match way {
             Way::Pass => self.with_pass(alloc, layout, aisle, class),
@@ -263,7 +267,8 @@ impl Paths {
     // On from class E01.
     fn on_from_back(self, alloc: Global, ends: Ends, cross: Cross) -> Result<Paths, Memory>
         requires { ends.aisle < 2 ^ 31 }
-        ensures { (layout : LayoutData) → ends.back ≡ back_end layout → IfOk result (λ p. p ≡ part_with_cross layout ends.aisle E01 cross self) }
+        ensures { (layout : LayoutData) → ends.back ≡ back_end layout
+            → IfOk result (λ p. p ≡ part_with_cross layout ends.aisle E01 cross self) }
     {
         match cross {
             Cross::C00 => Ok(Paths {
@@ -286,7 +291,8 @@ impl Paths {
     // On from class 0E1.
     fn on_from_front(self, alloc: Global, ends: Ends, cross: Cross) -> Result<Paths, Memory>
         requires { ends.aisle < 2 ^ 31 }
-        ensures { (layout : LayoutData) → ends.back ≡ back_end layout → IfOk result (λ p. p ≡ part_with_cross layout ends.aisle ZE1 cross self) }
+        ensures { (layout : LayoutData) → ends.back ≡ back_end layout
+            → IfOk result (λ p. p ≡ part_with_cross layout ends.aisle ZE1 cross self) }
     {
         match cross {
             Cross::C00 => Ok(Paths {
@@ -309,7 +315,8 @@ impl Paths {
     // On from class EE1.
     fn on_from_both(self, alloc: Global, ends: Ends, cross: Cross) -> Result<Paths, Memory>
         requires { ends.aisle < 2 ^ 31 }
-        ensures { (layout : LayoutData) → ends.back ≡ back_end layout → IfOk result (λ p. p ≡ part_with_cross layout ends.aisle EE1 cross self) }
+        ensures { (layout : LayoutData) → ends.back ≡ back_end layout
+            → IfOk result (λ p. p ≡ part_with_cross layout ends.aisle EE1 cross self) }
     {
         match cross {
             Cross::C00 => Ok(Paths {
@@ -339,7 +346,8 @@ impl Paths {
     // On from class 000.
     fn on_from_none(self, alloc: Global, ends: Ends, cross: Cross) -> Result<Paths, Memory>
         requires { ends.aisle < 2 ^ 31 }
-        ensures { (layout : LayoutData) → ends.back ≡ back_end layout → IfOk result (λ p. p ≡ part_with_cross layout ends.aisle Z00 cross self) }
+        ensures { (layout : LayoutData) → ends.back ≡ back_end layout
+            → IfOk result (λ p. p ≡ part_with_cross layout ends.aisle Z00 cross self) }
     {
         match cross {
             Cross::C20 => Ok(Paths {
@@ -385,7 +393,8 @@ fn after_back(class: Class) -> Class
 impl Paths {
     /// The one closed path of a whole part.
     pub(crate) fn closed(self, layout: &Layout, class: Class) -> Result<Round, Memory>
-        ensures { IfOk result (λ r. (r.start ≡ round_start layout.now layout.now.aisles class self) × (r.path ≡ round_points class self)) }
+        ensures { IfOk result (λ r. (r.start ≡ round_start layout.now layout.now.aisles class self)
+            × (r.path ≡ round_points class self)) }
     {
         let aisle = layout.aisles();
         let end = layout.slots() + 1;

@@ -19,7 +19,7 @@ pub(crate) struct Turns {
 
 /// The first and the last required place of an aisle, and two neighbours around a largest gap.
 #[derive(Clone, Copy)]
-struct Reached {
+struct RequiredPlaces {
     first: u32,
     last: u32,
     near: u32,
@@ -58,16 +58,18 @@ fn is_required(layout: &Layout, picks: &Picks, aisle: u32, place: u32) -> bool
 }
 
 // One more place, behind the others.
-fn reach(layout: &Layout, before: Option<Reached>, place: u32) -> Option<Reached>
+fn reach(layout: &Layout, before: Option<RequiredPlaces>, place: u32) -> Option<RequiredPlaces>
     requires place { place ≤ back_end layout.now }
-    requires before { IfSome before (λ r. (r.first ≤ back_end layout.now) × (r.last ≤ back_end layout.now) × (r.near ≤ back_end layout.now) ×
+    requires before { IfSome before (λ r. (r.first ≤ back_end layout.now)
+        × (r.last ≤ back_end layout.now) × (r.near ≤ back_end layout.now) ×
         (r.far ≤ back_end layout.now)) }
     ensures value { result ≡ reach_place layout.now before place }
-    ensures within { IfSome result (λ r. (r.first ≤ back_end layout.now) × (r.last ≤ back_end layout.now) × (r.near ≤ back_end layout.now) ×
+    ensures within { IfSome result (λ r. (r.first ≤ back_end layout.now)
+        × (r.last ≤ back_end layout.now) × (r.near ≤ back_end layout.now) ×
         (r.far ≤ back_end layout.now)) }
 {
     let Some(reached) = before else {
-        return Some(Reached {
+        return Some(RequiredPlaces {
             first: place,
             last: place,
             near: place,
@@ -81,14 +83,14 @@ fn reach(layout: &Layout, before: Option<Reached>, place: u32) -> Option<Reached
     ));
     let width = place_distance(layout, place).saturating_sub(place_distance(layout, reached.last));
     if widest <= width {
-        return Some(Reached {
+        return Some(RequiredPlaces {
             first,
             last: place,
             near: reached.last,
             far: place,
         });
     }
-    Some(Reached {
+    Some(RequiredPlaces {
         first,
         last: place,
         near: reached.near,
@@ -97,11 +99,13 @@ fn reach(layout: &Layout, before: Option<Reached>, place: u32) -> Option<Reached
 }
 
 // All required places of an aisle.
-fn reach_all(layout: &Layout, picks: &Picks, aisle: u32) -> Option<Reached>
+fn reach_all(layout: &Layout, picks: &Picks, aisle: u32) -> Option<RequiredPlaces>
     requires { picks.now.layout ≡ layout.now }
     ensures slots { AreSlots layout.now picks.now.points }
-    ensures value { IsReached layout.now (required_places layout.now picks.now.points aisle) result }
-    ensures within { IfSome result (λ r. (r.first ≤ back_end layout.now) × (r.last ≤ back_end layout.now) × (r.near ≤ back_end layout.now) ×
+    ensures value { IsReached layout.now (required_places layout.now picks.now.points aisle)
+        result }
+    ensures within { IfSome result (λ r. (r.first ≤ back_end layout.now)
+        × (r.last ≤ back_end layout.now) × (r.near ≤ back_end layout.now) ×
         (r.far ≤ back_end layout.now)) }
 {
     let mut reached = None;
@@ -116,7 +120,8 @@ fn reach_all(layout: &Layout, picks: &Picks, aisle: u32) -> Option<Reached>
 /// Where a way through an aisle turns. The way has to apply there.
 pub(crate) fn turns_of(layout: &Layout, picks: &Picks, aisle: u32, way: Way) -> Turns
     requires picks { picks.now.layout ≡ layout.now }
-    requires applies { (length : ℕ) × (way_length (ways_of layout.now picks.now.points aisle) way ≡ Some length) }
+    requires applies { (length : ℕ) × (way_length (ways_of layout.now picks.now.points aisle) way
+        ≡ Some length) }
     ensures slots { AreSlots layout.now picks.now.points }
     ensures turns { AreTurns layout.now picks.now.points aisle way result.near result.far }
     ensures near { result.near ≤ back_end layout.now }

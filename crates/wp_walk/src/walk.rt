@@ -31,7 +31,8 @@ fn through(
     before: Walked,
 ) -> Result<Walked, Memory>
     requires picks { picks.now.layout ≡ layout.now }
-    requires applies { (length : ℕ) × (way_length (ways_of layout.now picks.now.points aisle) way ≡ Some length) }
+    requires applies { (length : ℕ) × (way_length (ways_of layout.now picks.now.points aisle) way
+        ≡ Some length) }
     requires allowed { (next : ClassData) × (class_after_way before.class way ≡ Some next) }
     ensures { IfOk result (λ after. TakesAisle layout.now picks.now.points aisle way before after) }
 {
@@ -46,8 +47,10 @@ fn through(
 // The part after the first aisle.
 fn begin(alloc: Global, layout: &Layout, picks: &Picks, way: Way) -> Result<Walked, Memory>
     requires picks { picks.now.layout ≡ layout.now }
-    requires applies { (length : ℕ) × (way_length (ways_of layout.now picks.now.points 1) way ≡ Some length) }
-    ensures { (class : ClassData) (total : ℕ) → TakesWay (ways_of layout.now picks.now.points 1) way Z00 class total
+    requires applies { (length : ℕ) × (way_length (ways_of layout.now picks.now.points 1) way
+        ≡ Some length) }
+    ensures { (class : ClassData) (total : ℕ)
+        → TakesWay (ways_of layout.now picks.now.points 1) way Z00 class total
         → IfOk result (λ after. (after.class ≡ class) × IsWalked layout.now picks.now.points 1 after total) }
 {
     let none = Walked {
@@ -70,7 +73,8 @@ fn go_on(
     requires picks { picks.now.layout ≡ layout.now }
     requires left { (1 ≤ left) × (left < layout.now.aisles) }
     requires step { IsStep layout.now picks.now.points left cross way before.class }
-    ensures { IfOk result (λ after. IsStepped layout.now picks.now.points left cross way before after) }
+    ensures { IfOk result (λ after. IsStepped layout.now picks.now.points left cross way before
+        after) }
 {
     let aisles = layout.aisles();
     let within = left < aisles && aisles <= MOST_AISLES;

@@ -16,7 +16,7 @@ use Rattle.wp_waves.specs.Turns.{AreInTurn, AreTurns, free_after, free_in, lines
 use Rattle.wp_waves.specs.declared.free_stock.FreeStock.{FreeStock}
 use Rattle.wp_waves.specs.declared.free_stock.Shortage.{Shortage}
 use Rattle.wp_waves.specs.declared.open_orders.OpenOrder.{OpenOrder}
-use Rattle.wp_waves.specs.declared.turns.Turn.{Turn}
+use Rattle.wp_waves.specs.declared.turns.OrderTurn.{OrderTurn}
 
 -- an order had its turn: what it is short of, and what is free before and after it
 pub record IsTurn (opening : Opening) (order : List ℕ) (lines : List Line) (old new : FreeStock) (short : Option Shortage) : Type 0 where
@@ -36,7 +36,7 @@ is_left opening order lines old new None lines_are served same =
     fun_ext (λ article. omega (arith, served.taken article, ap (λ (ls : List Line). lines_demand ls article) lines_are))
 is_left opening order lines old new (Some short) lines_are served same = ap units_free (sym same)
 
-abbrev turn_then : Opening → OpenOrder → List OpenOrder → Option Shortage → (ℕ → ℕ) → List Turn
+abbrev turn_then : Opening → OpenOrder → List OpenOrder → Option Shortage → (ℕ → ℕ) → List OrderTurn
 turn_then opening one others short free = (record { one = one; short = short }) ∷ turns_of opening free others
 
 -- one turn, and then the others
@@ -62,7 +62,7 @@ turns_are_of opening free (one ∷ others) = ap (λ rest. one ∷ rest) (turns_a
 
 -- the turns that were made in a state
 pub turns_told : (opening : Opening) (free : FreeStock) (listed waiting sorted slice : List OpenOrder) (takers : List (Option (List ℕ)))
-    (told : Result (Vec Turn Global) Memory) → slice ≡ sorted
+    (told : Result (Vec OrderTurn Global) Memory) → slice ≡ sorted
     → ((waves : List Wave) → takers ≡ map (taker_in waves) listed → waiting ≡ waiting_of opening waves listed)
     → AreInTurn waiting sorted → IfOk told (λ turns. turns.items ≡ turns_of opening (units_free free) slice)
     → IfOk told (λ turns. (state : State) → ((article : ℕ) → units_free free article ≡ free_in state article)

@@ -2,7 +2,7 @@
 use Rattle.std.specs.Prelude.{◌++◌, Bool, false, List, ℕ, codes}
 use Rattle.std.specs.Fmt.{decimal}
 use Rattle.wp_tables.specs.Faults as table
-use Rattle.wp_waves.specs.declared.fault.OpenFault.{OpenFault}
+use Rattle.wp_waves.specs.declared.fault.OpenFileFault.{OpenFileFault}
 use Rattle.wp_waves.specs.declared.fault.OpenWhy.{OpenWhy}
 use Rattle.wp_waves.specs.declared.fault.OpenWhy.TheVariants as why
 
@@ -19,5 +19,5 @@ wants_memory why.UnknownOrder = false
 wants_memory why.OrderTwice = false
 
 -- the record's number, and why it isn't read
-abbrev pub fault_text : OpenFault → List ℕ
+abbrev pub fault_text : OpenFileFault → List ℕ
 fault_text fault = codes "row " ++ decimal fault.row ++ codes " " ++ why_text fault.why

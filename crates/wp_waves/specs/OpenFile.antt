@@ -14,7 +14,7 @@ use Rattle.wp_tables.specs.Records.{Kept, kept_in}
 use Rattle.wp_tables.specs.declared.fault.Why.{Why}
 use Rattle.wp_tables.specs.declared.fault.Why.TheVariants as cause
 use Rattle.wp_waves.specs.Reading.{as_open, as_open_table, at_row}
-use Rattle.wp_waves.specs.declared.fault.OpenFault.{OpenFault}
+use Rattle.wp_waves.specs.declared.fault.OpenFileFault.{OpenFileFault}
 use Rattle.wp_waves.specs.declared.fault.OpenWhy.{OpenWhy}
 use Rattle.wp_waves.specs.declared.fault.OpenWhy.TheVariants as why
 use Rattle.wp_waves.specs.declared.open_orders.OpenOrder.{OpenOrder}
@@ -62,7 +62,7 @@ abbrev pub open_after : List Order → List OpenOrder → Record → Result (Lis
 open_after orders before fields = and_then (open_order_of orders before fields) (λ one. Ok (before ++ one ∷ []))
 
 -- the open orders with those of records, one after the other; or the fault of the first that fails
-abbrev pub open_made : List Order → List OpenOrder → List Kept → Result (List OpenOrder) OpenFault
+abbrev pub open_made : List Order → List OpenOrder → List Kept → Result (List OpenOrder) OpenFileFault
 open_made orders before [] = Ok before
 open_made orders before (kept ∷ more) = and_then (at_row kept.number (open_after orders before kept.fields))
     (λ listed. open_made orders listed more)
@@ -73,7 +73,7 @@ open_heading = codes "order" ∷ codes "group" ∷ codes "rank" ∷ []
 
 -- the open orders that an open file says for the orders of an order file, or the first record that fails and its first
 -- failing test
-abbrev pub open_said : List Order → List ℕ → Result (List OpenOrder) OpenFault
+abbrev pub open_said : List Order → List ℕ → Result (List OpenOrder) OpenFileFault
 open_said orders text = and_then (as_open_table (table.under_heading open_heading (kept_in text))) (open_made orders [])
 
 -- the group in which all orders leave where there is no open file

@@ -13,14 +13,14 @@ use Rattle.wp_waves.specs.Standing.{waiting_of}
 use Rattle.wp_waves.specs.declared.free_stock.FreeStock.{FreeStock}
 use Rattle.wp_waves.specs.declared.free_stock.Shortage.{Shortage}
 use Rattle.wp_waves.specs.declared.open_orders.OpenOrder.{OpenOrder}
-use Rattle.wp_waves.specs.declared.turns.Turn.{Turn}
+use Rattle.wp_waves.specs.declared.turns.OrderTurn.{OrderTurn}
 
 -- the rank of an open order
 abbrev pub rank_of : OpenOrder → ℕ
 rank_of one = one.rank
 
 -- the order of a turn
-abbrev pub one_of : Turn → OpenOrder
+abbrev pub one_of : OrderTurn → OpenOrder
 one_of turn = turn.one
 
 -- open orders in their turns: the same orders, in ascending rank, and of equal ranks as they stood
@@ -50,7 +50,7 @@ free_after opening free order =
     (λ article. free article - order_demand opening order article)
 
 -- what comes of open orders, each in its turn, where so much is free before the first
-abbrev pub turns_of : Opening → (ℕ → ℕ) → List OpenOrder → List Turn
+abbrev pub turns_of : Opening → (ℕ → ℕ) → List OpenOrder → List OrderTurn
 turns_of opening free [] = []
 turns_of opening free (one ∷ others) =
     (record { one = one; short = shortage_of opening free one.order })
@@ -62,7 +62,8 @@ free_in state article = free_units state.rows article None
 
 -- the turns of open orders in a state: those that wait have one each, by rank, and each is served where what is free in
 -- its turn covers it
-pub record AreTurns (opening : Opening) (state : State) (listed : List OpenOrder) (turns : List Turn) : Type 0 where
+pub record AreTurns (opening : Opening) (state : State) (listed : List OpenOrder)
+    (turns : List OrderTurn) : Type 0 where
   pub in_turn : AreInTurn (waiting_of opening state.waves listed) (map one_of turns)
   pub each : turns ≡ turns_of opening (free_in state) (map one_of turns)
 
@@ -71,7 +72,7 @@ abbrev pub served_if : Option Shortage → OpenOrder → List OpenOrder → List
 served_if None one others = one ∷ others
 served_if (Some short) one others = others
 
-abbrev pub served_in : List Turn → List OpenOrder
+abbrev pub served_in : List OrderTurn → List OpenOrder
 served_in [] = []
 served_in (turn ∷ turns) = served_if turn.short turn.one (served_in turns)
 

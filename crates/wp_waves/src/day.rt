@@ -12,13 +12,13 @@ use wp_tables::{Orders, Stock};
 /// A stock, the orders that were read for it, and how many units a cart holds, none where carts hold any number.
 /// Contracts see the opening that these are.
 #[derive(Drop)]
-pub struct Day<'a> {
+pub struct OpenDay<'a> {
     stock: &'a Stock,
     orders: &'a Orders,
     units: Option<u32>,
 }
 
-impl<'a> Model for Day<'a> {
+impl<'a> Model for OpenDay<'a> {
     ghost use Rattle.wp_model.specs.Opening as opening;
 
     ghost Value = { opening.Opening };
@@ -30,9 +30,9 @@ impl<'a> Model for Day<'a> {
     ghost invariant = { λ d. IsReadOpening (record { stock = d.stock.now; orders = d.orders.now; units = d.units }) };
 }
 
-impl<'a> Day<'a> {
+impl<'a> OpenDay<'a> {
     /// The day of a stock, of orders that were read for it, and of a cart.
-    pub fn of(stock: &'a Stock, orders: &'a Orders, units: Option<u32>) -> Day<'a>
+    pub fn of(stock: &'a Stock, orders: &'a Orders, units: Option<u32>) -> OpenDay<'a>
         requires { IsReadOpening (record {
           stock = stock.now;
           orders = orders.now;
@@ -40,7 +40,7 @@ impl<'a> Day<'a> {
         }) }
         ensures { result ≡ record { stock = stock.now; orders = orders.now; units = units } }
     {
-        Day {
+        OpenDay {
             stock,
             orders,
             units,

@@ -24,7 +24,7 @@ pub enum OpenWhy {
 /// The first record of an open file that isn't read: its number in the file, counted from 1, and the first test that it
 /// fails. Where memory was wanting the number says nothing.
 #[derive(Clone, Copy, Debug, PartialEq, Eq)]
-pub struct OpenFault {
+pub struct OpenFileFault {
     pub row: u64,
     pub why: OpenWhy,
 }
@@ -43,7 +43,7 @@ impl fmt::Display for OpenWhy {
 
 impl Error for OpenWhy {}
 
-impl fmt::Display for OpenFault {
+impl fmt::Display for OpenFileFault {
     ghost output = { λ fault. Some (fault_text fault) };
 
     fn fmt<W: fmt::Write>(&self, f: &mut fmt::Formatter<W>) -> fmt::Result {
@@ -53,7 +53,7 @@ impl fmt::Display for OpenFault {
     }
 }
 
-impl Error for OpenFault {}
+impl Error for OpenFileFault {}
 
 impl From<Why> for OpenWhy {
     ghost from_gives = { λ w e. e ≡ why.Table w };
@@ -63,32 +63,32 @@ impl From<Why> for OpenWhy {
     }
 }
 
-impl From<RowFault> for OpenFault {
+impl From<RowFault> for OpenFileFault {
     ghost from_gives = { λ f e. e ≡ record { row = f.row; why = why.Table f.why } };
 
-    fn from(fault: RowFault) -> OpenFault {
-        OpenFault {
+    fn from(fault: RowFault) -> OpenFileFault {
+        OpenFileFault {
             row: fault.row,
             why: OpenWhy::Table(fault.why),
         }
     }
 }
 
-impl From<Memory> for OpenFault {
+impl From<Memory> for OpenFileFault {
     ghost from_gives = { λ _ e. e.why ≡ why.Table table.Memory };
 
-    fn from(_error: Memory) -> OpenFault {
-        OpenFault {
+    fn from(_error: Memory) -> OpenFileFault {
+        OpenFileFault {
             row: 0,
             why: OpenWhy::Table(Why::Memory),
         }
     }
 }
 
-impl<T: Drop> From<AllocFailed<T>> for OpenFault {
+impl<T: Drop> From<AllocFailed<T>> for OpenFileFault {
     ghost from_gives = { λ _ e. e.why ≡ why.Table table.Memory };
 
-    fn from(_error: AllocFailed<T>) -> OpenFault {
-        OpenFault::from(Memory)
+    fn from(_error: AllocFailed<T>) -> OpenFileFault {
+        OpenFileFault::from(Memory)
     }
 }

@@ -10,11 +10,11 @@ mod standings;
 mod turns;
 mod waves;
 
-pub use day::Day;
-pub use fault::{OpenFault, OpenWhy};
+pub use day::OpenDay;
+pub use fault::{OpenFileFault, OpenWhy};
 pub use free_stock::{FreeStock, Shortage};
 pub use laws::served_orders_are_covered_wave_by_wave;
 pub use open_orders::{OpenOrder, read_open};
 pub use standings::{Standing, standing_of, waiting};
-pub use turns::{Turn, serve, served};
+pub use turns::{OrderTurn, serve, served};
 pub use waves::fill_waves;

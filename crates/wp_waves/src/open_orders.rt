@@ -8,7 +8,7 @@ ghost use Rattle.wp_waves.specs.OpenFile.{open_said, order_read};
 ghost use Rattle.wp_waves.specs.OpenOrders.{AreOpenOrders, AreNamedApart, MayFollow};
 ghost use Rattle.wp_waves.specs.Reading.{ReadsBy, TakesIn, at_row};
 
-use crate::fault::{OpenFault, OpenWhy};
+use crate::fault::{OpenFileFault, OpenWhy};
 use csv::ByteRecord;
 use std::alloc::Global;
 use std::marker::Model;
@@ -117,14 +117,14 @@ impl<'a> OpenSoFar<'a> {
         Ok(())
     }
 
-    fn take(&mut self, row: u64, fields: &ByteRecord) -> Result<(), OpenFault>
+    fn take(&mut self, row: u64, fields: &ByteRecord) -> Result<(), OpenFileFault>
         ensures taken { TakesIn result self.new.listed
             (at_row row (open_after self.old.orders self.old.listed (fields_of fields.now))) }
         ensures orders { OnOk result (self.new.orders ≡ self.old.orders) }
     {
         match self.read_record(fields) {
             Ok(one) => Ok(self.add(one)?),
-            Err(why) => Err(OpenFault { row, why }),
+            Err(why) => Err(OpenFileFault { row, why }),
         }
     }
 
@@ -140,7 +140,7 @@ fn read_records<'a>(
     alloc: Global,
     orders: &'a Orders,
     records: &mut Records,
-) -> Result<OpenSoFar<'a>, OpenFault>
+) -> Result<OpenSoFar<'a>, OpenFileFault>
     requires names { AreNamedApart orders.now }
     requires reading { IsReading records.old }
     ensures exact { ReadsBy (λ so_far. so_far.listed) result
@@ -165,7 +165,7 @@ pub fn read_open(
     alloc: Global,
     text: &Vec<u8>,
     orders: &Orders,
-) -> Result<Vec<OpenOrder>, OpenFault>
+) -> Result<Vec<OpenOrder>, OpenFileFault>
     requires { AreNamedApart orders.now }
     ensures exact { ReadsBy (λ listed. listed.items) result (open_said orders.now text.now.items) }
     ensures read { IfOk result (λ listed. AreOpenOrders orders.now listed.items) }

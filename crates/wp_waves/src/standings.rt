@@ -6,7 +6,7 @@ ghost use Rattle.wp_model.specs.State.{Wave};
 ghost use Rattle.wp_waves.specs.OpenOrders.{IsOpenOrder};
 ghost use Rattle.wp_waves.specs.Standing.{is_waiting, standing_at_cart, standing_of, taker_in, waiting_of};
 
-use crate::day::Day;
+use crate::day::OpenDay;
 use crate::open_orders::OpenOrder;
 use std::alloc::Global;
 use wp_model::{Line, Memory, Name};
@@ -35,7 +35,7 @@ fn line_units(lines: &[Line]) -> u32
 }
 
 // How an order stands that no wave has.
-fn standing_at_cart(day: &Day<'_>, order: &Name) -> Standing
+fn standing_at_cart(day: &OpenDay<'_>, order: &Name) -> Standing
     requires { IsTrue (is_known_order day.now.orders order.now) }
     ensures { result ≡ standing_at_cart day.now order.now }
 {
@@ -52,7 +52,7 @@ fn standing_at_cart(day: &Day<'_>, order: &Name) -> Standing
 
 /// How an open order stands, of which this is the wave that has it, of those that aren't cancelled: the first that
 /// holds of being taken by a wave, having more units than a cart holds, and waiting for its turn.
-pub fn standing_of(day: &Day<'_>, one: &OpenOrder, taker: &Option<Name>) -> Standing
+pub fn standing_of(day: &OpenDay<'_>, one: &OpenOrder, taker: &Option<Name>) -> Standing
     requires { IsOpenOrder day.now.orders one.now }
     ensures { (waves : List Wave) → taker.now ≡ taker_in waves one.now
         → result ≡ standing_of day.now waves one.now }
@@ -74,7 +74,7 @@ fn is_waiting(standing: &Standing) -> bool
 /// of those that aren't cancelled, one by one.
 pub fn waiting(
     alloc: Global,
-    day: &Day<'_>,
+    day: &OpenDay<'_>,
     listed: &[OpenOrder],
     takers: &[Option<Name>],
 ) -> Result<Vec<OpenOrder>, Memory>

@@ -8,7 +8,7 @@ ghost use Rattle.wp_waves.specs.Standing.{taker_in};
 ghost use Rattle.wp_waves.specs.Turns.{AreInTurn, AreTurns, free_in, one_of, rank_of, served_after, served_in};
 ghost use Rattle.wp_waves.specs.Turns.{turns_of, units_free};
 
-use crate::day::Day;
+use crate::day::OpenDay;
 use crate::free_stock::{FreeStock, Shortage};
 use crate::open_orders::OpenOrder;
 use crate::standings::waiting;
@@ -17,7 +17,7 @@ use wp_model::{Memory, Name};
 
 /// An open order in its turn: what it is short of, none where it is served.
 #[derive(Clone, Copy)]
-pub struct Turn {
+pub struct OrderTurn {
     pub one: OpenOrder,
     pub short: Option<Shortage>,
 }
@@ -33,10 +33,10 @@ fn sort_by_rank(listed: &mut Vec<OpenOrder>) -> Result<(), Memory>
 // What comes of open orders, each in its turn.
 fn take_turns(
     alloc: Global,
-    day: &Day<'_>,
+    day: &OpenDay<'_>,
     mut free: FreeStock,
     listed: &[OpenOrder],
-) -> Result<Vec<Turn>, Memory>
+) -> Result<Vec<OrderTurn>, Memory>
     requires each { All (IsOpenOrder day.now.orders) listed.now }
     requires count { length free.units.items ≡ length day.now.stock.articles }
     ensures { IfOk result (λ turns. turns.items ≡ turns_of day.now (units_free free) listed.now) }
@@ -44,7 +44,7 @@ fn take_turns(
     let mut turns = Vec::new(alloc);
     for one in listed {
         let short = free.serve(day.lines(&one.order));
-        turns.push(Turn { one: *one, short })?;
+        turns.push(OrderTurn { one: *one, short })?;
     }
     Ok(turns)
 }
@@ -53,11 +53,11 @@ fn take_turns(
 /// those that aren't cancelled, one by one.
 pub fn serve(
     alloc: Global,
-    day: &Day<'_>,
+    day: &OpenDay<'_>,
     free: FreeStock,
     listed: &[OpenOrder],
     takers: &[Option<Name>],
-) -> Result<Vec<Turn>, Memory>
+) -> Result<Vec<OrderTurn>, Memory>
     requires articles { length free.units.items ≡ length day.now.stock.articles }
     requires each { All (IsOpenOrder day.now.orders) listed.now }
     requires count { length takers.now ≡ length listed.now }
@@ -71,7 +71,7 @@ pub fn serve(
 }
 
 // Adds the order of a turn to those that are served, where it is.
-fn add_served(served: &mut Vec<OpenOrder>, turn: &Turn) -> Result<(), Memory>
+fn add_served(served: &mut Vec<OpenOrder>, turn: &OrderTurn) -> Result<(), Memory>
     ensures { IfOk result (λ _. served.new.items
         ≡ served_after turn.now.short turn.now.one served.old.items) }
 {
@@ -82,7 +82,7 @@ fn add_served(served: &mut Vec<OpenOrder>, turn: &Turn) -> Result<(), Memory>
 }
 
 /// The orders of turns that are served, in the order in which they are served.
-pub fn served(alloc: Global, turns: &[Turn]) -> Result<Vec<OpenOrder>, Memory>
+pub fn served(alloc: Global, turns: &[OrderTurn]) -> Result<Vec<OpenOrder>, Memory>
     ensures served { IfOk result (λ served. served.items ≡ served_in turns.now) }
     ensures ranks { IsNonDecreasingBy rank_of (map one_of turns.now)
         → IfOk result (λ served. IsNonDecreasingBy rank_of served.items) }

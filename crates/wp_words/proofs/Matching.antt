@@ -1,5 +1,6 @@
 -- What clap matches of words, and what becomes of it.
-use Rattle.std.proofs.Common.{◌≡◌, ◌∙◌, ◌&&◌, refl, sym, ap, subst, Bool, true, false, List, [], ◌∷◌, ℕ, Option, Some, None, option_map, Result, Ok, Err, ⊎_elim}
+use Rattle.std.proofs.Common.{◌≡◌, ◌∙◌, ◌&&◌, refl, sym, ap, subst, Bool, true, false, List, [], ◌∷◌, ℕ, Option, Some, None, option_map, Result, Ok, Err}
+use Rattle.std.proofs.Common.{⊎_elim}
 use Rattle.clap.specs.Words.{App, HasKind, Kinds, ReadsOne, Row, Text, TriesOne, is_simple, is_simple_and_free, kind_of}
 use Rattle.clap.specs.declared.error.Error.{Error}
 use Rattle.clap.specs.declared.error.kind.ErrorKind.TheVariants as kind

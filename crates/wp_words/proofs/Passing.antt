@@ -84,7 +84,8 @@ unread name id parser read = go (bytes_eq id name) refl
 -- an option of a command's own has its parser among the command's rules
 has_parser : (name : Text) (parser : ValueParser) (app : App) → HasOption name parser app → HasParser name parser app.top.rules
 has_parser name parser app own =
-    let each = each_read name parser (map new_rule foreign_names ++ app.top.rules) (subst (Each (λ (r : Reader). r ≡ (Some parser, false))) (sym own) (refl, tt)) in
+    let each = each_read name parser (map new_rule foreign_names ++ app.top.rules)
+    (subst (Each (λ (r : Reader). r ≡ (Some parser, false))) (sym own) (refl, tt)) in
     record {
       each = each.1.1.1;
       named = unread name [] parser each.0;

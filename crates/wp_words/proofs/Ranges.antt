@@ -15,7 +15,8 @@ use Rattle.clap.specs.Walk.{Text, rows_of}
 use Rattle.clap.specs.declared.builder.value_parser.ValueParser.TheVariants as vp
 use Rattle.clap.specs.declared.parser.matches.ArgMatches.{ArgMatches}
 use Rattle.wp_model.specs.Limits.{greatest_desk, most_aisles, most_cart_units, most_file_orders, most_wave_orders}
-use Rattle.wp_words.specs.Limits.{AreNodes, AreUnits, most_budget, most_capacity, most_nodes, most_pickers, most_root, most_rules, most_store, most_workers, usual_budget}
+use Rattle.wp_words.specs.Limits.{AreNodes, AreUnits, most_budget, most_capacity, most_nodes, most_pickers, most_root, most_rules, most_store, most_workers}
+use Rattle.wp_words.specs.Limits.{usual_budget}
 use Rattle.wp_words.specs.Options.{IsMatchOf, audit_command, make_command, plan_command}
 use Rattle.wp_words.specs.Words.{AreMakeValues, ArePlanValues, HasMakeRanges, HasRanges, MakeNumbers, PlanNames, budget_of, number_read, number_said}
 use Rattle.wp_words.proofs.Passing.{HasOption, passed}

@@ -40,7 +40,8 @@ most_pickers = 100
 abbrev pub most_root : ℕ
 most_root = 1
 
--- what the words may say of the store: that the day goes on from it and its entries are added to it (1), or that it isn't touched (0)
+-- what the words may say of the store: that the day goes on from it and its entries are added to it (1), or that it
+-- isn't touched (0)
 abbrev pub most_store : ℕ
 most_store = 1
 

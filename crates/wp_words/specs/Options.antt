@@ -9,7 +9,8 @@ use Rattle.clap.specs.declared.builder.value_parser.ValueParser.{ValueParser}
 use Rattle.clap.specs.declared.builder.value_parser.ValueParser.TheVariants as vp
 use Rattle.clap.specs.declared.parser.matches.ArgMatches.{ArgMatches}
 use Rattle.wp_model.specs.Limits.{greatest_desk, most_aisles, most_cart_units, most_file_orders, most_wave_orders}
-use Rattle.wp_words.specs.Limits.{most_budget, most_capacity, most_nodes, most_number, most_pickers, most_root, most_rules, most_store, most_workers, usual_switch, usual_workers}
+use Rattle.wp_words.specs.Limits.{most_budget, most_capacity, most_nodes, most_number, most_pickers, most_root}
+use Rattle.wp_words.specs.Limits.{most_rules, most_store, most_workers, usual_switch, usual_workers}
 
 -- an option `--name VALUE` or `--name=VALUE` that may be given, and at most once
 abbrev pub named_rule : Text → Rule
@@ -41,16 +42,30 @@ nodes_rule = record (named_rule (codes "nodes")) { parser = Some (vp.Unsigned 1 
 
 -- `--workers` may be given, a number from 1 to the most workers
 abbrev pub workers_rule : Rule
-workers_rule = record (named_rule (codes "workers")) { parser = Some (count_up_to most_workers); defaults = usual_workers ∷ [] }
+workers_rule = record (named_rule (codes "workers")) {
+  parser = Some
+      (count_up_to most_workers);
+  defaults = usual_workers ∷ [];
+}
 
 -- a switch may be given, a number from 0 to this one, and is 0 where it isn't
 abbrev pub switch_rule : Text → ℕ → Rule
-switch_rule name most = record (named_rule name) { parser = Some (vp.Signed (pos 0) (pos most)); defaults = usual_switch ∷ [] }
+switch_rule name most = record (named_rule name) {
+  parser = Some (vp.Signed (pos 0) (pos most));
+  defaults = usual_switch ∷ [];
+}
 
 -- a command with these options and nothing besides: it shows no help, and its words are all that follow the mode
 abbrev pub command_with : Text → List Rule → App
 command_with mode options =
-    record { top = record (new_shape mode) { rules = options; no_binary_name = true; disable_help_flag = true }; subs = [] }
+    record {
+      top = record (new_shape mode) {
+        rules = options;
+        no_binary_name = true;
+        disable_help_flag = true;
+      };
+      subs = [];
+    }
 
 -- `--number` has to be given, a number of 64 bits
 abbrev pub number_rule : Rule
@@ -69,7 +84,8 @@ plan_command =
     ∷ switch_rule (codes "root") most_root
     ∷ switch_rule (codes "store") most_store
     ∷ [] in
-    command_with (codes "plan") (files ++ capacity_rule ∷ units_rule ∷ budget_rule ∷ nodes_rule ∷ workers_rule ∷ switches)
+    command_with (codes "plan") (files ++ capacity_rule ∷ units_rule ∷ budget_rule ∷ nodes_rule ∷ workers_rule
+    ∷ switches)
 
 -- `check` takes the names of a layout and a certificate
 unfoldable pub check_command : App
@@ -81,11 +97,12 @@ audit_command =
     let files = map required_rule (codes "layout" ∷ codes "stock" ∷ codes "orders" ∷ codes "journal" ∷ []) in
     command_with (codes "audit") (files ++ units_rule ∷ [])
 
--- `make` takes a number to draw from, the numbers of aisles, orders, desks and orders of a wave, and the capacity, the budget,
--- the nodes and the workers of a plan
+-- `make` takes a number to draw from, the numbers of aisles, orders, desks and orders of a wave, and the capacity, the
+-- budget, the nodes and the workers of a plan
 unfoldable pub make_command : App
 make_command =
-    let size = count_rule (codes "aisles") most_aisles ∷ count_rule (codes "orders") most_file_orders ∷ count_rule (codes "desks") greatest_desk
+    let size = count_rule (codes "aisles") most_aisles ∷ count_rule (codes "orders") most_file_orders
+    ∷ count_rule (codes "desks") greatest_desk
     ∷ count_rule (codes "wave") most_wave_orders ∷ [] in
     command_with (codes "make") (number_rule ∷ (size ++ capacity_rule ∷ budget_rule ∷ nodes_rule ∷ workers_rule ∷ []))
 

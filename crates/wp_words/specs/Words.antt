@@ -1,19 +1,21 @@
 -- What the words of a command line say.
-use Rattle.std.specs.Prelude.{◌≡◌, ◌≤◌, nat_le, ℕ, ⊤, Bool, true, false, None, List, [], ◌∷◌, codes, Option, Some, unwrap_or, option_map, if◌then◌else◌, Result, Ok, Err}
+use Rattle.std.specs.Prelude.{◌≡◌, ◌≤◌, nat_le, ℕ, ⊤, Bool, true, false, None, List, [], ◌∷◌, codes, Option, Some}
+use Rattle.std.specs.Prelude.{unwrap_or, option_map, if◌then◌else◌, Result, Ok, Err}
 use Rattle.std.specs.Int.{div_ceil}
 use Rattle.std.specs.Str.{bytes_eq}
 use Rattle.std.specs.Str.Parse.{digits_value, without_leading_plus}
 use Rattle.clap.specs.Words.{App, Kinds, Row, Text, fault_of, first_of, matches_of, one_of}
 use Rattle.wp_model.specs.Limits.{greatest_desk, most_aisles, most_file_orders, most_submissions, most_wave_orders}
 use Rattle.wp_model.specs.Outcomes.{and_then}
-use Rattle.wp_words.specs.Limits.{AreNodes, AreUnits, most_budget, most_capacity, most_pickers, most_root, most_rules, most_store, most_workers, usual_budget}
+use Rattle.wp_words.specs.Limits.{AreNodes, AreUnits, most_budget, most_capacity, most_pickers, most_root, most_rules}
+use Rattle.wp_words.specs.Limits.{most_store, most_workers, usual_budget}
 use Rattle.wp_words.specs.Options.{audit_command, check_command, make_command, plan_command}
 use Rattle.wp_words.specs.declared.fault.WordsFault.{WordsFault}
 use Rattle.wp_words.specs.declared.fault.WordsFault.TheVariants as fault
 
--- the names and the numbers that the options of `plan` give: the units are those that a cart holds, if carts have such a limit,
--- the rules are 1 where the sheets tell what usual rules would walk and otherwise 0, and the pickers are those to whom the batches
--- are dealt, 0 where they aren't
+-- the names and the numbers that the options of `plan` give: the units are those that a cart holds, if carts have such
+-- a limit, the rules are 1 where the sheets tell what usual rules would walk and otherwise 0, and the pickers are those
+-- to whom the batches are dealt, 0 where they aren't
 pub record PlanNames : Type 0 where
   pub layout : Text
   pub stock : Text
@@ -73,8 +75,8 @@ pub record MakeNumbers : Type 0 where
   pub workers : ℕ
 
 -- how many waves the orders are cut into
-abbrev pub waves_of : MakeNumbers → ℕ
-waves_of numbers = div_ceil numbers.orders numbers.wave
+abbrev pub wave_parts : MakeNumbers → ℕ
+wave_parts numbers = div_ceil numbers.orders numbers.wave
 
 -- each number of `make` lies in its range
 pub record HasMakeRanges (numbers : MakeNumbers) : Type 0 where
@@ -96,7 +98,7 @@ pub record HasMakeRanges (numbers : MakeNumbers) : Type 0 where
 -- and the waves aren't too many
 pub record IsMakeable (numbers : MakeNumbers) : Type 0 where
   pub ranges : HasMakeRanges numbers
-  pub waves : waves_of numbers ≤ most_submissions
+  pub waves : wave_parts numbers ≤ most_submissions
 
 -- a job, by the names and the numbers that its words give
 pub data JobNames : Type 0 where
@@ -135,8 +137,8 @@ number_read name rows = option_map number_said (one_of name rows)
 
 -- the number that an option got. Such an option has to be given or has a number where it isn't, so where words are
 -- accepted there is one
-abbrev pub number_of : List Row → Text → ℕ
-number_of rows name = unwrap_or (number_read name rows) 0
+abbrev pub option_number : List Row → Text → ℕ
+option_number rows name = unwrap_or (number_read name rows) 0
 
 -- what a search may do is said once: by a budget, or by nodes in its place
 abbrev pub are_both : Option ℕ → Option ℕ → Bool
@@ -146,7 +148,8 @@ are_both (Some budget) None = false
 
 -- words that say it twice aren't accepted
 abbrev pub said_once : List Row → Result (List Row) WordsFault
-said_once rows = if are_both (number_read (codes "budget") rows) (number_read (codes "nodes") rows) then Err fault.BadWords else Ok rows
+said_once rows = if are_both (number_read (codes "budget") rows) (number_read (codes "nodes") rows)
+    then Err fault.BadWords else Ok rows
 
 -- the budget that was matched, or the usual one
 abbrev pub budget_of : List Row → ℕ
@@ -165,20 +168,24 @@ plan_names_of rows = record {
   stock = value_of rows (codes "stock");
   orders = value_of rows (codes "orders");
   desks = value_of rows (codes "desks");
-  capacity = number_of rows (codes "capacity");
+  capacity = option_number rows (codes "capacity");
   units = number_read (codes "units") rows;
   budget = budget_of rows;
   nodes = number_read (codes "nodes") rows;
-  workers = number_of rows (codes "workers");
-  rules = number_of rows (codes "rules");
-  pickers = number_of rows (codes "pickers");
-  root = number_of rows (codes "root");
-  store = number_of rows (codes "store");
+  workers = option_number rows (codes "workers");
+  rules = option_number rows (codes "rules");
+  pickers = option_number rows (codes "pickers");
+  root = option_number rows (codes "root");
+  store = option_number rows (codes "store");
 }
 
 -- the names that were matched for `check`
 abbrev pub check_names_of : List Row → CheckNames
-check_names_of rows = record { layout = value_of rows (codes "layout"); certificate = value_of rows (codes "certificate") }
+check_names_of rows = record {
+  layout = value_of rows (codes "layout");
+  certificate = value_of rows
+      (codes "certificate");
+}
 
 -- the names and the number that were matched for `audit`
 abbrev pub audit_names_of : List Row → AuditNames
@@ -193,15 +200,15 @@ audit_names_of rows = record {
 -- the numbers that were matched for `make`
 abbrev pub make_numbers_of : List Row → MakeNumbers
 make_numbers_of rows = record {
-  number = number_of rows (codes "number");
-  aisles = number_of rows (codes "aisles");
-  orders = number_of rows (codes "orders");
-  desks = number_of rows (codes "desks");
-  wave = number_of rows (codes "wave");
-  capacity = number_of rows (codes "capacity");
+  number = option_number rows (codes "number");
+  aisles = option_number rows (codes "aisles");
+  orders = option_number rows (codes "orders");
+  desks = option_number rows (codes "desks");
+  wave = option_number rows (codes "wave");
+  capacity = option_number rows (codes "capacity");
   budget = budget_of rows;
   nodes = number_read (codes "nodes") rows;
-  workers = number_of rows (codes "workers");
+  workers = option_number rows (codes "workers");
 }
 
 -- a value that was found is made into something else, and a fault is the answer
@@ -227,7 +234,8 @@ make_given words = made_into make_numbers_of (and_then (matched make_command wor
 
 -- numbers whose waves aren't too many
 abbrev pub few_waves : MakeNumbers → Result MakeNumbers WordsFault
-few_waves numbers = if nat_le (waves_of numbers) most_submissions then Ok numbers else Err (fault.TooManyWaves (waves_of numbers))
+few_waves numbers = if nat_le (wave_parts numbers) most_submissions then Ok numbers
+    else Err (fault.TooManyWaves (wave_parts numbers))
 
 -- what words say after `make`
 abbrev pub make_said : List Text → Result MakeNumbers WordsFault

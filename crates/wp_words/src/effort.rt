@@ -17,9 +17,11 @@ pub struct Effort {
     pub nodes: Option<u64>,
 }
 
-/// How much the search may do by the words. They say it once: where they give both a budget and nodes, they are refused.
+/// How much the search may do by the words. They say it once: where they give both a budget and nodes, they are
+/// refused.
 pub fn effort_of(matches: &ArgMatches<'_>) -> Result<Effort, WordsFault>
-    ensures said { IfOk result (λ effort. IsEffort (rows_of (found_of matches.now)) effort.budget effort.nodes) }
+    ensures said { IfOk result (λ effort. IsEffort
+        (rows_of (found_of matches.now)) effort.budget effort.nodes) }
     ensures fault { IfErr result (IsFaultOf (said_once (rows_of (found_of matches.now)))) }
 {
     let budget = long_if_given(matches, "budget")?;

@@ -36,7 +36,8 @@ pub struct PlanWords {
     pub pickers: u32,
     /// Whether the sheets tell a bracket of the linear bound: 1 where they do, and 0 where they don't.
     pub root: u32,
-    /// Whether the day goes on from the store and its entries are added to it: 1 where they are, and 0 where no call is made on the disk.
+    /// Whether the day goes on from the store and its entries are added to it: 1 where they are, and 0 where no call is
+    /// made on the disk.
     pub store: u32,
 }
 

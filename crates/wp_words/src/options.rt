@@ -1,7 +1,9 @@
 ghost use Rattle.std.specs.Prelude.{◌≡◌, List, ℕ, [], IfOk, IfErr, Some, Ok, string_bytes, true, false};
 ghost use Rattle.clap.specs.Words.{app_of, rule_of, first_of, found_of, is_simple_and_free, one_of, rows_of};
-ghost use Rattle.wp_words.specs.Options.{IsMatchOf, audit_command, budget_rule, capacity_rule, check_command, command_with, count_rule, make_command, named_rule};
-ghost use Rattle.wp_words.specs.Options.{nodes_rule, number_rule, plan_command, required_rule, switch_rule, units_rule, workers_rule};
+ghost use Rattle.wp_words.specs.Options.{IsMatchOf, audit_command, budget_rule, capacity_rule, check_command};
+ghost use Rattle.wp_words.specs.Options.{command_with, count_rule, make_command, named_rule};
+ghost use Rattle.wp_words.specs.Options.{nodes_rule, number_rule, plan_command, required_rule, switch_rule, units_rule};
+ghost use Rattle.wp_words.specs.Options.{workers_rule};
 ghost use Rattle.wp_words.specs.Reading.{IsFaultOf, texts_of};
 ghost use Rattle.wp_words.specs.Words.{matched, number_read};
 
@@ -196,9 +198,11 @@ pub fn make_command<'a>(alloc: Global) -> Result<Command<'a>, AllocError>
 /// What words match of a command.
 pub fn matched<'a>(command: Command<'a>, words: &'a [String]) -> Result<ArgMatches<'a>, WordsFault>
     requires simple { is_simple_and_free (app_of command) ≡ true }
-    ensures rows { IfOk result (λ matches. matched (app_of command.entry) (texts_of words.entry.now) ≡ Ok (rows_of (found_of matches))) }
+    ensures rows { IfOk result (λ matches. matched (app_of command.entry) (texts_of words.entry.now)
+        ≡ Ok (rows_of (found_of matches))) }
     ensures of_command { IfOk result (IsMatchOf (app_of command.entry)) }
-    ensures fault { IfErr result (IsFaultOf (matched (app_of command.entry) (texts_of words.entry.now))) }
+    ensures fault { IfErr result (IsFaultOf (matched (app_of command.entry)
+        (texts_of words.entry.now))) }
 {
     match command.try_get_matches_from(words) {
         Ok(matches) => Ok(matches),
@@ -211,7 +215,8 @@ pub fn matched<'a>(command: Command<'a>, words: &'a [String]) -> Result<ArgMatch
 
 /// The value that an option got.
 pub fn value_of(alloc: Global, matches: &ArgMatches<'_>, name: &str) -> Result<String, Memory>
-    ensures { IfOk result (λ value. first_of name.now (rows_of (found_of matches.now)) ≡ Some (string_bytes value)) }
+    ensures { IfOk result (λ value. first_of name.now (rows_of (found_of matches.now))
+        ≡ Some (string_bytes value)) }
 {
     let Some(value) = matches.get_str(name) else {
         return Err(Memory);
@@ -224,7 +229,9 @@ pub fn value_of(alloc: Global, matches: &ArgMatches<'_>, name: &str) -> Result<S
 pub fn number_of<T: FromStr>(matches: &ArgMatches<'_>, name: &str) -> Result<T, Memory>
 where
     T::Err: Drop,
-    ensures { IfOk result (λ number. (text : List ℕ) × (one_of name.now (rows_of (found_of matches.now)) ≡ Some text) × T.from_str_gives text (Ok number)) }
+    ensures { IfOk result (λ number. (text : List ℕ)
+        × (one_of name.now (rows_of (found_of matches.now)) ≡ Some text)
+        × T.from_str_gives text (Ok number)) }
 {
     match matches.get_one::<T>(name) {
         Some(number) => Ok(number),
@@ -234,7 +241,8 @@ where
 
 /// The number that an option got, if it was given.
 pub fn number_if_given(matches: &ArgMatches<'_>, name: &str) -> Result<Option<u32>, Memory>
-    ensures { IfOk result (λ number. number_read name.now (rows_of (found_of matches.now)) ≡ number) }
+    ensures { IfOk result (λ number. number_read name.now (rows_of (found_of matches.now))
+        ≡ number) }
 {
     match matches.try_get_one::<u32>(name) {
         Ok(number) => Ok(number),
@@ -244,7 +252,8 @@ pub fn number_if_given(matches: &ArgMatches<'_>, name: &str) -> Result<Option<u3
 
 /// The long number that an option got, if it was given.
 pub fn long_if_given(matches: &ArgMatches<'_>, name: &str) -> Result<Option<u64>, Memory>
-    ensures { IfOk result (λ number. number_read name.now (rows_of (found_of matches.now)) ≡ number) }
+    ensures { IfOk result (λ number. number_read name.now (rows_of (found_of matches.now))
+        ≡ number) }
 {
     match matches.try_get_one::<u64>(name) {
         Ok(long) => Ok(long),

@@ -1,11 +1,14 @@
-ghost use Rattle.std.specs.Prelude.{◌≡◌, ◌++◌, ◌<◌, ◌≤◌, ◌^◌, ◌∷◌, [], IfOk, IfErr, IfSome, None, Some, codes, option_and_then};
+ghost use Rattle.std.specs.Prelude.{◌≡◌, ◌++◌, ◌<◌, ◌≤◌, ◌^◌, ◌∷◌, [], IfOk, IfErr, IfSome, None, Some, codes};
+ghost use Rattle.std.specs.Prelude.{option_and_then};
 ghost use Rattle.serde_json.specs.View.{view};
-ghost use Rattle.wp_cert.specs.Text.{batch_said, dead_said, each_of, has_keys, kept_said, leaf_said, list_said, mark_said, marks_said, number_said};
-ghost use Rattle.wp_cert.specs.Text.{node_of_kind, node_said, own_said, place_said, position_said, said_at, split_own_said, split_said, within};
+ghost use Rattle.wp_cert.specs.Text.{batch_said, dead_said, each_of, has_keys, kept_said, leaf_said, list_said};
+ghost use Rattle.wp_cert.specs.Text.{mark_said, marks_said, number_said};
+ghost use Rattle.wp_cert.specs.Text.{node_of_kind, node_said, own_said, place_said, position_said, said_at};
+ghost use Rattle.wp_cert.specs.Text.{split_own_said, split_said, within};
 ghost use Rattle.wp_cert.specs.declared.text.form.Unread.TheVariants as unread;
 
 use crate::text::form::{Unread, WrittenSlot};
-use crate::text::part::{Part, list_at, read_list};
+use crate::text::part::{CertificatePart, list_at, read_list};
 use crate::{Node, Own};
 use serde_json::Value;
 use std::alloc::Global;
@@ -13,7 +16,7 @@ use wp_lengths::Marks;
 use wp_model::Listing;
 use wp_pairs::Batch;
 
-impl Part for WrittenSlot {
+impl CertificatePart for WrittenSlot {
     ghost said = { place_said };
 
     fn read(_alloc: Global, value: &Value) -> Result<WrittenSlot, Unread> {
@@ -32,7 +35,7 @@ impl Part for WrittenSlot {
     }
 }
 
-impl Part for Listing<WrittenSlot> {
+impl CertificatePart for Listing<WrittenSlot> {
     ghost said = { list_said place_said };
 
     fn read(alloc: Global, value: &Value) -> Result<Listing<WrittenSlot>, Unread> {
@@ -66,7 +69,8 @@ fn order_in(value: &Value, least: u32) -> Option<u32>
 
 // The order at a key, which may be any number of 32 bits.
 fn order_at(value: &Value, key: &str) -> Result<u32, Unread>
-    ensures ok { IfOk result (λ order. said_at position_said key.now (view value.now) ≡ Some order) }
+    ensures ok { IfOk result (λ order. said_at position_said key.now (view value.now)
+        ≡ Some order) }
     ensures bad { IfErr result (λ fault. said_at position_said key.now (view value.now) ≡ None) }
 {
     let order = value
@@ -80,7 +84,7 @@ fn order_at(value: &Value, key: &str) -> Result<u32, Unread>
     }
 }
 
-impl Part for Batch {
+impl CertificatePart for Batch {
     ghost said = { batch_said };
 
     fn read(_alloc: Global, value: &Value) -> Result<Batch, Unread> {
@@ -110,7 +114,8 @@ fn mark_in(code: u8) -> Option<bool>
 // The marks that the characters of a text say.
 fn read_marks(alloc: Global, text: &str) -> Result<Marks, Unread>
     ensures ok { IfOk result (λ marks. each_of mark_said text.now ≡ Some marks) }
-    ensures bad { IfErr result (λ fault. fault ≡ unread.BadShape → each_of mark_said text.now ≡ None) }
+    ensures bad { IfErr result (λ fault. fault ≡ unread.BadShape → each_of mark_said text.now
+        ≡ None) }
 {
     let mut marks = Marks::new(alloc);
     for code in text.as_bytes() {
@@ -122,7 +127,8 @@ fn read_marks(alloc: Global, text: &str) -> Result<Marks, Unread>
 // The marks at a key.
 fn marks_at(alloc: Global, value: &Value, key: &str) -> Result<Marks, Unread>
     ensures ok { IfOk result (λ marks. said_at marks_said key.now (view value.now) ≡ Some marks) }
-    ensures bad { IfErr result (λ fault. fault ≡ unread.BadShape → said_at marks_said key.now (view value.now) ≡ None) }
+    ensures bad { IfErr result (λ fault. fault ≡ unread.BadShape
+        → said_at marks_said key.now (view value.now) ≡ None) }
 {
     let text = value
         .get(key)
@@ -134,7 +140,8 @@ fn marks_at(alloc: Global, value: &Value, key: &str) -> Result<Marks, Unread>
 // The duals, the marks and the tight batches of a node.
 fn read_own(alloc: Global, value: &Value) -> Result<Own, Unread>
     ensures ok { IfOk result (λ own. own_said (view value.now) ≡ Some own) }
-    ensures bad { IfErr result (λ fault. fault ≡ unread.BadShape → own_said (view value.now) ≡ None) }
+    ensures bad { IfErr result (λ fault. fault ≡ unread.BadShape → own_said (view value.now)
+        ≡ None) }
 {
     let duals = list_at(alloc, value, "duals")?;
     let marks = marks_at(alloc, value, "marks")?;
@@ -161,7 +168,8 @@ fn read_kept(value: &Value) -> Result<Node, Unread>
 // A leaf with duals of its own.
 fn read_leaf(alloc: Global, value: &Value) -> Result<Node, Unread>
     ensures ok { IfOk result (λ node. leaf_said (view value.now) ≡ Some node) }
-    ensures bad { IfErr result (λ fault. fault ≡ unread.BadShape → leaf_said (view value.now) ≡ None) }
+    ensures bad { IfErr result (λ fault. fault ≡ unread.BadShape → leaf_said (view value.now)
+        ≡ None) }
 {
     if has_keys(value, 4) {
         Ok(Node::Leaf(Some(read_own(alloc, value)?)))
@@ -173,7 +181,8 @@ fn read_leaf(alloc: Global, value: &Value) -> Result<Node, Unread>
 // What a split has of its own: all of it or nothing.
 fn read_split_own(alloc: Global, value: &Value) -> Result<Option<Own>, Unread>
     ensures ok { IfOk result (λ own. split_own_said (view value.now) ≡ Some own) }
-    ensures bad { IfErr result (λ fault. fault ≡ unread.BadShape → split_own_said (view value.now) ≡ None) }
+    ensures bad { IfErr result (λ fault. fault ≡ unread.BadShape → split_own_said (view value.now)
+        ≡ None) }
 {
     if has_keys(value, 3) {
         Ok(None)
@@ -187,7 +196,8 @@ fn read_split_own(alloc: Global, value: &Value) -> Result<Option<Own>, Unread>
 // A split on a pair of orders.
 fn read_split(alloc: Global, value: &Value) -> Result<Node, Unread>
     ensures ok { IfOk result (λ node. split_said (view value.now) ≡ Some node) }
-    ensures bad { IfErr result (λ fault. fault ≡ unread.BadShape → split_said (view value.now) ≡ None) }
+    ensures bad { IfErr result (λ fault. fault ≡ unread.BadShape → split_said (view value.now)
+        ≡ None) }
 {
     let first = order_at(value, "first")?;
     let second = order_at(value, "second")?;
@@ -210,7 +220,8 @@ fn read_dead(value: &Value) -> Result<Node, Unread>
 // A node of this kind.
 fn read_kind(alloc: Global, value: &Value, kind: &str) -> Result<Node, Unread>
     ensures ok { IfOk result (λ node. node_of_kind (view value.now) kind.now ≡ Some node) }
-    ensures bad { IfErr result (λ fault. fault ≡ unread.BadShape → node_of_kind (view value.now) kind.now ≡ None) }
+    ensures bad { IfErr result (λ fault. fault ≡ unread.BadShape
+        → node_of_kind (view value.now) kind.now ≡ None) }
 {
     if kind == "kept" {
         read_kept(value)
@@ -225,7 +236,7 @@ fn read_kind(alloc: Global, value: &Value, kind: &str) -> Result<Node, Unread>
     }
 }
 
-impl Part for Node {
+impl CertificatePart for Node {
     ghost said = { node_said };
 
     fn read(alloc: Global, value: &Value) -> Result<Node, Unread> {

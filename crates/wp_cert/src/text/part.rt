@@ -34,7 +34,7 @@ impl From<Memory> for Unread {
 }
 
 /// A part of a certificate, which a value of JSON says.
-pub(crate) trait Part: Drop {
+pub(crate) trait CertificatePart: Drop {
     /// What a value says. Contracts alone name it.
     ghost said: { Data → Option Self };
 
@@ -43,10 +43,11 @@ pub(crate) trait Part: Drop {
     where
         Self: Sized,
         ensures ok { IfOk result (λ part. said (view value.now) ≡ Some part) }
-        ensures bad { IfErr result (λ fault. fault ≡ unread.BadShape → said (view value.now) ≡ None) };
+        ensures bad { IfErr result (λ fault. fault ≡ unread.BadShape → said (view value.now)
+            ≡ None) };
 }
 
-impl Part for u64 {
+impl CertificatePart for u64 {
     ghost said = { number_said };
 
     fn read(_alloc: Global, value: &Value) -> Result<u64, Unread> {
@@ -67,9 +68,10 @@ fn listing<T: Drop>(items: Vec<T>) -> Result<Listing<T>, Unread>
 }
 
 // The parts that the items of a list say.
-fn read_items<T: Part>(alloc: Global, value: &Value) -> Result<Vec<T>, Unread>
+fn read_items<T: CertificatePart>(alloc: Global, value: &Value) -> Result<Vec<T>, Unread>
     ensures ok { IfOk result (λ parts. list_said T.said (view value.now) ≡ Some parts.items) }
-    ensures bad { IfErr result (λ fault. fault ≡ unread.BadShape → list_said T.said (view value.now) ≡ None) }
+    ensures bad { IfErr result (λ fault. fault ≡ unread.BadShape → list_said T.said (view value.now)
+        ≡ None) }
 {
     let items = value.as_array().ok_or(Unread::BadShape)?;
     let mut parts = Vec::new(alloc);
@@ -80,39 +82,56 @@ fn read_items<T: Part>(alloc: Global, value: &Value) -> Result<Vec<T>, Unread>
 }
 
 // The list that a value says, of fewer than 2^32 parts.
-pub(crate) fn read_list<T: Part>(alloc: Global, value: &Value) -> Result<Listing<T>, Unread>
+pub(crate) fn read_list<T: CertificatePart>(
+    alloc: Global,
+    value: &Value,
+) -> Result<Listing<T>, Unread>
     ensures ok { IfOk result (λ parts. list_said T.said (view value.now) ≡ Some parts) }
-    ensures bad { IfErr result (λ fault. fault ≡ unread.BadShape → list_said T.said (view value.now) ≡ None) }
+    ensures bad { IfErr result (λ fault. fault ≡ unread.BadShape → list_said T.said (view value.now)
+        ≡ None) }
 {
     listing(read_items(alloc, value)?)
 }
 
 // The part that the value at a key says.
-pub(crate) fn read_at<T: Part>(alloc: Global, value: &Value, key: &str) -> Result<T, Unread>
+pub(crate) fn read_at<T: CertificatePart>(
+    alloc: Global,
+    value: &Value,
+    key: &str,
+) -> Result<T, Unread>
     ensures ok { IfOk result (λ part. said_at T.said key.now (view value.now) ≡ Some part) }
-    ensures bad { IfErr result (λ fault. fault ≡ unread.BadShape → said_at T.said key.now (view value.now) ≡ None) }
+    ensures bad { IfErr result (λ fault. fault ≡ unread.BadShape
+        → said_at T.said key.now (view value.now) ≡ None) }
 {
     let member = value.get(key).ok_or(Unread::BadShape)?;
     T::read(alloc, member)
 }
 
 // The parts that the items of the list at a key say.
-pub(crate) fn items_at<T: Part>(alloc: Global, value: &Value, key: &str) -> Result<Vec<T>, Unread>
-    ensures ok { IfOk result (λ parts. said_at (list_said T.said) key.now (view value.now) ≡ Some parts.items) }
-    ensures bad { IfErr result (λ fault. fault ≡ unread.BadShape → said_at (list_said T.said) key.now (view value.now) ≡ None) }
+pub(crate) fn items_at<T: CertificatePart>(
+    alloc: Global,
+    value: &Value,
+    key: &str,
+) -> Result<Vec<T>, Unread>
+    ensures ok { IfOk result (λ parts. said_at (list_said T.said) key.now (view value.now)
+        ≡ Some parts.items) }
+    ensures bad { IfErr result (λ fault. fault ≡ unread.BadShape
+        → said_at (list_said T.said) key.now (view value.now) ≡ None) }
 {
     let member = value.get(key).ok_or(Unread::BadShape)?;
     read_items(alloc, member)
 }
 
 // The list at a key, of fewer than 2^32 parts.
-pub(crate) fn list_at<T: Part>(
+pub(crate) fn list_at<T: CertificatePart>(
     alloc: Global,
     value: &Value,
     key: &str,
 ) -> Result<Listing<T>, Unread>
-    ensures ok { IfOk result (λ parts. said_at (list_said T.said) key.now (view value.now) ≡ Some parts) }
-    ensures bad { IfErr result (λ fault. fault ≡ unread.BadShape → said_at (list_said T.said) key.now (view value.now) ≡ None) }
+    ensures ok { IfOk result (λ parts. said_at (list_said T.said) key.now (view value.now)
+        ≡ Some parts) }
+    ensures bad { IfErr result (λ fault. fault ≡ unread.BadShape
+        → said_at (list_said T.said) key.now (view value.now) ≡ None) }
 {
     listing(items_at(alloc, value, key)?)
 }

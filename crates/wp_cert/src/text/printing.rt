@@ -5,8 +5,10 @@ ghost use Rattle.wp_model.specs.declared.point.Point.{Point as PointData};
 ghost use Rattle.wp_graph.specs.PickSets.{AreSlots};
 ghost use Rattle.wp_lengths.specs.Waves.{IsWave, picks_of};
 ghost use Rattle.wp_cert.specs.Text.{Tells, place_of};
-ghost use Rattle.wp_cert.specs.TextData.{HaveDualsWithin, HaveSlots, IsKeptNode, aisle_points, certificate_data, certificate_text, list_data};
-ghost use Rattle.wp_cert.specs.TextData.{loaded_data, node_data, number_data, order_data, order_places, place_data, plain_data, point_data, wave_places};
+ghost use Rattle.wp_cert.specs.TextData.{HaveDualsWithin, HaveSlots, IsKeptNode, aisle_points, certificate_data};
+ghost use Rattle.wp_cert.specs.TextData.{certificate_text, list_data};
+ghost use Rattle.wp_cert.specs.TextData.{loaded_data, node_data, number_data, order_data, order_places, place_data};
+ghost use Rattle.wp_cert.specs.TextData.{plain_data, point_data, wave_places};
 
 use crate::Tree;
 use crate::text::to_json::list_json;
@@ -34,7 +36,8 @@ fn push_aisle(
 ) -> Result<(), AllocError>
     requires some { 0 < slots }
     requires most { slots ≤ 200 }
-    ensures values { OnOk result (map view values.new.items ≡ map view values.old.items ++ map point_data (aisle_points picks.now.points aisle slots)) }
+    ensures values { OnOk result (map view values.new.items ≡ map view values.old.items
+        ++ map point_data (aisle_points picks.now.points aisle slots)) }
     ensures slots { OnOk result (AreSlots picks.now.layout picks.now.points) }
 {
     for before in 0..slots {
@@ -65,7 +68,8 @@ fn order_json(alloc: Global, layout: &Layout, picks: &Picks) -> Result<Value, Al
 // The slots of an order of a wave as a value.
 fn wave_order_json(alloc: Global, wave: &Wave, order: u32) -> Result<Value, AllocError>
     requires { order < length wave.now.orders }
-    ensures value { IfOk result (λ value. view value ≡ list_data place_data (order_places wave.now.layout (picks_of wave.now order))) }
+    ensures value { IfOk result (λ value. view value
+        ≡ list_data place_data (order_places wave.now.layout (picks_of wave.now order))) }
     ensures slots { IfOk result (λ value. AreSlots wave.now.layout (picks_of wave.now order)) }
 {
     order_json(alloc, &wave.layout(), wave.order(order))
@@ -73,7 +77,8 @@ fn wave_order_json(alloc: Global, wave: &Wave, order: u32) -> Result<Value, Allo
 
 // The slots of all orders of a wave as a value.
 fn orders_json(alloc: Global, wave: &Wave) -> Result<Value, AllocError>
-    ensures value { IfOk result (λ value. view value ≡ list_data (list_data place_data) (wave_places wave.now)) }
+    ensures value { IfOk result (λ value. view value
+        ≡ list_data (list_data place_data) (wave_places wave.now)) }
     ensures slots { IfOk result (λ value. HaveSlots wave.now.layout wave.now.orders) }
     ensures valid { IfOk result (λ value. IsWave wave.now) }
 {
@@ -103,8 +108,10 @@ fn put_parts(
     capacity: u32,
     tree: &Tree,
 ) -> Result<(), AllocError>
-    ensures value { OnOk result (members_view members.new.entries ≡ put (codes "nodes") (list_data node_data tree.now.nodes)
-        (put (codes "orders") (list_data (list_data place_data) (wave_places wave.now)) (put (codes "capacity") (number_data capacity)
+    ensures value { OnOk result (members_view members.new.entries
+        ≡ put (codes "nodes") (list_data node_data tree.now.nodes)
+        (put (codes "orders") (list_data (list_data place_data) (wave_places wave.now))
+        (put (codes "capacity") (number_data capacity)
         (members_view members.old.entries)))) }
     ensures slots { OnOk result (HaveSlots wave.now.layout wave.now.orders) }
     ensures valid { OnOk result (IsWave wave.now) }
@@ -122,7 +129,8 @@ fn put_parts(
 
 // A certificate without a cart as a value.
 fn plain_json(alloc: Global, wave: &Wave, capacity: u32, tree: &Tree) -> Result<Value, AllocError>
-    ensures value { IfOk result (λ value. view value ≡ plain_data (wave_places wave.now) capacity tree.now.nodes) }
+    ensures value { IfOk result (λ value. view value
+        ≡ plain_data (wave_places wave.now) capacity tree.now.nodes) }
     ensures slots { IfOk result (λ value. HaveSlots wave.now.layout wave.now.orders) }
     ensures valid { IfOk result (λ value. IsWave wave.now) }
     ensures nodes { IfOk result (λ value. All IsKeptNode tree.now.nodes) }
@@ -141,7 +149,8 @@ fn loaded_json(
     capacity: u32,
     tree: &Tree,
 ) -> Result<Value, AllocError>
-    ensures value { IfOk result (λ value. view value ≡ loaded_data (wave_places wave.now) cart.now capacity tree.now.nodes) }
+    ensures value { IfOk result (λ value. view value
+        ≡ loaded_data (wave_places wave.now) cart.now capacity tree.now.nodes) }
     ensures slots { IfOk result (λ value. HaveSlots wave.now.layout wave.now.orders) }
     ensures valid { IfOk result (λ value. IsWave wave.now) }
     ensures nodes { IfOk result (λ value. All IsKeptNode tree.now.nodes) }
@@ -161,7 +170,8 @@ fn certificate_json(
     capacity: u32,
     tree: &Tree,
 ) -> Result<Value, AllocError>
-    ensures value { IfOk result (λ value. view value ≡ certificate_data (wave_places wave.now) wave.now.cart capacity tree.now.nodes) }
+    ensures value { IfOk result (λ value. view value
+        ≡ certificate_data (wave_places wave.now) wave.now.cart capacity tree.now.nodes) }
     ensures slots { IfOk result (λ value. HaveSlots wave.now.layout wave.now.orders) }
     ensures valid { IfOk result (λ value. IsWave wave.now) }
     ensures nodes { IfOk result (λ value. All IsKeptNode tree.now.nodes) }
@@ -172,10 +182,11 @@ fn certificate_json(
     }
 }
 
-/// The text of a certificate: JSON with nothing between its parts, the keys of each object in the order of their bytes, and
-/// the slots of each order in the order of their aisles and then of their slots, each once. Its version is 1 where the wave
-/// has no cart, else 2, and it has the cart's units and loads as well. The capacity is 1 to 8, and no dual of the tree is
-/// above 1,000,000,000,000 sixtieths. It is read again as this wave with its cart, this capacity and this tree.
+/// The text of a certificate: JSON with nothing between its parts, the keys of each object in the order of their bytes,
+/// and the slots of each order in the order of their aisles and then of their slots, each once. Its version is 1 where
+/// the wave has no cart, else 2, and it has the cart's units and loads as well. The capacity is 1 to 8, and no dual of
+/// the tree is above 1,000,000,000,000 sixtieths. It is read again as this wave with its cart, this capacity and this
+/// tree.
 pub fn print_certificate(
     alloc: Global,
     wave: &Wave,
@@ -185,8 +196,10 @@ pub fn print_certificate(
     requires some { 1 ≤ capacity }
     requires most { capacity ≤ 8 }
     requires duals { HaveDualsWithin tree.now.nodes }
-    ensures text { IfOk result (λ text. text.items ≡ certificate_text (wave_places wave.now) wave.now.cart capacity tree.now.nodes) }
-    ensures told { IfOk result (λ text. Tells wave.now.layout text.items wave.now capacity tree.now.nodes) }
+    ensures text { IfOk result (λ text. text.items
+        ≡ certificate_text (wave_places wave.now) wave.now.cart capacity tree.now.nodes) }
+    ensures told { IfOk result (λ text. Tells wave.now.layout text.items wave.now capacity
+        tree.now.nodes) }
 {
     let value = certificate_json(alloc, wave, capacity, tree)?;
     Ok(value.to_vec(alloc)?)

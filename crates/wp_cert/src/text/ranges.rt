@@ -1,7 +1,8 @@
 ghost use Rattle.std.specs.Prelude.{◌≡◌, length, nat_le};
 ghost use Rattle.std.specs.List.{list_all};
 ghost use Rattle.wp_lengths.specs.Duals.{greatest_dual};
-ghost use Rattle.wp_cert.specs.Text.{are_duals_within, is_any_cart_for, is_cart_for, is_node_within, is_order_of, is_slot_of, is_up_to, is_within, version_of};
+ghost use Rattle.wp_cert.specs.Text.{are_duals_within, is_any_cart_for, is_cart_for, is_node_within, is_order_of};
+ghost use Rattle.wp_cert.specs.Text.{is_slot_of, is_up_to, is_within, version_of};
 
 use crate::text::form::{Form, WrittenCart, WrittenSlot};
 use crate::{Node, Own};

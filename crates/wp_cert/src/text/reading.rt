@@ -2,7 +2,8 @@ ghost use Rattle.std.specs.Prelude.{ℕ, List, ◌≡◌, ◌≢◌, IfOk, IfErr
 ghost use Rattle.serde_json.specs.View.{view};
 ghost use Rattle.wp_lengths.specs.Waves.{WavePicks};
 ghost use Rattle.wp_cert.specs.declared.tree.Node.{Node};
-ghost use Rattle.wp_cert.specs.Text.{IsSame, PickAt, Tells, any_cart_said, cart_said, certificate_said, form_said, is_within, loaded_cart};
+ghost use Rattle.wp_cert.specs.Text.{IsSame, PickAt, Tells, any_cart_said, cart_said, certificate_said, form_said};
+ghost use Rattle.wp_cert.specs.Text.{is_within, loaded_cart};
 ghost use Rattle.wp_cert.specs.Text.{parts_said, value_read, value_says, why_unread};
 ghost use Rattle.wp_model.specs.Warehouse.{IsUpTo};
 ghost use Rattle.wp_cert.specs.TextData.{HaveDualsWithin};
@@ -23,7 +24,8 @@ use wp_model::Memory;
 // The value of a text.
 fn read_value(alloc: Global, text: &Vec<u8>) -> Result<Value, CertWhy>
     ensures value { IfOk result (λ value. value_read text.now.items ≡ Ok (view value)) }
-    ensures refusal { IfErr result (λ refusal. refusal ≢ why.Memory → value_read text.now.items ≡ Err refusal) }
+    ensures refusal { IfErr result (λ refusal. refusal ≢ why.Memory → value_read text.now.items
+        ≡ Err refusal) }
 {
     match Value::from_slice(alloc, text) {
         Ok(value) => Ok(value),
@@ -40,7 +42,8 @@ fn read_value(alloc: Global, text: &Vec<u8>) -> Result<Value, CertWhy>
 // The units of a cart, and what each order loads.
 fn read_cart(alloc: Global, value: &Value) -> Result<WrittenCart, Unread>
     ensures ok { IfOk result (λ cart. cart_said (view value.now) ≡ Some cart) }
-    ensures bad { IfErr result (λ fault. fault ≡ unread.BadShape → cart_said (view value.now) ≡ None) }
+    ensures bad { IfErr result (λ fault. fault ≡ unread.BadShape → cart_said (view value.now)
+        ≡ None) }
 {
     let units = read_at(alloc, value, "units")?;
     let loads = list_at(alloc, value, "loads")?;
@@ -50,7 +53,8 @@ fn read_cart(alloc: Global, value: &Value) -> Result<WrittenCart, Unread>
 // The cart of a certificate: none where it has no more keys than its four parts, and one where it has two keys more.
 fn read_any_cart(alloc: Global, value: &Value) -> Result<Option<WrittenCart>, Unread>
     ensures ok { IfOk result (λ cart. any_cart_said (view value.now) ≡ Some cart) }
-    ensures bad { IfErr result (λ fault. fault ≡ unread.BadShape → any_cart_said (view value.now) ≡ None) }
+    ensures bad { IfErr result (λ fault. fault ≡ unread.BadShape → any_cart_said (view value.now)
+        ≡ None) }
 {
     if has_keys(value, 4) {
         Ok(None)
@@ -64,7 +68,8 @@ fn read_any_cart(alloc: Global, value: &Value) -> Result<Option<WrittenCart>, Un
 // The four parts of a certificate that has this cart or none.
 fn read_parts(alloc: Global, value: &Value, cart: Option<WrittenCart>) -> Result<Form, Unread>
     ensures ok { IfOk result (λ form. parts_said cart (view value.now) ≡ Some form) }
-    ensures bad { IfErr result (λ fault. fault ≡ unread.BadShape → parts_said cart (view value.now) ≡ None) }
+    ensures bad { IfErr result (λ fault. fault ≡ unread.BadShape → parts_said cart (view value.now)
+        ≡ None) }
 {
     let version = read_at(alloc, value, "version")?;
     let capacity = read_at(alloc, value, "capacity")?;
@@ -82,7 +87,8 @@ fn read_parts(alloc: Global, value: &Value, cart: Option<WrittenCart>) -> Result
 // What a value of the form of a certificate has.
 fn read_form(alloc: Global, value: &Value) -> Result<Form, Unread>
     ensures ok { IfOk result (λ form. form_said (view value.now) ≡ Some form) }
-    ensures bad { IfErr result (λ fault. fault ≡ unread.BadShape → form_said (view value.now) ≡ None) }
+    ensures bad { IfErr result (λ fault. fault ≡ unread.BadShape → form_said (view value.now)
+        ≡ None) }
 {
     let cart = read_any_cart(alloc, value)?;
     read_parts(alloc, value, cart)
@@ -103,7 +109,8 @@ impl From<Unread> for CertWhy {
 fn read_within(alloc: Global, value: &Value, layout: &Layout) -> Result<Form, CertWhy>
     ensures ok { IfOk result (λ form. value_says layout.now (view value.now) ≡ Ok form) }
     ensures within { IfOk result (λ form. is_within layout.now form ≡ true) }
-    ensures refusal { IfErr result (λ refusal. refusal ≢ why.Memory → value_says layout.now (view value.now) ≡ Err refusal) }
+    ensures refusal { IfErr result (λ refusal. refusal ≢ why.Memory
+        → value_says layout.now (view value.now) ≡ Err refusal) }
 {
     let form = read_form(alloc, value)?;
     if is_within(&form, layout) {
@@ -117,7 +124,8 @@ fn read_within(alloc: Global, value: &Value, layout: &Layout) -> Result<Form, Ce
 fn read_text(alloc: Global, text: &Vec<u8>, layout: &Layout) -> Result<Form, CertWhy>
     ensures ok { IfOk result (λ form. certificate_said layout.now text.now.items ≡ Ok form) }
     ensures within { IfOk result (λ form. is_within layout.now form ≡ true) }
-    ensures refusal { IfErr result (λ refusal. refusal ≢ why.Memory → certificate_said layout.now text.now.items ≡ Err refusal) }
+    ensures refusal { IfErr result (λ refusal. refusal ≢ why.Memory
+        → certificate_said layout.now text.now.items ≡ Err refusal) }
 {
     let value = read_value(alloc, text)?;
     read_within(alloc, &value, layout)
@@ -128,7 +136,8 @@ fn certificate_of(alloc: Global, layout: &Layout, form: Form) -> Result<Certific
     requires within { is_within layout.now form ≡ true }
     ensures layout { IfOk result (λ certificate. certificate.wave.layout ≡ layout.now) }
     ensures orders { IfOk result (λ certificate. PickAt certificate.wave.orders form.orders) }
-    ensures cart { IfOk result (λ certificate. certificate.wave.cart ≡ option_map loaded_cart form.cart) }
+    ensures cart { IfOk result (λ certificate. certificate.wave.cart
+        ≡ option_map loaded_cart form.cart) }
     ensures capacity { IfOk result (λ certificate. certificate.capacity ≡ form.capacity) }
     ensures nodes { IfOk result (λ certificate. certificate.tree.nodes ≡ form.nodes) }
     ensures range { IfOk result (λ certificate. IsUpTo 8 certificate.capacity) }
@@ -146,10 +155,12 @@ fn certificate_of(alloc: Global, layout: &Layout, form: Form) -> Result<Certific
 
 // The certificate that a text says, or why it says none.
 fn read_told(alloc: Global, text: &Vec<u8>, layout: &Layout) -> Result<Certificate, CertWhy>
-    ensures told { IfOk result (λ read. Tells layout.now text.now.items read.wave read.capacity read.tree.nodes) }
+    ensures told { IfOk result (λ read. Tells layout.now text.now.items read.wave read.capacity
+        read.tree.nodes) }
     ensures range { IfOk result (λ read. IsUpTo 8 read.capacity) }
     ensures duals { IfOk result (λ read. HaveDualsWithin read.tree.nodes) }
-    ensures refusal { IfErr result (λ refusal. refusal ≢ why.Memory → certificate_said layout.now text.now.items ≡ Err refusal) }
+    ensures refusal { IfErr result (λ refusal. refusal ≢ why.Memory
+        → certificate_said layout.now text.now.items ≡ Err refusal) }
 {
     let form = read_text(alloc, text, layout)?;
     match certificate_of(alloc, layout, form) {
@@ -158,25 +169,28 @@ fn read_told(alloc: Global, text: &Vec<u8>, layout: &Layout) -> Result<Certifica
     }
 }
 
-/// The certificate that a text says for a layout: its wave has that layout, its orders pick just at the slots of the text,
-/// and it has the text's cart, if there is one. A certificate is refused at node 0, in this order, as `NotJson` where the
-/// bytes aren't UTF-8 or `serde_json` reads no value in them, `BadShape` where the value isn't of a certificate's form, and
-/// `OutOfRange` where the version isn't 1 without a cart and 2 with one, the capacity isn't 1 to 8, there aren't 1 to 64
-/// orders, an order has no slot or one that the layout hasn't, a dual is above 1,000,000,000,000 sixtieths, the cart doesn't
-/// hold 1 to 40,000,000 units, there isn't one load for each order, or a load is above the units. Of two members of one key
-/// the last counts. `Memory` comes where memory ran out. Of what is printed of a wave, a capacity and a tree it gives them
-/// back.
+/// The certificate that a text says for a layout: its wave has that layout, its orders pick just at the slots of the
+/// text, and it has the text's cart, if there is one. A certificate is refused at node 0, in this order, as `NotJson`
+/// where the bytes aren't UTF-8 or `serde_json` reads no value in them, `BadShape` where the value isn't of a
+/// certificate's form, and `OutOfRange` where the version isn't 1 without a cart and 2 with one, the capacity isn't 1
+/// to 8, there aren't 1 to 64 orders, an order has no slot or one that the layout hasn't, a dual is above
+/// 1,000,000,000,000 sixtieths, the cart doesn't hold 1 to 40,000,000 units, there isn't one load for each order, or a
+/// load is above the units. Of two members of one key the last counts. `Memory` comes where memory ran out. Of what is
+/// printed of a wave, a capacity and a tree it gives them back.
 pub fn read_certificate(
     alloc: Global,
     text: &Vec<u8>,
     layout: &Layout,
 ) -> Result<Certificate, CertFault>
-    ensures told { IfOk result (λ read. Tells layout.now text.now.items read.wave read.capacity read.tree.nodes) }
+    ensures told { IfOk result (λ read. Tells layout.now text.now.items read.wave read.capacity
+        read.tree.nodes) }
     ensures range { IfOk result (λ read. IsUpTo 8 read.capacity) }
     ensures duals { IfOk result (λ read. HaveDualsWithin read.tree.nodes) }
-    ensures reads_back { (wave : WavePicks) (capacity : ℕ) (nodes : List Node) → Tells layout.now text.now.items wave capacity nodes
+    ensures reads_back { (wave : WavePicks) (capacity : ℕ) (nodes : List Node)
+        → Tells layout.now text.now.items wave capacity nodes
         → IfOk result (λ read. IsSame read.wave wave read.capacity capacity read.tree.nodes nodes) }
-    ensures refusal { IfErr result (λ fault. fault.why ≢ why.Memory → certificate_said layout.now text.now.items ≡ Err fault.why) }
+    ensures refusal { IfErr result (λ fault. fault.why ≢ why.Memory
+        → certificate_said layout.now text.now.items ≡ Err fault.why) }
     ensures node { IfErr result (λ fault. fault.node ≡ 0) }
 {
     match read_told(alloc, text, layout) {

@@ -83,7 +83,8 @@ fn marks_json(alloc: Global, marks: &Marks) -> Result<Value, AllocError>
 
 // Adds what a node has of its own to the members of its object.
 fn put_own(alloc: Global, members: &mut Map<String, Value>, own: &Own) -> Result<(), AllocError>
-    ensures value { OnOk result (members_view members.new.entries ≡ put (codes "tight") (list_data batch_data own.now.tight)
+    ensures value { OnOk result (members_view members.new.entries
+        ≡ put (codes "tight") (list_data batch_data own.now.tight)
         (put (codes "marks") (marks_data own.now.marks) (put (codes "duals") (list_data number_data own.now.duals)
         (members_view members.old.entries)))) }
     ensures known { OnOk result (All IsBatch own.now.tight) }
@@ -105,7 +106,8 @@ fn put_own(alloc: Global, members: &mut Map<String, Value>, own: &Own) -> Result
 
 // Adds the kind of a node.
 fn put_kind(alloc: Global, members: &mut Map<String, Value>, kind: &str) -> Result<(), AllocError>
-    ensures { OnOk result (members_view members.new.entries ≡ put (codes "kind") (string kind.now) (members_view members.old.entries)) }
+    ensures { OnOk result (members_view members.new.entries
+        ≡ put (codes "kind") (string kind.now) (members_view members.old.entries)) }
 {
     serde_json::put(members, alloc, "kind", Value::try_from_str(alloc, kind)?)
 }
@@ -148,7 +150,8 @@ fn put_split(
     first: u32,
     second: u32,
 ) -> Result<(), AllocError>
-    ensures { OnOk result (members_view members.new.entries ≡ put (codes "second") (number_data second) (put (codes "first") (number_data first)
+    ensures { OnOk result (members_view members.new.entries
+        ≡ put (codes "second") (number_data second) (put (codes "first") (number_data first)
         (put (codes "kind") (string (codes "split")) (members_view members.old.entries)))) }
 {
     put_kind(alloc, members, "split")?;

@@ -20,7 +20,8 @@ cheaper_split-requires c =
 
 pub replace-requires-clause-split : goal.replace-requires-clause-split
 replace-requires-clause-split c =
-    can_replace c.args.instance.now.wave.now c.args.instance.now.capacity c.args.batches.now.items c.args.left c.args.right c.index-one.result.now c.index-other.result.now c.union.result
+    can_replace c.args.instance.now.wave.now c.args.instance.now.capacity c.args.batches.now.items c.args.left c.args.right c.index-one.result.now
+    c.index-other.result.now c.union.result
     c.in-Some.split c.requires.order c.requires.within c.index-one.ensures c.index-other.ensures c.union.ensures.orders c.in-Some.ensures.split
 
 pub returns-in-Some-clause-no_dearer : goal.returns-in-Some-clause-no_dearer

@@ -13,7 +13,8 @@ returns-clause-none c = λ place within. c.loop-place.invariant place (omega (ar
 
 pub returns-then-has-clause-there : goal.returns-then-has-clause-there
 returns-then-has-clause-there c =
-    let item = get_or_default c.args.batches.now c.loop-place.place [] c.index-batches-place.result c.loop-place-test.true ∙ sym c.index-batches-place.is in record {
+    let item = get_or_default c.args.batches.now c.loop-place.place [] c.index-batches-place.result c.loop-place-test.true ∙ sym c.index-batches-place.is in
+    record {
       within = c.loop-place-test.true;
       has = subst (λ (b : List ℕ). Contains b c.args.order) (sym item) (c.has.ensures.exact.0 c.if-has.true);
     }

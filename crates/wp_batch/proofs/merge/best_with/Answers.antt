@@ -22,11 +22,13 @@ loop-left-preserved c =
     (λ some. subst (λ (xs : List ℕ). FitInOne c.args.instance.now.wave.now c.args.instance.now.capacity xs (batch_at batches c.args.right)) l
     (subst (λ (ys : List ℕ). FitInOne c.args.instance.now.wave.now c.args.instance.now.capacity c.index-batches-left.result ys) r
     (c.saving_of-saving.ensures.fits some)))
-    (subst (λ (xs : List ℕ). SavesAtMost c.args.instance.now.wave.now c.args.instance.now.capacity xs (batch_at batches c.args.right) c.saving_of-saving.result) l
+    (subst (λ (xs : List ℕ). SavesAtMost c.args.instance.now.wave.now c.args.instance.now.capacity xs (batch_at batches c.args.right) c.saving_of-saving.result)
+    l
     (subst (λ (ys : List ℕ). SavesAtMost c.args.instance.now.wave.now c.args.instance.now.capacity c.index-batches-left.result ys c.saving_of-saving.result) r
     c.saving_of-saving.ensures.most))
     (λ some. subst (λ (xs : List ℕ). JoinSaves c.args.instance.now.wave.now xs (batch_at batches c.args.right) c.saving_of-saving.result) l
-    (subst (λ (ys : List ℕ). JoinSaves c.args.instance.now.wave.now c.index-batches-left.result ys c.saving_of-saving.result) r (c.saving_of-saving.ensures.saves some)))
+    (subst (λ (ys : List ℕ). JoinSaves c.args.instance.now.wave.now c.index-batches-left.result ys c.saving_of-saving.result) r
+    (c.saving_of-saving.ensures.saves some)))
     c.better_of-best.ensures.either c.better_of-best.ensures.first c.better_of-best.ensures.second
 
 pub returns : goal.returns

@@ -26,4 +26,5 @@ loop-join-preserved c =
 
 pub returns-clause-joined : goal.returns-clause-joined
 returns-clause-joined c =
-    subst (λ (batches : List (List ℕ)). NoJoinGains c.args.instance.now.wave.now c.args.instance.now.capacity batches) c.as_slice.ensures.value c.in_default.ensures.none
+    subst (λ (batches : List (List ℕ)). NoJoinGains c.args.instance.now.wave.now c.args.instance.now.capacity batches) c.as_slice.ensures.value
+    c.in_default.ensures.none

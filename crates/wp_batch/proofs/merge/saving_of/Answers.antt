@@ -7,10 +7,12 @@ use Rattle.wp_batch.proofs.merge.saving_of.Goals as goal
 pub batch_length-requires : goal.batch_length-requires
 batch_length-requires c = all_from_contained (λ (order : ℕ). order < length c.args.instance.now.wave.now.orders) c.union.result
     (λ order has. ⊎_elim (λ l. All-contains (λ (o : ℕ). o < length c.args.instance.now.wave.now.orders) c.args.left order c.requires.left l)
-    (λ r. All-contains (λ (o : ℕ). o < length c.args.instance.now.wave.now.orders) c.args.right order c.requires.right r) ((c.union.ensures.orders order).0 has))
+    (λ r. All-contains (λ (o : ℕ). o < length c.args.instance.now.wave.now.orders) c.args.right order c.requires.right r)
+    ((c.union.ensures.orders order).0 has))
 
 pub returns-clause-most : goal.returns-clause-most
-returns-clause-most c = saves_at_most c.args.instance.now.wave.now _ _ _ c.union.result _ _ _ c.union.ensures.orders c.batch_length-one.ensures.is c.batch_length-other.ensures.is
+returns-clause-most c = saves_at_most c.args.instance.now.wave.now _ _ _ c.union.result _ _ _ c.union.ensures.orders c.batch_length-one.ensures.is
+    c.batch_length-other.ensures.is
     c.batch_length.ensures.is _ c.saved.ensures.most
 
 pub returns-clause-saves : goal.returns-clause-saves

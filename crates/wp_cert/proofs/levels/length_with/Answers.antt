@@ -8,12 +8,13 @@ order-requires c =
     subst (λ (o : ℕ). o < length c.args.wave.now.orders) (get_or_from_slice_get c.args.added 0 c.in-Some.order c.in-Some.order (sym c.in-Some.ensures.first))
     (c.requires.orders 0 c.in-Some.order (omega (arith, c.len.ensures.count, c.if-len-eq1.true)))
 
-pub returns-in-Some : goal.returns-in-Some
-returns-in-Some c =
+pub returns-in-Some-clause-is : goal.returns-in-Some-clause-is
+returns-in-Some-clause-is c =
     past_level c.args.wave.now c.args.level.now.batch c.args.added _ _ _ c.requires.level.points
     (one_picked c.args.wave.now c.args.added _ _ (sym c.in-Some.ensures.first) (sym c.len.ensures.count ∙ c.if-len-eq1.true) c.order.ensures.points)
     (rw c.requires.level.layout at c.length_with.ensures.shortest)
 
-pub returns-in_default : goal.returns-in_default
-returns-in_default c =
-    past_level c.args.wave.now c.args.level.now.batch c.args.added _ _ _ c.requires.level.points c.union_of.ensures.points (rw c.requires.level.layout at c.length_with-in_default.ensures.shortest)
+pub returns-in_default-clause-is : goal.returns-in_default-clause-is
+returns-in_default-clause-is c =
+    past_level c.args.wave.now c.args.level.now.batch c.args.added _ _ _ c.requires.level.points c.union_of.ensures.points
+    (rw c.requires.level.layout at c.length_with-in_default.ensures.shortest)

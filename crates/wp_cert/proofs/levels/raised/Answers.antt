@@ -22,7 +22,9 @@ returns-clause-level c =
     record {
       layout = c.with.ensures.layout ∙ c.requires.level.layout;
       points = λ p. (
-        λ has. (both p).1 (⊎_elim (λ h. inl ((c.requires.level.points p).0 h)) (λ h. inr ((c.union_of-missing.ensures.points p).0 h)) ((c.with.ensures.points p).0 has)),
-        λ has. (c.with.ensures.points p).1 (⊎_elim (λ h. inl ((c.requires.level.points p).1 h)) (λ h. inr ((c.union_of-missing.ensures.points p).1 h)) ((both p).0 has)),
+        λ has. (both p).1 (⊎_elim (λ h. inl ((c.requires.level.points p).0 h)) (λ h. inr ((c.union_of-missing.ensures.points p).0 h))
+            ((c.with.ensures.points p).0 has)),
+        λ has. (c.with.ensures.points p).1 (⊎_elim (λ h. inl ((c.requires.level.points p).1 h)) (λ h. inr ((c.union_of-missing.ensures.points p).1 h))
+            ((both p).0 has)),
       );
     }

@@ -6,7 +6,7 @@ pub returns-in_err-total-in-Some-clause-err : goal.returns-in_err-total-in-Some-
 returns-in_err-total-in-Some-clause-err c =
     let same = c.pairs_of-pairs.ensures in
     let p = err_from_is_err_and c.from_residual.result c.from_residual.ensures.1 in
-    rw (p.1, p.2) (leaf_broken _ _ _ _ c.in-Some.own _ _ same c.in-Some.is c.in_err-total-in-Some.ensures.err)
+    rw (p.1, p.2) (λ named. leaf_broken _ _ _ _ c.in-Some.own _ _ same c.in-Some.is (c.in_err-total-in-Some.ensures.err named))
 
 pub returns-in-None-clause-ok : goal.returns-in-None-clause-ok
 returns-in-None-clause-ok c = kept_right _ _ _ _ _ c.in-None.is c.units_of.ensures

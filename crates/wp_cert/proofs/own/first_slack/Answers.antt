@@ -23,7 +23,8 @@ returns-then-not-is_tight-clause-some c =
       known = omega (arith, c.loop-order-test.true, c.orders-order-end.ensures.value);
       before = c.loop-order.invariant;
       slack = λ tight. both_ways c.is_tight.result c.if-not-is_tight.true
-          (c.is_tight.ensures.1 (subst (λ (b : List ℕ). IsTightFor c.args.tested.now.wave.now c.args.tested.now.pairs.now own.duals c.loop-order.order b) there tight));
+          (c.is_tight.ensures.1 (subst (λ (b : List ℕ). IsTightFor c.args.tested.now.wave.now c.args.tested.now.pairs.now own.duals c.loop-order.order b) there
+          tight));
     }
 
 pub returns-clause-none : goal.returns-clause-none

@@ -7,22 +7,22 @@ use Rattle.wp_lengths.proofs.Visits.{marks_are_sound}
 use Rattle.wp_cert.proofs.own.test_own.Goals as goal
 
 pub returns-then-not-has_all-clause-err : goal.returns-then-not-has_all-clause-err
-returns-then-not-has_all-clause-err c = not_all (λ all. both_ways c.has_all.result c.if-not-has_all.true (c.has_all.ensures.1 all))
+returns-then-not-has_all-clause-err c = λ _. not_all (λ all. both_ways c.has_all.result c.if-not-has_all.true (c.has_all.ensures.1 all))
 
 pub returns-then-total-above-clause-err : goal.returns-then-total-above-clause-err
 returns-then-total-above-clause-err c =
-    low (c.has_all.ensures.0 c.if-not-has_all.false) (omega (arith, c.if-total-above.true, (rw c.as_slice.ensures at c.total_of-total.ensures)))
+    λ _. low (c.has_all.ensures.0 c.if-not-has_all.false) (omega (arith, c.if-total-above.true, (rw c.as_slice.ensures at c.total_of-total.ensures)))
 
 pub returns-in_err-test_marks-clause-err : goal.returns-in_err-test_marks-clause-err
 returns-in_err-test_marks-clause-err c =
     let p = err_from_is_err_and c.from_residual.result c.from_residual.ensures.1 in
-    rw (p.1, p.2) (marks (c.has_all.ensures.0 c.if-not-has_all.false)
+    rw (p.1, p.2) (λ named. marks (c.has_all.ensures.0 c.if-not-has_all.false)
     (omega (arith, c.if-total-above.false, (rw c.as_slice.ensures at c.total_of-total.ensures)))
-    c.in_err-test_marks.ensures.err)
+    (c.in_err-test_marks.ensures.err named))
 
 pub returns-in-Some-clause-err : goal.returns-in-Some-clause-err
 returns-in-Some-clause-err c =
-    not_tight (c.has_all.ensures.0 c.if-not-has_all.false) (omega (arith, c.if-total-above.false, (rw c.as_slice.ensures at c.total_of-total.ensures)))
+    λ _. not_tight (c.has_all.ensures.0 c.if-not-has_all.false) (omega (arith, c.if-total-above.false, (rw c.as_slice.ensures at c.total_of-total.ensures)))
     c.in_ok-test_marks.ensures.ok c.in-Some.ensures.some
 
 pub returns-in-None-clause-ok : goal.returns-in-None-clause-ok

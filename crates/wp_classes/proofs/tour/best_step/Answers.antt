@@ -33,7 +33,8 @@ before_way-through-requires-clause-after c = λ class.
 
 pub best_cross-cross-requires-clause-after : goal.best_cross-cross-requires-clause-after
 best_cross-cross-requires-clause-after c = λ class.
-    through_within _ _ _ _ _ _ _ c.spacing_after.ensures.valid (omega (arith, c.spacing_after.ensures.valid.aisles)) c.requires.after c.aisle_ways-ways.ensures.value
+    through_within _ _ _ _ _ _ _ c.spacing_after.ensures.valid
+    (omega (arith, c.spacing_after.ensures.valid.aisles)) c.requires.after c.aisle_ways-ways.ensures.value
     c.before_way-through.ensures class
 
 pub unwrap-between-requires : goal.unwrap-between-requires

@@ -17,7 +17,8 @@ loop-aisle-preserved c =
           (λ (same : aisle ≡ c.in-Some.aisle).
           let here : get_or now (aisle - 1) false ≡ c.has_in.result =
           ap (λ (k : ℕ). get_or now (k - 1) false) same
-          ∙ get_or-set_same marks (c.in-Some.aisle - 1) c.has_in.result false (omega (arith, c.loop-aisle.invariant.whole, next.1, c.loop-aisle.invariant.last, c.loop-aisle.invariant.few)) in
+          ∙ get_or-set_same marks (c.in-Some.aisle - 1) c.has_in.result false
+          (omega (arith, c.loop-aisle.invariant.whole, next.1, c.loop-aisle.invariant.last, c.loop-aisle.invariant.few)) in
           both_ways c.has_in.result (sym here ∙ off) (c.has_in.ensures.exact.1 (has.0, has.1, has.2 ∙ same)))
           (λ (differs : aisle ≢ c.in-Some.aisle).
           let there : get_or marks (aisle - 1) false ≡ false =

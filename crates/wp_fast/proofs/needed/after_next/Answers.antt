@@ -4,7 +4,8 @@ use Rattle.wp_fast.proofs.needed.after_next.Goals as goal
 use Rattle.wp_fast.proofs.needed.after_next.Goals.{After-before_way-carried}
 
 -- what is carried to the aisle
-carried : (c : After-before_way-carried) → AreCarried (PastTheRest c.args.aisles.now.layout.now c.args.aisles.now.picks.now.points c.args.aisle) c.before_way-carried.result
+carried : (c : After-before_way-carried)
+    → AreCarried (PastTheRest c.args.aisles.now.layout.now c.args.aisles.now.picks.now.points c.args.aisle) c.before_way-carried.result
 carried c = carried_to _ _ _ _ _ _ c.ways_through.ensures.value c.requires.after c.before_way-carried.ensures
 
 pub before_way-carried-requires-clause-ways : goal.before_way-carried-requires-clause-ways

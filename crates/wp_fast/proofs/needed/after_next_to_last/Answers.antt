@@ -4,8 +4,10 @@ use Rattle.wp_fast.proofs.needed.after_next_to_last.Goals as goal
 use Rattle.wp_fast.proofs.needed.after_next_to_last.Goals.{After-before_last-carried}
 
 -- what is carried to the last needed aisle
-carried : (c : After-before_last-carried) → AreCarried (PastTheRest c.args.aisles.now.layout.now c.args.aisles.now.picks.now.points c.args.last) c.before_last-carried.result
-carried c = carried_to _ _ _ _ _ _ c.ways_through.ensures.value (behind_last _ _ _ c.requires.last c.requires.neighbours.there c.requires.behind) c.before_last-carried.ensures
+carried : (c : After-before_last-carried)
+    → AreCarried (PastTheRest c.args.aisles.now.layout.now c.args.aisles.now.picks.now.points c.args.last) c.before_last-carried.result
+carried c = carried_to _ _ _ _ _ _ c.ways_through.ensures.value
+    (behind_last _ _ _ c.requires.last c.requires.neighbours.there c.requires.behind) c.before_last-carried.ensures
 
 pub before_last-carried-requires : goal.before_last-carried-requires
 before_last-carried-requires c = ways_needed _ _ _ _ c.ways_through.ensures.valid c.ways_through.ensures.value c.requires.neighbours.there

@@ -7,12 +7,14 @@ use Rattle.wp_fast.proofs.needed.length_past.Goals as goal
 use Rattle.wp_fast.proofs.needed.length_past.Goals.{After-needed_below}
 
 -- the aisle before the end is the last needed one
-found : (c : After-needed_below) → IsNextNeeded (block_of c.args.aisles.now.layout.now c.args.aisles.now.picks.now.points) (c.args.aisles.now.layout.now.aisles + 1) c.needed_below.result
+found : (c : After-needed_below) → IsNextNeeded (block_of c.args.aisles.now.layout.now c.args.aisles.now.picks.now.points)
+    (c.args.aisles.now.layout.now.aisles + 1) c.needed_below.result
 found c = next_needed _ _ _ _ _ c.args.aisles.now.of_layout c.needed_below.ensures.slots (rw c.aisles.ensures.value at c.needed_below.ensures.last)
 
 pub unwrap-last-requires : goal.unwrap-last-requires
 unwrap-last-requires c =
-    last_needed c.args.aisles.now.layout.now c.args.aisles.now.picks.now.points _ c.aisles.ensures.valid (found (goal.at.unwrap-last-requires c).After-needed_below)
+    last_needed c.args.aisles.now.layout.now c.args.aisles.now.picks.now.points _ c.aisles.ensures.valid
+    (found (goal.at.unwrap-last-requires c).After-needed_below)
 
 pub length_to-requires-clause-needed : goal.length_to-requires-clause-needed
 length_to-requires-clause-needed c = (rw c.unwrap-last.ensures at (found (goal.at.length_to-requires-clause-needed c).After-needed_below)).2

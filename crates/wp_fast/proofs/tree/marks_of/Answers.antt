@@ -35,6 +35,7 @@ returns-clause-slots c =
 pub returns-clause-marked : goal.returns-clause-marked
 returns-clause-marked c = λ aisle up unmarked has. ⊎_elim
     (λ before. c.loop-aisle.invariant.unmarked aisle up.0 before unmarked has)
-    (λ behind. let slot = ((c.loop-aisle.invariant.slots (omega (arith, c.aisles-aisle-end.ensures.valid.aisles, c.aisles-aisle-end.ensures.value))).slots has.0 has.1).aisle in
+    (λ behind. let slot = ((c.loop-aisle.invariant.slots (omega (arith, c.aisles-aisle-end.ensures.valid.aisles, c.aisles-aisle-end.ensures.value))).slots has.0
+    has.1).aisle in
     omega (arith, slot.1, has.2, behind, c.aisles-aisle-end.ensures.value))
     (cases_lt aisle c.loop-aisle.aisle)

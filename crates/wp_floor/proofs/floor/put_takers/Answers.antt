@@ -11,7 +11,7 @@ put_taker-requires c =
     let numbers = c.as_slice-number-items.result.now in
     let there = ap (λ (ns : List (Option ℕ)). slice_get ns place) (sym c.as_slice-number-items.ensures.value)
     ∙ slice_get-get_or numbers place None c.loop-number-test.true in
-    let at = named_at c.requires.0 c.args.wave.now place (get_or numbers place None) c.requires.1.numbered there in
+    let at = named_at c.requires.0 c.args.wave.now.orders _ place (get_or numbers place None) c.requires.1.numbered there in
     number_within c.requires.0 at.name (get_or numbers place None) _ at.is (c.loop-number.invariant.0 ∙ c.requires.1.count)
 
 pub loop-number-preserved : goal.loop-number-preserved
@@ -23,7 +23,7 @@ loop-number-preserved c = (
       let orders = c.args.wave.now.orders in
       let there = ap (λ (ns : List (Option ℕ)). slice_get ns place) (sym c.as_slice-number-items.ensures.value)
       ∙ slice_get-get_or numbers place None c.loop-number-test.true in
-      let at = named_at opening c.args.wave.now place (get_or numbers place None) have.numbered there in
+      let at = named_at opening orders _ place (get_or numbers place None) have.numbered there in
       put_more opening orders place at.name c.args.taker.now c.args.takers.now c.loop-number.takers c.put_taker.new.takers have.read have.count
       (slice_get_within orders place at.name at.there) (sym (get_or_from_slice_get orders place at.name at.name at.there))
       (subst (λ (number : Option ℕ). IsPutAt number c.args.taker.now c.loop-number.takers c.put_taker.new.takers) (sym at.is) c.put_taker.ensures)

@@ -12,7 +12,7 @@ returns-then-eq c =
     let number = get_or c.as_slice-numbers.result.now place None in
     let there = ap (λ (ns : List (Option ℕ)). slice_get ns place) (sym c.as_slice-numbers.ensures.value)
     ∙ slice_get-get_or c.as_slice-numbers.result.now place None c.loop-place-test.true in
-    let at = named_at c.requires.0 kept place number c.requires.1.numbered there in
+    let at = named_at c.requires.0 kept.orders _ place number c.requires.1.numbered there in
     let same : bytes_eq at.name c.args.claim.now.order ≡ true =
     claims_at c.requires.0 kept c.args.claim.now place number at c.requires.1 (sym c.eq.ensures ∙ c.if-eq.true) in
     sym (ap (λ names. place_from place names c.args.claim.now.order)
@@ -28,7 +28,7 @@ loop-place-preserved c =
     let number = get_or c.as_slice-numbers.result.now place None in
     let there = ap (λ (ns : List (Option ℕ)). slice_get ns place) (sym c.as_slice-numbers.ensures.value)
     ∙ slice_get-get_or c.as_slice-numbers.result.now place None c.loop-place-test.true in
-    let at = named_at c.requires.0 kept place number c.requires.1.numbered there in
+    let at = named_at c.requires.0 kept.orders _ place number c.requires.1.numbered there in
     let differs : bytes_eq at.name c.args.claim.now.order ≡ false =
     claims_other c.requires.0 kept c.args.claim.now place number at c.requires.1 (sym c.eq.ensures ∙ c.if-eq.false) in
     sym (ap (λ names. place_from place names c.args.claim.now.order)

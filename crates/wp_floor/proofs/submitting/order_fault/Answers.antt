@@ -2,13 +2,13 @@ use Rattle.std.proofs.Common.{◌≡◌, ◌∙◌, sym, ap, true, false, Some, 
 use Rattle.std.proofs.lemmas.Option.{slice_get-get_or}
 use Rattle.wp_model.proofs.NameEq.{contains_name}
 use Rattle.wp_model.specs.Step.{is_among}
-use Rattle.wp_floor.specs.Floor.{number_of}
+use Rattle.wp_floor.specs.Floor.{order_number}
 use Rattle.wp_floor.proofs.OrderFaults.{by_taker, found_within, not_found, twice}
 use Rattle.wp_floor.proofs.submitting.order_fault.Goals as goal
 
 pub returns-in_default : goal.returns-in_default
 returns-in_default c waves are =
-    let none : number_of c.args.opening.now c.args.order.now ≡ None = sym c.requires.numbered ∙ c.in_default.is in
+    let none : order_number c.args.opening.now c.args.order.now ≡ None = sym c.requires.numbered ∙ c.in_default.is in
     not_found c.args.opening.now waves c.args.before.now c.args.order.now none
 
 pub returns-then-contains : goal.returns-then-contains

@@ -8,7 +8,8 @@ use Rattle.wp_layout.proofs.spacings.read_spacings.Goals as goal
 use Rattle.wp_layout.proofs.spacings.read_spacings.Goals.{After-spacings_in}
 
 -- what is read is what the values say
-read : (c : After-spacings_in) → and_then (wholes_read (map view c.deref.result.now)) (spacings_ranged c.args.aisles) ≡ spacings_read (view c.args.value.now) c.args.aisles
+read : (c : After-spacings_in) → and_then (wholes_read (map view c.deref.result.now)) (spacings_ranged c.args.aisles)
+    ≡ spacings_read (view c.args.value.now) c.args.aisles
 read c =
     ap (λ vs. and_then (wholes_read (map view vs)) (spacings_ranged c.args.aisles)) c.deref.ensures.value
     ∙ sym (spacings_by (view c.args.value.now) c.args.aisles c.in-Some.values.now.items (sym c.in-Some.ensures))

@@ -31,7 +31,8 @@ loop-index-preserved c =
     let next : take (index + 1) values ≡ take index values ++ v ∷ [] =
     take_more values index v (omega arith) ∙ ap (λ (x : Value). take index values ++ x ∷ []) (sym c.index-values-index.is) in
     let more : numbers (take (index + 1) values) ≡ numbers (take index values) ++ whole_or_zero (view v) ∷ [] =
-    ap numbers next ∙ ap (map whole_or_zero) (map-append view (take index values) (v ∷ [])) ∙ map-append whole_or_zero (map view (take index values)) (view v ∷ []) in
+    ap numbers next ∙ ap (map whole_or_zero) (map-append view (take index values) (v ∷ [])) ∙ map-append whole_or_zero (map view (take index values))
+    (view v ∷ []) in
     record {
       whole = length-set c.loop-index.spacings index _ ∙ c.loop-index.invariant.whole;
       taken = take_more_set c.loop-index.spacings index c.spacing_of.result (omega (arith, c.loop-index.invariant.whole, c.requires.few))

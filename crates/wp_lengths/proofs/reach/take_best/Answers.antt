@@ -18,7 +18,8 @@ returns-in-Some c =
     let best = subst (λ (o : Option ℕ). IsBestBelow c.args.pairs.now c.args.duals.now c.args.taken c.args.from c.loop-next.next o) c.in-Some.is
     c.loop-next.invariant in
     λ count have. most_of_more _ _ _ _ _ count _
-    (best_of_all c.args.pairs.now c.args.duals.now c.args.taken c.args.from c.loop-next.next (Some c.in-Some.order) best (omega (arith, c.loop-next-test.false, c.orders-next-end.ensures.value)))
+    (best_of_all c.args.pairs.now c.args.duals.now c.args.taken c.args.from c.loop-next.next (Some c.in-Some.order) best
+    (omega (arith, c.loop-next-test.false, c.orders-next-end.ensures.value)))
     c.with.ensures.valid.ascending c.with.ensures.orders have
 
 pub returns-in-None : goal.returns-in-None
@@ -26,4 +27,5 @@ returns-in-None c =
     let best = subst (λ (o : Option ℕ). IsBestBelow c.args.pairs.now c.args.duals.now c.args.taken c.args.from c.loop-next.next o) c.in-None.is
     c.loop-next.invariant in
     λ count have. most_of_all _ _ _ _ count
-    (best_of_all c.args.pairs.now c.args.duals.now c.args.taken c.args.from c.loop-next.next None best (omega (arith, c.loop-next-test.false, c.orders-next-end.ensures.value))) have
+    (best_of_all c.args.pairs.now c.args.duals.now c.args.taken c.args.from c.loop-next.next None best
+    (omega (arith, c.loop-next-test.false, c.orders-next-end.ensures.value))) have

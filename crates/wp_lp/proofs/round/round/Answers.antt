@@ -21,12 +21,12 @@ rounded_down-requires-clause-duals g c =
 
 pub narrow_root-requires-clause-feasible : goal.narrow_root-requires-clause-feasible
 narrow_root-requires-clause-feasible g c =
-    subst (AreFeasible c.args.given.now.wave.now c.args.given.now.pairs.now) (sym c.as_slice-in-None.ensures.value)
+    subst (AreFeasible c.args.start.now.given.wave.now c.args.start.now.given.pairs.now) (sym c.as_slice-in-None.ensures.value)
     (rw c.in-None.is at c.in_ok-priced.ensures.none)
 
 pub returns-clause-onward : goal.returns-clause-onward
 returns-clause-onward g c = λ made before.
-    let negative : IsNegative c.args.given.now.wave.now c.args.given.now.pairs.now c.in_ok-sixtieths.sixtieths.items c.in-Some.batch =
+    let negative : IsNegative c.args.start.now.given.wave.now c.args.start.now.given.pairs.now c.in_ok-sixtieths.sixtieths.items c.in-Some.batch =
     rw c.in-Some.is at c.in_ok-priced.ensures.some in
     let pair = c.in_ok-pair.pair in
     let fits : SFits w128 pair.denominator = search rules in
@@ -34,7 +34,8 @@ returns-clause-onward g c = λ made before.
     let rounded = subst (λ (q : ℤ). AreSixtieths pair.duals.items q c.in_ok-sixtieths.sixtieths.items) same
     (subst (λ (ds : List ℤ). AreSixtieths ds (to_z w128 (of_z w128 pair.denominator)) c.in_ok-sixtieths.sixtieths.items) c.as_slice.ensures.value
     c.in_ok-sixtieths.ensures.are) in
-    run_goes_on c.args.given.now.wave.now c.args.given.now.pairs.now made c.in-Some.batch c.batch_length.result c.args.pool.now c.add.new.self before (record {
+    run_goes_on c.args.start.now.given.wave.now c.args.start.now.given.pairs.now made c.in-Some.batch c.batch_length.result c.args.pool.now c.add.new.self
+    before (record {
       pool = c.args.pool.now;
       pool_of = record { orders = c.requires.short.is_pool.orders; are = refl; lengths = c.requires.short.is_pool.lengths };
       weights = pair.weights.items;
@@ -51,7 +52,7 @@ returns-clause-onward g c = λ made before.
 
 pub returns-in_err-pair-clause-halt : goal.returns-in_err-pair-clause-halt
 returns-in_err-pair-clause-halt g c =
-    let ends : (rounds : ℕ) → IsEnd c.args.given.now.wave.now c.args.given.now.pairs.now rounds c.in_err-pair.field-0.0 =
-    λ rounds. pool_halt_ends c.args.given.now.wave.now c.args.given.now.pairs.now c.args.pool.now c.requires.short.is_pool c.requires.covered rounds
+    let ends : (rounds : ℕ) → IsEnd c.args.start.now.given.wave.now c.args.start.now.given.pairs.now rounds c.in_err-pair.field-0.0 =
+    λ rounds. pool_halt_ends c.args.start.now.given.wave.now c.args.start.now.given.pairs.now c.args.pool.now c.requires.short.is_pool c.requires.covered rounds
     c.in_err-pair.field-0.0 c.in_err-pair.ensures.halt in
     search rules

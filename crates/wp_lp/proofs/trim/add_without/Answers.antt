@@ -13,7 +13,8 @@ batch_length-length-requires c = all_from_contained (λ (o : ℕ). o < length c.
     ((c.without-batch.ensures.orders order).0 is).0 in omega (arith, low, c.args.given.now.as_many))
 
 pub returns-clause-trimmed : goal.returns-clause-trimmed
-returns-clause-trimmed c = on_ok_weaker c.add_part.result (λ added. cut_part c.args.part.now c.args.order c.args.weight c.without-batch.result c.batch_length-length.result _ _
+returns-clause-trimmed c = on_ok_weaker c.add_part.result
+    (λ added. cut_part c.args.part.now c.args.order c.args.weight c.without-batch.result c.batch_length-length.result _ _
     c.without-batch.ensures.orders
     (more_orders_no_shorter c.args.given.now.wave.now c.without-batch.result c.args.part.now.batch _ _
     (λ order is. ((c.without-batch.ensures.orders order).0 is).0) c.batch_length-length.ensures.is c.requires.part.long) added) c.add_part.ensures

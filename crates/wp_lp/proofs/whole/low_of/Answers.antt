@@ -8,7 +8,8 @@ use Rattle.wp_lp.proofs.whole.low_of.Goals as goal
 low_fits : (xs : List ℕ) (total over : ℕ) → total ≡ sum xs → length xs ≤ 64 → All (λ (x : ℕ). x < 17179869184) xs → over < 77371252455336267181195264
     → total * over < 170141183460469231731687303715884105728
 low_fits xs total over is few small low =
-    let most = sum_by-le (λ (x : ℕ). x) 17179869184 xs (All-weaker (λ (x : ℕ). x < 17179869184) (λ (x : ℕ). x ≤ 17179869184) (λ x l. omega (arith, l)) xs small) in
+    let most = sum_by-le (λ (x : ℕ). x) 17179869184 xs
+    (All-weaker (λ (x : ℕ). x < 17179869184) (λ (x : ℕ). x ≤ 17179869184) (λ x l. omega (arith, l)) xs small) in
     let product = mul-le total over 1099511627776 77371252455336267181195263 (omega (arith, is, few, most)) (omega (arith, low)) in
     omega (arith, product)
 

@@ -2,7 +2,7 @@ use Rattle.std.proofs.Common.{subst, sym, to_z-of_z, SFits, w64, rules, arith, p
 use Rattle.std.specs.Prelude.{None}
 use Rattle.std.proofs.lemmas.Int.{ints}
 use Rattle.wp_lengths.specs.Duals.{AreFeasible}
-use Rattle.wp_price.specs.Searches.{Task}
+use Rattle.wp_visit.specs.Places.{Task}
 use Rattle.wp_price.proofs.LeastSlacks.{feasible_of_least, least_of_best, not_below_of_feasible}
 use Rattle.wp_price.proofs.pricing.are_feasible.Goals as goal
 

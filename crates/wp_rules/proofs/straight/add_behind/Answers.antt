@@ -7,5 +7,6 @@ use Rattle.wp_rules.proofs.straight.add_behind.Goals as goal
 pub loop-back-preserved : goal.loop-back-preserved
 loop-back-preserved c =
     ap (λ (points : List Point). points ++ behind c.args.aisle c.args.to (c.args.from - (c.loop-back.back + 1))) c.in_ok-push.ensures.items
-    ∙ one_behind c.args.aisle c.loop-back.back c.args.from c.args.to c.loop-back.points.items (c.args.points.now.items ++ behind c.args.aisle c.args.to (c.args.from - c.args.to))
+    ∙ one_behind c.args.aisle c.loop-back.back c.args.from c.args.to c.loop-back.points.items
+    (c.args.points.now.items ++ behind c.args.aisle c.args.to (c.args.from - c.args.to))
     c.loop-back-test.true c.loop-back.invariant

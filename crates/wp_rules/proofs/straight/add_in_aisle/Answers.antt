@@ -5,9 +5,11 @@ use Rattle.wp_rules.proofs.straight.add_in_aisle.Goals as goal
 
 pub returns-then-from-to : goal.returns-then-from-to
 returns-then-from-to c =
-    c.in_ok-add_ahead.ensures ∙ ap (λ (points : List Point). c.args.points.now.items ++ points) (sym (up_in c.args.from.aisle c.args.from.slot c.args.to c.if-from-to.true))
+    c.in_ok-add_ahead.ensures ∙ ap (λ (points : List Point). c.args.points.now.items ++ points)
+    (sym (up_in c.args.from.aisle c.args.from.slot c.args.to c.if-from-to.true))
 
 pub returns : goal.returns
 returns c =
     c.in_ok-add_behind.ensures
-    ∙ ap (λ (points : List Point). c.args.points.now.items ++ points) (sym (down_in c.args.from.aisle c.args.from.slot c.args.to (omega (arith, c.if-from-to.false))))
+    ∙ ap (λ (points : List Point). c.args.points.now.items ++ points)
+    (sym (down_in c.args.from.aisle c.args.from.slot c.args.to (omega (arith, c.if-from-to.false))))

@@ -46,7 +46,8 @@ loop-bytes-preserved g c =
           let held = so_far.2 ∙ told in
           let read = rw here.2 at (went.bytes bytes held) in
           let took = c.in_ok-extend_from_slice.ensures in
-          let more = front_read bytes c.loop-bytes.bytes.items c.read.new.piece (vec_len c.loop-bytes.bytes) c.in_ok-count.count here.0 here.1 went.bound.0 read in
+          let more = front_read bytes c.loop-bytes.bytes.items c.read.new.piece
+          (vec_len c.loop-bytes.bytes) c.in_ok-count.count here.0 here.1 went.bound.0 read in
           let size : vec_len c.extend_from_slice.new.self ≡ vec_len c.loop-bytes.bytes + c.in_ok-count.count = omega (arith, took.len, went.bound.1) in (
             took.items ∙ rw size more.0,
             omega (arith, size, more.1),

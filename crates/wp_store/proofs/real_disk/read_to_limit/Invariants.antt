@@ -12,7 +12,8 @@ invariant-loop-bytes g l =
     let after = g.F.DiskFile.told l.file in
     (vec_len l.piece ≡ PIECE_BYTES) × (vec_len l.bytes ≤ most_store_bytes + 1)
     × (after.holds ≡ before.holds) × (after.faults ≡ before.faults)
-    × WhereTold before.holds (λ bytes. (l.bytes.items ≡ take (vec_len l.bytes) bytes) × (vec_len l.bytes ≤ length bytes) × (g.F.DiskFile.position l.file ≡ vec_len l.bytes)
+    × WhereTold before.holds (λ bytes. (l.bytes.items ≡ take (vec_len l.bytes) bytes) × (vec_len l.bytes ≤ length bytes)
+    × (g.F.DiskFile.position l.file ≡ vec_len l.bytes)
     × AsOneCall Stays before after)
 
 abbrev pub decreases-loop-bytes : goal.decreases-loop-bytes

@@ -22,7 +22,8 @@ loop-done-preserved g c =
     let done = c.loop-done.done in
     let so_far = c.loop-done.invariant in
     let went = c.in_ok-done.ensures in
-    let all : take (length piece - done) (drop done piece) ≡ drop done piece = take_all (length piece - done) (drop done piece) (omega (arith, length-drop done piece)) in
+    let all : take (length piece - done) (drop done piece) ≡ drop done piece
+    = take_all (length piece - done) (drop done piece) (omega (arith, length-drop done piece)) in
     let size : done + length (take (length piece - done) (drop done piece)) ≡ length piece =
     omega (arith, so_far.0, length-take (length piece - done) (drop done piece), length-drop done piece) in
     let written = rw all at went.written in (
@@ -32,6 +33,7 @@ loop-done-preserved g c =
       went.calls.call.told ∙ so_far.3,
       λ bytes told.
           let here = so_far.4 bytes told in
-          let moved = went.moved _ (so_far.1 ∙ ap (λ (held : Option (List ℕ)). option_map (written_over (g.F.DiskFile.position c.args.file.now) (take done piece)) held) told) in
+          let moved = went.moved _ (so_far.1 ∙ ap (λ (held : Option (List ℕ)). option_map
+          (written_over (g.F.DiskFile.position c.args.file.now) (take done piece)) held) told) in
           (here.0, omega (arith, here.1, moved), written_more _ _ done _ _ size here.1 _ _ _ here.2 went.calls),
     )

@@ -12,7 +12,8 @@ invariant-loop-done g l =
     let place = g.F.DiskFile.position l.initial.file in
     (l.done ≤ length l.piece) × (after.holds ≡ option_map (written_over place (take l.done l.piece)) before.holds) × (after.faults ≡ before.faults)
     × (is_some after.holds ≡ is_some before.holds)
-    × WhereTold before.holds (λ bytes. (place ≤ length bytes) × (g.F.DiskFile.position l.file ≡ place + l.done) × AsOneCall (Torn place (length l.piece)) before after)
+    × WhereTold before.holds (λ bytes. (place ≤ length bytes) × (g.F.DiskFile.position l.file ≡ place + l.done)
+    × AsOneCall (Torn place (length l.piece)) before after)
 
 abbrev pub decreases-loop-done : goal.decreases-loop-done
 decreases-loop-done g l = length l.piece - l.done

@@ -37,7 +37,8 @@ returns-clause-course g c = course_joined 2 2 1 1 _ _ _ c.cut_and_sync.ensures.c
 
 -- the sync after the cut, and the one after the byte
 pub returns-clause-synced : goal.returns-clause-synced
-returns-clause-synced g c = on_both {R = WhereTold (g.D.Disk.told c.args.disk.now).holds (λ bytes. EndsSynced 2 (g.D.Disk.told c.args.disk.now) (g.D.Disk.told c.write_and_sync.new.disk))}
+returns-clause-synced g c = on_both {R = WhereTold (g.D.Disk.told c.args.disk.now).holds
+    (λ bytes. EndsSynced 2 (g.D.Disk.told c.args.disk.now) (g.D.Disk.told c.write_and_sync.new.disk))}
     c.write_and_sync.result
     (λ written synced bytes told. ends_joined 1 1 _ _ _ (c.in_ok-cut_and_sync.ensures.synced bytes told)
     (synced _ (c.in_ok-cut_and_sync.ensures.written ∙ ap (option_map (take c.args.place)) told)))

@@ -14,4 +14,5 @@ returns-clause-any_moment g c bytes told =
 
 pub returns-clause-course : goal.returns-clause-course
 returns-clause-course g c =
-    course_joined 1 1 0 1 _ _ _ (unsynced_course (Cut c.args.size) _ _ c.cut.ensures.calls c.cut.ensures.unsynced) (synced_course Stays _ _ c.sync.ensures.calls)
+    course_joined 1 1 0 1 _ _ _ (unsynced_course (Cut c.args.size) _ _ c.cut.ensures.calls c.cut.ensures.unsynced)
+    (synced_course Stays _ _ c.sync.ensures.calls)

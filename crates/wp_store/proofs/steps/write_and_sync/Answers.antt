@@ -6,7 +6,8 @@ use Rattle.wp_store.proofs.steps.write_and_sync.Goals as goal
 
 pub returns-in_err-write_at-clause-any_moment : goal.returns-in_err-write_at-clause-any_moment
 returns-in_err-write_at-clause-any_moment g c bytes told =
-    stepped (Torn c.args.place (length c.args.piece.now)) _ _ bytes (g.met.D.Disk.is_disk _) (torn_not _ _ bytes) (c.requires.durable bytes told) c.write_at.ensures.calls
+    stepped (Torn c.args.place (length c.args.piece.now)) _ _ bytes (g.met.D.Disk.is_disk _) (torn_not _ _ bytes)
+    (c.requires.durable bytes told) c.write_at.ensures.calls
 
 pub returns-clause-any_moment : goal.returns-clause-any_moment
 returns-clause-any_moment g c bytes told =
@@ -15,4 +16,5 @@ returns-clause-any_moment g c bytes told =
 
 pub returns-clause-course : goal.returns-clause-course
 returns-clause-course g c =
-    course_joined 1 1 0 1 _ _ _ (unsynced_course (Torn c.args.place (length c.args.piece.now)) _ _ c.write_at.ensures.calls c.write_at.ensures.unsynced) (synced_course Stays _ _ c.sync.ensures.calls)
+    course_joined 1 1 0 1 _ _ _ (unsynced_course (Torn c.args.place (length c.args.piece.now)) _ _ c.write_at.ensures.calls c.write_at.ensures.unsynced)
+    (synced_course Stays _ _ c.sync.ensures.calls)

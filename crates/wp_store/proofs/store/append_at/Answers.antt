@@ -42,14 +42,16 @@ returns-clause-course g c = course_joined 2 2 1 1 _ _ _ c.write_and_sync.ensures
 
 -- the sync after the piece, and the one after its mark
 pub returns-clause-synced : goal.returns-clause-synced
-returns-clause-synced g c = on_both {R = WhereTold (g.D.Disk.told c.args.disk.now).holds (λ bytes. EndsSynced 2 (g.D.Disk.told c.args.disk.now) (g.D.Disk.told c.write_and_sync-2.new.disk))}
+returns-clause-synced g c = on_both {R = WhereTold (g.D.Disk.told c.args.disk.now).holds
+    (λ bytes. EndsSynced 2 (g.D.Disk.told c.args.disk.now) (g.D.Disk.told c.write_and_sync-2.new.disk))}
     c.write_and_sync-2.result
     (λ written synced bytes told. ends_joined 1 1 _ _ _ (c.in_ok-write_and_sync.ensures.synced bytes told)
     (synced _ (c.in_ok-write_and_sync.ensures.written ∙ ap (option_map (written_over (c.args.place + 1) c.args.piece.now)) told)))
     c.write_and_sync-2.ensures.written c.write_and_sync-2.ensures.synced
 
 pub returns-clause-stored : goal.returns-clause-stored
-returns-clause-stored g c = on_ok {Q = GainsRecord (g.D.Disk.told c.args.disk.now) (g.D.Disk.told c.write_and_sync-2.new.disk) c.args.body.now} _ (λ written bytes told now is.
+returns-clause-stored g c = on_ok {Q = GainsRecord (g.D.Disk.told c.args.disk.now) (g.D.Disk.told c.write_and_sync-2.new.disk) c.args.body.now} _
+    (λ written bytes told now is.
     let s = c.requires.settled bytes told in
     let piece = c.args.piece.now in
     let staged : (g.D.Disk.told c.write_and_sync.new.disk).holds ≡ Some (written_over (c.args.place + 1) piece bytes) =
@@ -61,7 +63,8 @@ returns-clause-stored g c = on_ok {Q = GainsRecord (g.D.Disk.told c.args.disk.no
     c.write_and_sync-2.ensures.written
 
 pub returns-clause-settled : goal.returns-clause-settled
-returns-clause-settled g c = on_both {R = IsSettledAt (g.D.Disk.told c.write_and_sync-2.new.disk) (c.args.place + 5 + length c.args.body.now)} _ (λ written durable now is.
+returns-clause-settled g c = on_both {R = IsSettledAt (g.D.Disk.told c.write_and_sync-2.new.disk) (c.args.place + 5 + length c.args.body.now)} _
+    (λ written durable now is.
     let staged = c.in_ok-write_and_sync.ensures.written in
     let piece = c.args.piece.now in
     let mid = told_before _ (written_over c.args.place (1 ∷ [])) now (sym is ∙ written) in
@@ -71,7 +74,8 @@ returns-clause-settled g c = on_both {R = IsSettledAt (g.D.Disk.told c.write_and
     mid.now_is ∙ ap (written_over c.args.place (1 ∷ [])) old.now_is in
     let room = c.requires.room old.bytes old.told in
     record {
-      at_rest = subst IsAtRest (sym all) (appended_rests old.bytes c.args.place s.at_rest s.place_is c.args.body.now c.requires.some c.requires.few room piece c.requires.piece);
+      at_rest = subst IsAtRest (sym all) (appended_rests old.bytes c.args.place s.at_rest s.place_is c.args.body.now c.requires.some c.requires.few room piece
+          c.requires.piece);
       durable = durable now is;
       place_is = appended_place old.bytes c.args.place s.at_rest s.place_is c.args.body.now c.requires.some c.requires.few room piece c.requires.piece
           ∙ ap (λ (l : List ℕ). stored_bytes (records_of l)) (sym all);

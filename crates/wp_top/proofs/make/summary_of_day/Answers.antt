@@ -3,7 +3,7 @@ use Rattle.std.proofs.lemmas.Result.{IfOk-weaker}
 use Rattle.wp_desk.proofs.GoingOn.{released_from_opening}
 use Rattle.wp_desk.specs.GoingOn.{new_entries, released_after}
 use Rattle.wp_model.specs.History.{History}
-use Rattle.wp_planner.specs.Sent.{waves_of}
+use Rattle.wp_planner.specs.Sent.{sent_waves}
 use Rattle.wp_top.proofs.Jobs.{summary_is}
 use Rattle.wp_top.proofs.make.summary_of_day.Goals as goal
 use Rattle.wp_top.specs.Planned.{IsToldOf}
@@ -15,7 +15,7 @@ use Rattle.wp_words.specs.Reading.{make_numbers}
 pub summary_text-requires-clause-waves : goal.summary_text-requires-clause-waves
 summary_text-requires-clause-waves g c =
     let run = c.in_ok-day.day in
-    subst (λ (start : History). waves_of run.plans.items ≡ released_after start (new_entries start run.machine)) c.in_ok-machine.ensures
+    subst (λ (start : History). sent_waves run.plans.items ≡ released_after start (new_entries start run.machine)) c.in_ok-machine.ensures
     c.in_ok-day.ensures.told.waves
     ∙ released_from_opening c.args.warehouse.now.opening run.machine c.in_ok-day.ensures.history.starts
 

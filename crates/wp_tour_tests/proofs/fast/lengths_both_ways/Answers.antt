@@ -15,7 +15,8 @@ aisle_below layout picks aisle summary valid are =
     up_to_below 4060000 (2 ^ 62) summary (lit≤ tt)
     (least_up_to (PastAisle layout picks aisle) summary 4060000 are (past_aisle_small layout picks aisle valid))
 
-aisles_below : (layout : Layout) (picks : List Point) (one other : ℕ) (first next both : Summary) → IsLayout layout → AreLeast (PastAisle layout picks one) first
+aisles_below : (layout : Layout) (picks : List Point) (one other : ℕ) (first next both : Summary) → IsLayout layout
+    → AreLeast (PastAisle layout picks one) first
     → AreLeast (PastAisle layout picks other) next → IsComposed first next both → AreBelow (2 ^ 62) both
 aisles_below layout picks one other first next both valid near far composed =
     up_to_below 8120000 (2 ^ 62) both (lit≤ tt)

@@ -4,7 +4,7 @@ use Rattle.std.proofs.lemmas.List.{take_all}
 use Rattle.std.specs.List.Sorted.{IsNonDecreasingBy}
 use Rattle.wp_waves.specs.Turns.{rank_of, served_after, served_in}
 use Rattle.wp_waves.specs.declared.open_orders.OpenOrder.{OpenOrder}
-use Rattle.wp_waves.specs.declared.turns.Turn.{Turn}
+use Rattle.wp_waves.specs.declared.turns.OrderTurn.{OrderTurn}
 use Rattle.wp_waves.proofs.ServedOrders.{served_more, served_rises}
 use Rattle.wp_waves.proofs.turns.served.Goals as goal
 
@@ -14,7 +14,7 @@ loop-turn-preserved c =
     let i = c.loop-turn.turn-index in
     let turn = c.turn-item.result in
     let more : take (i + 1) turns ≡ take i turns ++ turn ∷ [] =
-    rw add-one (take-suc turns i turn c.loop-turn-test.true ∙ ap (λ (t : Turn). take i turns ++ t ∷ []) (sym c.turn-item.is)) in
+    rw add-one (take-suc turns i turn c.loop-turn-test.true ∙ ap (λ (t : OrderTurn). take i turns ++ t ∷ []) (sym c.turn-item.is)) in
     c.in_ok-add_served.ensures
     ∙ (ap (served_after turn.short turn.one) c.loop-turn.invariant ∙ (served_more (take i turns) turn ∙ ap served_in (sym more)))
 

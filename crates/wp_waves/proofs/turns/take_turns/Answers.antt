@@ -2,7 +2,7 @@ use Rattle.std.proofs.Common.{◌≡◌, ◌∙◌, ◌+◌, ◌++◌, ◌∷◌
 use Rattle.wp_model.proofs.Places.{drop_at}
 use Rattle.wp_waves.specs.Turns.{turns_of, units_free}
 use Rattle.wp_waves.specs.declared.open_orders.OpenOrder.{OpenOrder}
-use Rattle.wp_waves.specs.declared.turns.Turn.{Turn}
+use Rattle.wp_waves.specs.declared.turns.OrderTurn.{OrderTurn}
 use Rattle.wp_waves.proofs.TakenTurns.{IsTurn, kept_count, turn_more}
 use Rattle.wp_waves.proofs.turns.take_turns.Goals as goal
 
@@ -18,7 +18,7 @@ loop-one-preserved c =
     let lines = c.lines.result.now in
     let before = c.loop-one.turns.items in
     let rest = drop (i + 1) listed in
-    let turn : Turn = record { one = one; short = short } in
+    let turn : OrderTurn = record { one = one; short = short } in
     let is : IsTurn day one.order lines old new short = record {
       lines_are = c.lines.ensures.lines;
       count = c.loop-one.invariant.count;
@@ -31,7 +31,7 @@ loop-one-preserved c =
       count = kept_count day one.order lines old new short is;
       turns = c.loop-one.invariant.turns
           ∙ (ap (λ (l : List OpenOrder). before ++ turns_of day (units_free old) l) left
-          ∙ (ap (λ (l : List Turn). before ++ l) (turn_more day one rest lines old new short is)
+          ∙ (ap (λ (l : List OrderTurn). before ++ l) (turn_more day one rest lines old new short is)
           ∙ (sym (append_assoc before (turn ∷ []) (turns_of day (units_free new) rest))
-          ∙ ap (λ (l : List Turn). l ++ turns_of day (units_free new) rest) (sym c.in_ok-push.ensures.items))));
+          ∙ ap (λ (l : List OrderTurn). l ++ turns_of day (units_free new) rest) (sym c.in_ok-push.ensures.items))));
     }

@@ -5,7 +5,7 @@ use Rattle.wp_model.specs.Book.{Book, units_at}
 use Rattle.wp_model.specs.declared.row.Hold.{Hold}
 use Rattle.wp_model.specs.declared.row.Row.{Row}
 use Rattle.wp_book.specs.Calls.{CanHold, HasHeld}
-use Rattle.wp_book.specs.Kept.{IsKept, book_of}
+use Rattle.wp_book.specs.Kept.{AreChained, book_of}
 use Rattle.wp_book.specs.Room.{Content, IsInOrder}
 use Rattle.wp_book.specs.declared.room.KeptHolds.{KeptHolds}
 use Rattle.wp_book.proofs.Books.{CanAdd, hold_does, hold_keeps, no_units_past, rows_held, with_node}
@@ -63,8 +63,8 @@ chains_after c =
 
 pub invariant_of-self : goal.invariant_of-self
 invariant_of-self c =
-    subst (λ (rows : List Row). IsKept rows (set c.self.inside.chains.items c.chain_of.result c.push.new.self)) (sym (rows_after c))
-    (subst (λ (chains : List (List KeptHolds)). IsKept (rows_held c.self.inside.rows (node_of c).holds) chains) (sym (chains_after c))
+    subst (λ (rows : List Row). AreChained rows (set c.self.inside.chains.items c.chain_of.result c.push.new.self)) (sym (rows_after c))
+    (subst (λ (chains : List (List KeptHolds)). AreChained (rows_held c.self.inside.rows (node_of c).holds) chains) (sym (chains_after c))
     (hold_keeps c.self.inside.rows c.self.inside.chains.items c.args.wave (node_of c) (may_add c)))
 
 pub returns : goal.returns

@@ -6,7 +6,7 @@ use Rattle.wp_model.specs.Book.{Book, held_for, is_for}
 use Rattle.wp_model.specs.declared.row.Row.{Row}
 use Rattle.wp_book.specs.Calls.{HasTaken}
 use Rattle.wp_book.specs.Chains.{chain_units}
-use Rattle.wp_book.specs.Kept.{IsKept, book_of}
+use Rattle.wp_book.specs.Kept.{AreChained, book_of}
 use Rattle.wp_book.specs.declared.room.KeptHolds.{KeptHolds}
 use Rattle.wp_book.proofs.ReturnedUnits.{with_chain}
 use Rattle.wp_book.proofs.Books.{chain_order-le-wave, wave_nowhere}
@@ -15,7 +15,7 @@ use Rattle.wp_book.proofs.Totals.{chain_for, chain_found, is_for-of, wave_held}
 use Rattle.wp_book.proofs.book.StockBook.take.Goals as goal
 
 -- what the wave's chain has is enough
-enough_in : (rows : List Row) (chains : List (List KeptHolds)) (book : Book) (wave order row units : ℕ) → IsKept rows chains → book_of rows chains ≡ book
+enough_in : (rows : List Row) (chains : List (List KeptHolds)) (book : Book) (wave order row units : ℕ) → AreChained rows chains → book_of rows chains ≡ book
     → units ≤ held_for book wave order row
     → units ≤ chain_units (is_for wave order row) (chain_for chains wave)
 enough_in rows chains book wave order row units kept is enough =
@@ -74,8 +74,8 @@ chains_after c = ap (λ i. set c.self.inside.chains.items i c.take_from_chain.ne
 
 pub invariant_of-self : goal.invariant_of-self
 invariant_of-self c =
-    subst (λ (rows : List Row). IsKept rows (set c.self.inside.chains.items c.chain_of.result c.take_from_chain.new.chain)) (sym c.take.ensures)
-    (subst (λ (chains : List (List KeptHolds)). IsKept (rows_taken c.self.inside.rows c.args.row c.args.quantity) chains) (sym (chains_after c))
+    subst (λ (rows : List Row). AreChained rows (set c.self.inside.chains.items c.chain_of.result c.take_from_chain.new.chain)) (sym c.take.ensures)
+    (subst (λ (chains : List (List KeptHolds)). AreChained (rows_taken c.self.inside.rows c.args.row c.args.quantity) chains) (sym (chains_after c))
     (take_keeps c.self.inside.rows c.self.inside.chains.items c.args.wave c.args.order c.args.row c.args.quantity c.take_from_chain.new.chain (is_taken c)))
 
 pub returns-then-quantity-gt0 : goal.returns-then-quantity-gt0

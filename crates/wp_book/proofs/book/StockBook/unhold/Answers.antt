@@ -5,7 +5,7 @@ use Rattle.wp_model.specs.Book.{Book, but_of, is_for_wave}
 use Rattle.wp_model.specs.declared.row.Row.{Row}
 use Rattle.wp_book.specs.Calls.{HasGivenBack}
 use Rattle.wp_book.specs.Chains.{chain_units}
-use Rattle.wp_book.specs.Kept.{IsKept, book_of}
+use Rattle.wp_book.specs.Kept.{AreChained, book_of}
 use Rattle.wp_book.specs.declared.room.KeptHolds.{KeptHolds}
 use Rattle.wp_book.proofs.ReturnedUnits.{IsBack, back_does, back_keeps, rows_back, with_chain}
 use Rattle.wp_book.proofs.Books.{row_has, wave_nowhere}
@@ -56,8 +56,8 @@ chains_after c = ap (λ i. set c.self.inside.chains.items i c.give_back_chain.ne
 
 pub invariant_of-self : goal.invariant_of-self
 invariant_of-self c =
-    subst (λ (rows : List Row). IsKept rows (set c.self.inside.chains.items c.chain_of.result c.give_back_chain.new.chain)) (sym (rows_after c))
-    (subst (λ (chains : List (List KeptHolds)). IsKept (rows_back c.self.inside.rows c.self.inside.chains.items c.args.wave) chains) (sym (chains_after c))
+    subst (λ (rows : List Row). AreChained rows (set c.self.inside.chains.items c.chain_of.result c.give_back_chain.new.chain)) (sym (rows_after c))
+    (subst (λ (chains : List (List KeptHolds)). AreChained (rows_back c.self.inside.rows c.self.inside.chains.items c.args.wave) chains) (sym (chains_after c))
     (back_keeps c.self.inside.rows c.self.inside.chains.items c.args.wave c.give_back_chain.new.chain (is_back c)))
 
 pub returns : goal.returns

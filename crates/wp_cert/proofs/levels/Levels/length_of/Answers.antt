@@ -6,8 +6,9 @@ use Rattle.wp_cert.proofs.levels.Levels.length_of.Goals.{then-not-has, else-not-
 
 pub keep-requires-clause-orders : goal.keep-requires-clause-orders
 keep-requires-clause-orders c =
-    all_from_contained (λ order. order < length c.args.wave.now.orders) c.args.reached.now.before
-    (λ order of. All-contains (λ order. order < length c.args.wave.now.orders) c.args.reached.now.batch order c.requires.orders ((c.requires.both order).1 (inl of)))
+    all_from_contained (λ order. order < length c.args.wave.now.orders) c.args.place.now.before
+    (λ order of. All-contains (λ order. order < length c.args.wave.now.orders) c.args.place.now.batch order c.requires.orders
+    ((c.requires.both order).1 (inl of)))
 
 pub measured-requires-clause-levels : goal.measured-requires-clause-levels
 measured-requires-clause-levels c = elim c.if-not-has.branch [

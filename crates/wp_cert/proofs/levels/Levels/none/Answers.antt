@@ -14,4 +14,9 @@ one_more wave kept all zero d within level is = absurd (none-some level is)
 one_more wave kept all (suc k) d within level is = all k d (omega (arith, within)) level is
 
 pub returns : goal.returns
-returns c = let wave = c.args.wave.now in one_more wave (None ∷ None ∷ None ∷ None ∷ None ∷ None ∷ None ∷ []) (one_more wave (None ∷ None ∷ None ∷ None ∷ None ∷ None ∷ []) (one_more wave (None ∷ None ∷ None ∷ None ∷ None ∷ []) (one_more wave (None ∷ None ∷ None ∷ None ∷ []) (one_more wave (None ∷ None ∷ None ∷ []) (one_more wave (None ∷ None ∷ []) (one_more wave (None ∷ []) (one_more wave [] (λ k d within level is. absurd (omega (arith, within))))))))))
+returns c = let wave = c.args.wave.now in one_more wave (None ∷ None ∷ None ∷ None ∷ None ∷ None ∷ None ∷ [])
+    (one_more wave (None ∷ None ∷ None ∷ None ∷ None ∷ None ∷ [])
+    (one_more wave (None ∷ None ∷ None ∷ None ∷ None ∷ [])
+    (one_more wave (None ∷ None ∷ None ∷ None ∷ [])
+    (one_more wave (None ∷ None ∷ None ∷ [])
+    (one_more wave (None ∷ None ∷ []) (one_more wave (None ∷ []) (one_more wave [] (λ k d within level is. absurd (omega (arith, within))))))))))

@@ -7,4 +7,4 @@ use Rattle.wp_cert.proofs.text.part.read_items.Given as goal
 abbrev pub invariant-loop-item : goal.invariant-loop-item
 invariant-loop-item g l =
     (as_array (view l.fn.value) ≡ Some (items_view l.item-items))
-    × (each_said g.T.Part.said (items_view (take l.item-index l.item-items)) ≡ Some l.parts.items)
+    × (each_said g.T.CertificatePart.said (items_view (take l.item-index l.item-items)) ≡ Some l.parts.items)

@@ -10,6 +10,7 @@ returns-clause-text c =
 pub returns-clause-told : goal.returns-clause-told
 returns-clause-told c =
     let made = c.in_ok-value.ensures in
-    let read = read_again _ (wave_places c.args.wave.now) c.args.wave.now.cart c.args.capacity c.args.tree.now.nodes _ made.value c.in_ok-to_vec.ensures.reads_back in
+    let read = read_again _ (wave_places c.args.wave.now) c.args.wave.now.cart c.args.capacity c.args.tree.now.nodes _ made.value
+    c.in_ok-to_vec.ensures.reads_back in
     told_again c.args.wave.now c.args.capacity c.args.tree.now.nodes _ made.valid made.slots c.requires.some c.requires.most c.requires.duals made.nodes
     c.in_ok-to_vec.ensures.utf8 read

@@ -8,7 +8,8 @@ pub invariant_of-length_past : goal.invariant_of-length_past
 invariant_of-length_past c = record {
   of_layout = c.joined-picks.ensures.layout;
   kept_for = λ kept is. subst (AreKeptBut c.self.inside.layout c.joined-picks.result.points) (same_Some _ _ is) (record {
-    unmarked = λ aisle up unmarked. kept_elsewhere c.self.inside.layout c.self.inside.picks.points c.args.more.now.points c.joined-picks.result.points c.self.inside.ways c.joined-picks.ensures.points c.self.invariant.each aisle up (c.aisles_of-marks.ensures aisle up unmarked);
+    unmarked = λ aisle up unmarked. kept_elsewhere c.self.inside.layout c.self.inside.picks.points c.args.more.now.points c.joined-picks.result.points
+        c.self.inside.ways c.joined-picks.ensures.points c.self.invariant.each aisle up (c.aisles_of-marks.ensures aisle up unmarked);
   });
 }
 

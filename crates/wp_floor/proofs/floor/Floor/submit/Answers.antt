@@ -1,7 +1,7 @@
 use Rattle.std.proofs.Common.{◌≡◌, ◌∙◌, refl, sym, ap, subst, ℕ, List, Option, length, map, None, Some, [], ◌∷◌, ◌++◌, arith}
 use Rattle.std.proofs.lemmas.List.{with_items_is}
 use Rattle.wp_model.specs.Step.{first_order_fault}
-use Rattle.wp_floor.specs.Floor.{AreTakers, number_of, wave_of}
+use Rattle.wp_floor.specs.Floor.{AreTakers, order_number, wave_of}
 use Rattle.std.specs.Vec.{with_items}
 use Rattle.wp_floor.specs.NewWaves.{wave_of_new}
 use Rattle.wp_floor.specs.Takers.{HasPut, HaveTakers}
@@ -61,4 +61,4 @@ returns c =
 pub first_order_fault-requires-clause-numbered : goal.first_order_fault-requires-clause-numbered
 first_order_fault-requires-clause-numbered c =
     c.as_slice-numbers.ensures.value
-    ∙ (c.requires.new.numbered ∙ ap (map (number_of c.args.opening.now)) (sym c.as_slice-orders.ensures))
+    ∙ (c.requires.new.numbered ∙ ap (map (order_number c.args.opening.now)) (sym c.as_slice-orders.ensures))

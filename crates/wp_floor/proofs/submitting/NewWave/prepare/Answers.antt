@@ -3,7 +3,7 @@ use Rattle.std.proofs.Common.{eq-eqb, ne_eqb}
 use Rattle.std.proofs.lemmas.Bool.{cases_eq, cases_lt, cond-false, cond-true, lt-ltb}
 use Rattle.wp_model.specs.Limits.{most_wave_orders}
 use Rattle.wp_model.specs.declared.reply.Reply.TheVariants as reply
-use Rattle.wp_floor.specs.Floor.{AreNeedsOf, number_of}
+use Rattle.wp_floor.specs.Floor.{AreNeedsOf, order_number}
 use Rattle.wp_floor.specs.NewWaves.{size_fault}
 use Rattle.wp_floor.proofs.submitting.NewWave.prepare.Goals as goal
 
@@ -33,7 +33,7 @@ few_orders orders is = elim (cases_lt most_wave_orders (length orders)) [
 pub returns-clause-prepared : goal.returns-clause-prepared
 returns-clause-prepared c =
     let copied = c.in_ok-needs.ensures.copied in
-    let numbers = map (number_of c.args.opening.now) in
+    let numbers = map (order_number c.args.opening.now) in
     record {
       needs = c.in_ok-needs.needs;
       submitted = refl;

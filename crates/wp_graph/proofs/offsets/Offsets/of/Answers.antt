@@ -4,7 +4,8 @@ use Rattle.wp_graph.proofs.offsets.Offsets.of.Goals as goal
 
 pub overflow_add-words : goal.overflow_add-words
 overflow_add-words c =
-    let so_far = word_so_far c.args.spacings.now c.loop-index.words c.loop-index.index c.loop-index.invariant.words (omega arith) c.requires.few c.requires.ranges in
+    let so_far = word_so_far c.args.spacings.now c.loop-index.words c.loop-index.index c.loop-index.invariant.words
+    (omega arith) c.requires.few c.requires.ranges in
     let here = entry_small 10000 c.args.spacings.now c.requires.ranges c.loop-index.index in
     record { fits = omega (arith, so_far, here) }
 

@@ -1,6 +1,6 @@
 use Rattle.std.proofs.Common.{rules, ◌≡◌, ◌<◌, ℕ, ℤ, pos, List, [], ◌∷◌, ◌++◌, length, sym, subst}
 use Rattle.std.proofs.lemmas.Int.{to_z-of_z}
-use Rattle.wp_master.specs.Pairs.{number_of}
+use Rattle.wp_master.specs.Pairs.{number_at}
 use Rattle.wp_master.specs.Pivots.{column_place, entry_of, last_row}
 use Rattle.wp_master.proofs.Entries.{each_more}
 use Rattle.wp_master.proofs.run.Run.weights.Goals as goal
@@ -13,7 +13,7 @@ loop-column-preserved c =
     let this : P c.loop-column.column c.entry.result = search rules in
     record {
       count = search rules;
-      each = subst (λ (xs : List ℤ). (column : ℕ) → column < length xs → P column (number_of xs column)) (sym behind)
+      each = subst (λ (xs : List ℤ). (column : ℕ) → column < length xs → P column (number_at xs column)) (sym behind)
           (each_more P c.loop-column.weights.items c.entry.result (pos 0) c.loop-column.invariant.each
           (subst (λ (k : ℕ). P k c.entry.result) (sym c.loop-column.invariant.count) this));
     }

@@ -54,7 +54,8 @@ returns-in_err-stored-clause-wide c =
     c.requires.not_last c.requires.not_first c.requires.within c.as_slice.ensures.value c.spot_at.ensures c.in-Stored.is c.as_slice-2.ensures.value
     c.unwrap-leaving.ensures c.basic_place.ensures.some c.lay_unit.ensures in
     let p = err_from_is_err_and c.from_residual.result c.from_residual.ensures.1 in
-    rw (p.1, p.2) (subst (λ (t : Table). AreWideEntries t c.in_err-stored.field-0.0.left c.in_err-stored.field-0.0.right) c.self.view_is (laid_wide _ _ _ _ _ _ _ _ _ turn _ _ c.in_err-stored.ensures.wide))
+    rw (p.1, p.2) (subst (λ (t : Table). AreWideEntries t c.in_err-stored.field-0.0.left c.in_err-stored.field-0.0.right) c.self.view_is
+    (laid_wide _ _ _ _ _ _ _ _ _ turn _ _ c.in_err-stored.ensures.wide))
 
 pub invariant_of-result-2 : goal.invariant_of-result-2
 invariant_of-result-2 c =
@@ -72,5 +73,6 @@ returns-clause-made c =
     c.requires.not_last c.requires.not_first c.requires.within c.as_slice.ensures.value c.spot_at.ensures c.in-Stored.is c.as_slice-2.ensures.value
     c.unwrap-leaving.ensures c.basic_place.ensures.some c.lay_unit.ensures in
     subst (λ (t : Table). IsPivot c.args.row c.args.place t (shown c.in_ok-stored.stored
-    (set (set c.self.inside.spots.items c.unwrap-leaving.result (Stored c.self.inside.spare)) c.args.place (Basic c.args.row)))) c.self.view_is (shown_turns _ _ _ _ _ _ _ _ _ turn c.in_ok-stored.stored
+    (set (set c.self.inside.spots.items c.unwrap-leaving.result (Stored c.self.inside.spare)) c.args.place (Basic c.args.row)))) c.self.view_is
+    (shown_turns _ _ _ _ _ _ _ _ _ turn c.in_ok-stored.stored
     (subst (λ (t : Table). pos 0 <ℤ entry_of t c.args.row c.args.place) (sym c.self.view_is) c.requires.above) c.in_ok-stored.ensures.made)

@@ -1,6 +1,6 @@
 use Rattle.std.proofs.Common.{◌≡◌, ◌≢◌, ◌∙◌, arith, inl, inr, subst, sym, ⊎_elim}
 use Rattle.std.proofs.lemmas.Bool.{cases_eq}
-use Rattle.wp_price.specs.Searches.{IsNoChild}
+use Rattle.wp_visit.specs.Places.{IsNoChild}
 use Rattle.wp_price.proofs.Options.{none_there}
 use Rattle.wp_price.proofs.search.SlackSearch.first_items.Goals as goal
 use Rattle.wp_price.proofs.search.SlackSearch.first_items.Goals.{then-is_some, else-is_some}

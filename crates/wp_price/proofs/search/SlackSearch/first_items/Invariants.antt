@@ -1,5 +1,5 @@
 use Rattle.std.proofs.Common.{◌<◌, ℕ, Contains}
-use Rattle.wp_price.specs.Searches.{IsNoChild}
+use Rattle.wp_visit.specs.Places.{IsNoChild}
 use Rattle.wp_price.proofs.search.SlackSearch.first_items.Given as goal
 
 abbrev pub invariant-loop-order : goal.invariant-loop-order

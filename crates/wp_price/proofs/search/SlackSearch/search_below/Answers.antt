@@ -1,4 +1,4 @@
-use Rattle.wp_price.proofs.Children.{reached_place}
+use Rattle.wp_visit.proofs.Children.{reached_place}
 use Rattle.wp_price.proofs.Searching.{put_together}
 use Rattle.wp_price.proofs.search.SlackSearch.search_below.Goals as goal
 

@@ -11,4 +11,5 @@ returns-clause-after c = first_of (search rules, grind (arith, common_steps))
 pub returns-clause-calls : goal.returns-clause-calls
 returns-clause-calls c =
     let old = c.args.self.now in
-    subst (λ (d : DiskInMemory). OneCall (Torn c.args.place (length c.args.piece.now)) (mem_told old) (mem_told d)) (sym (returns-clause-after c)) (write_call old c.args.place c.args.piece.now c.requires)
+    subst (λ (d : DiskInMemory). OneCall (Torn c.args.place (length c.args.piece.now)) (mem_told old) (mem_told d)) (sym (returns-clause-after c))
+    (write_call old c.args.place c.args.piece.now c.requires)

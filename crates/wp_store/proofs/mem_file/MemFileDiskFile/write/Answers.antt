@@ -11,4 +11,5 @@ returns-clause-calls c =
     let new = c.write_at.new.self in
     let within = subst (λ (file : FileInMemory). file.position ≤ length (disk_bytes file.disk)) (sym c.self.view_is) (c.requires _ refl) in
     subst (λ (file : FileInMemory). FileCall (Torn file.position n) (mem_file_told file) (mem_told new)) c.self.view_is
-    (write_file_call c.self.inside.disk new c.self.inside.position n _ (omega (arith, length-take c.min-count.result c.args.piece.now)) within c.write_at.ensures.after)
+    (write_file_call c.self.inside.disk new c.self.inside.position n _
+    (omega (arith, length-take c.min-count.result c.args.piece.now)) within c.write_at.ensures.after)

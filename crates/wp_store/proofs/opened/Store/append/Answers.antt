@@ -9,4 +9,5 @@ append_at-requires-clause-settled g c bytes told = c.args.self.now.settled c.if-
 pub returns-clause-acknowledged : goal.returns-clause-acknowledged
 returns-clause-acknowledged g c bytes told image now =
     let after = told_after _ _ bytes c.append_at.ensures.course.told told in
-    ap records_of ((c.in_ok-append_at.ensures.settled after.bytes after.told).durable image now) ∙ c.in_ok-append_at.ensures.stored bytes told after.bytes after.told
+    ap records_of ((c.in_ok-append_at.ensures.settled after.bytes after.told).durable image now) ∙ c.in_ok-append_at.ensures.stored bytes told after.bytes
+    after.told
