@@ -1,0 +1,9 @@
+pub mod ClosedWalks
+pub mod Divisors
+pub mod Rounding
+pub mod CountedBatches
+pub mod MetCuts
+pub mod Nets
+pub mod PlainPrices
+pub mod KeptParts
+pub mod TakenOff

@@ -1,0 +1,5 @@
+pub mod Steps
+pub mod Counts
+pub mod Cuts
+pub mod KeptCuts
+pub mod Prices

@@ -1,0 +1,18 @@
+//! What bounds the cost of a wave's batchings besides duals: the step of its layout, the least number of batches, and
+//! cuts with their prices. The definitions, and what is feasible and tight over prices, stand in `specs`.
+#![tactic(auto)]
+
+mod counts;
+mod cut;
+mod laws;
+mod prices;
+mod step;
+
+pub use counts::least_batches;
+pub use cut::{GREATEST_DIVISOR, RankCut};
+pub use laws::{
+    batchings_have_the_least_batches, batchings_meet_cuts_no_more, closed_walks_are_multiples,
+    nets_are_no_more, plain_prices_say_what_duals_say,
+};
+pub use prices::Prices;
+pub use step::{rounded_up, step_of};
