@@ -1,0 +1,9 @@
+mod HeldStock
+mod NameCounts
+mod WavesOut
+mod ServedWaves
+mod NumberedNames
+mod NamesSoFar
+mod LeftOrders
+mod Written
+mod NamedWaves
