@@ -112,18 +112,15 @@ def stated(page, sources):
 
 
 def table_of_crates(page, sources):
-    """The table of the crates has those of crates.txt, lowest first, and each stands on what that says."""
+    """The table of the crates has those of crates.txt, and each comes after those on which it stands there."""
     below = {found[1]: set(found[2].split()) for found in re.finditer(r'^(\w+)(?: may_wait=\d+)?:(.*)$',
                                                                       sources.texts['crates.txt'], re.MULTILINE)}
     seen = []
     for line in page.lines:
-        found = re.fullmatch(r'\| `(\w+)` \| .* \|(.*)\|', line.text) if line.section == 'The crates' else None
+        found = re.match(r'\| `(\w+)` \| ', line.text) if line.section == 'The crates' else None
         if found:
-            told = set(re.findall(r'`([a-z_]\w*)`', found[2]))
-            due = below.get(found[1], set())
-            later = sorted(name for name in due if name in below and name not in seen)
-            why = '%s stands on %s' % (found[1], ', '.join(sorted(due))) if told != due else None
-            yield _place(page, line), why or ('%s stands on %s, which comes later' % (found[1], ', '.join(later))
-                                              if later else None)
+            later = sorted(name for name in below.get(found[1], ()) if name in below and name not in seen)
+            why = '%s stands on %s, which comes later' % (found[1], ', '.join(later))
+            yield _place(page, line), why if later else None
             seen.append(found[1])
     yield page.name, None if sorted(seen) == sorted(below) else 'the table of the crates has others than crates.txt'

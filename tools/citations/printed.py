@@ -1,5 +1,5 @@
-"""The commands that README.md, docs/DAY.md and docs/QUESTIONS.md print, run over a program, and what they print of its
-output."""
+"""The commands that README.md, docs/EXAMPLES.md, docs/DAY.md and docs/QUESTIONS.md print, run over a program, and what
+they print of its output."""
 
 import os
 import re
@@ -8,12 +8,15 @@ import subprocess
 import tempfile
 from pathlib import Path
 
-COMMAND = re.compile(r'\./|tools/|echo ')
+COMMAND = re.compile(r'\./|tools/|echo |grep ')
 LEFT_OUT = re.compile(r'\./gate|\./waveplan --prove')
 DAY_OF = re.compile(r'The day of `examples/([\w-]+)`')
 LINES = re.compile(r'The command prints ([0-9,]{1,9}) lines')
+# Before a block: a file that it shows, and the status with which its commands end where that isn't 0.
+SHOWN = re.compile(r'`((?:layout|stock|orders|desks|journal)\.(?:json|csv|txt))`:$')
+ENDING = re.compile(r'ends with status ([0-9]{1,3})\b')
 # The pages, each with the example whose files it begins with.
-PAGES = {'README.md': None, 'docs/DAY.md': 'one-day', 'docs/QUESTIONS.md': 'one-day'}
+PAGES = {'README.md': None, 'docs/EXAMPLES.md': None, 'docs/DAY.md': 'one-day', 'docs/QUESTIONS.md': 'one-day'}
 STORE, BEFORE = 'waveplan.store', 'waveplan.store.before'  # the copy is the launcher's, which isn't run here
 LONGEST = 120  # seconds that a command may take
 TELLING = ('tools/wave compare', 'tools/wave explain')  # commands that end with 1 where they have something to tell
@@ -50,7 +53,7 @@ class Reader:
 
     def __init__(self, page, top, program, room):
         self.page, self.top, self.program, self.room = page, top, program, room
-        self.last, self.last_plan, self.folders, self.place = '', None, {}, ''
+        self.last, self.last_plan, self.folders, self.place, self.shown = '', None, {}, '', None
         self.examples = {line.section: DAY_OF.search(line.text)[1] for line in page.lines if DAY_OF.search(line.text)}
 
     def folder(self, section):
@@ -76,27 +79,32 @@ class Reader:
             yield self.run(text, self.folder(line.section))
         if 'Then plan again' in line.text and self.last_plan:
             yield self.run(self.last_plan, self.folder(line.section))
+        if line.text.strip():
+            self.shown = SHOWN.search(line.text)
         found = LINES.search(line.text)
         if found:
             count = self.last.count('\n')
             yield self.place, None if int(found[1].replace(',', '')) == count else 'the command prints %d lines' % count
 
     def block(self, block):
-        """A block of commands, or of what the command before it has printed."""
-        folder = self.folder(block.section)
+        """A block of commands, a file that is shown, or what the command before it has printed."""
+        folder, shown, self.shown = self.folder(block.section), self.shown, None
         if not COMMAND.match(block.lines[0]):
+            if shown:
+                (folder / shown[1]).write_text('\n'.join(block.lines) + '\n')
+                return
             named = re.search(r'some of `([\w.]+)`', block.before)
             yield from self.output(block.lines, (folder / named[1]).read_text() if named else self.last)
             return
         for command in block.lines:
             if not LEFT_OUT.match(command):
-                yield self.run(command, folder)
+                yield self.run(command, folder, ENDING.search(block.before))
         promised = re.search(r'prints `([^`]+)`:$', block.before)
         if promised:
             yield from self.output([promised[1]], self.last)
 
-    def run(self, command, folder):
-        """Runs a command, and tells whether it ended as it should."""
+    def run(self, command, folder, ending=None):
+        """Runs a command, and tells whether it ended as it should: with 0, or with the status that is named."""
         if command.startswith('./waveplan') and '--store 1' in command:
             (folder / BEFORE).write_bytes((folder / STORE).read_bytes() if (folder / STORE).exists() else b'')
         try:
@@ -108,7 +116,8 @@ class Reader:
         self.last = done.stdout.decode('utf-8', 'replace')
         if command.startswith('./waveplan plan'):
             self.keep(command, folder)
-        right = done.returncode == 0 or done.returncode == 1 and command.startswith(TELLING)
+        telling = done.returncode == 1 and command.startswith(TELLING)
+        right = telling or done.returncode == (int(ending[1]) if ending else 0)
         told = (done.stderr or done.stdout).decode('utf-8', 'replace').strip().split('\n')[-1]
         return self.place, None if right else 'it ends with status %d: %s: %s' % (done.returncode, command, told)
 

@@ -1,11 +1,13 @@
-"""What each refusal means where it stands: the field, its text, the usual cause and the cure. docs/FORMATS.md has the
-same in general."""
+"""What each refusal means where it stands: the field, its text, the usual cause and the cure. refusals.txt has the same
+in general."""
 
 import difflib
 import json
 import re
 
 from opinion import json_text
+
+from . import refusals
 
 FIELDS = {
     'stock': ['location', 'article', 'on_hand'],
@@ -17,63 +19,7 @@ FORMS = {'submit': ['wave'], 'allot': ['wave'], 'release': ['wave'], 'cancel': [
          'missing': ['wave', 'order', 'location', 'quantity'], 'receive': ['location', 'article', 'quantity']}
 HEADINGS = {'stock': 'location,article,on_hand', 'orders': 'order,article,quantity', 'desks': 'desk,command,arguments'}
 
-# Of each refusal in a record: what it says, and what to do where nothing closer is found.
-ROWS = {
-    'columns': ('the record has not as many fields as it should, or is not the heading where that is due',
-                'hold it against docs/FORMATS.md'),
-    'not-utf8': ('a field has bytes that are no UTF-8',
-                 'save the file as UTF-8, or let tools/import read it with --encoding latin-1'),
-    'bad-name': ('the field is no name, or not of the form of a location',
-                 'a name has 1 to 40 letters without accents, digits, and - _ .'),
-    'bad-number': ('the field is not 1 to 18 digits',
-                   'digits alone: no sign, no decimal point, no separator of thousands'),
-    'out-of-range': ('the number is too small or too large',
-                     'on hand 0 to 1,000,000, all other quantities 1 to 100,000'),
-    'unknown-location': ('the layout has no such aisle or slot', 'correct the location, or the layout'),
-    'location-twice': ('an earlier record has the same location', 'join the two records, or correct one'),
-    'unknown-article': ('the stock file does not have the article',
-                        'add a record to the stock file, with 0 where there is none on hand'),
-    'unknown-command': ('the word is no command', 'one of %s, in small letters' % ', '.join(FORMS)),
-    'desk-number': ('the number is not 1 to 8', 'there are eight desks at most, numbered from 1'),
-    'too-many-rows': ('the file has more records than it may have', 'leave records out'),
-    'too-many-places': ('the article has 1,000 rows already', 'leave rows of it out'),
-    'too-many-orders': ('there are 10,000 orders already', 'leave orders out'),
-    'too-many-lines': ('the order has 50 lines already', 'join lines of one article, or divide the order'),
-    'too-many-waves': ('500 records submit a wave already', 'leave waves out'),
-}
-LAYOUTS = {
-    'not-json': ('the file is not JSON',
-                 'look for a comma too many or too few, quotes that are not straight, a byte order mark; save it as '
-                 'UTF-8 without one'),
-    'not-object': ('the file is a list or a single value', 'put the keys into { and }'),
-    'missing-key': ('a key is not there', 'add it'),
-    'unknown-key': ('there is a key that the version has not', 'take it out, or correct its name'),
-    'not-whole': ('the value is no whole number', 'digits alone: no quotes, no decimal point, no sign'),
-    'out-of-range': ('the number is not in its range', 'see the table of the layout file in docs/FORMATS.md'),
-    'not-end': ('`end` is neither "front" nor "back"', 'write one of the two, in small letters and in quotes'),
-}
-NODES = {
-    'cut': ('the list of nodes ends too early, or has nodes left',
-            'look whether the text was cut off; have it printed anew'),
-    'split-kept': ('a split has no duals of its own', 'give it duals, marks and tight'),
-    'not-dead': ('some permitted batch has the order of a dead leaf', 'put a leaf with duals in its place'),
-    'duals-length': ('there is not one dual and one tight batch for each order', 'give one of each for each order'),
-    'sum-low': ('the duals come to less than those above', 'keep the duals of the node above'),
-    'not-feasible': ('the duals of a permitted batch come to more than sixty times its length',
-                     'lower the duals of these orders'),
-    'bad-marks': ('a mark is missing or left over, or a 0 stands where a 1 is due', 'give the marks in preorder'),
-    'not-tight': ('the tight batch of an order does not come to sixty times its length, or is not permitted',
-                  'name a batch that is tight, or raise the duals'),
-    'bad-pair': ('the pair of a split is decided already, or is no pair of orders', 'split on another pair'),
-}
-CERTIFICATES = {
-    'not-json': ('the file is not JSON',
-                 'the whole of what stands behind the word `certificate`, in UTF-8 without a byte order mark'),
-    'bad-shape': ('the value is not of the form of a certificate', 'hold its keys and values against docs/FORMATS.md'),
-    'out-of-range': ('the form is right, but a number is not in its range, or a slot is not in the layout',
-                     'look whether it is the right layout'),
-}
-
+ROWS, LAYOUTS, NODES, CERTIFICATES = map(refusals.of, ('record', 'layout', 'node', 'certificate'))
 
 # What Python's reader of JSON says, in other words.
 JSON_FAULTS = {
@@ -128,33 +74,28 @@ def _place(text, place):
 
 def of_spacings(value, aisles):
     """What is wrong with the list of spacings: what it is, how many there are, or one of them."""
-    cure = 'whole numbers in brackets with commas between them, as [300,300]'
     if not isinstance(value, list):
-        return 'it is no list', cure
+        return refusals.pair('spacings', 'no-list')
     wrong = [(place, as_json(each)) for place, each in enumerate(value, 1) if type(each) is not int]
     if wrong:
-        return 'number %d of them is %s, which is no whole number' % wrong[0], cure
+        return refusals.pair('spacings', 'not-whole', place=wrong[0][0], value=wrong[0][1])
     if len(value) != aisles - 1:
-        return ('there are %d spacings, and between %d aisles there are %d' % (len(value), aisles, aisles - 1),
-                'give one less than there are aisles, or correct the aisles')
+        return refusals.pair('spacings', 'count', count=len(value), aisles=aisles, due=aisles - 1)
     place, each = next((place, each) for place, each in enumerate(value, 1) if not 1 <= each <= 10000)
-    return ('number %d of them is %d, which is not in the range 1 to 10,000' % (place, each),
-            'correct it; perhaps in a larger unit of length, for all lengths')
+    return refusals.pair('spacings', 'range', place=place, value=each)
 
 
 def of_journal(data, line):
     """Why a line is not of a journal, where the file is another than an output."""
     if data.startswith((b'\x01', b'\x00')):
-        return ('it is the store of a day, and no output of a plan',
-                'give an output: a plan with --store 1 and a desk file of the heading alone prints the whole journal')
+        return refusals.pair('journal', 'store')
     first = re.split(rb'[\r\n]', data, 1)[0].decode('utf-8', 'replace')
     named = [name for name, heading in HEADINGS.items() if first == heading]
     if line == '1' and named:
-        return 'it is a file of %s' % named[0], 'name the output of a plan'
+        return refusals.pair('journal', 'other', kind=named[0])
     if line == '1' and first.startswith(('refused ', 'read fault ')):
-        return 'the plan was refused, and printed no journal', 'explain the words of that plan'
-    return ('it is not the entry with the next number',
-            'it was changed, left out or cut: take the output as it was printed')
+        return refusals.pair('journal', 'refused')
+    return refusals.pair('journal', 'line')
 
 
 def field_name(file, record, field):
@@ -175,36 +116,31 @@ def of_first_row(file, data):
     plain = shown.strip().lower().replace(' ', '').replace('"', '')
     due = HEADINGS[file]
     if data[:4] in (b'PK\x03\x04', b'\xd0\xcf\x11\xe0'):
-        return ('it is a workbook (.xlsx, .ods or .xls)',
-                'open it in the spreadsheet and save it as "CSV UTF-8"; then tools/import reads it')
+        return refusals.pair('heading', 'workbook')
     if data[:2] in (b'\xff\xfe', b'\xfe\xff') or b'\0' in data[:100]:
-        return ('it is UTF-16, which some programs call "Unicode text"',
-                'save it as "CSV UTF-8", or let tools/import read it')
+        return refusals.pair('heading', 'utf-16')
     if text.startswith(b'\xef\xbb\xbf'):
-        return 'it begins with two byte order marks', 'take one out'
+        return refusals.pair('heading', 'marks')
     if plain.startswith('sep='):
-        return 'its first line is a note to a spreadsheet, %s' % shown, 'take the line out'
+        return refusals.pair('heading', 'note', first=shown)
     if not data.strip():
-        return 'it is empty', 'put the heading %s there' % due
+        return refusals.pair('heading', 'empty', due=due)
     if plain.replace(';', ',') == due and ';' in shown:
-        return 'semicolons stand between its fields', 'let tools/import read it, or save it with commas'
+        return refusals.pair('heading', 'semicolons')
     if '\t' in shown:
-        return 'tabs stand between its fields', 'let tools/import read it, or save it with commas'
+        return refusals.pair('heading', 'tabs')
     if plain == due:
-        return ('its heading has capitals, blanks or quotes in the wrong places: %s' % shown,
-                'write %s, letter by letter' % due)
+        return refusals.pair('heading', 'letters', first=shown, due=due)
     if plain.startswith(due + ','):
-        return 'its heading has a column too many: %s' % shown, 'let tools/import read it, or take the column out'
+        return refusals.pair('heading', 'column', first=shown)
     if sorted(plain.split(',')) == sorted(due.split(',')):
-        return ('its columns stand in another order: %s' % shown,
-                'let tools/import read it, or put them into the order %s' % due)
+        return refusals.pair('heading', 'order', first=shown, due=due)
     others = [name for name, heading in HEADINGS.items() if heading == plain]
     if others:
-        return 'it is a file of %s' % others[0], 'look at the options: --%s names it now' % file
+        return refusals.pair('heading', 'other', kind=others[0], option=file)
     if due.encode() in text.lower():
-        return 'a title stands above its heading: %s' % shown, 'take it out, or let tools/import read it with --skip'
-    return ('its first record is %s' % (shown[:80] or 'empty'),
-            'the heading is %s; tools/import reads other words with --columns' % due)
+        return refusals.pair('heading', 'title', first=shown)
+    return refusals.pair('heading', 'unknown', first=shown[:80] or 'empty', due=due)
 
 
 def of_columns(file, record):
@@ -213,37 +149,36 @@ def of_columns(file, record):
     if file == 'desks':
         word = record[1].decode('utf-8', 'replace') if len(record) > 1 else ''
         if word in FORMS:
-            return 'it has %d fields' % len(record), 'a %s is written DESK,%s,%s' % (word, word, ','.join(
-                each.upper() for each in FORMS[word]) + (',ORDER,..' if word == 'submit' else ''))
+            form = ','.join(map(str.upper, FORMS[word])) + ',ORDER,..' * (word == 'submit')
+            return refusals.pair('fields', 'command', count=len(record), word=word, form=form)
     if len(record) == 1 and b';' in record[0]:
-        return 'semicolons stand between its fields', 'let tools/import read it, or save it with commas'
+        return refusals.pair('heading', 'semicolons')
     if any(b'\n' in field for field in record):
-        return 'a quote is opened in it and not closed in its line', 'close it, or take it out'
+        return refusals.pair('fields', 'quote')
     if re.search(r'\d,\d{3}\b', shown):
-        return ('it has %d fields, perhaps since a comma sets thousands apart' % len(record),
-                'write numbers with digits alone')
-    return 'it has %d fields' % len(record), 'it should have %d: %s' % (len(FIELDS[file]), HEADINGS[file])
+        return refusals.pair('fields', 'thousands', count=len(record))
+    return refusals.pair('fields', 'count', count=len(record), due=len(FIELDS[file]), heading=HEADINGS[file])
 
 
 def of_name(name, text):
     """Why a text is no name, or no location."""
     if not text:
-        return 'it is empty', 'fill it in'
+        return refusals.pair('name', 'empty')
     if text != text.strip():
-        return 'a blank stands before or behind it', 'take it out; spaces are kept as they stand'
+        return refusals.pair('name', 'blank')
     if name == 'location':
         if re.fullmatch(r'\d{1,5}-\d{1,5}-[lr]', text):
-            return 'its side is a small letter', 'write L or R'
+            return refusals.pair('location', 'side')
         if re.match(r'\d{4}-\d\d?-\d\d?|\d\d?[./]\d\d?[./]\d+|.*(?i:jan|feb|mar|apr|may|jun|jul|aug|sep|oct|nov|dec)',
                     text):
-            return 'a spreadsheet has made a date of it', 'format the column as text, and write it again'
+            return refusals.pair('location', 'date')
         if re.fullmatch(r'(?i)(grand )?total|sum|summe|gesamt', text):
-            return 'the record is a row of totals', 'leave it out'
+            return refusals.pair('location', 'totals')
         return of_location(text)
     if len(text) > 40:
-        return 'it has %d characters' % len(text), 'a name has at most 40'
+        return refusals.pair('name', 'long', count=len(text))
     bad = ' '.join('a blank' if sign == ' ' else sign for sign in sorted(set(re.sub(r'[A-Za-z0-9._-]', '', text))))
-    return 'it has %s' % bad, 'a name has letters without accents, digits, and - _ . alone'
+    return refusals.pair('name', 'signs', signs=bad)
 
 
 def of_location(text):
@@ -253,32 +188,27 @@ def of_location(text):
         number = 0
         for sign in letter[1].upper():
             number = 26 * number + ord(sign) - 64
-        return ('its aisle is a letter, and it has no side',
-                'a location is an aisle, a slot and a side, as 3-17-L: aisles are numbers, so write %d for %s; the '
-                'side is L or R; where the last number is a level, its rows are joined into one. tools/import reads '
-                'other forms of the three with --location'
-                % (number, letter[1]))
+        return refusals.pair('location', 'letter', number=number, letter=letter[1])
     if re.fullmatch(r'\d+-\d+(-\d+)?', text):
-        return 'it has no side', 'write L or R behind the aisle and the slot, as 3-17-L'
-    return ('it is not of the form 3-17-L: aisle, slot, side',
-            'write it so; tools/import reads other forms with --location')
+        return refusals.pair('location', 'no-side')
+    return refusals.pair('location', 'form')
 
 
 def of_number(text):
     """Why a text is no number."""
     if not text:
-        return 'it is empty', 'fill it in'
+        return refusals.pair('name', 'empty')
     if text != text.strip():
-        return 'a blank stands before or behind it', 'take it out'
+        return refusals.pair('number', 'blank')
     if re.fullmatch(r'\d+[.,]0+', text):
-        return 'it has a decimal point', 'digits alone; tools/import reads it with --decimal'
+        return refusals.pair('number', 'point')
     if re.fullmatch(r"\d{1,3}([.,' ]\d{3})+", text):
-        return 'its thousands are set apart', 'digits alone; tools/import reads it with --decimal'
+        return refusals.pair('number', 'thousands')
     if text.startswith('-'):
-        return 'it is below 0', 'correct it'
+        return refusals.pair('number', 'below')
     if text.startswith('#') or text.startswith('='):
-        return 'it is a formula or an error of the spreadsheet', 'save the values'
-    return 'it is not made of digits', 'digits alone, at most 18'
+        return refusals.pair('number', 'formula')
+    return refusals.pair('number', 'digits')
 
 
 def closest(text, known):

@@ -21,13 +21,14 @@ Status: 0 where nothing is refused, 1 where something is, which is explained, 2 
 
 import os
 import sys
+import textwrap
 
 from endings import REFUSED, RIGHT, WRONG, Words, tell_usage
 from opinion import answers, json_text, stores, tables
 from opinion.refusals import MOST_BYTES
 from opinion.words import FILES, INSTEAD, NUMBERS, read_words
 
-from . import causes, refused_commands
+from . import causes, refusals, refused_commands
 from .names import restored_line, taken_from, texts_of
 
 
@@ -85,6 +86,11 @@ class Explained:
         self.say('cause', cause)
         self.say('cure', cure)
 
+    def tell(self, place, why, before='', behind=('', ''), **fields):
+        """Says a cause and its cure, with what stands before the one, and behind both."""
+        cause, cure = refusals.pair(place, why, **fields)
+        self.cause(before + cause + behind[0], cure + behind[1])
+
     def file(self, name):
         return read_words(self.words).files[name]
 
@@ -99,8 +105,7 @@ class Explained:
             getattr(self, 'of_store_' + self.parts[-1 if kind == 'fault' else 2].replace('-', '_'))()
         elif self.parts[2] == 'too-long':
             self.say('file', self.file(kind))
-            self.cause('it has more than 16,777,216 bytes',
-                       'leave out what is not needed; docs/FORMATS.md says how an output is cut for an audit')
+            self.tell('file', 'too-long')
         elif kind in ('stock', 'orders', 'desks'):
             self.of_row(kind, int(self.parts[3]), self.parts[4])
         else:
@@ -111,45 +116,40 @@ class Explained:
         path = self.file(name)
         self.say('file', path or '(an empty name)')
         if os.path.isdir(path):
-            self.cause('it is a folder', 'name the file in it')
+            self.tell('read', 'folder')
         elif os.path.exists(path):
-            self.cause('it may not be read', 'look at its owner and permissions: ls -l')
+            self.tell('read', 'forbidden')
         else:
             near = causes.closest(os.path.basename(path), names_in(os.path.dirname(path) or '.'))
-            self.cause('there is no file of that name', 'look at the name%s' % (', perhaps %s' % near if near else ''))
+            self.tell('read', 'missing', behind=('', ', perhaps %s' % near if near else ''))
 
     def of_words(self, why):
-        modes = ', '.join(FILES)
         if why in ('no-mode', 'unknown-mode'):
-            return self.cause('the first word is none of %s' % modes, 'begin with one of them')
+            return self.tell('words', 'mode')
         if why == 'too-many-waves':
-            return self.cause('the orders are cut into %s waves, and there are at most 500' % self.parts[3],
-                              'fewer orders, or more of them in a wave')
+            return self.tell('words', why, n=self.parts[3])
         mode, name = self.words[0], self.why.field
         if mode not in FILES:
             self.say('word', shown(self.why.text))
-            return self.cause('it has bytes that are no UTF-8', 'write it in UTF-8')
+            return self.tell('words', 'not-utf8')
         if name and str(self.why.text).startswith('--' + name):
             self.say('option', '--' + name)
-            return self.cause('it stands twice', 'give it once')
+            return self.tell('words', 'twice')
         if name in INSTEAD and self.why.text == INSTEAD[name]:
             self.say('option', '--' + name)
-            return self.cause('--%s is given too, and --%s stands in its place' % (INSTEAD[name], name),
-                              'give one of the two')
+            return self.tell('words', 'instead', other=INSTEAD[name], option=name)
         if name in NUMBERS[mode] and self.why.text is not None:
             self.say('option', '--%s %s' % (name, shown(self.why.text)))
-            return self.cause('it is no whole number from %d to %d' % NUMBERS[mode][name],
-                              'give it a number in its range')
+            least, most = NUMBERS[mode][name]
+            return self.tell('words', 'range', least=least, most=most)
         if name:
             self.say('option', '--' + name)
-            return self.cause('it is left out, or has no value',
-                              'give it once, with the name of a file or a number behind it')
+            return self.tell('words', 'missing')
         self.say('word', shown(self.why.text))
         known = ['--' + each for each in (*FILES[mode], *NUMBERS[mode])]
         near = causes.closest(str(self.why.text), known)
-        return self.cause('it is no option of %s, stands twice, or belongs to none' % mode,
-                          'the options are %s%s; put a name with spaces into quotes'
-                          % (' '.join(known), ', perhaps %s is meant' % near if near else ''))
+        self.tell('words', 'unknown', mode=mode,
+                  options=' '.join(known) + (', perhaps %s is meant' % near if near else ''))
 
     def of_layout(self):
         self.say('file', self.file('layout'))
@@ -237,57 +237,39 @@ class Explained:
             data = bytes_of(self.file('journal'))
             self.say('line', '%s: %s' % (self.parts[3], shown(self.why.text or b'')))
             if data.startswith(b'\xef\xbb\xbf') or b'\r' in data[:200]:
-                return self.cause('the file has a byte order mark, or line ends as CR LF',
-                                  'save it as the program wrote it: UTF-8 without a mark, line ends as LF')
+                return self.tell('journal', 'mark')
             return self.cause(*causes.of_journal(data, self.parts[3]))
         self.say('command', shown(self.why.text))
+        self.of_entry('journal')
+
+    def of_entry(self, place):
+        """Why an entry has another reply than the program gives it."""
         if ' over-cart ' in self.why.line:
-            return self.cause('whether an order is too much for a cart is answered by the units that a cart holds: %s'
-                              % self.told_units(),
-                              'give the audit the same --units as the plan that printed the journal, or none where '
-                              'that had none')
-        return self.cause('the printed reply is not the one that these files give',
-                          'the journal was changed, or came from other files')
+            return self.tell(place, 'units', behind=(': ' + self.told_units(), ''))
+        return self.tell(place, 'entry')
 
     def of_store_fault(self):
         if os.path.isdir(stores.NAME):
-            return self.cause('it is a folder', 'move it away, or run in another folder')
-        if os.path.lexists(stores.NAME):
-            return self.cause('it may not be read and written, or is no plain file',
-                              'look at its owner and permissions: ls -l')
-        return self.cause('the folder may not be read and written, so the store can not be made there',
-                          'look at its owner and permissions, or run in another folder')
+            return self.tell('fault', 'folder')
+        return self.tell('fault', 'forbidden' if os.path.lexists(stores.NAME) else 'place')
 
     def of_store_too_long(self):
-        self.cause('it has more than {:,} bytes, which no store has'.format(stores.MOST_BYTES),
-                   'look what it is, and begin in another folder')
+        self.tell('store', 'too-long')
 
     def of_store_record(self):
         self.say('record', '%s, counted from 0: %s' % (self.parts[3], shown(self.why.text.rstrip(b'\n'))))
         has_end = self.why.text.endswith(b'\n')
         told = 'it is not the line of the entry of this number' if has_end else 'it has no line feed at its end'
         if self.parts[3] == '0':
-            return self.cause(told + ': the file is no store of a journal, or its beginning was changed',
-                              'keep a copy of the file, and look what it is; begin in another folder')
-        self.cause(told + ': something else than the program wrote it, or changed it',
-                   'the records before it are right: keep a copy of the file, and look at what changed it')
+            return self.tell('store', 'beginning', told + ': ')
+        self.tell('store', 'record', told + ': ')
 
     def of_store_entry(self):
         self.say('command', shown(self.why.text))
-        if ' over-cart ' in self.why.line:
-            return self.cause('whether an order is too much for a cart is answered by the units that a cart holds: %s'
-                              % self.told_units(),
-                              'give the same --units as in the runs before, or none where those had none')
-        return self.cause('the stored reply is not the one that these files give: they are not those with which the '
-                          'store was begun',
-                          'give the layout, the stock and the orders of the first run, with the stock as it was then; '
-                          'for another day begin in another folder')
+        self.of_entry('store')
 
     def of_store_entries(self):
-        self.cause('the store has %d entries, and with the commands of the desk file there would be more than 10,000'
-                   % len(stores.records(bytes_of_store())),
-                   'begin a new store in another folder, with the stock that a run without commands prints '
-                   '(tools/closing-stock)')
+        self.tell('store', 'entries', old=len(stores.records(bytes_of_store())))
 
     def told_units(self):
         units = read_words(self.words).numbers['units']
@@ -344,9 +326,8 @@ def main(words):
     if why is None:
         print('nothing in these words and files is refused')
         if read_words(words).numbers.get('store'):
-            print('where the run said `store fault`, another run had the store, or the disk failed or is full: wait,')
-            print('or look at it; then a run with a desk file of the heading alone prints what is stored, and what is')
-            print('missing is given after it (docs/DAY.md)')
+            told = 'where the run said `store fault`, %s: %s' % refusals.pair('fault', 'busy')
+            print(textwrap.fill(told, 99))
             print(''.join(visible(line) + '\n' for line in of_no_store()), end='')
         return RIGHT
     print(why.line)

@@ -2,42 +2,14 @@
 
 from opinion import tables
 
+from . import refusals
 from .causes import closest
 from .entries import command_of, reply_of
 from .output import read_output
 from .trouble import read_bytes
 
 # Of each reason the cause and the cure. In braces stand the fields of the command and of the reply.
-REASONS = {
-    'no-orders': ('no order is named', 'name 1 to 64 orders behind the wave'),
-    'wave-full': ('{order_count} orders are named, and a wave has at most 64', 'divide them among waves'),
-    'known-wave': ('a wave of that name is there',
-                   'take another name: one is used once a day, also where its wave was cancelled'),
-    'unknown-order': ('the order file has no order {order}', 'correct the name, or add the order to the order file'),
-    'order-twice': ('{order} is named twice', 'name it once'),
-    'order-taken': ('{order} lies in wave {wave}, which is not cancelled', 'leave it out, or cancel that wave first'),
-    'over-cart': ('{order} has {units} units, all its lines together, and a cart holds fewer',
-                  'divide the order, as tools/wave split does, or leave it out and submit the others'),
-    'unknown-wave': ('no wave {wave} was submitted', 'submit it first, or correct its name'),
-    'wrong-state': ('wave {wave} is {state}', ''),
-    'short': ('the orders of {wave} want {wanted} of {article} together, and {free} are free',
-              'receive units, or cancel a wave that holds some, and give it again; or submit the other orders alone'),
-    'picking': ('a unit of {wave} was picked already',
-                'pick what is left, or tell it missing: it is too late to cancel the wave'),
-    'not-held': ('the wave holds nothing for {order} at {location}',
-                 'take an order and a location of its sheet or of the refills'),
-    'too-much': ('{held} are held there for {order}, and {quantity} were told',
-                 'tell at most {held}: what was told missing is not picked too; tools/confirm --after leaves it out'),
-    'no-row': ('the stock file has no record for {location}',
-               'add one with 0 units to the stock file with which the day began'),
-    'other-article': ('the row at {location} is of {article}', 'correct the location or the article'),
-    'too-many': ('{on_hand} are on hand at {location}, and a row has at most 1,000,000', 'receive fewer units there'),
-}
-CURES_OF_STATE = {
-    'submitted': 'release the wave first', 'allotted': 'nothing: it holds its stock, and can be released',
-    'released': 'nothing, where it was to go out: it went', 'cancelled': 'submit its orders in a wave of another name',
-    'done': 'nothing: all that it held is gone',
-}
+REASONS = refusals.of('command')
 
 
 def is_done(entry):
@@ -93,7 +65,7 @@ def cause_of(entries, entry):
 def cure_of(entry):
     fields, reason = fields_of(entry), entry.reply[1]
     if reason == 'wrong-state':
-        return CURES_OF_STATE.get(fields['state'], 'see docs/RULES.md')
+        return refusals.of('state').get(fields['state'], ('', 'see docs/RULES.md'))[1]
     return REASONS[reason][1].format_map(fields)
 
 

@@ -96,15 +96,17 @@ def judge_root(lines, name, wave, cost, duals, rounds):
     lines.test(duals * over <= PARTS * high, 'the bracket of %s is below the duals of its root' % name)
     is_narrow = PARTS * (high - low) < len(wave.orders) * over
     lines.test(found[4] == 'open' or is_narrow, 'the bracket of %s is not narrow' % name)
+    lines.test(found[4] == 'narrow' or not is_narrow, 'the bracket of %s is open, and meets the test of narrow' % name)
+    lines.test(PARTS * low >= max(duals, sum(wave.shares())) * over,
+               'the bracket of %s begins below known duals' % name)
+    lines.test(high <= cost * over, 'the bracket of %s ends above its cost' % name)
     batches = permitted(wave)
     if batches is not None:
         _judge_sides(lines, name, cheapest_cover(wave, batches).cost(), (Fraction(low, over), Fraction(high, over)))
     if found[4] == 'open':
-        told = 'the bracket of %s is open, ' % name + 'and meets the test of narrow, ' * is_narrow
-        is_start = over == PARTS and low == sum(wave.shares()) and high % PARTS == 0
-        lines.test(is_start, told + 'and is not that of the share duals and a first batching')
         is_paid = None not in (batches, rounds) and rounds >= len(batches)
-        lines.test(not is_paid, told + 'where its budget pays for as many rounds as there are batches')
+        lines.test(not is_paid, 'the bracket of %s is open, ' % name
+                   + 'where its budget pays for as many rounds as there are batches')
 
 
 def _judge_sides(lines, name, bound, sides):

@@ -5,9 +5,10 @@ import unittest
 from pathlib import Path
 
 import runs
-from citations import checks, counts, printed
+from citations import ceilings, checks, counts, printed
 from citations.pages import Page
 from citations.sources import Sources, read
+from citations import refused
 
 COUNTER = 'docs/lines-to-read' if (runs.TOP / 'docs/lines-to-read').exists() else 'tools/gate/lines-to-read'
 
@@ -83,6 +84,15 @@ class Documents(unittest.TestCase):
             found = self.counted(Page('docs/PAGE.md', '%d lines (`%s %s`)' % (number, COUNTER, words)))
             self.assertTrue(not found if told is None else told in ' '.join(found), found)
 
+    def test_ceilings(self):
+        """A document may have as many words as its ceiling says and no more, and has a ceiling."""
+        self.assertEqual([], [why for _, why in ceilings.all_of(self.pages) if why])
+        name, most = next(iter(ceilings.CEILINGS.items()))
+        for words, told in ((most, None), (most + 1, 'it has %d words, and may have %d' % (most + 1, most))):
+            page = Page(name, 'Word.\n\n    a block\n' + '| a |\n' * ((words - 3) // 3) + 'b ' * ((words - 3) % 3))
+            self.assertEqual([(name, told)], list(ceilings.all_of([page])))
+        self.assertIn('no ceiling', next(ceilings.all_of([Page('docs/PAGE.md', 'A page.')]))[1])
+
     def changed(self, name, old, new):
         self.assertIn(old, self.texts[name])
         return Page(name, self.texts[name].replace(old, new, 1))
@@ -93,9 +103,7 @@ class Documents(unittest.TestCase):
                                     ('docs/PROMISES.md', '`IsSound` of `wp_model` | ', '`IsSound` of `wp_model` | 1',
                                      'lines more'),
                                     ('docs/MAP.md', '| `wp_crew` |', '| `wp_nothing` |',
-                                     'the table of the crates has others'),
-                                    ('docs/MAP.md', '`wp_model`, `wp_graph` |', '`wp_model` |',
-                                     'wp_classes stands on wp_graph, wp_model')):
+                                     'the table of the crates has others')):
             self.assertIn(due, ' '.join(self.counted(self.changed(name, old, new))))
         lines = self.texts['docs/MAP.md'].split('\n')
         low, high = (next(at for at, line in enumerate(lines) if line.startswith('| `%s` |' % name))
@@ -104,15 +112,44 @@ class Documents(unittest.TestCase):
         self.assertIn('wp_outside stands on wp_model, which comes later',
                       self.counted(Page('docs/MAP.md', '\n'.join(lines))))
 
+    def test_the_tables_of_refusals(self):
+        """The rows are those of the refusals that tools/explain tells: none is changed, left out, added or moved."""
+        self.assertEqual([], [why for _, why in refused.all_of(self.pages) if why])
+        first, second = '| `bad-number` |', '| `out-of-range` |'
+        rows = {line.split(' | ')[0] + ' |': line for line in self.texts['docs/FORMATS.md'].split('\n')}
+        one, two = rows[first], rows[second]
+        for name, old, new, due in (('docs/FORMATS.md', 'digits alone: no sign', 'digits: no sign', 'no such row'),
+                                    ('docs/FORMATS.md', one + '\n', '', 'lacks the row | `bad-number`'),
+                                    ('docs/FORMATS.md', one, one + '\n| `bad-cell` | it | that |', 'no such row'),
+                                    ('docs/FORMATS.md', '%s\n%s' % (one, two), '%s\n%s' % (two, one), 'another order'),
+                                    ('docs/RULES.md', 'name it once', 'name it', 'lacks the row | `order-twice ORDER`')):
+            found = [why for _, why in refused.all_of([self.changed(name, old, new)]) if why]
+            self.assertIn(due, ' '.join(found))
+
     def printed(self, page):
         with tempfile.TemporaryDirectory() as folder:
             self.assertTrue(Path(folder).is_dir())
             return [why for _, why in printed.all_of([page], runs.TOP, Path(runs.PROGRAM)) if why]
 
     def test_what_is_printed(self):
-        self.assertEqual([], self.printed(Page('README.md', self.texts['README.md'])))
-        day = self.texts['docs/DAY.md']
-        self.assertEqual([], self.printed(Page('docs/DAY.md', day)))
+        for name in ('README.md', 'docs/EXAMPLES.md', 'docs/DAY.md'):
+            self.assertEqual([], self.printed(Page(name, self.texts[name])))
+
+    def test_files_that_are_shown_and_endings(self):
+        """A program that prints a file of its folder, and ends with the status that its last word names."""
+        program = runs.put(Path(runs.shelf().name) / 'copies', {'copy': '#!/bin/sh\ncat "$1"\nexit "$2"\n'}) / 'copy'
+        text = ('With `stock.csv`:\n\n    heading\n    a,5\n\nIt is copied, and the run ends with status 6:\n\n'
+                '    ./waveplan stock.csv 6\n\n    heading\n    a,5\n\nNow `stock.csv`:\n\n    a,7\n\nOnce more:\n\n'
+                '    ./waveplan stock.csv 0\n\n    a,7\n')
+        for old, new, due in (('', '', ''), ('status 6', 'status 5', 'it ends with status 6: ./waveplan stock.csv 6'),
+                              (', and the run ends with status 6', '', 'it ends with status 6'),
+                              ('    a,7\n\nOnce', '    a,8\n\nOnce', 'no such line is printed: a,7'),
+                              ('Now `stock.csv`:', 'Now:', 'no such line is printed: a,7'),
+                              ('csv 0', 'csv 3', 'it ends with status 3')):
+            page = Page('docs/EXAMPLES.md', '# Examples\n\n' + text.replace(old, new, 1))
+            found = [why for _, why in printed.all_of([page], runs.TOP, program) if why]
+            self.assertEqual(due in ' '.join(found), True, (new, found))
+            self.assertEqual(bool(due), bool(found), (new, found))
 
     def test_wrong_lines_and_commands(self):
         head = self.texts['README.md'].split('## What the words')[0]
@@ -121,9 +158,9 @@ class Documents(unittest.TestCase):
                               ('138 lines', '139 lines', 'the command prints 138 lines'),
                               ('--capacity 3\n', '--capacity 9\n', 'it ends with status 1'),
                               ('tools/wave sheets --layout', 'tools/wave sheets --layuot', 'it ends with status 2'),
-                              ('    end stock\n', '    end stocks\n', 'no such line'),
-                              ('    end journal\n    ..\n', '    ..\n    end journal\n    end journal\n',
-                               'no such line is printed: end journal')):
+                              ('    end\n', '    ends\n', 'no such line'),
+                              ('    10 1 release', '    10 1 release MON-13.00 -> released\n    10 1 release',
+                               'no such line is printed: 10 1 release MON-13.00 -> released')):
             self.assertIn(old, head)
             self.assertIn(due, ' '.join(self.printed(Page('README.md', head.replace(old, new, 1)))), new)
 
@@ -140,7 +177,7 @@ class Documents(unittest.TestCase):
         done = runs.script('documents', '--top', folder)
         self.assertEqual(1, done.status, done.errors)
         self.assertIn('README.md:1: nothing is called nothing_such\nleft out: ', done.output)
-        self.assertTrue(done.output.endswith('\n1 passed, 1 failed\n'), done.output)
+        self.assertTrue(done.output.endswith('\n2 passed, 1 failed\n'), done.output)
 
 
 if __name__ == '__main__':

@@ -7,7 +7,7 @@ from pathlib import Path
 
 import by_hand
 import runs
-from floor import refused_commands
+from floor import refusals, refused_commands
 from test_explain import LAYOUT, ORDERS, PLAN, RIGHT, STOCK
 from test_tables import REFUSALS
 
@@ -67,6 +67,17 @@ class Explained(unittest.TestCase):
             done = self.explained({'stock.csv': STOCK + '%s,B,5\n' % text})
             self.holds_with_the_program(done)
             self.assertIn(told, done.output)
+
+    def test_each_cause_that_the_code_names_is_told(self):
+        text = ''.join((runs.TOOLS / 'floor' / name).read_text() for name in ('causes.py', 'explain.py'))
+        named = set(re.findall(r"(?:pair|tell)\('([\w-]+)', '([\w-]+)'", text))
+        self.assertGreater(len(named), 50)
+        self.assertEqual(set(), named - set(refusals.known()))
+        self.assertEqual(set(refusals.of('record')), {'columns', 'not-utf8', 'bad-name', 'bad-number', 'out-of-range',
+                                                      'unknown-location', 'location-twice', 'unknown-article',
+                                                      'unknown-command', 'desk-number', 'too-many-rows',
+                                                      'too-many-places', 'too-many-orders', 'too-many-lines',
+                                                      'too-many-waves'})
 
     def test_bytes_that_a_terminal_would_obey_are_shown(self):
         done = self.explained({'stock.csv': STOCK + '1-2-L,B\x1b[2J\x07\u202e\x9b,5\n'})

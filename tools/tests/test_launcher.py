@@ -359,13 +359,23 @@ class Signals(Repository):
         super().setUp()
         write(f'{self.kit}/try-seconds', '30')
 
-    def ended(self, run, number, to_group, after):
-        """What a run has told that gets a signal once it has told the text `after`, and its status."""
+    def tries(self):
+        """The numbers of the processes that have made a first answer."""
+        if not os.path.exists(f'{self.kit}/tools'):
+            return []
+        with open(f'{self.kit}/tools', encoding='utf-8') as it:
+            return it.read().split()
+
+    def ended(self, run, number, to_group, after, tries=0):
+        """What a run has told that gets a signal once it has told the text `after` and so many processes have begun a
+        first answer, and its status."""
         told = ''
         while after not in told:
             line = run.stderr.readline()
             self.assertTrue(line, told)
             told += line
+        while len(self.tries()) < tries and run.poll() is None:
+            time.sleep(0.05)
         time.sleep(0.3)
         (os.killpg if to_group else os.kill)(run.pid, number)
         began = time.monotonic()
@@ -375,13 +385,13 @@ class Signals(Repository):
 
     def test_a_first_answer_is_ended_and_its_proof_goes_on(self):
         write(f'{self.kit}/seconds', '2')
-        for number, to_group, due in ((signal.SIGINT, True, 130), (signal.SIGTERM, False, 143)):
-            told, status = self.ended(self.start('plan', '--layout', 'words.txt'), number, to_group, 'unproved build')
+        for tries, number, to_group, due in ((1, signal.SIGINT, True, 130), (2, signal.SIGTERM, False, 143)):
+            run = self.start('plan', '--layout', 'words.txt')
+            told, status = self.ended(run, number, to_group, 'unproved build', tries)
             self.assertEqual(status, due)
             self.assertNotRegex(told, 'Traceback|no answer|plain')
             write(f'{self.home}/crates/above/src/lib.rt', told)
-        with open(f'{self.kit}/tools', encoding='utf-8') as it:
-            self.assertEqual([os.path.exists(f'/proc/{number.strip()}') for number in it], [False, False])
+        self.assertEqual([os.path.exists(f'/proc/{number}') for number in self.tries()], [False, False])
         self.wait()
         self.assertEqual((self.proofs(), self.call('plan')[0]), (1, 'proved plan\n'))
 

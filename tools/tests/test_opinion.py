@@ -388,7 +388,7 @@ tour 1-0 1-1 1-0
 pick 1-1-L A 2 O1
 rules s-shape 2 0 return 2 0 largest-gap 2 0
 certificate {"capacity":1,"loads":[2],"nodes":[{"kind":"kept"}],"orders":[[[1,1]]],"units":2,"version":2}
-root 1200 1201 over 600 narrow
+root 1200 1200 over 600 narrow
 end wave
 refills
 end refills
@@ -533,12 +533,14 @@ class Crews(unittest.TestCase):
                              ([*before[:4], line, *before[4:], *after], 'heading')):
             self.assertRegex(self.of_pair(lines) or 'nothing found', words)
 
-    def test_a_bracket_may_lie_above_the_bound_of_duals_of_its_own_alone(self):
+    def test_a_bracket_begins_with_the_duals_of_the_root(self):
         own = '{"duals":[840,720,1320],"kind":"leaf","marks":"1100100","tight":[[0],[0,1],[0,2]]}'
         proven = [line.replace('{"kind":"kept"}', own).replace('bound 30 open', 'bound 48 proven')
                   for line in self.PAIR]
-        self.assertIsNone(self.of_pair(proven))
-        self.assertRegex(self.of_pair([line.replace('root 1800 2880', 'root 2820 2879') for line in proven])
+        near = [line.replace('root 1800 2880 over 60 open', 'root 2880 2880 over 60 narrow') for line in proven]
+        self.assertIsNone(self.of_pair(near))
+        self.assertRegex(self.of_pair(proven) or 'nothing found', 'begins below known duals')
+        self.assertRegex(self.of_pair([line.replace('root 2880 2880', 'root 2879 2879') for line in near])
                          or 'nothing found', 'below the duals of its root')
 
     def test_the_script_judges_what_was_asked_for(self):
@@ -704,8 +706,8 @@ class Brackets(unittest.TestCase):
         self.assertEqual((None, 1159), (roots.permitted(many), len(roots.permitted(many, 1159))))
 
     def test_a_right_line(self):
-        for line in ('6120 6120 over 120 narrow', '51 51 over 1 narrow', '6115 6120 over 120 narrow',
-                     '3060 4080 over 60 open',
+        for line in ('6120 6120 over 120 narrow', '51 51 over 1 narrow', '6120 6125 over 120 narrow',
+                     '3060 4080 over 60 open', '6120 8160 over 120 open',
                      '%d %d over %d narrow' % (51 * 10 ** 30, 51 * 10 ** 30 + 1, 10 ** 30)):
             self.assertIsNone(self.fault('root ' + line), line)
 
@@ -717,24 +719,24 @@ class Brackets(unittest.TestCase):
                             ('52 68 over 1 open', 'above its linear bound'), ('69 69 over 1 open', 'above its cost'),
                             ('50 50 over 1 open', 'below the duals of its root')):
             self.assertRegex(self.fault('root ' + line) or 'nothing found', words, line)
-        self.assertRegex(self.fault('root 6119 6119 over 120 narrow', duals=0), 'below its linear bound, which is 51')
+        apart = self.wave([[(3, 4)]] * 3, 2, 5, [3, 3, 3])
+        self.assertRegex(self.fault('root 6120 6120 over 120 narrow', apart, 102),
+                         'below its linear bound, which is 102')
 
-    def test_an_open_bracket_is_that_of_the_shares_and_a_first_batching(self):
-        for line in ('6120 6120 over 120 open', '51 51 over 1 open'):
-            self.assertRegex(self.fault('root ' + line) or 'nothing found',
-                             'open, and meets the test of narrow, and is not', line)
-        for line in ('0 4080 over 60 open', '6120 8160 over 120 open', '3060 4081 over 60 open'):
-            self.assertRegex(self.fault('root ' + line) or 'nothing found',
-                             'is open, and is not that of the share duals', line)
+    def test_a_bracket_is_no_wider_than_what_is_known(self):
+        for line, words in (('0 4080 over 60 open', 'begins below known duals'),
+                            ('3059 4080 over 60 open', 'begins below known duals'),
+                            ('6119 6120 over 120 narrow', 'begins below known duals'),
+                            ('3060 4081 over 60 open', 'ends above its cost')):
+            self.assertRegex(self.fault('root ' + line, duals=0) or 'nothing found', words, line)
+
+    def test_an_open_bracket_is_not_narrow(self):
+        for line in ('6120 6120 over 120 open', '51 51 over 1 open', '6120 6125 over 120 open'):
+            self.assertRegex(self.fault('root ' + line) or 'nothing found', 'open, and meets the test of narrow', line)
 
     def test_an_open_bracket_has_fewer_rounds_than_there_are_batches(self):
-        alone = self.wave([[(3, 4)]], 1)
-        for rounds, words in ((0, None),
-                              (1, 'open, and meets the test of narrow, where its budget pays for as many rounds'),
-                              (None, None)):
-            found = self.fault('root 2040 2040 over 60 open', alone, 34, 2040, rounds)
-            self.assertTrue(found is None if words is None else words in str(found), (rounds, found))
-        for rounds, words in ((5, None), (6, 'is open, where its budget pays for as many rounds')):
+        for rounds, words in ((0, None), (5, None), (None, None),
+                              (6, 'is open, where its budget pays for as many rounds')):
             found = self.fault('root 3060 4080 over 60 open', rounds=rounds)
             self.assertTrue(found is None if words is None else words in str(found), (rounds, found))
 
@@ -772,14 +774,15 @@ class LaterLines(unittest.TestCase):
 
     def test_they_are_right(self):
         self.assertIsNone(self.fault(LATER))
-        self.assertIsNone(self.fault(LATER.replace('1201 over', '1200 over')))
+        self.assertIsNone(self.fault(LATER.replace('1200 1200 over 600', '2400 2400 over 1200')))
 
     def test_what_is_wrong_with_them_is_found(self):
         for old, new, words in ((' units 2 cost', ' cost', 'heading'), ('"loads":[2]', '"loads":[1]', 'cart'),
                                 ('return 2 0', 'return 2 1', 'surplus'),
-                                ('root 1200', 'root 1201', 'above its cost'),
-                                ('root 1200 1201', 'root 1200 1210', 'narrow'),
-                                ('root 1200 1201', 'root 1200 1199', 'empty')):
+                                ('root 1200 1200', 'root 1201 1201', 'above its cost'),
+                                ('root 1200 1200', 'root 1200 1201', 'ends above its cost'),
+                                ('root 1200 1200', 'root 1200 1210', 'narrow'),
+                                ('root 1200 1200', 'root 1200 1199', 'empty')):
             self.assertRegex(self.fault(LATER.replace(old, new, 1)) or 'nothing found', words, old)
 
     def test_an_order_over_the_cart_is_refused(self):

@@ -1,0 +1,33 @@
+"""How many words each document may have, tables and code among them. A document that gets more makes another part
+shorter, or its number here is raised with a reason in the commit."""
+
+CEILINGS = {
+    'README.md': 1500,
+    'docs/BATCHES.md': 7000,
+    'docs/CONTRIBUTING.md': 1000,
+    'docs/CREWS.md': 910,
+    'docs/DAY.md': 2350,
+    'docs/DECISIONS.md': 6000,
+    'docs/DESKS.md': 2500,
+    'docs/EXAMPLES.md': 2000,
+    'docs/FORMATS.md': 6500,
+    'docs/MAP.md': 3500,
+    'docs/MEASURES.md': 3500,
+    'docs/PROMISES.md': 6320,
+    'docs/QUESTIONS.md': 2150,
+    'docs/RULES.md': 2010,
+    'docs/SAFETY.md': 2400,
+    'docs/STORE.md': 2340,
+    'docs/TABLES.md': 650,
+    'docs/TOURS.md': 4000,
+}
+
+
+def all_of(pages):
+    """Each document has a ceiling, and no more words than that: a place, and what is wrong there, or None."""
+    for page in pages:
+        words, ceiling = sum(len(line.text.split()) for line in page.lines), CEILINGS.get(page.name)
+        if ceiling is None:
+            yield page.name, 'tools/citations/ceilings.py has no ceiling for it'
+        else:
+            yield page.name, None if words <= ceiling else 'it has %d words, and may have %d' % (words, ceiling)
