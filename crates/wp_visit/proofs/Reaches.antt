@@ -29,15 +29,22 @@ pub taken_more : (pairing : Pairing) (duals equal : List ℕ) (from room : ℕ) 
 taken_more pairing duals equal from room taken more e takes have =
     subst (λ (d : List ℕ). HaveMost pairing d from room taken → HaveMost pairing d from (room + 1) more) e (takes room) have
 
+-- one more number of orders, of which this is the most
+pub more_most : (pairing : Pairing) (duals : List ℕ) (from room most : ℕ) (reaches : List ℕ) → room < length reaches
+    → AreReachesBelow pairing duals from room reaches → IsMost pairing duals from room most
+    → AreReachesBelow pairing duals from (room + 1) (set reaches room most)
+more_most pairing duals from room most reaches within below is = λ other low.
+    ⊎_elim (λ (e : other ≡ room). let here : slice_index (set reaches room most) other ≡ most = get_or-set_at reaches room other most 0 e within in
+    subst (IsMost pairing duals from other) (sym here) (subst (λ (r : ℕ). IsMost pairing duals from r most) (sym e) is))
+    (λ (ne : other ≢ room). let there : slice_index (set reaches room most) other ≡ slice_index reaches other = get_or-set_other reaches room other most 0 ne in
+    subst (IsMost pairing duals from other) (sym there) (below other (omega (arith, low, ne)))) (cases_eq other room)
+
 -- one more number of orders
 pub more_reaches : (pairing : Pairing) (duals : List ℕ) (from room most : ℕ) (reaches taken : List ℕ) → room < length reaches
     → AreReachesBelow pairing duals from room reaches → HaveMost pairing duals from room taken → most ≡ duals_of duals taken
     → AreReachesBelow pairing duals from (room + 1) (set reaches room most)
-more_reaches pairing duals from room most reaches taken within below have is = λ other low.
-    ⊎_elim (λ (e : other ≡ room). let here : slice_index (set reaches room most) other ≡ most = get_or-set_at reaches room other most 0 e within in
-    subst (IsMost pairing duals from other) (sym here) (taken, subst (λ (r : ℕ). HaveMost pairing duals from r taken) (sym e) have, sym is))
-    (λ (ne : other ≢ room). let there : slice_index (set reaches room most) other ≡ slice_index reaches other = get_or-set_other reaches room other most 0 ne in
-    subst (IsMost pairing duals from other) (sym there) (below other (omega (arith, low, ne)))) (cases_eq other room)
+more_reaches pairing duals from room most reaches taken within below have is =
+    more_most pairing duals from room most reaches within below (taken, have, sym is)
 
 -- the most of as many orders as a place has room for is its reach
 pub reach_there : (pairing : Pairing) (duals place reaches : List ℕ) (from room reach : ℕ) → AreReachesBelow pairing duals from (pairing.capacity + 1) reaches

@@ -1,5 +1,5 @@
 -- What an order brings to a place while the batches are visited. Duals are in any unit here.
-use Rattle.std.specs.Prelude.{◌≡◌, ℕ, ◌+◌, ◌*◌, ◌^◌, ◌<◌, ◌≤◌, ◌⊎◌, ◌↔◌, true, false, List, All, Contains, length}
+use Rattle.std.specs.Prelude.{◌≡◌, ℕ, ◌+◌, ◌-◌, ◌*◌, ◌^◌, ◌<◌, ◌≤◌, ◌⊎◌, ◌↔◌, true, false, List, All, Contains, length}
 use Rattle.std.specs.Prelude.{slice_index, slice_index_or}
 use Rattle.std.specs.List.Sorted.{IsStrictlyIncreasing}
 use Rattle.wp_pairs.specs.Carts.{any_load}
@@ -26,6 +26,11 @@ IsMost pairing duals from room most = (taken : List ℕ) × HaveMost pairing dua
 abbrev pub AreReachesBelow : Pairing → List ℕ → ℕ → ℕ → List ℕ → Type 0
 AreReachesBelow pairing duals from end reaches = (room : ℕ) → room < end
     → IsMost pairing duals from room (slice_index reaches room)
+
+-- for each order from the number of orders down, the reaches of the items from it on
+abbrev pub AreReachesFrom : Pairing → List ℕ → List (List ℕ) → Type 0
+AreReachesFrom pairing duals all = (passed : ℕ) (d : List ℕ) → passed < length all
+    → AreReachesBelow pairing duals (pairing.orders - passed) (pairing.capacity + 1) (slice_index_or all passed d)
 
 -- an order that names an item which is a permitted batch, and what that loads and has in duals
 pub record IsUsable (pairing : Pairing) (duals : List ℕ) (order : ℕ) (item : Item) : Type 0 where

@@ -1,8 +1,8 @@
-ghost use Rattle.std.specs.Prelude.{◌≡◌, ◌+◌, ◌*◌, ◌<◌, ◌≤◌, All, length, replicate};
-ghost use Rattle.wp_lengths.specs.Duals.{duals_of};
-ghost use Rattle.wp_visit.specs.Items.{AreBounded, AreReachesBelow, IsItemOf, most_dual};
+ghost use Rattle.std.specs.Prelude.{◌≡◌, ◌+◌, ◌<◌, length};
+ghost use Rattle.wp_visit.specs.Items.{AreBounded, AreReachesBelow, IsItemOf};
 
-use wp_lengths::{PairedWave, is_later, sum_of, take_best};
+use crate::further::sum_in;
+use wp_lengths::{PairedWave, is_later};
 use wp_pairs::Batch;
 
 /// What an order brings to a place: the orders that are joined to it and those that are parted from it. It is usable
@@ -29,50 +29,18 @@ pub struct Given<'a> {
     pub ghost bounded: { AreBounded duals.now },
 }
 
-// Nothing for any number of orders.
-fn no_reaches() -> [u64; 9]
-    ensures { result ≡ replicate 9 0 }
-{
-    [0; 9]
-}
-
-// What the orders of a batch have in duals, all together.
-fn sum_in(given: &Given<'_>, batch: Batch) -> u64
-    requires { All (λ order. order < given.now.paired.pairs.now.orders) batch }
-    ensures is { result ≡ duals_of given.now.duals.now batch }
-    ensures small { result ≤ most_dual * length batch }
-{
-    let _size = batch.len();
-    sum_of(given.duals, batch) as u64
-}
-
-/// For each number of orders up to the capacity, the most that so many orders of items from this one on have in duals.
-pub fn reaches_of(given: &Given<'_>, from: u32) -> [u64; 9]
-    ensures reaches { AreReachesBelow given.now.paired.pairs.now given.now.duals.now from
-        (given.now.paired.pairs.now.capacity + 1) result }
-    ensures few { given.now.paired.pairs.now.capacity ≤ 8 }
-{
-    let pairs = given.paired.pairs;
-    let mut reaches = no_reaches();
-    let mut taken = Batch::empty();
-    for room in 0..pairs.capacity() {
-        taken = take_best(pairs, given.duals, taken, from);
-        reaches[room as usize + 1] = sum_in(given, taken);
-    }
-    reaches
-}
-
-/// What an order brings to a place.
-pub fn item_of(given: &Given<'_>, order: u32) -> Item
+/// What an order brings to a place, with the reaches of the items after it.
+pub fn item_of(given: &Given<'_>, order: u32, reach: &[u64; 9]) -> Item
     requires known { order < given.now.paired.pairs.now.orders }
-    requires few { order < 64 }
+    requires reaches { AreReachesBelow given.now.paired.pairs.now given.now.duals.now (order + 1)
+        (given.now.paired.pairs.now.capacity + 1) reach.now }
     ensures { IsItemOf given.now.paired.pairs.now given.now.duals.now order result }
 {
     let pairs = given.paired.pairs;
     let class = pairs.joined_to(order);
     let size = class.len();
     let parted = pairs.parted_from(order);
-    let reach = reaches_of(given, order + 1);
+    let reach = *reach;
     if !is_later(pairs, order, order) || !pairs.permits(class) {
         return Item {
             usable: false,

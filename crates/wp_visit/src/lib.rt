@@ -3,6 +3,7 @@
 //! which order, is proved once.
 #![tactic(auto)]
 
+mod further;
 mod item;
 mod place;
 mod step;

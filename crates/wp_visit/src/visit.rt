@@ -3,10 +3,11 @@ ghost use Rattle.wp_pairs.specs.Kept.{IsPairing};
 ghost use Rattle.wp_pairs.specs.Permitted.{AreJoined, IsPermitted};
 ghost use Rattle.wp_lengths.specs.Lengths.{IsLengthOf};
 ghost use Rattle.wp_lengths.specs.Visits.{AddsItem, IsItem, IsReach};
-ghost use Rattle.wp_visit.specs.Items.{AreBounded, AreItemsBelow};
+ghost use Rattle.wp_visit.specs.Items.{AreBounded, AreItemsBelow, AreReachesFrom};
 ghost use Rattle.wp_visit.specs.Places.{IsAt, IsNoChild};
 
-use crate::item::{Given, Item, item_of, reaches_of};
+use crate::further::all_reaches;
+use crate::item::{Given, Item, item_of};
 use crate::place::Place;
 use std::alloc::Global;
 use std::marker::Model;
@@ -39,16 +40,20 @@ impl<'a> Model for Visit<'a> {
         v.items.items v.reaches };
 }
 
-// What each order of the wave brings to a place.
-fn items_of(alloc: Global, given: &Given<'_>) -> Result<Vec<Item>, Memory>
+// What each order of the wave brings to a place, with the reaches of the items from each number on, the last first.
+fn items_of(alloc: Global, given: &Given<'_>, reaches: &Vec<[u64; 9]>) -> Result<Vec<Item>, Memory>
+    requires count { length reaches.now.items ≡ given.now.paired.pairs.now.orders + 1 }
+    requires reaches { AreReachesFrom given.now.paired.pairs.now given.now.duals.now reaches.now.items }
     ensures valid { IsPairing given.now.paired.pairs.now }
     ensures count { IfOk result (λ items. length items.items ≡ given.now.paired.pairs.now.orders) }
     ensures items { IfOk result (λ items.
         AreItemsBelow given.now.paired.pairs.now given.now.duals.now given.now.paired.pairs.now.orders items.items) }
 {
+    let orders = given.paired.pairs.orders();
     let mut items = Vec::new(alloc);
-    for order in 0..given.paired.pairs.orders() {
-        items.push(item_of(given, order))?;
+    for order in 0..orders {
+        let after = orders - 1 - order;
+        items.push(item_of(given, order, &reaches[after as usize]))?;
     }
     Ok(items)
 }
@@ -65,8 +70,9 @@ impl<'a> Visit<'a> {
             paired: *paired,
             duals,
         };
-        let items = items_of(alloc, &given)?;
-        let reaches = reaches_of(&given, 0);
+        let all = all_reaches(alloc, &given)?;
+        let items = items_of(alloc, &given, &all)?;
+        let reaches = all[paired.pairs.orders() as usize];
         Ok(Visit {
             wave: paired.wave,
             pairs: paired.pairs,

@@ -1,10 +1,7 @@
-use Rattle.std.proofs.Common.{arith, inl, inr}
+use Rattle.std.proofs.Common.{inl, inr}
 use Rattle.std.proofs.lemmas.Bool.{both_ways}
 use Rattle.wp_visit.proofs.item.item_of.Goals as goal
 use Rattle.wp_visit.proofs.item.item_of.Goals.{then-not-is_later-via-then-not-is_later, then-not-is_later-via-else-not-is_later+then-not-permits}
-
-pub overflow_add-order : goal.overflow_add-order
-overflow_add-order c = omega (arith, c.requires.few)
 
 pub returns-then-not-is_later : goal.returns-then-not-is_later
 returns-then-not-is_later c = record {
@@ -20,5 +17,5 @@ returns-then-not-is_later c = record {
     | then-not-is_later-via-else-not-is_later+then-not-permits w ↦ inr (λ permitted. both_ways w.permits.result w.if-not-permits.true
         (w.permits.ensures.1 permitted))
   ];
-  reaches = c.reaches_of-reach.ensures.reaches;
+  reaches = c.requires.reaches;
 }

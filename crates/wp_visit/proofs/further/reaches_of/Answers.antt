@@ -5,7 +5,7 @@ use Rattle.wp_lengths.specs.Visits.{IsLater}
 use Rattle.wp_lengths.proofs.Further.{most_of_none}
 use Rattle.wp_visit.specs.Items.{AreReachesBelow}
 use Rattle.wp_visit.proofs.Reaches.{more_reaches, reaches_of_none, taken_more}
-use Rattle.wp_visit.proofs.item.reaches_of.Goals as goal
+use Rattle.wp_visit.proofs.further.reaches_of.Goals as goal
 
 pub loop-room-init : goal.loop-room-init
 loop-room-init c = record {

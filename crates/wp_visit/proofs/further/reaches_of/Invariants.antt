@@ -1,7 +1,7 @@
 use Rattle.std.proofs.Common.{◌≡◌, ◌+◌, length}
 use Rattle.wp_lengths.specs.Reaches.{HaveMost}
 use Rattle.wp_visit.specs.Items.{AreReachesBelow}
-use Rattle.wp_visit.proofs.item.reaches_of.Given as goal
+use Rattle.wp_visit.proofs.further.reaches_of.Given as goal
 
 abbrev pub invariant-loop-room : goal.invariant-loop-room
 invariant-loop-room l = record {

@@ -2,7 +2,7 @@ use Rattle.std.proofs.Common.{ℕ, ◌<◌, All, arith, subst, sym}
 use Rattle.std.proofs.lemmas.List.Elements.{All-contains}
 use Rattle.wp_lengths.proofs.DualBounds.{ascending_few}
 use Rattle.wp_visit.proofs.Reaches.{sum_bounded}
-use Rattle.wp_visit.proofs.item.sum_in.Goals as goal
+use Rattle.wp_visit.proofs.further.sum_in.Goals as goal
 
 pub overflow_cast-result : goal.overflow_cast-result
 overflow_cast-result c =
