@@ -226,7 +226,7 @@ both_fail true false f = refl
 both_fail false b f = refl
 
 -- an order that no live wave has is taken by none
-no_taker : (waves : List Wave) (order : List ℕ) → ((i k : ℕ) (v : Wave) → slice_get waves i ≡ Some v → is_live v.state ≡ true
+pub no_taker : (waves : List Wave) (order : List ℕ) → ((i k : ℕ) (v : Wave) → slice_get waves i ≡ Some v → is_live v.state ≡ true
     → slice_get v.orders k ≡ Some order → ⊥) → taker_of waves order ≡ None
 no_taker [] order none = refl
 no_taker (w ∷ waves) order none =

@@ -25,3 +25,4 @@ pub mod OrderWants
 pub mod WaveWants
 pub mod OrderLines
 pub mod WaveStates
+pub mod OrderTakers

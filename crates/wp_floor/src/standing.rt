@@ -1,11 +1,12 @@
-//! How the rows and the waves stand.
+//! How the rows, the waves and the orders stand.
 ghost use Rattle.std.specs.Prelude.{◌≡◌, ◌<◌, length, slice_get, Some};
 ghost use Rattle.std.specs.Option.{option_map};
 ghost use Rattle.wp_model.specs.Opening.{Opening as OpeningData};
-ghost use Rattle.wp_model.specs.Step.{wave_from};
+ghost use Rattle.wp_model.specs.Step.{taker_of, wave_from};
 ghost use Rattle.wp_floor.specs.Floor.{IsFloor, state_of};
 
 use crate::floor::Floor;
+use crate::opening::Opening;
 use wp_model::{Name, Row, WaveState};
 
 impl Floor {
@@ -34,5 +35,15 @@ impl Floor {
             Some(kept) => Some(kept.stage.state()),
             None => None,
         }
+    }
+
+    /// The name of the first wave that has an order, of those that aren't cancelled. None comes exactly where none of
+    /// them has it, as with an order that the opening hasn't.
+    pub fn taker(&self, opening: &Opening, order: &Name) -> Option<Name>
+        requires { IsFloor opening.now self.now }
+        ensures { result ≡ taker_of (state_of self.now).waves order.now }
+    {
+        let number = opening.orders().find(order)?;
+        self.takers[number as usize]
     }
 }

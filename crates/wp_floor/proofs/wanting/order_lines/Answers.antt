@@ -1,11 +1,10 @@
-use Rattle.std.proofs.Common.{◌≡◌, ◌∙◌, ◌≤◌, sym, ap, ℕ, List, map, length, Some, slice_get, subst}
+use Rattle.std.proofs.Common.{◌∙◌, ◌≤◌, sym, ap, List, map, length, slice_get, subst}
 use Rattle.std.specs.List.{All}
 use Rattle.wp_model.proofs.Demand.{few_lines, lines_are}
-use Rattle.wp_model.specs.Opening.{IsLine, Order, lines_of}
+use Rattle.wp_model.specs.Opening.{IsLine, Order}
 use Rattle.wp_model.specs.Limits.{most_lines}
 use Rattle.wp_model.specs.declared.row.Line.{Line}
 use Rattle.wp_tables.specs.Orders.{lines_in}
-use Rattle.wp_floor.specs.Floor.{order_number}
 use Rattle.wp_floor.proofs.OrderLines.{lines_found, no_lines}
 use Rattle.wp_floor.proofs.OrderFaults.{found_within}
 use Rattle.wp_floor.proofs.wanting.order_lines.Goals as goal
