@@ -4,7 +4,7 @@ ghost use Rattle.std.specs.Option.{option_map};
 ghost use Rattle.wp_model.specs.History.{IsLegal, answered, opened, state_after};
 ghost use Rattle.wp_model.specs.Plain.{is_plain};
 ghost use Rattle.wp_model.specs.Sound.{IsSound};
-ghost use Rattle.wp_model.specs.Step.{step, wave_from};
+ghost use Rattle.wp_model.specs.Step.{step, taker_of, wave_from};
 ghost use Rattle.wp_model.specs.Tables.{IsReadOpening};
 ghost use Rattle.wp_model.specs.declared.entry.Entry.{Entry as EntryData};
 ghost use Rattle.wp_machine.specs.Outcome.{outcome_of};
@@ -257,5 +257,13 @@ impl<'a> Machine<'a> {
             (wave_from 0 (state_after self.now).waves wave.now) }
     {
         self.floor.state(wave)
+    }
+
+    /// The name of the wave that has an order, of those that aren't cancelled. None comes exactly where none of them
+    /// has it, as with an order that the opening hasn't.
+    pub fn taker(&self, order: &Name) -> Option<Name>
+        ensures { result ≡ taker_of (state_after self.now).waves order.now }
+    {
+        self.floor.taker(self.opening, order)
     }
 }
