@@ -1,7 +1,7 @@
 -- What an audit tells is what the journal shows.
 use Rattle.wp_journal.proofs.Lines.{first_of_lines}
 use Rattle.std.proofs.Common.{◌≡◌, ◌∙◌, refl, sym, ap, ap₂, subst, ℕ, ◌<◌, true, false, List, [], ◌∷◌, ◌++◌, length, map, append_assoc, inl, inr}
-use Rattle.std.specs.Prelude.{◌≢◌, codes, IsTrue, Ok, Err}
+use Rattle.std.specs.Prelude.{◌≢◌, codes, IsTrue, Err}
 use Rattle.std.proofs.lemmas.List.{map-append}
 use Rattle.std.proofs.lemmas.List.Elements.{All-nil, All-push}
 use Rattle.std.proofs.lemmas.Slice.Eq.{bytes_eq-Decides}
@@ -14,7 +14,7 @@ use Rattle.wp_model.specs.declared.entry.Entry.{Entry}
 use Rattle.wp_model.specs.declared.reply.Reply.{Reply}
 use Rattle.wp_journal.specs.Auditing.{Judges, Tells, after_line, first_line, is_head}
 use Rattle.wp_journal.specs.Grammar.{IsLineOf, IsOnlyLineOf, is_line_entry}
-use Rattle.wp_journal.specs.Journals.{Begins, Shows, is_end, line_number_after, lines_of}
+use Rattle.wp_journal.specs.Journals.{Begins, IsJournalOfHistory, Shows, is_end, line_number_after, lines_of}
 use Rattle.wp_journal.specs.declared.verdict.AuditFault.{AuditFault}
 use Rattle.wp_journal.specs.declared.verdict.AuditFault.TheVariants as fault
 
@@ -80,9 +80,8 @@ ends_early opening text history begins = inr (record { history = history; left =
 -- the journal ends
 pub ends_well : (opening : Opening) (text : List ℕ) (history : History) (next : List ℕ) (others : List (List ℕ)) → Begins opening text history (next ∷ others)
     → is_end next ≡ true
-    → Shows opening text (Ok (record { entries = length history.entries }))
-ends_well opening text history next others begins ends = record
-    { history = history; last = next; others = others; begins = begins; ends = ends; counted = refl }
+    → IsJournalOfHistory opening text history
+ends_well opening text history next others begins ends = record { last = next; others = others; begins = begins; ends = ends }
 
 clash : true ≡ false → ⊥
 clash e = cc e
@@ -115,9 +114,3 @@ head_is first is = (bytes_eq-Decides first (line (codes "journal"))).0 is
 pub begins_at : (opening : Opening) (text : List ℕ) (history : History) (rest : List ℕ) → 0 < length rest → Begins opening text history (lines_of rest)
     → Begins opening text history (first_line rest ∷ lines_of (after_line rest))
 begins_at opening text history rest some begins = subst (Begins opening text history) (first_of_lines rest some) begins
-
--- an audit's count is that of the entries
-pub audit_of : (opening : Opening) (text : List ℕ) (history : History) (count : ℕ) → count ≡ length history.entries
-    → Shows opening text (Ok (record { entries = length history.entries }))
-    → Shows opening text (Ok (record { entries = count }))
-audit_of opening text history count same shows = subst (λ (n : ℕ). Shows opening text (Ok (record { entries = n }))) (sym same) shows

@@ -17,9 +17,9 @@ use Rattle.wp_model.specs.State.{State, opening_state}
 use Rattle.wp_model.specs.Step.{step}
 use Rattle.wp_model.specs.declared.entry.Entry.{Entry}
 use Rattle.wp_model.specs.declared.reply.Reply.{Reply}
-use Rattle.wp_journal.specs.Auditing.{Tells}
+use Rattle.wp_journal.specs.Auditing.{Restores, Tells, audit_of}
 use Rattle.wp_journal.specs.Grammar.{IsLineOf, is_line_entry}
-use Rattle.wp_journal.specs.Journals.{Begins, IsBad, IsMisanswered, Shows, is_end, line_number_after, lines_of}
+use Rattle.wp_journal.specs.Journals.{Begins, IsBad, IsJournalOf, IsJournalOfHistory, IsMisanswered, Shows, is_end, line_number_after, lines_of}
 use Rattle.wp_journal.specs.declared.verdict.Audit.{Audit}
 use Rattle.wp_journal.specs.declared.verdict.AuditFault.{AuditFault}
 use Rattle.wp_journal.specs.declared.verdict.AuditFault.TheVariants as fault
@@ -292,3 +292,59 @@ tells_it opening text (Err (fault.BadLine number)) found tells shows = inl (show
 tells_it opening text (Err (fault.WrongReply number printed right)) found tells shows =
     inl (shows_one opening text (Err (fault.WrongReply number printed right)) found tells shows)
 tells_it opening text (Err fault.Memory) found tells shows = inr refl
+
+-- the journal of a history is one of so many entries
+pub counted : (opening : Opening) (text : List ℕ) (history : History) (count : ℕ) → IsJournalOfHistory opening text history
+    → count ≡ length history.entries → IsJournalOf opening text count
+counted opening text history count is same =
+    record { history = history; last = is.last; others = is.others; begins = is.begins; ends = is.ends; counted = same }
+
+-- a text is the journal of one history
+pub one_history : (opening : Opening) (text : List ℕ) (a b : History) → IsJournalOfHistory opening text a → IsJournalOfHistory opening text b → a ≡ b
+one_history opening text a b p q =
+    by (align a.entries b.entries (p.last ∷ p.others) (q.last ∷ q.others) p.begins.within q.begins.within
+    (same_tails (line (codes "journal")) (line (codes "journal")) (map entry_line a.entries ++ p.last ∷ p.others)
+    (map entry_line b.entries ++ q.last ∷ q.others)
+    (sym p.begins.lines ∙ q.begins.lines)))
+  where
+    stops : (h : History) (last : List ℕ) (others : List (List ℕ)) → is_end last ≡ true
+        → StopsAt h (last ∷ others) (Ok (record { entries = length h.entries }))
+    stops h last others ends = (last, others, refl, ends, refl)
+
+    by : Aligned a.entries b.entries (p.last ∷ p.others) (q.last ∷ q.others) → a ≡ b
+    by (inl (entries, lefts)) = same_history opening a b p.begins.starts q.begins.starts entries
+    by (inr (inl on)) =
+        absurd (further opening text a b (p.last ∷ p.others) (q.last ∷ q.others) (Ok (record { entries = length a.entries })) p.begins q.begins
+        (stops a p.last p.others p.ends) on)
+    by (inr (inr on)) =
+        absurd (further opening text b a (q.last ∷ q.others) (p.last ∷ p.others) (Ok (record { entries = length b.entries })) q.begins p.begins
+        (stops b q.last q.others q.ends) on)
+
+-- what a replay gives, an audit tells
+pub audit_tells : (opening : Opening) (text : List ℕ) (result : Result History AuditFault) → Restores opening text result → Tells opening text (audit_of result)
+audit_tells opening text (Ok history) is = counted opening text history (length history.entries) is refl
+audit_tells opening text (Err why) tells = tells
+
+-- so a replay finds what the journal shows, or there was no memory
+pub restores_it : (opening : Opening) (text : List ℕ) (result : Result History AuditFault) (found : Result Audit AuditFault) → Restores opening text result
+    → Shows opening text found → (audit_of result ≡ found) ⊎ (result ≡ Err fault.Memory)
+restores_it opening text (Ok history) found restores shows =
+    inl (shows_one opening text (Ok (record { entries = length history.entries })) found (audit_tells opening text (Ok history) restores) shows)
+restores_it opening text (Err (fault.BadLine number)) found tells shows = inl (shows_one opening text (Err (fault.BadLine number)) found tells shows)
+restores_it opening text (Err (fault.WrongReply number printed right)) found tells shows =
+    inl (shows_one opening text (Err (fault.WrongReply number printed right)) found tells shows)
+restores_it opening text (Err fault.Memory) found tells shows = inr refl
+
+-- and gives the history whose journal a text is, or there was no memory
+pub restores_one : (opening : Opening) (text : List ℕ) (result : Result History AuditFault) (history : History) → Restores opening text result
+    → IsJournalOfHistory opening text history → (result ≡ Ok history) ⊎ (result ≡ Err fault.Memory)
+restores_one opening text (Ok other) history restores is = inl (ap Ok (one_history opening text other history restores is))
+restores_one opening text (Err why) history tells is =
+    by (restores_it opening text (Err why) (Ok (record { entries = length history.entries })) tells (counted opening text history (length
+    history.entries) is refl))
+  where
+    by : (◌≡◌ {A = Result Audit AuditFault} (Err why) (Ok (record { entries = length history.entries })))
+        ⊎ (◌≡◌ {A = Result History AuditFault} (Err why) (Err fault.Memory))
+        → (◌≡◌ {A = Result History AuditFault} (Err why) (Ok history)) ⊎ (◌≡◌ {A = Result History AuditFault} (Err why) (Err fault.Memory))
+    by (inl same) = absurd (cc same)
+    by (inr none) = inr none

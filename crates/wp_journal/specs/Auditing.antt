@@ -1,5 +1,5 @@
 -- How a journal is audited, line by line.
-use Rattle.std.specs.Prelude.{◌≡◌, ℕ, ◌+◌, ⊤, Bool, List, take, drop, codes, Result, Ok, Err}
+use Rattle.std.specs.Prelude.{◌≡◌, ℕ, ◌+◌, ⊤, Bool, List, length, take, drop, codes, Result, Ok, Err}
 use Rattle.std.specs.List.{position_or_len}
 use Rattle.std.specs.Str.{bytes_eq}
 use Rattle.wp_model.specs.History.{History, answered, next_entry}
@@ -7,7 +7,7 @@ use Rattle.wp_model.specs.Journal.{line}
 use Rattle.wp_model.specs.Opening.{Opening}
 use Rattle.wp_model.specs.declared.command.Command.{Command}
 use Rattle.wp_journal.specs.Grammar.{IsLineOf}
-use Rattle.wp_journal.specs.Journals.{IsMisanswered, IsNotNext, Shows, is_feed, line_number_after}
+use Rattle.wp_journal.specs.Journals.{IsJournalOfHistory, IsMisanswered, IsNotNext, Shows, is_feed, line_number_after}
 use Rattle.wp_journal.specs.declared.verdict.Audit.{Audit}
 use Rattle.wp_journal.specs.declared.verdict.AuditFault.{AuditFault}
 use Rattle.wp_journal.specs.declared.verdict.AuditFault.TheVariants as fault
@@ -39,3 +39,13 @@ Tells opening text (Err (fault.BadLine number)) = Shows opening text (Err (fault
 Tells opening text (Err (fault.WrongReply number printed right))
     = Shows opening text (Err (fault.WrongReply number printed right))
 Tells opening text (Err fault.Memory) = ⊤
+
+-- what an audit answers where a replay answers this: for a history, how many entries it has
+abbrev pub audit_of : Result History AuditFault → Result Audit AuditFault
+audit_of (Ok history) = Ok (record { entries = length history.entries })
+audit_of (Err why) = Err why
+
+-- a replay gives the history whose journal the text is, or tells what the journal shows; but there may be no memory
+abbrev pub Restores : Opening → List ℕ → Result History AuditFault → Type 0
+Restores opening text (Ok history) = IsJournalOfHistory opening text history
+Restores opening text (Err why) = Tells opening text (Err why)

@@ -34,6 +34,13 @@ pub record Begins (opening : Opening) (text : List ℕ) (history : History) (lef
   pub within : All (λ entry. IsTrue (is_line_entry entry)) history.entries
   pub lines : lines_of text ≡ line (codes "journal") ∷ (map entry_line history.entries ++ left)
 
+-- a text begins with the whole journal of a legal history
+pub record IsJournalOfHistory (opening : Opening) (text : List ℕ) (history : History) : Type 0 where
+  pub last : List ℕ
+  pub others : List (List ℕ)
+  pub begins : Begins opening text history (last ∷ others)
+  pub ends : is_end last ≡ true
+
 -- a text begins with the whole journal of a legal history of so many entries
 pub record IsJournalOf (opening : Opening) (text : List ℕ) (count : ℕ) : Type 0 where
   pub history : History

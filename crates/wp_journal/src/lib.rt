@@ -18,5 +18,5 @@ pub use fault::EntryFault;
 pub use laws::printed_journals_are_right;
 pub use print::print_entry;
 pub use read::read_entry;
-pub use replay::{audit, replay_line};
+pub use replay::{audit, replay_journal, replay_line};
 pub use verdict::{Audit, AuditFault, ReplayFault};

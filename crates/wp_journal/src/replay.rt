@@ -1,16 +1,17 @@
-//! Audits of journals: the machine answers each entry's command again, and its own entries are compared with the lines.
+//! Replays of journals, and audits, which are replays: the machine answers each entry's command again, and its own
+//! entries are compared with the lines.
 ghost use Rattle.std.specs.Prelude.{◌≡◌, ◌⊎◌, ◌<◌, ◌&&◌, ◌++◌, ◌∷◌, [], ℕ, List, Result, Err, IfOk, IsTrue, codes};
-ghost use Rattle.std.specs.Prelude.{length};
+ghost use Rattle.std.specs.Prelude.{length, Ok};
 ghost use Rattle.std.specs.List.{position_or_len};
 ghost use Rattle.std.specs.Str.{bytes_eq};
-ghost use Rattle.wp_model.specs.History.{answered, next_entry};
+ghost use Rattle.wp_model.specs.History.{History, answered, next_entry};
 ghost use Rattle.wp_model.specs.Journal.{entry_line, line};
 ghost use Rattle.wp_model.specs.declared.entry.Entry.{Entry as EntryData};
 ghost use Rattle.wp_model.specs.Limits.{most_entries};
 ghost use Rattle.wp_model.specs.Plain.{is_plain};
-ghost use Rattle.wp_journal.specs.Auditing.{Judges, Tells, after_line, first_line, is_head};
+ghost use Rattle.wp_journal.specs.Auditing.{Judges, Restores, Tells, after_line, audit_of, first_line, is_head};
 ghost use Rattle.wp_journal.specs.Grammar.{IsLineOf, IsOnlyLineOf, is_line_entry};
-ghost use Rattle.wp_journal.specs.Journals.{Shows, is_end, is_feed, line_number_after, lines_of};
+ghost use Rattle.wp_journal.specs.Journals.{IsJournalOfHistory, Shows, is_end, is_feed, line_number_after, lines_of};
 ghost use Rattle.wp_journal.specs.Replays.{MayGoOn, Replays};
 ghost use Rattle.wp_journal.specs.declared.verdict.Audit.{Audit};
 ghost use Rattle.wp_journal.specs.declared.verdict.AuditFault.{AuditFault};
@@ -191,19 +192,21 @@ fn take_line(alloc: Global, machine: &mut Machine<'_>, line: &[u8]) -> Result<()
     }
 }
 
-// Audits the lines after the head.
-fn audit_entries(alloc: Global, opening: &Opening, text: &[u8]) -> Result<Audit, AuditFault>
+// The machine after the lines that follow the head.
+fn replay_entries<'a>(
+    alloc: Global,
+    opening: &'a Opening,
+    text: &[u8],
+) -> Result<Machine<'a>, AuditFault>
     ensures { (whole : List ℕ) → lines_of whole ≡ line (codes "journal") ∷ lines_of text.now
-        → Tells opening.now whole result }
+        → Restores opening.now whole result }
 {
     let mut machine = Machine::open(alloc, opening)?;
     let mut rest = text;
     while !rest.is_empty() {
         let (line, more) = split_line(rest);
         if is_end(line) {
-            return Ok(Audit {
-                entries: machine.count(),
-            });
+            return Ok(machine);
         }
         take_line(alloc, &mut machine, line)?;
         rest = more;
@@ -211,19 +214,43 @@ fn audit_entries(alloc: Global, opening: &Opening, text: &[u8]) -> Result<Audit,
     Err(bad_line(&machine))
 }
 
-// Audits a text, from the head on.
-fn audit_text(alloc: Global, opening: &Opening, text: &[u8]) -> Result<Audit, AuditFault>
-    ensures { Tells opening.now text.now result }
+// The machine after a text, from the head on.
+fn replay_text<'a>(
+    alloc: Global,
+    opening: &'a Opening,
+    text: &[u8],
+) -> Result<Machine<'a>, AuditFault>
+    ensures { Restores opening.now text.now result }
 {
     if text.is_empty() {
         return Err(AuditFault::BadLine(1));
     }
     let (line, rest) = split_line(text);
     if is_head(line) {
-        audit_entries(alloc, opening, rest)
+        replay_entries(alloc, opening, rest)
     } else {
         Err(AuditFault::BadLine(1))
     }
+}
+
+/// The machine after a journal, which it replays line by line: the line `journal`, the entries numbered 0, 1, 2 and so
+/// on, and the line `end journal`, whose line feed may be missing; what follows isn't read. The machine answers each
+/// entry's command again, after the entries before it. Ok gives the machine that has answered just the journal's
+/// entries. The first line that isn't right decides, as in an audit: `BadLine` comes exactly where it is neither the
+/// entry with the next number below 10,000 nor a heading in its place, or the text ends before it; `WrongReply` comes
+/// exactly where it is the next entry and its reply isn't the machine's.
+pub fn replay_journal<'a>(
+    alloc: Global,
+    opening: &'a Opening,
+    text: &Vec<u8>,
+) -> Result<Machine<'a>, AuditFault>
+    ensures restores { Restores opening.now text.now.items result }
+    ensures exact { (found : Result Audit AuditFault) → Shows opening.now text.now.items found
+        → (audit_of result ≡ found) ⊎ (result ≡ Err fault.Memory) }
+    ensures history { (history : History) → IsJournalOfHistory opening.now text.now.items history
+        → (result ≡ Ok history) ⊎ (result ≡ Err fault.Memory) }
+{
+    replay_text(alloc, opening, text.as_slice())
 }
 
 /// Audits a journal, line by line: the line `journal`, the entries numbered 0, 1, 2 and so on, and the line
@@ -236,5 +263,8 @@ pub fn audit(alloc: Global, opening: &Opening, text: &Vec<u8>) -> Result<Audit, 
     ensures exact { (found : Result Audit AuditFault) → Shows opening.now text.now.items found
         → (result ≡ found) ⊎ (result ≡ Err fault.Memory) }
 {
-    audit_text(alloc, opening, text.as_slice())
+    let machine = replay_journal(alloc, opening, text)?;
+    Ok(Audit {
+        entries: machine.count(),
+    })
 }

@@ -2,7 +2,7 @@ use Rattle.std.proofs.Common.{◌≡◌, ◌∷◌, ◌≤◌, List, ℕ, length
 use Rattle.std.specs.Prelude.{codes}
 use Rattle.wp_model.specs.Journal.{line}
 use Rattle.wp_journal.specs.Journals.{Begins, lines_of}
-use Rattle.wp_journal.proofs.replay.audit_entries.Given as goal
+use Rattle.wp_journal.proofs.replay.replay_entries.Given as goal
 
 -- the journal begins with what the machine has answered, and the other lines are left
 abbrev pub invariant-loop-rest : goal.invariant-loop-rest

@@ -1,22 +1,21 @@
 use Rattle.std.proofs.Common.{◌∙◌, ap, subst, sym, length, List, ℕ, Err}
 use Rattle.std.proofs.lemmas.Result.{err_from_is_err_and}
-use Rattle.wp_journal.specs.Auditing.{Judges, Tells, first_line}
+use Rattle.wp_journal.specs.Auditing.{Judges, Restores, Tells, first_line}
 use Rattle.wp_journal.specs.Grammar.{IsLineOf}
 use Rattle.wp_journal.specs.Journals.{Begins, is_end, lines_of}
 use Rattle.wp_model.specs.History.{next_entry}
 use Rattle.wp_journal.specs.declared.verdict.AuditFault.{AuditFault}
-use Rattle.wp_journal.proofs.Findings.{audit_of, begins_at, ends_early, ends_well, leads_on, stops}
+use Rattle.wp_journal.proofs.Findings.{begins_at, ends_early, ends_well, leads_on, stops}
 use Rattle.wp_journal.proofs.Lines.{no_bytes, some_bytes}
-use Rattle.wp_journal.proofs.replay.audit_entries.Goals as goal
+use Rattle.wp_journal.proofs.replay.replay_entries.Goals as goal
 
 pub returns-then-is_end : goal.returns-then-is_end
 returns-then-is_end c = λ whole lines.
     let rest = c.loop-rest.rest.now in
     let some = some_bytes (length rest) c.is_empty.result c.is_empty.ensures c.loop-rest-test.true in
     let ends = ap is_end (sym c.split_line.ensures.first) ∙ (sym c.is_end.ensures ∙ c.if-is_end.true) in
-    audit_of c.args.opening.now whole c.loop-rest.machine c.count.result c.count.ensures.count
-    (ends_well c.args.opening.now whole c.loop-rest.machine (first_line rest) _
-    (begins_at c.args.opening.now whole c.loop-rest.machine rest some (c.loop-rest.invariant.0 whole lines)) ends)
+    ends_well c.args.opening.now whole c.loop-rest.machine (first_line rest) _
+    (begins_at c.args.opening.now whole c.loop-rest.machine rest some (c.loop-rest.invariant.0 whole lines)) ends
 
 pub returns-in_err-take_line : goal.returns-in_err-take_line
 returns-in_err-take_line c = λ whole lines.
@@ -24,7 +23,7 @@ returns-in_err-take_line c = λ whole lines.
     let some = some_bytes (length rest) c.is_empty.result c.is_empty.ensures c.loop-rest-test.true in
     let goes = ap is_end (sym c.split_line.ensures.first) ∙ (sym c.is_end.ensures ∙ c.if-is_end.false) in
     let p = err_from_is_err_and c.from_residual-in_err-take_line.result c.from_residual-in_err-take_line.ensures.1 in
-    subst (Tells c.args.opening.now whole) (sym (p.1 ∙ ap Err p.2))
+    subst (Restores c.args.opening.now whole) (sym (p.1 ∙ ap Err p.2))
     (stops (Unit {0}) c.args.opening.now whole c.loop-rest.machine c.take_line.new.machine (first_line rest) _ c.in_err-take_line.field-0.0
     (begins_at c.args.opening.now whole c.loop-rest.machine rest some (c.loop-rest.invariant.0 whole lines)) goes
     (subst (λ (next : List ℕ). Judges {U = Unit {0}} c.loop-rest.machine next c.take_line.new.machine (Err c.in_err-take_line.field-0.0))
