@@ -9,16 +9,16 @@
 
 mod audit;
 mod check;
-mod complaint;
+pub mod complaint;
 mod day;
 mod ending;
-mod input;
+pub mod input;
 mod laws;
 mod make;
 mod plan;
-mod reading;
+pub mod reading;
 mod sections;
-mod status;
+pub mod status;
 mod store;
 mod summary;
 mod written;
