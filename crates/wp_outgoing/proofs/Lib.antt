@@ -1,9 +1,10 @@
 mod HeldStock
 mod NameCounts
-mod WavesOut
+pub mod WavesOut
 mod ServedWaves
 mod NumberedNames
 mod NamesSoFar
 mod LeftOrders
 mod Written
 mod NamedWaves
+pub mod ShortGroups

@@ -35,7 +35,7 @@ joined_is : (waves : List (List OpenOrder)) → joined (orders_of waves) ≡ map
 joined_is [] = refl
 joined_is (wave ∷ waves) = ap (λ rest. map order_of wave ++ rest) (joined_is waves) ∙ sym (map-append order_of wave (all_of waves))
 
-all_append : (waves later : List (List OpenOrder)) → all_of (waves ++ later) ≡ all_of waves ++ all_of later
+pub all_append : (waves later : List (List OpenOrder)) → all_of (waves ++ later) ≡ all_of waves ++ all_of later
 all_append [] later = refl
 all_append (wave ∷ waves) later = ap (λ rest. wave ++ rest) (all_append waves later) ∙ sym (append_assoc wave (all_of waves) (all_of later))
 
@@ -103,7 +103,7 @@ all_if : (short : Option Shortage) (P : OpenOrder → Type 0) (one : OpenOrder) 
 all_if None P one served here rest = All-cons P one served here rest
 all_if (Some short) P one served here rest = rest
 
-served_all : (P : OpenOrder → Type 0) (turns : List OrderTurn) → All P (map one_of turns) → All P (served_in turns)
+pub served_all : (P : OpenOrder → Type 0) (turns : List OrderTurn) → All P (map one_of turns) → All P (served_in turns)
 served_all P [] each = All-nil P
 served_all P (t ∷ turns) each =
     all_if t.short P t.one (served_in turns) (All-head P t.one (map one_of turns) each) (served_all P turns (All-tail P t.one (map one_of turns) each))

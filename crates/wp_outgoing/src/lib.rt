@@ -10,7 +10,7 @@ mod names;
 mod room;
 mod waves_out;
 
-pub use laws::waves_of_served_orders_go_out;
+pub use laws::{waves_of_served_orders_go_out, waves_of_served_orders_may_be_named};
 pub use leaving::{TurnsOut, left_of};
 pub use left::{LeftOrder, LeftWhy};
 pub use lines::{WaveOut, print_outgoing};

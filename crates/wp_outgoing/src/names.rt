@@ -1,6 +1,7 @@
 //! The names of waves that go out: the group, a dot, and the least number that is free.
-ghost use Rattle.std.specs.Prelude.{◌≡◌, ◌<◌, ◌≤◌, ◌++◌, ℕ, List, IfOk, length};
+ghost use Rattle.std.specs.Prelude.{◌≡◌, ◌<◌, ◌≤◌, ◌++◌, ℕ, List, IfOk, IsTrue, length};
 ghost use Rattle.std.specs.List.{All};
+ghost use Rattle.wp_model.specs.Name.{is_name};
 ghost use Rattle.wp_model.specs.Step.{is_among};
 ghost use Rattle.wp_outgoing.specs.Names.{AreNamesOf, HasShortGroup, IsNameOf, group_of, numbered_name};
 ghost use Rattle.wp_waves.specs.Filling.{waves_kept};
@@ -28,7 +29,8 @@ pub trait WaveNames {
 fn numbered(alloc: Global, group: &Name, number: u32) -> Result<Name, Memory>
     requires group { length group.now ≤ most_group_bytes }
     requires number { number < 100000 }
-    ensures { IfOk result (λ name. name ≡ numbered_name group.now number) }
+    ensures name { IfOk result (λ name. name ≡ numbered_name group.now number) }
+    ensures named { IfOk result (λ name. IsTrue (is_name name)) }
 {
     let mut text = Vec::from_slice(alloc, group.as_bytes())?;
     write!(text, ".{number}").or(Err(Memory))?;
@@ -60,7 +62,8 @@ fn next_name<N: WaveNames>(
     group: &Name,
 ) -> Result<Name, Memory>
     requires { length group.now ≤ most_group_bytes }
-    ensures { IfOk result (IsNameOf (N.names submitted.now ++ before.now) group.now) }
+    ensures name { IfOk result (IsNameOf (N.names submitted.now ++ before.now) group.now) }
+    ensures named { IfOk result (λ name. IsTrue (is_name name)) }
 {
     for number in 1..ABOVE_NUMBERS {
         let name = numbered(alloc, group, number)?;
@@ -91,6 +94,7 @@ pub fn names_of<N: WaveNames>(
     ensures names { IfOk result (λ names. AreNamesOf (N.names submitted.now) (waves_kept waves.now)
         names.items) }
     ensures count { IfOk result (λ names. length names.items ≡ length waves.now) }
+    ensures named { IfOk result (λ names. All (λ name. IsTrue (is_name name)) names.items) }
 {
     let mut names = Vec::new(alloc);
     for wave in waves {

@@ -1,0 +1,2 @@
+pub mod FreeUnits
+pub mod DeskText
