@@ -1,0 +1,3 @@
+mod FoundNames
+mod SentWaves
+mod OpenWithout

@@ -1,0 +1,2 @@
+mod StartsSoFar
+mod Going

@@ -1,0 +1,44 @@
+//! What the planner's start costs for waves that went out.
+ghost use Rattle.std.specs.Prelude.{◌≡◌, IfOk, length};
+ghost use Rattle.wp_waves_out.specs.Starts.{AreStarts, IsStart};
+
+use std::alloc::Global;
+use std::thread::Threads;
+use wp_machine::WaveHolds;
+use wp_model::Memory;
+use wp_outside::Gate;
+use wp_planner::{Planning, plan_for};
+
+// What a plan of a wave costs that went out.
+fn start_of<R: Threads + Sync, G: Gate>(
+    planning: &Planning<'_, R, G>,
+    alloc: Global,
+    wave: &WaveHolds,
+) -> Result<u64, Memory>
+    ensures { IfOk result (IsStart planning.now.layout.now planning.now.opening.now
+        planning.now.terms.now.capacity wave.now) }
+{
+    match plan_for(planning, alloc, wave)? {
+        Some(plan) => Ok(plan.planned.cost),
+        None => Err(Memory),
+    }
+}
+
+/// What plans of waves cost that went out, one by one. An `Err` comes from a want of memory, or where a wave isn't one
+/// that can have gone out.
+pub(crate) fn starts_of<R: Threads + Sync, G: Gate>(
+    planning: &Planning<'_, R, G>,
+    alloc: Global,
+    sent: &[WaveHolds],
+) -> Result<Vec<u64>, Memory>
+    ensures starts { IfOk result (λ starts. AreStarts planning.now.layout.now
+        planning.now.opening.now planning.now.terms.now.capacity sent.now starts.items) }
+    ensures count { IfOk result (λ starts. length starts.items ≡ length sent.now) }
+{
+    let mut starts = Vec::new(alloc);
+    for wave in sent {
+        let start = start_of(planning, alloc, wave)?;
+        starts.push(start)?;
+    }
+    Ok(starts)
+}

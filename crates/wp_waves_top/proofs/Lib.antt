@@ -1,0 +1,4 @@
+mod Statuses
+mod KeptPromise
+mod Endings
+mod Outputs

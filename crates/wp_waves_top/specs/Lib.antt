@@ -1,0 +1,5 @@
+pub mod Texts
+pub mod Runs
+pub mod Ends
+pub mod Stops
+pub mod Promise

@@ -1,0 +1,4 @@
+pub mod Limits
+pub mod Options
+pub mod Words
+pub mod Reading
