@@ -7,3 +7,7 @@ pub mod Nets
 pub mod PlainPrices
 pub mod KeptParts
 pub mod TakenOff
+pub mod PricedMarks
+pub mod PlainVisits
+pub mod OneEnd
+pub mod ComputedSteps

@@ -12,7 +12,7 @@ use Rattle.wp_lengths.specs.Waves.{WavePicks}
 use Rattle.wp_lengths.proofs.OrderSums.{all_of, covering_sum, in_all, sum_of_places}
 use Rattle.wp_cuts.specs.Counts.{least_batches}
 use Rattle.wp_cuts.specs.Cuts.{CutParts, IsRankCut, times_met, times_met_by_all, times_met_by_each}
-use Rattle.wp_cuts.specs.Prices.{ArePricesFeasible, NetsAreNoMore, NodePrices, RoundedNetsAreNoMore, taken_off, taken_off_all}
+use Rattle.wp_cuts.specs.Prices.{ArePricesFeasible, NetsAreNoMore, NodePrices, RoundedNetsAreNoMore, net, taken_off, taken_off_all}
 use Rattle.wp_cuts.specs.Steps.{IsLayoutStep}
 use Rattle.wp_cuts.proofs.ClosedWalks.{closed_walks_are_multiples}
 use Rattle.wp_cuts.proofs.CountedBatches.{least_batches_hold}
@@ -76,16 +76,19 @@ each_off_within wave capacity batches orders (cut ∷ cuts) (price ∷ prices) i
     scaled : (p a b : ℕ) → a ≤ b → p * a ≤ p * b
     scaled p a b low = grind (arith, low)
 
--- the net of feasible prices is at most sixty times what a batching of permitted batches costs
-pub nets_are_no_more : NetsAreNoMore
-nets_are_no_more = λ wave capacity pairing cuts prices batches cost valid some are_cuts count feasible is costs.
-    let pay = batches_pay wave pairing cuts prices batches cost feasible is.permitted costs in
-    let off = each_off_within wave capacity batches (length wave.orders) cuts prices.cuts is.batching are_cuts in
+-- the net of feasible prices is at most sixty times what batches cost that are permitted and have each order, one in none but one, where there are no fewer
+pub net_within : (wave : WavePicks) (capacity : ℕ) (pairing : Pairing) (cuts : List CutParts) (prices : NodePrices) (count : ℕ) (batches : List (List ℕ))
+    (cost : ℕ) → IsBatching wave capacity batches → count ≤ length batches → All (IsRankCut (length wave.orders)) cuts
+    → length prices.duals ≡ length wave.orders → ArePricesFeasible wave pairing cuts prices
+    → ((place : ℕ) → place < length batches → IsPermitted pairing (batch_at batches place)) → IsCost wave batches cost
+    → net cuts prices count ≤ 60 * cost
+net_within wave capacity pairing cuts prices count batches cost is least are_cuts many feasible permitted costs =
+    let pay = batches_pay wave pairing cuts prices batches cost feasible permitted costs in
+    let off = each_off_within wave capacity batches (length wave.orders) cuts prices.cuts is are_cuts in
     let covers = covering_sum (slice_index prices.duals) (length prices.duals) (all_of batches) (λ order low.
-    let at = is.batching.covered order (omega (arith, low, count)) in in_all batches at.0 order at.1 at.2) in
-    let least = least_batches_hold wave capacity batches valid some is.batching in
-    let counts = scaled prices.count (least_batches wave capacity) (length batches) least in
-    within (sum prices.duals) (least_batches wave capacity * prices.count) (taken_off_all cuts prices.cuts) (60 * cost)
+    let at = is.covered order (omega (arith, low, many)) in in_all batches at.0 order at.1 at.2) in
+    let counts = scaled prices.count count (length batches) least in
+    within (sum prices.duals) (count * prices.count) (taken_off_all cuts prices.cuts) (60 * cost)
     (omega (arith, sum_of_places prices.duals, covers, pay, off, counts))
   where
     scaled : (p a b : ℕ) → a ≤ b → a * p ≤ b * p
@@ -93,6 +96,12 @@ nets_are_no_more = λ wave capacity pairing cuts prices batches cost valid some 
 
     within : (a b c d : ℕ) → a + b ≤ d + c → a + b - c ≤ d
     within a b c d low = omega (arith, low)
+
+-- the net of feasible prices is at most sixty times what a batching of permitted batches costs
+pub nets_are_no_more : NetsAreNoMore
+nets_are_no_more = λ wave capacity pairing cuts prices batches cost valid some are_cuts count feasible is costs.
+    net_within wave capacity pairing cuts prices (least_batches wave capacity) batches cost is.batching
+    (least_batches_hold wave capacity batches valid some is.batching) are_cuts count feasible is.permitted costs
 
 -- what batches cost is a multiple of the layout's step
 pub cost_is_multiple : (wave : WavePicks) (step : ℕ) (batches : List (List ℕ)) (cost : ℕ) → IsLayoutStep wave.layout step

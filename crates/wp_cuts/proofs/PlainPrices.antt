@@ -9,7 +9,7 @@ nothing_times : (price times : ℕ) → price ≡ 0 → price * times ≡ 0
 nothing_times price times none = let zeros : 0 * times ≡ 0 = omega arith in rw none zeros
 
 -- prices of 0 take nothing off
-nothing_off : (cuts : List CutParts) (prices batch : List ℕ) → All (λ price. price ≡ 0) prices → taken_off cuts prices batch ≡ 0
+pub nothing_off : (cuts : List CutParts) (prices batch : List ℕ) → All (λ price. price ≡ 0) prices → taken_off cuts prices batch ≡ 0
 nothing_off [] prices batch none = refl
 nothing_off (cut ∷ cuts) [] batch none = refl
 nothing_off (cut ∷ cuts) (price ∷ prices) batch none = omega (
@@ -18,7 +18,7 @@ nothing_off (cut ∷ cuts) (price ∷ prices) batch none = omega (
   nothing_off cuts prices batch (λ k d low. none (suc k) d (omega (arith, low))),
 )
 
-nothing_off_all : (cuts : List CutParts) (prices : List ℕ) → All (λ price. price ≡ 0) prices → taken_off_all cuts prices ≡ 0
+pub nothing_off_all : (cuts : List CutParts) (prices : List ℕ) → All (λ price. price ≡ 0) prices → taken_off_all cuts prices ≡ 0
 nothing_off_all [] prices none = refl
 nothing_off_all (cut ∷ cuts) [] none = refl
 nothing_off_all (cut ∷ cuts) (price ∷ prices) none = omega (

@@ -1,5 +1,5 @@
 -- Sixtieths that are rounded up to a multiple of a step.
-use Rattle.std.proofs.Common.{◌≡◌, ℕ, ◌+◌, ◌*◌, ◌/◌, ◌%◌, ◌<◌, ◌≤◌, ◌↔◌, arith, ⊎_elim}
+use Rattle.std.proofs.Common.{◌≡◌, ℕ, zero, suc, ◌+◌, ◌*◌, ◌/◌, ◌%◌, ◌<◌, ◌≤◌, ◌↔◌, arith, ⊎_elim}
 use Rattle.std.proofs.Math.Nat.{dvd-mul_left, div-mul_cancel, div-add-mod, mod-lt, one-dvd}
 use Rattle.std.proofs.lemmas.Bool.{cases_lt}
 use Rattle.wp_lengths.specs.Duals.{units_of}
@@ -25,6 +25,15 @@ times_rounded step sixtieths times enough least = record {
       (λ (high : times ≤ n). omega (arith, ordered_times step times n high, is))
       (cases_lt n times);
 }
+
+-- that is not much more than the sixtieths
+pub times_small : (step sixtieths times : ℕ) → ((fewer : ℕ) → fewer < times → 60 * step * fewer < sixtieths)
+    → 60 * (times * step) < sixtieths + 60 * step + 1
+times_small step sixtieths zero least = omega arith
+times_small step sixtieths (suc n) least = let low = least n (omega arith) in omega (arith, low, sixty_times step n, one_more n step)
+  where
+    one_more : (n m : ℕ) → suc n * m ≡ n * m + m
+    one_more n m = grind arith
 
 -- rounded up to a multiple of 1 they are as many units, rounded up
 pub rounded_to_units : (sixtieths bound : ℕ) → IsRoundedUp 1 sixtieths bound ↔ (bound ≡ units_of sixtieths)

@@ -3,3 +3,4 @@ pub mod Counts
 pub mod Cuts
 pub mod KeptCuts
 pub mod Prices
+pub mod PricedVisits

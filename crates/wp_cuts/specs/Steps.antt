@@ -1,5 +1,7 @@
 -- The step of a layout: the length of each closed walk is a multiple of it, so a bound may be rounded up to one.
-use Rattle.std.specs.Prelude.{◌≡◌, ℕ, ◌*◌, ◌≤◌, List, All}
+use Rattle.std.specs.Prelude.{◌≡◌, ℕ, zero, suc, ◌*◌, ◌%◌, ◌≤◌, ◌==◌, ◌&&◌, ◌||◌, Bool, List, All, if◌then◌else◌}
+use Rattle.std.specs.Prelude.{nat_lt}
+use Rattle.std.specs.List.{list_all}
 use Rattle.std.specs.Int.{◌∣◌}
 use Rattle.wp_model.specs.Warehouse.{Layout}
 use Rattle.wp_model.specs.declared.point.Point.{Point}
@@ -19,6 +21,25 @@ pub record IsLayoutStep (layout : Layout) (step : ℕ) : Type 0 where
   pub divides : DividesMoves layout half
   pub greatest : (other : ℕ) → DividesMoves layout other → other ∣ half
   pub twice : step ≡ 2 * half
+
+-- whether a number divides another
+abbrev pub divides : ℕ → ℕ → Bool
+divides divisor n = n % divisor == 0
+
+-- whether it divides the length of each move
+abbrev pub divides_moves : Layout → ℕ → Bool
+divides_moves layout divisor =
+    divides divisor layout.clearance
+    && ((nat_lt layout.slots 2 || divides divisor layout.pitch) && list_all (divides divisor) layout.spacings)
+
+-- the greatest number up to a most that passes a test, or 0
+unfoldable pub greatest_of : (ℕ → Bool) → ℕ → ℕ
+greatest_of passes zero = 0
+greatest_of passes (suc most) = if passes (suc most) then suc most else greatest_of passes most
+
+-- the step of a layout as it is computed: no divisor of the clearance is above it
+abbrev pub layout_step : Layout → ℕ
+layout_step layout = 2 * greatest_of (divides_moves layout) layout.clearance
 
 -- so many sixtieths of a unit of length, rounded up to a multiple of a step: the least one that isn't below them
 pub record IsRoundedUp (step sixtieths bound : ℕ) : Type 0 where

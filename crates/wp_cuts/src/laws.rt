@@ -2,6 +2,7 @@ ghost use Rattle.wp_cuts.specs.Counts.{BatchingsHaveTheLeastBatches};
 ghost use Rattle.wp_cuts.specs.Cuts.{BatchingsMeetCutsNoMore, FurtherOrdersMeetCutsNoLess};
 ghost use Rattle.wp_cuts.specs.Prices.{NetsAreNoMore, PlainPricesSayWhatDualsSay};
 ghost use Rattle.wp_cuts.specs.Prices.{RoundedNetsAreNoMore};
+ghost use Rattle.wp_cuts.specs.PricedVisits.{MarksShowPricesFeasible, PlainVisitsAreVisits, VisitsHaveOneEnd};
 ghost use Rattle.wp_cuts.specs.Steps.{ClosedWalksAreMultiples};
 
 /// A law: the length of each closed walk is a multiple of its layout's step.
@@ -31,4 +32,19 @@ pub fn nets_are_no_more()
 /// A law: plain prices say what their duals say.
 pub fn plain_prices_say_what_duals_say()
     ensures { PlainPricesSayWhatDualsSay }
+{}
+
+/// A law: prices whose marks pass are feasible.
+pub fn marks_show_prices_feasible()
+    ensures { MarksShowPricesFeasible }
+{}
+
+/// A law: for plain prices the visit of marks is that of their duals.
+pub fn plain_visits_are_visits()
+    ensures { PlainVisitsAreVisits }
+{}
+
+/// A law: a visit of marks comes to one end, also in another wave whose batches have the same lengths.
+pub fn visits_have_one_end()
+    ensures { VisitsHaveOneEnd }
 {}

@@ -46,8 +46,8 @@ fn off_all(cut: &RankCut, price: u64) -> u64
     price * u64::from(cut.times_met_by_all())
 }
 
-// Whether all prices are 0.
-fn are_zero(prices: &[u64]) -> bool
+/// Whether all prices are 0.
+pub fn are_zero(prices: &[u64]) -> bool
     ensures { IsTrue result ↔ All (λ price. price ≡ 0) prices.now }
 {
     for price in prices {

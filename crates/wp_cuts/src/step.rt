@@ -1,6 +1,6 @@
 ghost use Rattle.std.specs.Prelude.{◌≡◌, ◌≤◌, ◌<◌, ◌*◌, ℕ};
 ghost use Rattle.std.specs.Int.{IsGcd};
-ghost use Rattle.wp_cuts.specs.Steps.{IsLayoutStep, IsRoundedUp};
+ghost use Rattle.wp_cuts.specs.Steps.{IsLayoutStep, IsRoundedUp, layout_step};
 
 use wp_graph::Layout;
 use wp_lengths::SIXTIETHS;
@@ -35,6 +35,7 @@ fn divisor_within(layout: &Layout) -> u32
 /// one slot, the pitch. The length of each closed walk is a multiple of it.
 pub fn step_of(layout: &Layout) -> u32
     ensures is { IsLayoutStep layout.now result }
+    ensures computed { result ≡ layout_step layout.now }
     ensures some { 2 ≤ result }
 {
     let mut half = divisor_within(layout);
@@ -45,7 +46,7 @@ pub fn step_of(layout: &Layout) -> u32
 }
 
 // How many times so many sixtieths are enough for others.
-fn times_for(parts: u64, sixtieths: u64) -> u64
+fn times_for(parts: u128, sixtieths: u128) -> u128
     requires { 1 ≤ parts }
     ensures enough { sixtieths ≤ parts * result }
     ensures least { (fewer : ℕ) → fewer < result → parts * fewer < sixtieths }
@@ -57,10 +58,10 @@ fn times_for(parts: u64, sixtieths: u64) -> u64
 }
 
 /// So many sixtieths of a unit of length in whole units, rounded up to a multiple of a step.
-pub fn rounded_up(step: u32, sixtieths: u64) -> u64
+pub fn rounded_up(step: u32, sixtieths: u128) -> u128
     requires { 1 ≤ step }
     ensures { IsRoundedUp step sixtieths result }
 {
-    let times = times_for(SIXTIETHS * u64::from(step), sixtieths);
-    times * u64::from(step)
+    let times = times_for(u128::from(SIXTIETHS) * u128::from(step), sixtieths);
+    times * u128::from(step)
 }

@@ -1,6 +1,7 @@
 use Rattle.std.proofs.Common.{◌<◌, ◌≤◌, ℕ, arith, subst, ⊎_elim}
 use Rattle.std.specs.Int.{IsGcd}
 use Rattle.std.proofs.lemmas.Bool.{cases_lt}
+use Rattle.wp_cuts.proofs.ComputedSteps.{step_is_computed}
 use Rattle.wp_cuts.proofs.Divisors.{divisor_small, divisor_some, first_alone, first_both, greatest_is_step, next_greatest}
 use Rattle.wp_cuts.proofs.step.step_of.Goals as goal
 
@@ -26,6 +27,10 @@ overflow_mul-result c = omega (
 pub returns-clause-is : goal.returns-clause-is
 returns-clause-is c = greatest_is_step c.args.layout.now c.loop-aisle.aisle c.loop-aisle.half c.aisles-aisle-end.ensures.valid
     (omega (arith, c.loop-aisle-test.false, c.loop-aisle.auto.aisle-end, c.aisles-aisle-end.ensures.value)) c.loop-aisle.invariant
+
+pub returns-clause-computed : goal.returns-clause-computed
+returns-clause-computed c =
+    step_is_computed c.args.layout.now _ c.aisles-aisle-end.ensures.valid.clearance.0 (returns-clause-is c)
 
 pub returns-clause-some : goal.returns-clause-some
 returns-clause-some c = omega (
