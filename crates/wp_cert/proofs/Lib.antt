@@ -10,9 +10,6 @@ pub mod PathSteps
 pub mod Ways
 pub mod Alive
 pub mod WholeTrees
-mod Checked
-mod OwnTests
-mod KeptCuts
 mod TextBatches
 mod TextCarts
 mod TextJson

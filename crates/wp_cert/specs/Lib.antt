@@ -1,5 +1,3 @@
-pub mod Terms
-pub mod Kept
 pub mod Trees
 pub mod Walks
 pub mod Bounds
