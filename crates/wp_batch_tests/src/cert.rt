@@ -385,11 +385,9 @@ fn tight_of(alloc: Global, row: &[&[u32]]) -> Option<Batching> {
 
 fn own_of(alloc: Global, row: &Shown) -> Option<Own> {
     let (duals, marks, tight) = *row;
-    Some(Own {
-        duals: duals_of(alloc, duals)?,
-        marks: marks_of(alloc, marks)?,
-        tight: tight_of(alloc, tight)?,
-    })
+    let duals = duals_of(alloc, duals)?;
+    let marks = marks_of(alloc, marks)?;
+    Some(Own::plain(alloc, duals, marks, tight_of(alloc, tight)?))
 }
 
 fn node_of(alloc: Global, row: &Row) -> Option<Node> {
@@ -418,9 +416,7 @@ fn tree_of(alloc: Global, rows: &[Row]) -> Option<Tree> {
     if nodes.len() > 64 {
         return None;
     }
-    Some(Tree {
-        nodes: Nodes::of(nodes),
-    })
+    Some(Tree::plain(Nodes::of(nodes)))
 }
 
 /// Whether a tree is refused for this reason.

@@ -1,7 +1,7 @@
 -- A right tree has a leaf that isn't dead: a split has tight duals, so each order is in some permitted batch, and it still is where two more orders go apart.
 use Rattle.std.proofs.Common.{◌≡◌, ◌≢◌, ℕ, ◌<◌, ◌≤◌, ◌↔◌, true, false, List, [], ◌∷◌, ◌++◌, length, arith, refl, ap, sym, ◌∙◌, subst, inl, inr, ◌⊎◌}
 use Rattle.std.proofs.Common.{⊎_elim, Contains}
-use Rattle.std.specs.Prelude.{Option, Some, None, sum}
+use Rattle.std.specs.Prelude.{Option, Some, None}
 use Rattle.std.specs.List.Sorted.{IsStrictlyIncreasing}
 use Rattle.std.proofs.lemmas.Bool.{cases_eq, false≢true}
 use Rattle.std.proofs.lemmas.List.Elements.{All-contains, Contains-push_cases}
@@ -15,6 +15,7 @@ use Rattle.wp_lengths.specs.Waves.{IsWave, WavePicks}
 use Rattle.wp_lengths.proofs.NoPairs.{alone_fits}
 use Rattle.wp_lengths.proofs.Unions.{all_from_contained}
 use Rattle.wp_cert.specs.declared.tree.Node.{Node}
+use Rattle.wp_cert.specs.Terms.{Terms, net_of}
 use Rattle.wp_cert.specs.Trees.{IsRight, dead, kept, leaf, lower_of, split, with_pair}
 use Rattle.wp_lengths.proofs.Ascending.{only_one, single_ascends}
 
@@ -119,14 +120,14 @@ bound_from (Some l) None has = tt
 bound_from (Some l) (Some r) has = tt
 
 -- a right tree has one, where each order is in some permitted batch
-pub tree_alive : (wave : WavePicks) (pairing : Pairing) (above : ℕ) (nodes rest : List Node) (bound : Option ℕ) → IsRight wave pairing above nodes rest bound
+pub tree_alive : (terms : Terms) (pairing : Pairing) (above : ℕ) (nodes rest : List Node) (bound : Option ℕ) → IsRight terms pairing above nodes rest bound
     → AreTold pairing.pairs → ((order : ℕ) → order < pairing.orders → IsHeld pairing order) → HasBound bound
-tree_alive wave pairing above _ rest _ kept told held = tt
-tree_alive wave pairing above _ rest _ (leaf own) told held = tt
-tree_alive wave pairing above _ rest _ (dead {order} is) told held = let h = held order is.known in is.unheld h.0 h.1 h.2
-tree_alive wave pairing above _ rest _ (split {first} {second} {own} {nodes} {between} {left} {right} own_right parts l r) told held =
+tree_alive terms pairing above _ rest _ (kept rounded) told held = tt
+tree_alive terms pairing above _ rest _ (leaf own rounded) told held = tt
+tree_alive terms pairing above _ rest _ (dead {order} is) told held = let h = held order is.known in is.unheld h.0 h.1 h.2
+tree_alive terms pairing above _ rest _ (split {first} {second} {own} {nodes} {between} {left} {right} own_right parts l r) told held =
     let new : OrderPair = record { first = first; second = second; together = false } in
-    bound_from left right (tree_alive wave (with_pair pairing first second false) (sum own.duals) between rest right r
+    bound_from left right (tree_alive terms (with_pair pairing first second false) (net_of terms own) between rest right r
     (told_apart pairing.pairs new refl told (λ a b j. joined_more pairing.pairs new a b j)) (λ order low. held_apart pairing first second order told parts
     (held order low)))
 
@@ -147,7 +148,7 @@ held_alone wave capacity order is some low = (
 )
 
 -- a right tree of a wave has a bound
-pub right_has_bound : (wave : WavePicks) (capacity above : ℕ) (nodes rest : List Node) (bound : Option ℕ) → IsWave wave → 1 ≤ capacity
-    → IsRight wave (no_pairs wave capacity) above nodes rest bound → HasBound bound
-right_has_bound wave capacity above nodes rest bound is some right =
-    tree_alive wave (no_pairs wave capacity) above nodes rest bound right told_of_none (λ order low. held_alone wave capacity order is some low)
+pub right_has_bound : (terms : Terms) (capacity above : ℕ) (nodes rest : List Node) (bound : Option ℕ) → IsWave terms.wave → 1 ≤ capacity
+    → IsRight terms (no_pairs terms.wave capacity) above nodes rest bound → HasBound bound
+right_has_bound terms capacity above nodes rest bound is some right =
+    tree_alive terms (no_pairs terms.wave capacity) above nodes rest bound right told_of_none (λ order low. held_alone terms.wave capacity order is some low)

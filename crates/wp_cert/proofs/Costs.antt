@@ -1,18 +1,24 @@
 -- No batching costs less than the bound of a right tree.
 use Rattle.std.proofs.Common.{◌≡◌, ◌≢◌, ℕ, zero, suc, ◌*◌, ◌<◌, ◌≤◌, ◌↔◌, true, false, List, [], ◌∷◌, length, arith}
-use Rattle.std.proofs.Common.{ap, sym, ◌∙◌, subst, ⊎_elim, Contains}
+use Rattle.std.proofs.Common.{ap, sym, ◌∙◌, subst, ⊎_elim, All, Contains}
 use Rattle.std.specs.Prelude.{sum, slice_index, Option, Some, None}
 use Rattle.std.proofs.lemmas.Bool.{cases_eq, true≢false, false≢true}
 use Rattle.std.proofs.lemmas.List.Sums.{sum_by-append}
 use Rattle.std.proofs.lemmas.List.Elements.{Contains-push_cases}
 use Rattle.wp_pairs.specs.declared.pair.OrderPair.{OrderPair}
 use Rattle.wp_pairs.specs.Permitted.{IsPermitted, Pairing}
-use Rattle.wp_lengths.specs.Batchings.{IsCost, batch_at}
+use Rattle.std.specs.Int.{◌∣◌}
+use Rattle.wp_lengths.specs.Batchings.{IsBatching, IsCost, batch_at}
+use Rattle.wp_cuts.specs.Cuts.{IsRankCut}
+use Rattle.wp_cuts.specs.Steps.{IsRoundedUp}
+use Rattle.wp_cuts.proofs.Nets.{net_within}
 use Rattle.wp_lengths.specs.Waves.{WavePicks}
 use Rattle.wp_cert.specs.declared.tree.Node.{Node}
 use Rattle.wp_lengths.specs.Duals.{AreFeasible, duals_of}
-use Rattle.wp_cert.specs.Trees.{IsRight, dead, kept, leaf, lower_of, split, with_pair}
-use Rattle.wp_lengths.proofs.OrderSums.{all_of, covering_sum, in_all, sum_of_places, units_at_most}
+use Rattle.wp_cert.specs.declared.tree.Own.{Own}
+use Rattle.wp_cert.specs.Terms.{Terms, net_of, prices_of}
+use Rattle.wp_cert.specs.Trees.{IsRight, IsRightOwn, dead, kept, leaf, lower_of, split, with_pair}
+use Rattle.wp_lengths.proofs.OrderSums.{all_of, covering_sum, in_all, sum_of_places}
 
 -- batches that are all permitted, such that each order is in one of them and in no other
 pub record Respects (pairing : Pairing) (batches : List (List ℕ)) : Type 0 where
@@ -111,24 +117,42 @@ lower_right None right cost low = low
 lower_right (Some l) None cost low = absurd low
 lower_right (Some l) (Some r) cost low = omega (arith, low)
 
--- the bound of a right tree is no more than the cost of any batching of permitted batches
-pub tree_bounds : (wave : WavePicks) (pairing : Pairing) (above : ℕ) (nodes rest : List Node) (bound : Option ℕ) (batches : List (List ℕ)) (cost : ℕ)
-    → IsRight wave pairing above nodes rest bound → Respects pairing batches → IsCost wave batches cost → above ≤ 60 * cost → IsNoMore bound cost
-tree_bounds wave pairing above _ rest _ batches cost kept respects is low = units_at_most above cost low
-tree_bounds wave pairing above _ rest _ batches cost (leaf {own} own_right) respects is low =
-    units_at_most (sum own.duals) cost (sum_within wave pairing own.duals batches cost own_right.all.duals own_right.feasible respects is)
-tree_bounds wave pairing above _ rest _ batches cost (dead {order} is_dead) respects is low =
-    let at = respects.covered order is_dead.known in is_dead.unheld (batch_at batches at.0) (respects.each at.0 at.1) at.2
-tree_bounds wave pairing above _ rest _ batches cost (split {first} {second} {own} {nodes} {between} {left} {right} own_right parted l r) respects is low =
-    let raised = sum_within wave pairing own.duals batches cost own_right.all.duals own_right.feasible respects is in
-    let one = respects.covered first (omega (arith, parted.order, parted.known)) in
-    let other = respects.covered second parted.known in
-    ⊎_elim
-    (λ (e : one.0 ≡ other.0). lower_left left right cost (tree_bounds wave (with_pair pairing first second true)
-    (sum own.duals) nodes between left batches cost l
-    (respects_together pairing first second batches one.0 respects one.1 one.2 (subst (λ (k : ℕ). Contains (batch_at batches k) second) (sym e) other.2))
-    is raised))
-    (λ (ne : one.0 ≢ other.0). lower_right left right cost (tree_bounds wave (with_pair pairing first second false)
-    (sum own.duals) between rest right batches cost r
-    (respects_apart pairing first second batches one.0 other.0 respects one.1 other.1 one.2 other.2 ne) is raised))
-    (cases_eq one.0 other.0)
+-- On such terms bounds hold: the cuts are cuts of the wave's orders, each batching has as many batches as are counted, and what it costs is a multiple of
+-- the step.
+pub record AreSound (terms : Terms) (capacity : ℕ) : Type 0 where
+  pub cuts : All (IsRankCut (length terms.wave.orders)) terms.cuts
+  pub counted : (batches : List (List ℕ)) → IsBatching terms.wave capacity batches → terms.batches ≤ length batches
+  pub multiple : (batches : List (List ℕ)) (cost : ℕ) → IsCost terms.wave batches cost → terms.step ∣ cost
+
+module _ (terms : Terms) (capacity : ℕ) (sound : AreSound terms capacity) (batches : List (List ℕ)) (cost : ℕ)
+    (is : IsBatching terms.wave capacity batches) (costs : IsCost terms.wave batches cost) where
+  -- the net of a node's prices is no more than sixty times the cost of any batching of permitted batches
+  own_net_within : (pairing : Pairing) (above : ℕ) (own : Own) → pairing.orders ≡ length terms.wave.orders → IsRightOwn terms pairing above own
+      → Respects pairing batches → net_of terms own ≤ 60 * cost
+  own_net_within pairing above own count right respects =
+      net_within terms.wave capacity pairing terms.cuts (prices_of own) terms.batches batches cost is (sound.counted batches is) sound.cuts
+      (right.all.duals ∙ count) right.feasible respects.each costs
+
+  -- rounded up to a multiple of the step it is no more than that cost
+  rounded_within : (sixtieths bound : ℕ) → IsRoundedUp terms.step sixtieths bound → sixtieths ≤ 60 * cost → bound ≤ cost
+  rounded_within sixtieths bound rounded low = rounded.least cost (sound.multiple batches cost costs) low
+
+  -- the bound of a right tree is no more than the cost of any batching of permitted batches
+  pub tree_bounds : (pairing : Pairing) (above : ℕ) (nodes rest : List Node) (bound : Option ℕ) → pairing.orders ≡ length terms.wave.orders
+      → IsRight terms pairing above nodes rest bound → Respects pairing batches → above ≤ 60 * cost → IsNoMore bound cost
+  tree_bounds pairing above _ rest _ count (kept {bound} rounded) respects low = rounded_within above bound rounded low
+  tree_bounds pairing above _ rest _ count (leaf {bound} {own} right rounded) respects low =
+      rounded_within (net_of terms own) bound rounded (own_net_within pairing above own count right respects)
+  tree_bounds pairing above _ rest _ count (dead {order} is_dead) respects low =
+      let at = respects.covered order is_dead.known in is_dead.unheld (batch_at batches at.0) (respects.each at.0 at.1) at.2
+  tree_bounds pairing above _ rest _ count (split {first} {second} {own} {nodes} {between} {left} {right} own_right parted l r) respects low =
+      let raised = own_net_within pairing above own count own_right respects in
+      let one = respects.covered first (omega (arith, parted.order, parted.known)) in
+      let other = respects.covered second parted.known in
+      ⊎_elim
+      (λ (e : one.0 ≡ other.0). lower_left left right cost (tree_bounds (with_pair pairing first second true) (net_of terms own) nodes between left count l
+      (respects_together pairing first second batches one.0 respects one.1 one.2 (subst (λ (k : ℕ). Contains (batch_at batches k) second) (sym e) other.2))
+      raised))
+      (λ (ne : one.0 ≢ other.0). lower_right left right cost (tree_bounds (with_pair pairing first second false) (net_of terms own) between rest right count r
+      (respects_apart pairing first second batches one.0 other.0 respects one.1 other.1 one.2 other.2 ne) raised))
+      (cases_eq one.0 other.0)

@@ -1,5 +1,5 @@
 -- Each batch of a wave has a length: there is a shortest tour past any slots of a layout.
-use Rattle.std.proofs.Common.{◌≡◌, ℕ, zero, suc, ◌-◌, ◌*◌, ◌<◌, ◌≤◌, Bool, true, false, IsTrue, All, Contains, List, Option, Some, None, arith}
+use Rattle.std.proofs.Common.{◌≡◌, ℕ, zero, suc, ◌-◌, ◌<◌, Bool, true, false, IsTrue, All, Contains, List, Option, Some, None, arith}
 use Rattle.std.proofs.Common.{length, refl, subst}
 use Rattle.std.proofs.lemmas.Bool.{both_ways, false≢true}
 use Rattle.std.proofs.lemmas.List.Elements.{All-contains}
@@ -22,8 +22,6 @@ use Rattle.wp_fast.proofs.LeastNeeded.{least_by_some}
 use Rattle.wp_lengths.specs.Lengths.{batch_picks}
 use Rattle.wp_lengths.specs.Waves.{WavePicks, picks_of}
 use Rattle.wp_lengths.proofs.FewerOrders.{more_orders_no_shorter}
-use Rattle.wp_lengths.specs.Duals.{duals_of}
-use Rattle.wp_lengths.specs.Visits.{IsWithin}
 use Rattle.wp_cert.specs.Visited.{HasEachLength, IsNoLess}
 
 -- there is a least length by some crossing, and on
@@ -100,9 +98,3 @@ pub no_less_with_more : (wave : WavePicks) (fewer more : List ℕ) (orders known
 no_less_with_more wave fewer more orders known each count below within least total is =
     let own = each fewer (subst (λ (n : ℕ). All (λ order. order < n) fewer) count below) in
     omega (arith, least own.0 own.1, more_orders_no_shorter wave fewer more own.0 total within own.1 is)
-
--- a place whose duals come to no more than sixty times what its length is no less than
-pub within_known : (wave : WavePicks) (duals place : List ℕ) (orders known : ℕ) → HasEachLength wave → orders ≡ length wave.orders
-    → All (λ order. order < orders) place → IsNoLess wave place known → duals_of duals place ≤ 60 * known → IsWithin wave duals place
-within_known wave duals place orders known each count below least within =
-    let own = each place (subst (λ (n : ℕ). All (λ order. order < n) place) count below) in (own.0, own.1, omega (arith, within, least own.0 own.1))

@@ -10,6 +10,9 @@ pub mod PathSteps
 pub mod Ways
 pub mod Alive
 pub mod WholeTrees
+mod Checked
+mod OwnTests
+mod KeptCuts
 mod TextBatches
 mod TextCarts
 mod TextJson

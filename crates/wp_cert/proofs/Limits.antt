@@ -1,5 +1,5 @@
 -- Duals as a visit has them: where they come to less than its greatest dual, they are the own ones.
-use Rattle.std.proofs.Common.{◌≡◌, ◌≢◌, ◌∙◌, ℕ, ◌+◌, ◌*◌, ◌<◌, ◌≤◌, ◌++◌, List, [], ◌∷◌, All, Contains, length, get_or, arith, refl, sym, subst, ⊎_elim}
+use Rattle.std.proofs.Common.{◌≡◌, ◌≢◌, ◌∙◌, ℕ, ◌+◌, ◌<◌, ◌≤◌, ◌++◌, List, [], ◌∷◌, All, Contains, length, get_or, arith, refl, sym, subst, ⊎_elim}
 use Rattle.std.specs.Prelude.{slice_index}
 use Rattle.std.proofs.lemmas.Bool.{cases_eq, cases_lt}
 use Rattle.std.proofs.lemmas.List.{get_or_append_left, get_or_push}
@@ -7,16 +7,10 @@ use Rattle.std.proofs.lemmas.List.Elements.{All-contains}
 use Rattle.std.proofs.lemmas.List.Sums.{sum_by-cons}
 use Rattle.wp_pairs.specs.Permitted.{Pairing}
 use Rattle.wp_pairs.proofs.Members.{contains_first, contains_later}
-use Rattle.wp_lengths.proofs.DualBounds.{bounded_sum}
 use Rattle.wp_lengths.specs.Duals.{duals_of}
-use Rattle.wp_lengths.specs.Lengths.{IsLengthOf}
-use Rattle.wp_lengths.specs.Visits.{AreFurther, IsLater, IsReach, IsWithin}
-use Rattle.wp_lengths.specs.Waves.{WavePicks}
+use Rattle.wp_lengths.specs.Visits.{AreFurther, IsLater, IsReach}
 use Rattle.wp_visit.specs.Items.{most_dual}
 use Rattle.wp_cert.specs.MarkTests.{AreLimited, IsLimited}
-use Rattle.wp_cert.specs.Known.{IsKnown}
-use Rattle.wp_cert.specs.Visited.{HasEachLength, ReachesTooMuch, StandsForMore}
-use Rattle.wp_cert.proofs.HaveLengths.{within_known}
 
 -- a dual as a visit has it is no more than the own one, and where it is below the greatest it is the own one
 limited_at : (own limited : ℕ) → IsLimited own limited → (limited ≤ own) × (limited < most_dual → own ≡ limited)
@@ -24,11 +18,6 @@ limited_at own limited is = ⊎_elim
     (λ (low : own < most_dual). let e = is.low low in (omega (arith, e), λ _. sym e))
     (λ (high : most_dual ≤ own). let e = is.high high in (omega (arith, e, high), λ below. absurd (omega (arith, e, below))))
     (cases_lt own most_dual)
-
--- nor than the greatest of a visit
-limited_most : (own limited : ℕ) → IsLimited own limited → limited ≤ most_dual
-limited_most own limited is = ⊎_elim (λ (low : own < most_dual). let e = is.low low in omega (arith, e, low))
-    (λ (high : most_dual ≤ own). let e = is.high high in omega (arith, e)) (cases_lt own most_dual)
 
 -- each of a batch is so limited
 abbrev EachLimited : List ℕ → List ℕ → List ℕ → Type 0
@@ -65,21 +54,14 @@ module _ (own limited : List ℕ) (are : AreLimited own limited) where
   each_further pairing place from orders count further = λ x has.
       let later = All-contains (IsLater pairing from) orders x further.later has in are.each x (omega (arith, later.known, count))
 
-  -- what a batch of orders has in them is no more than what it has in the own ones
-  pub known_sum : (batch : List ℕ) (orders : ℕ) → orders ≡ length own → All (λ order. order < orders) batch → duals_of limited batch ≤ duals_of own batch
-  known_sum batch orders count known = limited_sum own limited batch (each_known batch orders count known)
-
-  -- a reach is no more than the greatest duals of all orders for which a place has room
-  pub reach_fits : (pairing : Pairing) (place : List ℕ) (from reach : ℕ) → pairing.orders ≡ length own → IsReach pairing limited place from reach
-      → reach + most_dual * length place ≤ most_dual * pairing.capacity
-  reach_fits pairing place from reach count reaches =
-      let each = each_further pairing place from reaches.some.0 count reaches.some.1 in
-      let low = bounded_sum (slice_index limited) most_dual reaches.some.0
-      (λ x has. limited_most (slice_index own x) (slice_index limited x) (each x has)) in
-      omega (arith, low, reaches.some.2, reaches.some.1.fits)
+  -- what a batch of orders has in them is what it has in the own ones, where that is below the greatest dual
+  pub own_total : (batch : List ℕ) (orders total : ℕ) → orders ≡ length own → All (λ order. order < orders) batch → total ≡ duals_of limited batch
+      → total < most_dual → total ≡ duals_of own batch
+  own_total batch orders total count known is below =
+      is ∙ sym (own_sum own limited batch (each_known batch orders count known) (omega (arith, is, below)))
 
   -- a reach below the greatest dual is the reach under the own ones
-  own_reach : (pairing : Pairing) (place : List ℕ) (from reach : ℕ) → pairing.orders ≡ length own → IsReach pairing limited place from reach
+  pub own_reach : (pairing : Pairing) (place : List ℕ) (from reach : ℕ) → pairing.orders ≡ length own → IsReach pairing limited place from reach
       → reach < most_dual → IsReach pairing own place from reach
   own_reach pairing place from reach count reaches below = record {
     some = (
@@ -91,43 +73,6 @@ module _ (own limited : List ℕ) (are : AreLimited own limited) where
     most = λ orders further. let low = reaches.most orders further in
         omega (arith, low, own_sum own limited orders (each_further pairing place from orders count further) (omega (arith, low, below)));
   }
-
-  -- a place stands for more under the own ones
-  pub limited_stands : (wave : WavePicks) (pairing : Pairing) (place : List ℕ) (from total reach : ℕ) → pairing.orders ≡ length own
-      → All (λ order. order < pairing.orders) place → IsLengthOf wave place total → IsReach pairing limited place from reach
-      → duals_of limited place + reach < most_dual → duals_of limited place + reach ≤ 60 * total → StandsForMore wave pairing own place from
-  limited_stands wave pairing place from total reach count known long reaches below within = record {
-    total = total;
-    reach = reach;
-    long = long;
-    reaches = own_reach pairing place from reach count reaches (omega (arith, below));
-    within = omega (arith, within, own_sum own limited place (each_known place pairing.orders count known) (omega (arith, below)));
-  }
-
-  -- a place reaches too much under the own ones
-  pub limited_exceeds : (wave : WavePicks) (pairing : Pairing) (place : List ℕ) (from total reach most : ℕ) → pairing.orders ≡ length own
-      → All (λ order. order < pairing.orders) place → IsLengthOf wave place total → IsReach pairing limited place from reach
-      → IsReach pairing own place from most → 60 * total < duals_of limited place + reach → ReachesTooMuch wave pairing own place from
-  limited_exceeds wave pairing place from total reach most count known long reaches own_reaches above = record {
-    total = total;
-    reach = most;
-    long = long;
-    reaches = own_reaches;
-    above = omega (
-      arith,
-      above,
-      known_sum place pairing.orders count known,
-      limited_sum own limited reaches.some.0 (each_further pairing place from reaches.some.0 count reaches.some.1),
-      reaches.some.2,
-      own_reaches.most reaches.some.0 reaches.some.1,
-    );
-  }
-
-  -- a place that a known number covers is within its length under the own ones
-  pub limited_within : (wave : WavePicks) (place : List ℕ) (orders known : ℕ) → HasEachLength wave → orders ≡ length own → orders ≡ length wave.orders
-      → All (λ order. order < orders) place → IsKnown wave place known → duals_of limited place ≤ 60 * known → IsWithin wave own place
-  limited_within wave place orders known lengths count many below is within = within_known wave own place orders known lengths many below is.least
-      (omega (arith, within, own_sum own limited place (each_known place orders count below) (omega (arith, within, is.small))))
 
 -- with one more dual
 pub limited_more : (own limits after : List ℕ) (order dual : ℕ) → length limits ≡ order

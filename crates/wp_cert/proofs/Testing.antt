@@ -4,8 +4,9 @@ use Rattle.std.specs.Prelude.{Result, Ok, Err, ⊤}
 use Rattle.wp_pairs.specs.Permitted.{AreJoined, IsPermitted, Pairing}
 use Rattle.wp_pairs.proofs.Chains.{joined_back}
 use Rattle.wp_pairs.proofs.Members.{contains_none}
-use Rattle.wp_lengths.specs.Visits.{AddsItem, Children, Due, IsItem, IsVisit, Passed, Place, Visit}
-use Rattle.wp_lengths.specs.Visits as visit
+use Rattle.wp_lengths.specs.Visits.{AddsItem, Children, Due, IsItem, Passed, Place, Visit}
+use Rattle.wp_cuts.specs.PricedVisits as visit
+use Rattle.wp_cert.specs.Trees.{IsMarkedVisit}
 use Rattle.wp_visit.specs.Courses.{Entering, HasVisited}
 use Rattle.wp_visit.specs.Courses as course
 use Rattle.wp_visit.specs.Places.{IsNoChild, Task}
@@ -42,19 +43,19 @@ names_none pairing place from before none = ⊎_elim
 
 -- what follows for each visit follows for what is said
 says_so : (pairing : Pairing) (tested : TestedOwn) (due then : Due) (next from_there : ℕ) (end : Result ⊤ CertWhy) (last : ℕ)
-    → ((seen : Visit) → IsVisit tested.wave.now pairing tested.own.now.duals due (drop next tested.own.now.marks) seen
-    → IsVisit tested.wave.now pairing tested.own.now.duals then (drop from_there tested.own.now.marks) seen)
+    → ((seen : Visit) → IsMarkedVisit tested.terms.now pairing tested.own.now due (drop next tested.own.now.marks) seen
+    → IsMarkedVisit tested.terms.now pairing tested.own.now then (drop from_there tested.own.now.marks) seen)
     → SaysOf pairing tested due next end last → SaysOf pairing tested then from_there end last
 says_so pairing tested due then next from_there (Ok done) last so says = so (Passed (drop last tested.own.now.marks)) says
-says_so pairing tested due then next from_there (Err fault) last so says = refused_so tested.wave.now pairing tested.own.now.duals due then
+says_so pairing tested due then next from_there (Err fault) last so says = refused_so tested.terms.now pairing tested.own.now due then
     (drop next tested.own.now.marks) (drop from_there tested.own.now.marks) fault so says
 
 -- a place that is entered is visited with those that extend it
 entered_so : (pairing : Pairing) (tested : TestedOwn) (place : List ℕ) (from next between : ℕ) → IsEntered tested place next between → (seen : Visit)
-    → IsVisit tested.wave.now pairing tested.own.now.duals (Children place from) (drop between tested.own.now.marks) seen
-    → IsVisit tested.wave.now pairing tested.own.now.duals (Place place from) (drop next tested.own.now.marks) seen
+    → IsMarkedVisit tested.terms.now pairing tested.own.now (Children place from) (drop between tested.own.now.marks) seen
+    → IsMarkedVisit tested.terms.now pairing tested.own.now (Place place from) (drop next tested.own.now.marks) seen
 entered_so pairing tested place from next between entered seen rest =
-    subst (λ (ms : List Bool). IsVisit tested.wave.now pairing tested.own.now.duals (Place place from) ms seen) (sym entered.mark)
+    subst (λ (ms : List Bool). IsMarkedVisit tested.terms.now pairing tested.own.now (Place place from) ms seen) (sym entered.mark)
     (visit.entered entered.within rest)
 
 -- how the test of marks enters a place
@@ -81,13 +82,13 @@ test_says task tested _ old new end (course.no_child {place} {from} none rest) i
     let more = test_says task tested (Children place (from + 1)) old new end rest is (items_on task.pairing place from before) in (
       more.0,
       says_so task.pairing tested (Children place (from + 1)) (Children place from) old.next old.next end new.next
-          (λ seen goes. passed_over tested.wave.now task.pairing tested.own.now.duals place from (drop old.next tested.own.now.marks) seen
+          (λ seen goes. passed_over tested.terms.now task.pairing tested.own.now place from (drop old.next tested.own.now.marks) seen
           (names_none task.pairing place from before none) goes) more.1,
     )
 test_says task tested _ old new _ (course.broken_off {place} {batch} {from} {fault} item adds permitted first) is before =
     let begun = test_says task tested (Place batch (from + 1)) old new (Err fault) first is (items_more task.pairing place batch from adds before) in (
       begun.0,
-      refused_child tested.wave.now task.pairing tested.own.now.duals place batch from (drop old.next tested.own.now.marks) fault item adds permitted begun.1,
+      refused_child tested.terms.now task.pairing tested.own.now place batch from (drop old.next tested.own.now.marks) fault item adds permitted begun.1,
     )
 test_says task tested _ old new end (course.onward {place} {batch} {from} {between} item adds permitted first rest) is before =
     let begun = test_says task tested (Place batch (from + 1)) old between (Ok tt) first is (items_more task.pairing place batch from adds before) in

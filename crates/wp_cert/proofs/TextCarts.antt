@@ -2,6 +2,7 @@
 use Rattle.std.proofs.Common.{◌≡◌, ℕ, ◌≤◌, true, length, Option, Some, None, ◌==◌, option_map, ap, ◌∙◌}
 use Rattle.std.proofs.Common.{arith}
 use Rattle.std.specs.List.{list_all}
+use Rattle.std.specs.Prelude.{is_some}
 use Rattle.wp_model.specs.Limits.{most_cart_units}
 use Rattle.wp_model.specs.Warehouse.{Layout}
 use Rattle.wp_pairs.specs.Carts.{LoadedCart}
@@ -17,12 +18,12 @@ same_number m n h = grind arith
 pub orders_within : (layout : Layout) (form : Form) → is_within layout form ≡ true
     → (length form.orders ≤ 64) × (is_any_cart_for (length form.orders) form.cart ≡ true)
 orders_within layout form within =
-    let capacity = and_right (form.version == version_of form.cart) _ within in
+    let capacity = and_right (form.version == version_of (is_some form.terms) form.cart) _ within in
     let count = and_right (is_up_to 8 form.capacity) _ capacity in
     let orders = and_right (is_up_to 64 (length form.orders)) _ count in
     let nodes = and_right (list_all (is_order_of layout) form.orders) _ orders in (
       no_more 64 (length form.orders) (and_left (is_up_to 64 (length form.orders)) _ count),
-      and_right (list_all is_node_within form.nodes) _ nodes,
+      and_left (is_any_cart_for (length form.orders) form.cart) _ (and_right (list_all (is_node_within (is_some form.terms)) form.nodes) _ nodes),
     )
 
 -- the cart that is made of one for so many orders has a load for each of them

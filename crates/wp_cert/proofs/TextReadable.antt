@@ -27,7 +27,9 @@ use Rattle.wp_cert.specs.declared.text.form.WrittenSlot.{WrittenSlot}
 use Rattle.wp_cert.specs.declared.tree.Node.{Node}
 use Rattle.wp_cert.specs.declared.tree.Node.TheVariants as node
 use Rattle.wp_cert.specs.declared.tree.Own.{Own}
-use Rattle.wp_cert.specs.TextData.{batch_data, certificate_data, list_data, mark_code, node_data, number_data, place_data}
+use Rattle.wp_cuts.specs.Cuts.{CutParts}
+use Rattle.wp_cert.specs.declared.text.form.WrittenTerms.{WrittenTerms}
+use Rattle.wp_cert.specs.TextData.{batch_data, certificate_data, cut_data, list_data, mark_code, node_data, number_data, place_data}
 use Rattle.wp_cert.proofs.TextPlain.{shallow_certificate}
 
 -- ---- values in general
@@ -140,6 +142,8 @@ IsPrinted n = n < 2 ^ 64
 
 -- what a node has of its own, with numbers that a text may have
 pub record IsPrintedOwn (own : Own) : Type 0 where
+  pub count : IsPrinted own.count
+  pub prices : All IsPrinted own.prices
   pub duals : All IsPrinted own.duals
   pub tight : All (All IsPrinted) own.tight
 
@@ -160,6 +164,17 @@ pub record IsPrintedPlace (place : WrittenSlot) : Type 0 where
 abbrev pub IsPrintedCart : Option LoadedCart → Type 0
 IsPrintedCart None = Unit {0}
 IsPrintedCart (Some cart) = IsPrinted cart.units × All IsPrinted cart.loads
+
+-- a cut with such numbers
+pub record IsPrintedCut (cut : CutParts) : Type 0 where
+  pub divisor : IsPrinted cut.divisor
+  pub orders : All IsPrinted cut.orders
+  pub parts : All IsPrinted cut.parts
+
+-- a step and cuts with such numbers, if there are some
+abbrev pub ArePrintedTerms : Option WrittenTerms → Type 0
+ArePrintedTerms None = Unit {0}
+ArePrintedTerms (Some terms) = IsPrinted terms.step × All IsPrintedCut terms.cuts
 
 numbers_readable : (xs : List ℕ) → All IsPrinted xs → AreReadable (items_of (map number_data xs))
 numbers_readable = items_readable number_data IsPrinted number_readable
@@ -186,10 +201,10 @@ place_readable place is =
 orders_readable : (orders : List (List WrittenSlot)) → All (All IsPrintedPlace) orders → AreReadable (items_of (map (list_data place_data) orders))
 orders_readable = items_readable (list_data place_data) (All IsPrintedPlace) (list_readable place_data IsPrintedPlace place_readable)
 
-node_readable : (tree_node : Node) → IsPrintedNode tree_node → IsReadable (node_data tree_node)
-node_readable (node.Leaf None) is =
+node_readable : (third : Bool) (tree_node : Node) → IsPrintedNode tree_node → IsReadable (node_data third tree_node)
+node_readable false (node.Leaf None) is =
     object_readable _ refl (member_readable (codes "kind") _ _ (IsUtf8-are_ascii _ refl) (text_readable (codes "kept") (IsUtf8-are_ascii _ refl)) none_readable)
-node_readable (node.Leaf (Some own)) is =
+node_readable false (node.Leaf (Some own)) is =
     let duals = numbers_readable own.duals is.duals in
     let tight = batches_readable own.tight is.tight in
     object_readable _ (rw (duals.said, tight.said) refl)
@@ -197,12 +212,12 @@ node_readable (node.Leaf (Some own)) is =
     (member_readable (codes "kind") _ _ (IsUtf8-are_ascii _ refl) (text_readable (codes "leaf") (IsUtf8-are_ascii _ refl))
     (member_readable (codes "marks") _ _ (IsUtf8-are_ascii _ refl) (text_readable _ (marks_utf8 own.marks))
     (member_readable (codes "tight") _ _ (IsUtf8-are_ascii _ refl) (array_readable _ tight) none_readable))))
-node_readable (node.Split first second None) is =
+node_readable false (node.Split first second None) is =
     object_readable _ (rw (number_of-decimal first is.0, number_of-decimal second is.1) refl)
     (member_readable (codes "first") _ _ (IsUtf8-are_ascii _ refl) (number_readable first is.0)
     (member_readable (codes "kind") _ _ (IsUtf8-are_ascii _ refl) (text_readable (codes "split") (IsUtf8-are_ascii _ refl))
     (member_readable (codes "second") _ _ (IsUtf8-are_ascii _ refl) (number_readable second is.1) none_readable)))
-node_readable (node.Split first second (Some own)) is =
+node_readable false (node.Split first second (Some own)) is =
     let duals = numbers_readable own.duals is.2.duals in
     let tight = batches_readable own.tight is.2.tight in
     object_readable _ (rw (duals.said, number_of-decimal first is.0, number_of-decimal second is.1, tight.said) refl)
@@ -212,26 +227,104 @@ node_readable (node.Split first second (Some own)) is =
     (member_readable (codes "marks") _ _ (IsUtf8-are_ascii _ refl) (text_readable _ (marks_utf8 own.marks))
     (member_readable (codes "second") _ _ (IsUtf8-are_ascii _ refl) (number_readable second is.1)
     (member_readable (codes "tight") _ _ (IsUtf8-are_ascii _ refl) (array_readable _ tight) none_readable))))))
-node_readable (node.Dead order) is =
+node_readable false (node.Dead order) is =
+    object_readable _ (rw (number_of-decimal order is) refl)
+    (member_readable (codes "kind") _ _ (IsUtf8-are_ascii _ refl) (text_readable (codes "dead") (IsUtf8-are_ascii _ refl))
+    (member_readable (codes "order") _ _ (IsUtf8-are_ascii _ refl) (number_readable order is) none_readable))
+node_readable true (node.Leaf None) is =
+    object_readable _ refl (member_readable (codes "kind") _ _ (IsUtf8-are_ascii _ refl) (text_readable (codes "kept") (IsUtf8-are_ascii _ refl)) none_readable)
+node_readable true (node.Leaf (Some own)) is =
+    let duals = numbers_readable own.duals is.duals in
+    let prices = numbers_readable own.prices is.prices in
+    let tight = batches_readable own.tight is.tight in
+    object_readable _ (rw (number_of-decimal own.count is.count, duals.said, prices.said, tight.said) refl)
+    (member_readable (codes "count") _ _ (IsUtf8-are_ascii _ refl) (number_readable own.count is.count)
+    (member_readable (codes "duals") _ _ (IsUtf8-are_ascii _ refl) (array_readable _ duals)
+    (member_readable (codes "kind") _ _ (IsUtf8-are_ascii _ refl) (text_readable (codes "leaf") (IsUtf8-are_ascii _ refl))
+    (member_readable (codes "marks") _ _ (IsUtf8-are_ascii _ refl) (text_readable _ (marks_utf8 own.marks))
+    (member_readable (codes "prices") _ _ (IsUtf8-are_ascii _ refl) (array_readable _ prices)
+    (member_readable (codes "tight") _ _ (IsUtf8-are_ascii _ refl) (array_readable _ tight) none_readable))))))
+node_readable true (node.Split first second None) is =
+    object_readable _ (rw (number_of-decimal first is.0, number_of-decimal second is.1) refl)
+    (member_readable (codes "first") _ _ (IsUtf8-are_ascii _ refl) (number_readable first is.0)
+    (member_readable (codes "kind") _ _ (IsUtf8-are_ascii _ refl) (text_readable (codes "split") (IsUtf8-are_ascii _ refl))
+    (member_readable (codes "second") _ _ (IsUtf8-are_ascii _ refl) (number_readable second is.1) none_readable)))
+node_readable true (node.Split first second (Some own)) is =
+    let duals = numbers_readable own.duals is.2.duals in
+    let prices = numbers_readable own.prices is.2.prices in
+    let tight = batches_readable own.tight is.2.tight in
+    object_readable _ (rw (
+      number_of-decimal own.count is.2.count,
+      duals.said,
+      number_of-decimal first is.0,
+      prices.said,
+      number_of-decimal second is.1,
+      tight.said,
+    ) refl)
+    (member_readable (codes "count") _ _ (IsUtf8-are_ascii _ refl) (number_readable own.count is.2.count)
+    (member_readable (codes "duals") _ _ (IsUtf8-are_ascii _ refl) (array_readable _ duals)
+    (member_readable (codes "first") _ _ (IsUtf8-are_ascii _ refl) (number_readable first is.0)
+    (member_readable (codes "kind") _ _ (IsUtf8-are_ascii _ refl) (text_readable (codes "split") (IsUtf8-are_ascii _ refl))
+    (member_readable (codes "marks") _ _ (IsUtf8-are_ascii _ refl) (text_readable _ (marks_utf8 own.marks))
+    (member_readable (codes "prices") _ _ (IsUtf8-are_ascii _ refl) (array_readable _ prices)
+    (member_readable (codes "second") _ _ (IsUtf8-are_ascii _ refl) (number_readable second is.1)
+    (member_readable (codes "tight") _ _ (IsUtf8-are_ascii _ refl) (array_readable _ tight) none_readable))))))))
+node_readable true (node.Dead order) is =
     object_readable _ (rw (number_of-decimal order is) refl)
     (member_readable (codes "kind") _ _ (IsUtf8-are_ascii _ refl) (text_readable (codes "dead") (IsUtf8-are_ascii _ refl))
     (member_readable (codes "order") _ _ (IsUtf8-are_ascii _ refl) (number_readable order is) none_readable))
 
-nodes_readable : (nodes : List Node) → All IsPrintedNode nodes → AreReadable (items_of (map node_data nodes))
-nodes_readable = items_readable node_data IsPrintedNode node_readable
+nodes_readable : (third : Bool) (nodes : List Node) → All IsPrintedNode nodes → AreReadable (items_of (map (node_data third) nodes))
+nodes_readable third = items_readable (node_data third) IsPrintedNode (node_readable third)
 
-certificate_readable : (orders : List (List WrittenSlot)) (cart : Option LoadedCart) (capacity : ℕ) (nodes : List Node) → All (All IsPrintedPlace) orders
-    → IsPrintedCart cart → IsPrinted capacity → All IsPrintedNode nodes → IsReadable (certificate_data orders cart capacity nodes)
-certificate_readable orders None capacity nodes places loaded small fits =
-    let tree_nodes = nodes_readable nodes fits in
+cut_readable : (cut : CutParts) → IsPrintedCut cut → IsReadable (cut_data cut)
+cut_readable cut is =
+    let orders = numbers_readable cut.orders is.orders in
+    let parts = numbers_readable cut.parts is.parts in
+    object_readable _ (rw (number_of-decimal cut.divisor is.divisor, orders.said, parts.said) refl)
+    (member_readable (codes "divisor") _ _ (IsUtf8-are_ascii _ refl) (number_readable cut.divisor is.divisor)
+    (member_readable (codes "orders") _ _ (IsUtf8-are_ascii _ refl) (array_readable _ orders)
+    (member_readable (codes "parts") _ _ (IsUtf8-are_ascii _ refl) (array_readable _ parts) none_readable)))
+
+cuts_readable : (cuts : List CutParts) → All IsPrintedCut cuts → AreReadable (items_of (map cut_data cuts))
+cuts_readable = items_readable cut_data IsPrintedCut cut_readable
+
+certificate_readable : (orders : List (List WrittenSlot)) (cart : Option LoadedCart) (terms : Option WrittenTerms) (capacity : ℕ) (nodes : List Node)
+    → All (All IsPrintedPlace) orders → IsPrintedCart cart → ArePrintedTerms terms → IsPrinted capacity → All IsPrintedNode nodes
+    → IsReadable (certificate_data orders cart terms capacity nodes)
+certificate_readable orders None None capacity nodes places loaded written small fits =
+    let tree_nodes = nodes_readable false nodes fits in
     let picks = orders_readable orders places in
-    object_readable _ (rw (number_of-decimal capacity small, tree_nodes.said, picks.said, number_of-decimal 1 (omega arith)) refl)
+    object_readable _ (rw (
+      number_of-decimal capacity small,
+      tree_nodes.said,
+      picks.said,
+      number_of-decimal 1 (omega arith),
+    ) refl)
     (member_readable (codes "capacity") _ _ (IsUtf8-are_ascii _ refl) (number_readable capacity small)
     (member_readable (codes "nodes") _ _ (IsUtf8-are_ascii _ refl) (array_readable _ tree_nodes)
     (member_readable (codes "orders") _ _ (IsUtf8-are_ascii _ refl) (array_readable _ picks)
     (member_readable (codes "version") _ _ (IsUtf8-are_ascii _ refl) (number_readable 1 (omega arith)) none_readable))))
-certificate_readable orders (Some cart) capacity nodes places loaded small fits =
-    let tree_nodes = nodes_readable nodes fits in
+certificate_readable orders None (Some terms) capacity nodes places loaded written small fits =
+    let tree_nodes = nodes_readable true nodes fits in
+    let picks = orders_readable orders places in
+    let cuts = cuts_readable terms.cuts written.1 in
+    object_readable _ (rw (
+      number_of-decimal capacity small,
+      cuts.said,
+      tree_nodes.said,
+      picks.said,
+      number_of-decimal terms.step written.0,
+      number_of-decimal 3 (omega arith),
+    ) refl)
+    (member_readable (codes "capacity") _ _ (IsUtf8-are_ascii _ refl) (number_readable capacity small)
+    (member_readable (codes "cuts") _ _ (IsUtf8-are_ascii _ refl) (array_readable _ cuts)
+    (member_readable (codes "nodes") _ _ (IsUtf8-are_ascii _ refl) (array_readable _ tree_nodes)
+    (member_readable (codes "orders") _ _ (IsUtf8-are_ascii _ refl) (array_readable _ picks)
+    (member_readable (codes "step") _ _ (IsUtf8-are_ascii _ refl) (number_readable terms.step written.0)
+    (member_readable (codes "version") _ _ (IsUtf8-are_ascii _ refl) (number_readable 3 (omega arith)) none_readable))))))
+certificate_readable orders (Some cart) None capacity nodes places loaded written small fits =
+    let tree_nodes = nodes_readable false nodes fits in
     let picks = orders_readable orders places in
     let loads = numbers_readable cart.loads loaded.1 in
     object_readable _ (rw (
@@ -248,12 +341,35 @@ certificate_readable orders (Some cart) capacity nodes places loaded small fits 
     (member_readable (codes "orders") _ _ (IsUtf8-are_ascii _ refl) (array_readable _ picks)
     (member_readable (codes "units") _ _ (IsUtf8-are_ascii _ refl) (number_readable cart.units loaded.0)
     (member_readable (codes "version") _ _ (IsUtf8-are_ascii _ refl) (number_readable 2 (omega arith)) none_readable))))))
+certificate_readable orders (Some cart) (Some terms) capacity nodes places loaded written small fits =
+    let tree_nodes = nodes_readable true nodes fits in
+    let picks = orders_readable orders places in
+    let loads = numbers_readable cart.loads loaded.1 in
+    let cuts = cuts_readable terms.cuts written.1 in
+    object_readable _ (rw (
+      number_of-decimal capacity small,
+      cuts.said,
+      loads.said,
+      tree_nodes.said,
+      picks.said,
+      number_of-decimal terms.step written.0,
+      number_of-decimal cart.units loaded.0,
+      number_of-decimal 3 (omega arith),
+    ) refl)
+    (member_readable (codes "capacity") _ _ (IsUtf8-are_ascii _ refl) (number_readable capacity small)
+    (member_readable (codes "cuts") _ _ (IsUtf8-are_ascii _ refl) (array_readable _ cuts)
+    (member_readable (codes "loads") _ _ (IsUtf8-are_ascii _ refl) (array_readable _ loads)
+    (member_readable (codes "nodes") _ _ (IsUtf8-are_ascii _ refl) (array_readable _ tree_nodes)
+    (member_readable (codes "orders") _ _ (IsUtf8-are_ascii _ refl) (array_readable _ picks)
+    (member_readable (codes "step") _ _ (IsUtf8-are_ascii _ refl) (number_readable terms.step written.0)
+    (member_readable (codes "units") _ _ (IsUtf8-are_ascii _ refl) (number_readable cart.units loaded.0)
+    (member_readable (codes "version") _ _ (IsUtf8-are_ascii _ refl) (number_readable 3 (omega arith)) none_readable))))))))
 
 -- the text of a certificate is text, and is read as its value
-pub text_again : (orders : List (List WrittenSlot)) (cart : Option LoadedCart) (capacity : ℕ) (nodes : List Node) → All (All IsPrintedPlace) orders
-    → IsPrintedCart cart → IsPrinted capacity → All IsPrintedNode nodes
-    → IsUtf8 (compact_text (certificate_data orders cart capacity nodes))
-    × (read (compact_text (certificate_data orders cart capacity nodes)) ≡ Some (certificate_data orders cart capacity nodes))
-text_again orders cart capacity nodes places loaded small fits =
-    let is = certificate_readable orders cart capacity nodes places loaded small fits in
-    (is.utf8, read_compact (certificate_data orders cart capacity nodes) is (shallow_certificate orders cart capacity nodes))
+pub text_again : (orders : List (List WrittenSlot)) (cart : Option LoadedCart) (terms : Option WrittenTerms) (capacity : ℕ) (nodes : List Node)
+    → All (All IsPrintedPlace) orders → IsPrintedCart cart → ArePrintedTerms terms → IsPrinted capacity → All IsPrintedNode nodes
+    → IsUtf8 (compact_text (certificate_data orders cart terms capacity nodes))
+    × (read (compact_text (certificate_data orders cart terms capacity nodes)) ≡ Some (certificate_data orders cart terms capacity nodes))
+text_again orders cart terms capacity nodes places loaded written small fits =
+    let is = certificate_readable orders cart terms capacity nodes places loaded written small fits in
+    (is.utf8, read_compact (certificate_data orders cart terms capacity nodes) is (shallow_certificate orders cart terms capacity nodes))

@@ -1,5 +1,6 @@
 -- What the same bytes tell is the same.
-use Rattle.std.proofs.Common.{◌≡◌, ℕ, zero, suc, ◌<◌, ◌↔◌, List, [], ◌∷◌, Contains, Ok, Result, length, get_or, arith, ap, sym, subst, ◌∙◌, option_map}
+use Rattle.std.proofs.Common.{◌≡◌, ℕ, zero, suc, ◌<◌, ◌↔◌, List, [], ◌∷◌, Contains, Ok, Result, length, get_or, arith, ap, ap₂, sym, subst, ◌∙◌, option_map}
+use Rattle.std.specs.Prelude.{Option}
 use Rattle.wp_model.specs.Warehouse.{Layout}
 use Rattle.wp_model.specs.declared.point.Point.{Point}
 use Rattle.wp_lengths.specs.Waves.{HaveSamePicks, WavePicks}
@@ -8,7 +9,9 @@ use Rattle.wp_cert.specs.declared.text.form.Form.{Form}
 use Rattle.wp_cert.specs.declared.text.form.WrittenSlot.{WrittenSlot}
 use Rattle.wp_cert.specs.declared.tree.CertWhy.{CertWhy}
 use Rattle.wp_cert.specs.declared.tree.Node.{Node}
-use Rattle.wp_cert.specs.Text.{IsSame, PickAt, Tells, certificate_said, loaded_cart}
+use Rattle.wp_cuts.specs.Cuts.{CutParts}
+use Rattle.wp_cert.specs.declared.tree.Tree.{Tree}
+use Rattle.wp_cert.specs.Text.{IsSame, PickAt, Tells, certificate_said, cuts_written, loaded_cart}
 use Rattle.wp_cert.proofs.TextPicks.{as_many}
 
 each_at : (left right : List PickSet) (places : List (List WrittenSlot)) → PickAt left places → PickAt right places → (order : ℕ) (d : PickSet)
@@ -32,10 +35,10 @@ same_form : (one other : Form) (said : Result Form CertWhy) → said ≡ Ok one 
 same_form one other said is also = cc (sym is ∙ also)
 
 -- two certificates that the same bytes tell are the same
-pub told_once : (layout : Layout) (bytes : List ℕ) (wave other : WavePicks) (capacity other_capacity : ℕ) (nodes other_nodes : List Node)
-    → Tells layout bytes wave capacity nodes → Tells layout bytes other other_capacity other_nodes
-    → IsSame wave other capacity other_capacity nodes other_nodes
-told_once layout bytes wave other capacity other_capacity nodes other_nodes one also =
+pub told_once : (layout : Layout) (bytes : List ℕ) (wave other : WavePicks) (capacity other_capacity : ℕ) (tree other_tree : Tree)
+    → Tells layout bytes wave capacity tree → Tells layout bytes other other_capacity other_tree
+    → IsSame wave other capacity other_capacity tree other_tree
+told_once layout bytes wave other capacity other_capacity tree other_tree one also =
     let form = same_form one.form also.form (certificate_said layout bytes) one.said also.said in
     record {
       layout = one.layout_is ∙ sym also.layout_is;
@@ -43,5 +46,7 @@ told_once layout bytes wave other capacity other_capacity nodes other_nodes one 
           (subst (λ (f : Form). PickAt other.orders f.orders) (sym form) also.orders_pick);
       cart = one.cart_is ∙ ap (λ (f : Form). option_map loaded_cart f.cart) form ∙ sym also.cart_is;
       capacity_is = sym one.capacity_is ∙ subst (λ (f : Form). f.capacity ≡ other_capacity) (sym form) also.capacity_is;
-      nodes_are = sym one.nodes_are ∙ subst (λ (f : Form). f.nodes ≡ other_nodes) (sym form) also.nodes_are;
+      tree_is = ap₂ (λ (nodes : List Node) (cuts : Option (List CutParts)). let made : Tree = record { nodes = nodes; cuts = cuts } in made)
+          (sym one.nodes_are ∙ subst (λ (f : Form). f.nodes ≡ other_tree.nodes) (sym form) also.nodes_are)
+          (sym one.cuts_are ∙ subst (λ (f : Form). cuts_written f.terms ≡ other_tree.cuts) (sym form) also.cuts_are);
     }

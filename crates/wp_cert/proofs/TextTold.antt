@@ -1,8 +1,8 @@
 -- What is printed of a certificate tells its wave, its capacity and its tree.
-use Rattle.std.proofs.Common.{◌≡◌, ℕ, suc, ◌<◌, ◌≤◌, Bool, true, List, [], ◌∷◌, length, map, All, Contains, Option, Some, None, Ok, ◌&&◌, ◌==◌, option_map}
-use Rattle.std.proofs.Common.{arith, refl, sym, ap, subst, IsUtf8}
+use Rattle.std.proofs.Common.{◌≡◌, ℕ, suc, ◌<◌, ◌≤◌, Bool, true, false, List, [], ◌∷◌, length, map, All, Contains, Option, Some, None, Ok, ◌&&◌, ◌==◌, option_map}
+use Rattle.std.proofs.Common.{arith, refl, sym, ap, subst, ◌∙◌, IsUtf8}
 use Rattle.std.specs.List.{list_all}
-use Rattle.std.specs.Prelude.{nat_le}
+use Rattle.std.specs.Prelude.{is_some, nat_le}
 use Rattle.std.proofs.lemmas.List.Elements.{All-head, All-tail}
 use Rattle.serde_json.specs.Read.{read}
 use Rattle.wp_model.specs.declared.point.Point.{Point}
@@ -16,14 +16,17 @@ use Rattle.wp_graph.specs.PickSets.{AreSlots, PickSet, points_where}
 use Rattle.wp_graph.specs.Required.{has_point}
 use Rattle.wp_pairs.specs.Carts.{IsCartFor, LoadedCart}
 use Rattle.wp_cert.specs.declared.text.form.WrittenCart.{WrittenCart}
-use Rattle.wp_cert.specs.declared.tree.Node.{Node}
-use Rattle.wp_cert.specs.Text.{PickAt, PicksAt, Tells, form_said, is_any_cart_for, is_order_of, is_slot_of, is_up_to, is_within, loaded_cart, place_of}
-use Rattle.wp_cert.specs.Text.{value_says}
-use Rattle.wp_cert.specs.Text.{version_of}
-use Rattle.wp_cert.specs.TextData.{HaveDualsWithin, HaveSlots, IsKeptNode, certificate_data, order_places, wave_places}
+use Rattle.serde_json.specs.Data.{Data}
+use Rattle.wp_cuts.specs.Cuts.{CutParts}
+use Rattle.wp_cuts.specs.Steps.{layout_step}
+use Rattle.wp_cert.specs.declared.text.form.Form.{Form}
+use Rattle.wp_cert.specs.declared.tree.Tree.{Tree}
+use Rattle.wp_cert.specs.Text.{PickAt, PicksAt, Tells, cuts_written, form_said, is_any_cart_for, is_node_within, is_order_of, is_slot_of, is_step_of}
+use Rattle.wp_cert.specs.Text.{is_up_to, is_within, loaded_cart, place_of, value_says, version_of}
+use Rattle.wp_cert.specs.TextData.{AreKeptCuts, HaveDualsWithin, HaveSlots, IsKeptNode, certificate_data, order_places, terms_written, wave_places}
 use Rattle.wp_cert.proofs.TextJson.{value_read-text}
 use Rattle.wp_cert.proofs.TextPicks.{same_point}
-use Rattle.wp_cert.proofs.TextReadBack.{form_again, printed_form, written_cart}
+use Rattle.wp_cert.proofs.TextReadBack.{AreKeptTerms, form_again, printed_form, written_cart}
 
 both : (a b : Bool) → a ≡ true → b ≡ true → (a && b) ≡ true
 both a b one other = rw (one, other) refl
@@ -121,42 +124,70 @@ cart_within orders (Some cart) is =
     both _ _ (up_to most_cart_units cart.units is.0.units.0 is.0.units.1)
     (both _ _ (same_number (length cart.loads) orders is.1) (light_loads cart.units cart.loads is.0.light))
 
-right_version : (cart : Option WrittenCart) → (version_of cart == version_of cart) ≡ true
-right_version None = refl
-right_version (Some cart) = refl
+right_version : (third : Bool) (cart : Option WrittenCart) → (version_of third cart == version_of third cart) ≡ true
+right_version true cart = refl
+right_version false None = refl
+right_version false (Some cart) = refl
 
-form_within : (wave : WavePicks) (capacity : ℕ) (nodes : List Node) → IsWave wave → HaveSlots wave.layout wave.orders → 1 ≤ capacity → capacity ≤ 8
-    → HaveDualsWithin nodes → is_within wave.layout (printed_form (wave_places wave) wave.cart capacity nodes) ≡ true
-form_within wave capacity nodes valid slots some most duals =
+right_step : (layout : Layout) (cuts : Option (List CutParts)) → is_step_of layout (terms_written layout cuts) ≡ true
+right_step layout None = refl
+right_step layout (Some cuts) = same_number (layout_step layout) (layout_step layout) refl
+
+same_form : (layout : Layout) (cuts : Option (List CutParts)) → is_some (terms_written layout cuts) ≡ is_some cuts
+same_form layout None = refl
+same_form layout (Some cuts) = refl
+
+-- nodes are within their ranges as those of a tree that is printed
+nodes_within : (layout : Layout) (tree : Tree) → HaveDualsWithin tree
+    → list_all (is_node_within (is_some (terms_written layout tree.cuts))) tree.nodes ≡ true
+nodes_within layout tree within = ap (λ (third : Bool). list_all (is_node_within third) tree.nodes) (same_form layout tree.cuts) ∙ within
+
+form_within : (wave : WavePicks) (capacity : ℕ) (tree : Tree) → IsWave wave → HaveSlots wave.layout wave.orders → 1 ≤ capacity → capacity ≤ 8
+    → HaveDualsWithin tree
+    → is_within wave.layout (printed_form (wave_places wave) wave.cart (terms_written wave.layout tree.cuts) capacity tree.nodes) ≡ true
+form_within wave capacity tree valid slots some most duals =
     let count = as_many_places wave.layout wave.orders in
     let cart = subst (λ (orders : ℕ). IsCartFor wave.cart orders) (sym count) valid.cart in
-    both _ _ (right_version (option_map written_cart wave.cart))
+    both _ _ (right_version (is_some (terms_written wave.layout tree.cuts)) (option_map written_cart wave.cart))
     (both _ _ (up_to 8 capacity some most)
     (both _ _ (up_to 64 (length (wave_places wave)) (omega (arith, count, valid.some)) (omega (arith, count, valid.most)))
     (both _ _ (orders_within wave.layout wave.orders slots valid.filled)
-    (both _ _ duals (cart_within (length (wave_places wave)) wave.cart cart)))))
+    (both _ _ (nodes_within wave.layout tree duals)
+    (both _ _ (cart_within (length (wave_places wave)) wave.cart cart) (right_step wave.layout tree.cuts))))))
 
-said_within : (wave : WavePicks) (capacity : ℕ) (nodes : List Node)
-    → form_said (certificate_data (wave_places wave) wave.cart capacity nodes) ≡ Some (printed_form (wave_places wave) wave.cart capacity nodes)
-    → is_within wave.layout (printed_form (wave_places wave) wave.cart capacity nodes) ≡ true
-    → value_says wave.layout (certificate_data (wave_places wave) wave.cart capacity nodes) ≡ Ok (printed_form (wave_places wave) wave.cart capacity nodes)
-said_within wave capacity nodes said inside = rw (said, inside) refl
+said_within : (layout : Layout) (value : Data) (form : Form) → form_said value ≡ Some form → is_within layout form ≡ true → value_says layout value ≡ Ok form
+said_within layout value form said inside = rw (said, inside) refl
 
 same_cart : (cart : Option LoadedCart) → cart ≡ option_map loaded_cart (option_map written_cart cart)
 same_cart None = refl
 same_cart (Some cart) = refl
 
+same_cuts : (layout : Layout) (cuts : Option (List CutParts)) → cuts_written (terms_written layout cuts) ≡ cuts
+same_cuts layout None = refl
+same_cuts layout (Some cuts) = refl
+
+kept_terms : (layout : Layout) (cuts : Option (List CutParts)) → AreKeptCuts cuts → AreKeptTerms (terms_written layout cuts)
+kept_terms layout None kept = tt
+kept_terms layout (Some cuts) kept = kept
+
 -- bytes that are text and are read as the certificate's value tell the certificate
-pub told_again : (wave : WavePicks) (capacity : ℕ) (nodes : List Node) (bytes : List ℕ) → IsWave wave → HaveSlots wave.layout wave.orders
-    → 1 ≤ capacity → capacity ≤ 8 → HaveDualsWithin nodes → All IsKeptNode nodes → IsUtf8 bytes
-    → read bytes ≡ Some (certificate_data (wave_places wave) wave.cart capacity nodes) → Tells wave.layout bytes wave capacity nodes
-told_again wave capacity nodes bytes valid slots some most duals kept text is = record {
-  form = printed_form (wave_places wave) wave.cart capacity nodes;
-  said = rw (value_read-text bytes (certificate_data (wave_places wave) wave.cart capacity nodes) (text, is)) (said_within wave capacity nodes
-      (form_again (wave_places wave) wave.cart capacity nodes kept) (form_within wave capacity nodes valid slots some most duals));
-  layout_is = refl;
-  orders_pick = orders_at wave.layout wave.orders slots;
-  cart_is = same_cart wave.cart;
-  capacity_is = refl;
-  nodes_are = refl;
-}
+pub told_again : (wave : WavePicks) (capacity : ℕ) (tree : Tree) (bytes : List ℕ) → IsWave wave → HaveSlots wave.layout wave.orders
+    → 1 ≤ capacity → capacity ≤ 8 → HaveDualsWithin tree → All IsKeptNode tree.nodes → AreKeptCuts tree.cuts → IsUtf8 bytes
+    → read bytes ≡ Some (certificate_data (wave_places wave) wave.cart (terms_written wave.layout tree.cuts) capacity tree.nodes)
+    → Tells wave.layout bytes wave capacity tree
+told_again wave capacity tree bytes valid slots some most duals kept cuts text is =
+    let terms = terms_written wave.layout tree.cuts in
+    let value = certificate_data (wave_places wave) wave.cart terms capacity tree.nodes in
+    let form = printed_form (wave_places wave) wave.cart terms capacity tree.nodes in record {
+      form = form;
+      said = rw (value_read-text bytes value (text, is)) (said_within wave.layout value form
+          (form_again (wave_places wave) wave.cart terms capacity tree.nodes kept (nodes_within wave.layout tree duals)
+          (kept_terms wave.layout tree.cuts cuts))
+          (form_within wave capacity tree valid slots some most duals));
+      layout_is = refl;
+      orders_pick = orders_at wave.layout wave.orders slots;
+      cart_is = same_cart wave.cart;
+      capacity_is = refl;
+      nodes_are = refl;
+      cuts_are = same_cuts wave.layout tree.cuts;
+    }

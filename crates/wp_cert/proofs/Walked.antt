@@ -95,4 +95,4 @@ costs_are_walked = λ wave capacity bound least batches cost is costs.
 
 -- carts walk no less than the bound of a right tree
 pub walks_are_no_shorter : WalksAreNoShorter
-walks_are_no_shorter = λ wave capacity nodes bound some right. no_walks_are_shorter wave capacity bound (bounds_hold wave capacity nodes bound some right)
+walks_are_no_shorter = λ wave capacity tree bound some right. no_walks_are_shorter wave capacity bound (bounds_hold wave capacity tree bound some right)

@@ -5,12 +5,12 @@ use Rattle.wp_model.specs.Warehouse.{Layout}
 use Rattle.wp_graph.specs.PickSets.{AreSlots}
 use Rattle.wp_lengths.specs.Batchings.{IsBatching, IsCost}
 use Rattle.wp_lengths.specs.Waves.{IsWave, WavePicks, picks_of}
-use Rattle.wp_cert.specs.declared.tree.Node.{Node}
+use Rattle.wp_cert.specs.declared.tree.Tree.{Tree}
 use Rattle.wp_cert.specs.declared.tree.CertFault.{CertFault}
 use Rattle.wp_cert.specs.declared.tree.CertWhy.{CertWhy}
 use Rattle.wp_cert.specs.Refusals.{IsFirstBroken}
 use Rattle.wp_cert.specs.Text.{IsSame, Tells, certificate_said}
-use Rattle.wp_cert.specs.TextData.{HaveDualsWithin, HaveSlots, certificate_text, wave_places}
+use Rattle.wp_cert.specs.TextData.{HaveDualsWithin, HaveSlots, certificate_text}
 use Rattle.wp_cert.specs.Trees.{IsBoundOf}
 use Rattle.wp_cert.specs.Visited.{HasEachLength}
 use Rattle.wp_cert.specs.Walks.{ArePutIntoBatches, NoWalksAreShorter}
@@ -23,8 +23,8 @@ NoBatchingCostsLess wave capacity bound = (batches : List (List ℕ)) (cost : �
 
 -- the bound of a right tree is such a number
 abbrev pub BoundsHold : Type 0
-BoundsHold = (wave : WavePicks) (capacity : ℕ) (nodes : List Node) (bound : ℕ) → 1 ≤ capacity
-    → IsBoundOf wave capacity nodes bound
+BoundsHold = (wave : WavePicks) (capacity : ℕ) (tree : Tree) (bound : ℕ) → 1 ≤ capacity
+    → IsBoundOf wave capacity tree bound
     → NoBatchingCostsLess wave capacity bound
 
 -- orders that are put into batches, each in ascending order, are a batching
@@ -35,8 +35,8 @@ PutBatchesAreBatchings = (wave : WavePicks) (capacity : ℕ) (batches : List (Li
 
 -- carts walk no less than the bound of a right tree
 abbrev pub WalksAreNoShorter : Type 0
-WalksAreNoShorter = (wave : WavePicks) (capacity : ℕ) (nodes : List Node) (bound : ℕ) → 1 ≤ capacity
-    → IsBoundOf wave capacity nodes bound
+WalksAreNoShorter = (wave : WavePicks) (capacity : ℕ) (tree : Tree) (bound : ℕ) → 1 ≤ capacity
+    → IsBoundOf wave capacity tree bound
     → NoWalksAreShorter wave capacity bound
 
 -- where carts walk no less than a number, no batching costs less
@@ -46,21 +46,21 @@ CostsAreWalked = (wave : WavePicks) (capacity bound : ℕ) → NoWalksAreShorter
 
 -- a tree that is right has no broken rule
 abbrev pub RightTreesBreakNoRule : Type 0
-RightTreesBreakNoRule = (wave : WavePicks) (capacity : ℕ) (nodes : List Node) (bound : ℕ) (fault : CertFault)
-    → IsBoundOf wave capacity nodes bound
-    → IsFirstBroken wave capacity nodes fault → ⊥
+RightTreesBreakNoRule = (wave : WavePicks) (capacity : ℕ) (tree : Tree) (bound : ℕ) (fault : CertFault)
+    → IsBoundOf wave capacity tree bound
+    → IsFirstBroken wave capacity tree fault → ⊥
 
 -- and it has one bound
 abbrev pub RightTreesHaveOneBound : Type 0
-RightTreesHaveOneBound = (wave : WavePicks) (capacity : ℕ) (nodes : List Node) (one other : ℕ)
-    → IsBoundOf wave capacity nodes one
-    → IsBoundOf wave capacity nodes other → one ≡ other
+RightTreesHaveOneBound = (wave : WavePicks) (capacity : ℕ) (tree : Tree) (one other : ℕ)
+    → IsBoundOf wave capacity tree one
+    → IsBoundOf wave capacity tree other → one ≡ other
 
 -- a tree breaks one rule first, at one node
 abbrev pub TreesBreakOneRuleFirst : Type 0
-TreesBreakOneRuleFirst = (wave : WavePicks) (capacity : ℕ) (nodes : List Node) (one other : CertFault)
-    → IsFirstBroken wave capacity nodes one
-    → IsFirstBroken wave capacity nodes other → one ≡ other
+TreesBreakOneRuleFirst = (wave : WavePicks) (capacity : ℕ) (tree : Tree) (one other : CertFault)
+    → IsFirstBroken wave capacity tree one
+    → IsFirstBroken wave capacity tree other → one ≡ other
 
 -- each batch of a wave, some orders of it, has a length, where each order picks at slots of the layout
 abbrev pub BatchesHaveLengths : Type 0
@@ -71,15 +71,15 @@ BatchesHaveLengths = (wave : WavePicks) → 0 < length wave.orders
 pub record TellsBound (layout : Layout) (text : List ℕ) (bound : ℕ) : Type 0 where
   pub wave : WavePicks
   pub capacity : ℕ
-  pub nodes : List Node
-  pub told : Tells layout text wave capacity nodes
-  pub right : IsBoundOf wave capacity nodes bound
+  pub tree : Tree
+  pub told : Tells layout text wave capacity tree
+  pub right : IsBoundOf wave capacity tree bound
 
 -- of two waves that pick at the same slots and have the same cart, capacity and tree, the bounds are the same
 abbrev pub SameWavesHaveOneBound : Type 0
-SameWavesHaveOneBound = (wave other : WavePicks) (capacity further : ℕ) (nodes more : List Node) (bound found : ℕ)
-    → IsSame wave other capacity further nodes more → IsBoundOf wave capacity nodes bound
-    → IsBoundOf other further more found → bound ≡ found
+SameWavesHaveOneBound = (wave other : WavePicks) (capacity further : ℕ) (tree another : Tree) (bound found : ℕ)
+    → IsSame wave other capacity further tree another → IsBoundOf wave capacity tree bound
+    → IsBoundOf other further another found → bound ≡ found
 
 -- a text tells one bound
 abbrev pub TextsTellOneBound : Type 0
@@ -90,12 +90,12 @@ TextsTellOneBound = (layout : Layout) (text : List ℕ) (bound found : ℕ) → 
 abbrev pub TextsWithABoundAreAccepted : Type 0
 TextsWithABoundAreAccepted = (layout : Layout) (text : List ℕ) (bound : ℕ) → TellsBound layout text bound
     → ((why : CertWhy) → certificate_said layout text ≡ Err why → ⊥)
-    × ((wave : WavePicks) (capacity : ℕ) (nodes : List Node) (fault : CertFault) → Tells layout text wave capacity nodes
-    → IsFirstBroken wave capacity nodes fault → ⊥)
+    × ((wave : WavePicks) (capacity : ℕ) (tree : Tree) (fault : CertFault) → Tells layout text wave capacity tree
+    → IsFirstBroken wave capacity tree fault → ⊥)
 
 -- the text that is printed of a wave, a capacity and a right tree tells the tree's bound
 abbrev pub PrintedTextsTellTheBound : Type 0
-PrintedTextsTellTheBound = (wave : WavePicks) (capacity : ℕ) (nodes : List Node) (bound : ℕ) → IsWave wave
+PrintedTextsTellTheBound = (wave : WavePicks) (capacity : ℕ) (tree : Tree) (bound : ℕ) → IsWave wave
     → HaveSlots wave.layout wave.orders → 1 ≤ capacity
-    → capacity ≤ 8 → HaveDualsWithin nodes → IsBoundOf wave capacity nodes bound
-    → TellsBound wave.layout (certificate_text (wave_places wave) wave.cart capacity nodes) bound
+    → capacity ≤ 8 → HaveDualsWithin tree → IsBoundOf wave capacity tree bound
+    → TellsBound wave.layout (certificate_text wave capacity tree) bound

@@ -11,9 +11,11 @@ abbrev pub cert_why_text : CertWhy → List ℕ
 cert_why_text why.NotJson = codes "not-json"
 cert_why_text why.BadShape = codes "bad-shape"
 cert_why_text why.OutOfRange = codes "out-of-range"
+cert_why_text why.BadCuts = codes "bad-cuts"
 cert_why_text why.Cut = codes "cut"
 cert_why_text why.SplitKept = codes "split-kept"
 cert_why_text why.DualsLength = codes "duals-length"
+cert_why_text why.DecidedPrices = codes "decided-prices"
 cert_why_text why.SumLow = codes "sum-low"
 cert_why_text (why.NotFeasible batch) = codes "not-feasible" ++ flat_map number_after_space batch
 cert_why_text why.BadMarks = codes "bad-marks"
@@ -27,9 +29,11 @@ abbrev pub is_at_node : CertWhy → Bool
 is_at_node why.NotJson = false
 is_at_node why.BadShape = false
 is_at_node why.OutOfRange = false
+is_at_node why.BadCuts = true
 is_at_node why.Cut = true
 is_at_node why.SplitKept = true
 is_at_node why.DualsLength = true
+is_at_node why.DecidedPrices = true
 is_at_node why.SumLow = true
 is_at_node (why.NotFeasible batch) = true
 is_at_node why.BadMarks = true

@@ -1,3 +1,5 @@
+pub mod Terms
+pub mod Kept
 pub mod Trees
 pub mod Walks
 pub mod Bounds

@@ -1,17 +1,25 @@
 -- How the marks of a node are tested while its permitted batches are visited.
-use Rattle.std.specs.Prelude.{◌≡◌, ℕ, ◌<◌, ◌≤◌, true, List, ◌∷◌, Result, Ok, Err, drop, length, slice_index, ⊤}
+use Rattle.std.specs.Prelude.{◌≡◌, ℕ, ◌<◌, ◌≤◌, ◌⊎◌, true, List, [], ◌∷◌, Result, Ok, Err, drop, length, slice_index, ⊤}
 use Rattle.wp_pairs.specs.Permitted.{Pairing}
-use Rattle.wp_lengths.specs.Visits.{Due, IsVisit, IsWithin, Passed, Place}
+use Rattle.wp_lengths.specs.Duals.{sixtieths_of}
+use Rattle.wp_lengths.specs.Lengths.{IsLengthOf}
+use Rattle.wp_lengths.specs.Visits.{Due, Passed, Place}
 use Rattle.wp_visit.specs.declared.step.Step.{Step}
 use Rattle.wp_visit.specs.declared.step.Step.TheVariants as step
 use Rattle.wp_visit.specs.Items.{most_dual}
 use Rattle.wp_visit.specs.Places.{Task}
+use Rattle.wp_cuts.specs.PricedVisits.{IsPaid, PaysMore}
+use Rattle.wp_cuts.specs.Prices.{Pays}
 use Rattle.wp_cert.specs.declared.tested.TestedOwn.{TestedOwn}
 use Rattle.wp_cert.specs.declared.tree.CertWhy.{CertWhy}
+use Rattle.wp_cert.specs.declared.tree.CertWhy.TheVariants as why
+use Rattle.wp_cert.specs.declared.tree.Own.{Own}
 use Rattle.wp_cert.specs.declared.visit.MarkTest.{MarkTest}
 use Rattle.wp_cert.specs.Known.{AreKnown}
 use Rattle.wp_cert.specs.Levels.{AreLevels}
-use Rattle.wp_cert.specs.Refusals.{IsRefusedVisit}
+use Rattle.wp_cert.specs.Refusals.{AreRefused, IsFirstSlack, IsRefusedVisit}
+use Rattle.wp_cert.specs.Terms.{Terms, prices_of}
+use Rattle.wp_cert.specs.Trees.{IsMarkedVisit, IsVisitOfAll}
 use Rattle.wp_cert.specs.Visited.{HasEachLength}
 
 -- a dual as a visit has it: as it is, or the greatest of a visit where it is no less than that
@@ -28,25 +36,36 @@ pub record AreLimited (own limited : List ℕ) : Type 0 where
 pub record IsTestOf (task : Task) (tested : TestedOwn) : Type 0 where
   pub pairing : task.pairing ≡ tested.pairs.now
   pub duals : AreLimited tested.own.now.duals task.duals
-  pub lengths : HasEachLength tested.wave.now
+  pub lengths : HasEachLength tested.terms.now.wave
 
 -- a test of marks goes along such a visit, and what it keeps and knows is right
 pub record FitsTest (task : Task) (test : MarkTest) : Type 0 where
   pub is : IsTestOf task test.tested
-  pub levels : AreLevels test.tested.wave.now test.levels
-  pub known : AreKnown test.tested.wave.now test.known
+  pub levels : AreLevels test.tested.terms.now.wave test.levels
+  pub known : AreKnown test.tested.terms.now.wave test.known
   pub within : test.next ≤ length test.tested.own.now.marks
 
 -- what is due is visited with the marks from one place on, and passes or is refused
 abbrev pub SaysOf : Pairing → TestedOwn → Due → ℕ → Result ⊤ CertWhy → ℕ → Type 0
-SaysOf pairing tested due next (Ok done) end = IsVisit tested.wave.now pairing tested.own.now.duals due
+SaysOf pairing tested due next (Ok done) end = IsMarkedVisit tested.terms.now pairing tested.own.now due
     (drop next tested.own.now.marks) (Passed (drop end tested.own.now.marks))
-SaysOf pairing tested due next (Err fault) end = IsRefusedVisit tested.wave.now pairing tested.own.now.duals due
+SaysOf pairing tested due next (Err fault) end = IsRefusedVisit tested.terms.now pairing tested.own.now due
     (drop next tested.own.now.marks) fault
 
--- a place has no more in duals than its length in sixtieths, and its mark says that it is entered
+-- a place, unless it is the empty one, pays no more than its length in sixtieths
+abbrev pub IsPaidPlace : Terms → Own → List ℕ → Type 0
+IsPaidPlace terms own place = IsPaid terms.wave terms.cuts (prices_of own) place
+
+-- a place that isn't empty pays more
+pub record IsTooMuch (terms : Terms) (own : Own) (place : List ℕ) : Type 0 where
+  pub filled : 0 < length place
+  pub total : ℕ
+  pub long : IsLengthOf terms.wave place total
+  pub above : PaysMore terms.cuts (prices_of own) place (sixtieths_of total)
+
+-- a place pays no more than its length in sixtieths, and its mark says that it is entered
 pub record IsEntered (tested : TestedOwn) (place : List ℕ) (next end : ℕ) : Type 0 where
-  pub within : IsWithin tested.wave.now tested.own.now.duals place
+  pub within : IsPaidPlace tested.terms.now tested.own.now place
   pub mark : drop next tested.own.now.marks ≡ true ∷ drop end tested.own.now.marks
 
 -- how a place is tested: it is entered, or its own visit ends with it
@@ -61,3 +80,14 @@ pub record EntersTest (task : Task) (old : MarkTest) (place : List ℕ) (from : 
     (new : MarkTest) : Type 0 where
   pub same : new.tested ≡ old.tested
   pub says : SaysAt task.pairing old.tested place from old.next answer new.next
+
+-- a batch pays just its length in sixtieths
+abbrev pub PaysItsLength : Terms → Own → List ℕ → Type 0
+PaysItsLength terms own batch = (total : ℕ) × IsLengthOf terms.wave batch total
+    × Pays terms.cuts (prices_of own) batch (sixtieths_of total)
+
+-- the marks of a node are refused, or they pass and a batch that is given isn't tight
+abbrev pub IsBrokenTest : Terms → Pairing → Own → CertWhy → Type 0
+IsBrokenTest terms pairing own fault = AreRefused terms pairing own fault
+    ⊎ (IsVisitOfAll terms pairing own (Passed [])
+    × ((order : ℕ) × IsFirstSlack terms pairing own order × (fault ≡ why.NotTight order)))

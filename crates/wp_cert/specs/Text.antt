@@ -2,7 +2,7 @@
 use Rattle.std.specs.Prelude.{◌≡◌, ℕ, ◌+◌, ◌^◌, ◌==◌, ◌&&◌, ◌↔◌, Bool, true, false, List, [], ◌∷◌, Contains, Option}
 use Rattle.std.specs.Prelude.{Some, None, option_map}
 use Rattle.std.specs.Prelude.{option_and_then}
-use Rattle.std.specs.Prelude.{Result, Ok, Err, if◌then◌else◌, is_none, nat_le, nat_lt, length, codes, bytes_eq}
+use Rattle.std.specs.Prelude.{Result, Ok, Err, if◌then◌else◌, is_none, is_some, nat_le, nat_lt, length, codes, bytes_eq}
 use Rattle.std.specs.List.{AllZip, list_all}
 use Rattle.std.specs.Option.{ok_or, option_map_or}
 use Rattle.std.specs.Str.{is_utf8}
@@ -18,14 +18,18 @@ use Rattle.wp_graph.specs.PickSets.{PickSet}
 use Rattle.wp_pairs.specs.Carts.{LoadedCart}
 use Rattle.wp_lengths.specs.Waves.{HaveSamePicks, WavePicks}
 use Rattle.wp_lengths.specs.Duals.{greatest_dual}
+use Rattle.wp_cuts.specs.Cuts.{CutParts}
+use Rattle.wp_cuts.specs.Steps.{layout_step}
 use Rattle.wp_cert.specs.declared.tree.CertWhy.{CertWhy}
 use Rattle.wp_cert.specs.declared.tree.CertWhy.TheVariants as why
 use Rattle.wp_cert.specs.declared.tree.Node.{Node}
 use Rattle.wp_cert.specs.declared.tree.Node.TheVariants as node
 use Rattle.wp_cert.specs.declared.tree.Own.{Own}
+use Rattle.wp_cert.specs.declared.tree.Tree.{Tree}
 use Rattle.wp_cert.specs.declared.text.form.Form.{Form}
 use Rattle.wp_cert.specs.declared.text.form.WrittenCart.{WrittenCart}
 use Rattle.wp_cert.specs.declared.text.form.WrittenSlot.{WrittenSlot}
+use Rattle.wp_cert.specs.declared.text.form.WrittenTerms.{WrittenTerms}
 use Rattle.wp_cert.specs.declared.text.form.Unread.{Unread}
 use Rattle.wp_cert.specs.declared.text.form.Unread.TheVariants as unread
 
@@ -96,32 +100,53 @@ mark_said code = if code == 49 then Some true else (if code == 48 then Some fals
 abbrev pub marks_said : Data → Option (List Bool)
 marks_said value = option_and_then (each_of mark_said) (as_str value)
 
--- the duals, the marks and the tight batches of a node
-abbrev pub own_said : Data → Option Own
-own_said value =
+-- the duals, the marks and the tight batches of a node; nothing else has a price
+abbrev pub plain_own_said : Data → Option Own
+plain_own_said value =
     option_and_then (λ duals. option_and_then
-    (λ marks. option_map (λ tight. record { duals = duals; marks = marks; tight = tight })
+    (λ marks. option_map
+    (λ tight. record { duals = duals; marks = marks; tight = tight; count = 0; prices = [] })
     (said_at (list_said batch_said) (codes "tight") value)) (said_at marks_said (codes "marks") value))
     (said_at (list_said number_said) (codes "duals") value)
+
+-- what a node has of its own, with these prices
+abbrev pub with_prices : Own → ℕ → List ℕ → Own
+with_prices own count prices
+    = record { duals = own.duals; marks = own.marks; tight = own.tight; count = count; prices = prices }
+
+-- it has besides what each batch pays, and a price for each cut
+abbrev pub priced_said : Data → Own → Option Own
+priced_said value own =
+    option_and_then (λ count. option_map (λ prices. with_prices own count prices)
+    (said_at (list_said number_said) (codes "prices") value)) (said_at number_said (codes "count") value)
+
+-- what a node has of its own: in the third form with prices
+abbrev pub own_said : Bool → Data → Option Own
+own_said third value = option_and_then (λ own. if third then priced_said value own else Some own) (plain_own_said value)
+
+-- so many keys, and in the third form two more
+abbrev pub keys_in : Bool → ℕ → ℕ
+keys_in third count = if third then count + 2 else count
 
 -- a leaf that keeps its parent's duals
 abbrev pub kept_said : Data → Option Node
 kept_said value = if has_keys 1 value then Some (node.Leaf None) else None
 
 -- a leaf with duals of its own
-abbrev pub leaf_said : Data → Option Node
-leaf_said value = if has_keys 4 value then option_map (λ own. node.Leaf (Some own)) (own_said value) else None
+abbrev pub leaf_said : Bool → Data → Option Node
+leaf_said third value = if has_keys (keys_in third 4) value
+    then option_map (λ own. node.Leaf (Some own)) (own_said third value) else None
 
 -- what a split has of its own: all of it or nothing
-abbrev pub split_own_said : Data → Option (Option Own)
-split_own_said value = if has_keys 3 value then Some None
-    else (if has_keys 6 value then option_map (λ own. Some own) (own_said value) else None)
+abbrev pub split_own_said : Bool → Data → Option (Option Own)
+split_own_said third value = if has_keys 3 value then Some None
+    else (if has_keys (keys_in third 6) value then option_map (λ own. Some own) (own_said third value) else None)
 
 -- a split on a pair of orders
-abbrev pub split_said : Data → Option Node
-split_said value =
+abbrev pub split_said : Bool → Data → Option Node
+split_said third value =
     option_and_then (λ first. option_and_then (λ second. option_map (λ own. node.Split first second own)
-    (split_own_said value)) (said_at position_said (codes "second") value))
+    (split_own_said third value)) (said_at position_said (codes "second") value))
     (said_at position_said (codes "first") value)
 
 -- a leaf with an order that no permitted batch holds
@@ -130,16 +155,16 @@ dead_said value = if has_keys 2 value then option_map (λ order. node.Dead order
     (said_at position_said (codes "order") value) else None
 
 -- a node of this kind
-abbrev pub node_of_kind : Data → List ℕ → Option Node
-node_of_kind value kind =
+abbrev pub node_of_kind : Bool → Data → List ℕ → Option Node
+node_of_kind third value kind =
     if bytes_eq kind (codes "kept") then kept_said value
-    else (if bytes_eq kind (codes "leaf") then leaf_said value
-    else (if bytes_eq kind (codes "split") then split_said value
+    else (if bytes_eq kind (codes "leaf") then leaf_said third value
+    else (if bytes_eq kind (codes "split") then split_said third value
     else (if bytes_eq kind (codes "dead") then dead_said value else None)))
 
 -- a node
-abbrev pub node_said : Data → Option Node
-node_said value = option_and_then (node_of_kind value) (said_at as_str (codes "kind") value)
+abbrev pub node_said : Bool → Data → Option Node
+node_said third value = option_and_then (node_of_kind third value) (said_at as_str (codes "kind") value)
 
 -- the units of a cart, and what each order loads
 abbrev pub cart_said : Data → Option WrittenCart
@@ -148,26 +173,55 @@ cart_said value =
     (said_at (list_said number_said) (codes "loads") value))
     (said_at number_said (codes "units") value)
 
--- the cart of a certificate: none where it has no more keys than its four parts, and one where it has two keys more
-abbrev pub any_cart_said : Data → Option (Option WrittenCart)
-any_cart_said value =
-    if has_keys 4 value then Some None else (if has_keys 6 value then option_map (λ cart. Some cart) (cart_said value)
-    else None)
+-- a cut: a divisor, orders and parts, which are whole numbers of 32 bits, and nothing else
+abbrev pub cut_said : Data → Option CutParts
+cut_said value =
+    if has_keys 3 value then option_and_then (λ divisor. option_and_then (λ orders. option_map
+    (λ parts. record { divisor = divisor; orders = orders; parts = parts })
+    (said_at (list_said position_said) (codes "parts") value))
+    (said_at (list_said position_said) (codes "orders") value))
+    (said_at position_said (codes "divisor") value) else None
 
--- the four parts of a certificate that has this cart or none
-abbrev pub parts_said : Option WrittenCart → Data → Option Form
-parts_said cart value =
+-- what the third form has besides: the layout's step, and cuts
+abbrev pub written_terms_said : Data → Option WrittenTerms
+written_terms_said value =
+    option_and_then (λ step. option_map (λ cuts. record { step = step; cuts = cuts })
+    (said_at (list_said cut_said) (codes "cuts") value))
+    (said_at number_said (codes "step") value)
+
+-- a certificate with a step is of the third form
+abbrev pub terms_said : Data → Option (Option WrittenTerms)
+terms_said value = if is_none (get (codes "step") value) then Some None
+    else option_map (λ terms. Some terms) (written_terms_said value)
+
+-- the cart of a certificate: none where it has no more keys than its four parts, and one where it has two keys more
+abbrev pub any_cart_said : Bool → Data → Option (Option WrittenCart)
+any_cart_said third value =
+    if has_keys (keys_in third 4) value then Some None
+    else (if has_keys (keys_in third 6) value then option_map (λ cart. Some cart) (cart_said value) else None)
+
+-- the four parts of a certificate that has this cart or none, and is of the third form or not
+abbrev pub parts_said : Option WrittenTerms → Option WrittenCart → Data → Option Form
+parts_said terms cart value =
     option_and_then (λ version. option_and_then (λ capacity. option_and_then (λ orders. option_map
-    (λ nodes. record { version = version; capacity = capacity; cart = cart; orders = orders; nodes = nodes })
-    (said_at (list_said node_said) (codes "nodes") value))
+    (λ nodes. record {
+      version = version;
+      capacity = capacity;
+      cart = cart;
+      orders = orders;
+      nodes = nodes;
+      terms = terms;
+    })
+    (said_at (list_said (node_said (is_some terms))) (codes "nodes") value))
     (said_at (list_said (list_said place_said)) (codes "orders") value))
     (said_at number_said (codes "capacity") value))
     (said_at number_said (codes "version") value)
 
--- the form of a certificate: an object with its four parts, with both keys of a cart or with neither, and with no other
--- key
+-- the form of a certificate: an object with its four parts, with both keys of a cart or with neither, with both keys of
+-- the third form or with neither, and with no other key
 abbrev pub form_said : Data → Option Form
-form_said value = option_and_then (λ cart. parts_said cart value) (any_cart_said value)
+form_said value = option_and_then (λ terms. option_and_then (λ cart. parts_said terms cart value)
+    (any_cart_said (is_some terms) value)) (terms_said value)
 
 -- ---- ranges
 
@@ -183,21 +237,36 @@ is_slot_of layout place = is_up_to layout.aisles place.aisle && is_up_to layout.
 abbrev pub is_order_of : Layout → List WrittenSlot → Bool
 is_order_of layout places = nat_le 1 (length places) && list_all (is_slot_of layout) places
 
--- whether the duals, where there are some, are all within their range
-abbrev pub are_duals_within : Option Own → Bool
-are_duals_within None = true
-are_duals_within (Some own) = list_all (λ dual. nat_le dual greatest_dual) own.duals
+-- whether a price is within its range
+abbrev pub is_price : ℕ → Bool
+is_price price = nat_le price greatest_dual
 
--- whether the duals of a node are within their range
-abbrev pub is_node_within : Node → Bool
-is_node_within (node.Leaf own) = are_duals_within own
-is_node_within (node.Split first second own) = are_duals_within own
-is_node_within (node.Dead order) = true
+-- whether batches and cuts have prices within their range: in the first two forms none
+abbrev pub are_priced : Bool → Own → Bool
+are_priced third own = if third then is_price own.count && list_all is_price own.prices
+    else (own.count == 0) && (length own.prices == 0)
 
--- the version of a certificate without a cart, and that of one with a cart
-abbrev pub version_of : Option WrittenCart → ℕ
-version_of None = 1
-version_of (Some cart) = 2
+-- whether the duals and prices, where there are some, are all within their range
+abbrev pub are_duals_within : Bool → Option Own → Bool
+are_duals_within third None = true
+are_duals_within third (Some own) = list_all is_price own.duals && are_priced third own
+
+-- whether the duals and prices of a node are within their range
+abbrev pub is_node_within : Bool → Node → Bool
+is_node_within third (node.Leaf own) = are_duals_within third own
+is_node_within third (node.Split first second own) = are_duals_within third own
+is_node_within third (node.Dead order) = true
+
+-- the version of a certificate of the third form, that of one without a cart, and that of one with a cart
+abbrev pub version_of : Bool → Option WrittenCart → ℕ
+version_of true cart = 3
+version_of false None = 1
+version_of false (Some cart) = 2
+
+-- whether the step, where there is one, is the layout's
+abbrev pub is_step_of : Layout → Option WrittenTerms → Bool
+is_step_of layout None = true
+is_step_of layout (Some terms) = terms.step == layout_step layout
 
 -- whether the units are those of a cart, each of so many orders has a load, and none loads more than the cart holds
 abbrev pub is_cart_for : ℕ → WrittenCart → Bool
@@ -210,12 +279,14 @@ abbrev pub is_any_cart_for : ℕ → Option WrittenCart → Bool
 is_any_cart_for orders None = true
 is_any_cart_for orders (Some cart) = is_cart_for orders cart
 
--- whether version, capacity, orders, duals and cart are in their ranges
+-- whether version, capacity, orders, duals and prices, cart and step are in their ranges
 abbrev pub is_within : Layout → Form → Bool
 is_within layout form =
-    (form.version == version_of form.cart) && (is_up_to 8 form.capacity && (is_up_to 64 (length form.orders)
+    (form.version == version_of (is_some form.terms) form.cart)
+    && (is_up_to 8 form.capacity && (is_up_to 64 (length form.orders)
     && (list_all (is_order_of layout) form.orders &&
-    (list_all is_node_within form.nodes && is_any_cart_for (length form.orders) form.cart))))
+    (list_all (is_node_within (is_some form.terms)) form.nodes
+    && (is_any_cart_for (length form.orders) form.cart && is_step_of layout form.terms)))))
 
 -- ---- the whole text
 
@@ -254,21 +325,26 @@ PickAt orders places = AllZip PicksAt orders places
 abbrev pub loaded_cart : WrittenCart → LoadedCart
 loaded_cart cart = record { units = cart.units; loads = cart.loads }
 
+-- the cuts of a tree of the third form
+abbrev pub cuts_written : Option WrittenTerms → Option (List CutParts)
+cuts_written terms = option_map (λ written. written.cuts) terms
+
 -- the bytes of a certificate tell this wave of the layout, with its cart, if it has one, this capacity, and a tree of
--- these nodes
-pub record Tells (layout : Layout) (bytes : List ℕ) (wave : WavePicks) (capacity : ℕ) (nodes : List Node) : Type 0 where
+-- these nodes and cuts
+pub record Tells (layout : Layout) (bytes : List ℕ) (wave : WavePicks) (capacity : ℕ) (tree : Tree) : Type 0 where
   pub form : Form
   pub said : certificate_said layout bytes ≡ Ok form
   pub layout_is : wave.layout ≡ layout
   pub orders_pick : PickAt wave.orders form.orders
   pub cart_is : wave.cart ≡ option_map loaded_cart form.cart
   pub capacity_is : form.capacity ≡ capacity
-  pub nodes_are : form.nodes ≡ nodes
+  pub nodes_are : form.nodes ≡ tree.nodes
+  pub cuts_are : cuts_written form.terms ≡ tree.cuts
 
 -- what is read is this wave, this capacity and this tree: each order picks at the same slots, and the cart is the same
-pub record IsSame (wave other : WavePicks) (capacity other_capacity : ℕ) (nodes other_nodes : List Node) : Type 0 where
+pub record IsSame (wave other : WavePicks) (capacity other_capacity : ℕ) (tree other_tree : Tree) : Type 0 where
   pub layout : wave.layout ≡ other.layout
   pub orders : HaveSamePicks wave.orders other.orders
   pub cart : wave.cart ≡ other.cart
   pub capacity_is : capacity ≡ other_capacity
-  pub nodes_are : nodes ≡ other_nodes
+  pub tree_is : tree ≡ other_tree

@@ -1,16 +1,21 @@
-ghost use Rattle.std.specs.Prelude.{◌≡◌, ◌+◌, ◌<◌, ◌≤◌, [], ℕ, IfErr, IfOk, drop, length};
+ghost use Rattle.std.specs.Prelude.{◌≡◌, ◌+◌, ◌<◌, ◌≤◌, [], ℕ, IfErr, IfOk, Some, drop, length};
+ghost use Rattle.wp_lengths.specs.Waves.{IsWave};
 ghost use Rattle.wp_cert.specs.declared.tree.CertWhy.TheVariants as why;
 ghost use Rattle.wp_cert.specs.Bounds.{NoBatchingCostsLess};
-ghost use Rattle.wp_cert.specs.Paths.{ButForMemory, IsBrokenHere, IsPath, IsRefusedFrom, pairing_of};
+ghost use Rattle.wp_cert.specs.Paths.{ButForMemory, IsBrokenHere, IsPath, IsRefusedFrom, IsRefusedWhole, pairing_of};
 ghost use Rattle.wp_cert.specs.Refusals.{IsFirstBroken};
+ghost use Rattle.wp_cert.specs.Terms.{AreCuts, AreTermsFor, cuts_in, terms_of};
 ghost use Rattle.wp_cert.specs.Trees.{IsBoundOf, IsRight};
 ghost use Rattle.wp_cert.specs.Ways.{IsMet, IsStep, IsWay};
 
+use crate::cuts::cuts_of;
 use crate::node::{DueNode, test_dead, test_leaf, test_split};
 use crate::nodes::Nodes;
-use crate::tree::{CertFault, CertWhy, Node, Tree};
+use crate::terms::CheckTerms;
+use crate::tree::{CertFault, CertWhy, Node, Tree, WrittenCuts};
 use crate::way::{Met, NodeStep, SplitWay};
 use std::alloc::Global;
+use wp_cuts::{RankCut, least_batches, step_of};
 use wp_lengths::{Wave, shares_of};
 use wp_pairs::{Capacity, OrderPair};
 
@@ -21,10 +26,10 @@ struct Shown {
     next: u64,
 }
 
-/// The nodes of a tree that is checked for a wave and a capacity.
+/// The nodes of a tree that is checked on its terms for a capacity.
 #[derive(Clone, Copy)]
 struct CheckedNodes<'a> {
-    wave: &'a Wave,
+    terms: &'a CheckTerms<'a>,
     capacity: Capacity,
     nodes: &'a Nodes,
 }
@@ -39,11 +44,11 @@ fn fault_at(at: u64, why: CertWhy) -> CertFault
 
 // Tests a node, whose subtrees aren't looked at, and tells what it leads to.
 fn test_node(alloc: Global, due: &DueNode<'_>, node: &Node) -> Result<NodeStep, CertWhy>
-    ensures ok { IfOk result (IsStep due.now.wave.now
-        (pairing_of due.now.wave.now due.now.capacity.most due.now.path.now.items) due.now.above
+    ensures ok { IfOk result (IsStep due.now.terms.now
+        (pairing_of due.now.terms.now.wave due.now.capacity.most due.now.path.now.items) due.now.above
         node.now) }
-    ensures err { IfErr result (ButForMemory (IsBrokenHere due.now.wave.now
-        (pairing_of due.now.wave.now due.now.capacity.most due.now.path.now.items) due.now.above
+    ensures err { IfErr result (ButForMemory (IsBrokenHere due.now.terms.now
+        (pairing_of due.now.terms.now.wave due.now.capacity.most due.now.path.now.items) due.now.above
         node.now)) }
 {
     match node {
@@ -75,19 +80,19 @@ fn check_node(
     at: u64,
 ) -> Result<Met, CertFault>
     requires at { at < length tree.now.nodes.now }
-    requires path { IsPath tree.now.wave.now tree.now.capacity.most way.old.path.items }
+    requires path { IsPath tree.now.terms.now.wave tree.now.capacity.most way.old.path.items }
     requires even { length way.old.path.items ≡ length way.old.notes.items }
     ensures ok { IfOk result (λ met. (shares : ℕ)
-        → IsWay tree.now.wave.now tree.now.capacity.most tree.now.nodes.now shares
+        → IsWay tree.now.terms.now tree.now.capacity.most tree.now.nodes.now shares
         way.old.path.items way.old.notes.items way.old.above at
-        → IsMet tree.now.wave.now tree.now.capacity.most tree.now.nodes.now shares (at + 1)
+        → IsMet tree.now.terms.now tree.now.capacity.most tree.now.nodes.now shares (at + 1)
         way.new met) }
-    ensures err { IfErr result (IsRefusedFrom tree.now.wave.now
-        (pairing_of tree.now.wave.now tree.now.capacity.most way.old.path.items) way.old.above
+    ensures err { IfErr result (IsRefusedFrom tree.now.terms.now
+        (pairing_of tree.now.terms.now.wave tree.now.capacity.most way.old.path.items) way.old.above
         tree.now.nodes.now at) }
 {
     let due = DueNode {
-        wave: tree.wave,
+        terms: tree.terms,
         capacity: tree.capacity,
         path: &way.path,
         above: way.above,
@@ -102,13 +107,13 @@ fn check_node(
     }
 }
 
-// Checks the tree at the root, above which stand duals that come to this, node by node.
+// Checks the tree at the root, above which this net stands, node by node.
 fn check_root(alloc: Global, tree: &CheckedNodes<'_>, above: u128) -> Result<Shown, CertFault>
-    ensures ok { IfOk result (λ shown. IsRight tree.now.wave.now
-        (pairing_of tree.now.wave.now tree.now.capacity.most []) above tree.now.nodes.now
+    ensures ok { IfOk result (λ shown. IsRight tree.now.terms.now
+        (pairing_of tree.now.terms.now.wave tree.now.capacity.most []) above tree.now.nodes.now
         (drop shown.next tree.now.nodes.now) shown.bound) }
-    ensures err { IfErr result (IsRefusedFrom tree.now.wave.now
-        (pairing_of tree.now.wave.now tree.now.capacity.most []) above tree.now.nodes.now 0) }
+    ensures err { IfErr result (IsRefusedFrom tree.now.terms.now
+        (pairing_of tree.now.terms.now.wave tree.now.capacity.most []) above tree.now.nodes.now 0) }
 {
     let mut way = SplitWay::to_root(alloc, above);
     for at in 0..tree.nodes.len() {
@@ -122,30 +127,41 @@ fn check_root(alloc: Global, tree: &CheckedNodes<'_>, above: u128) -> Result<Sho
     Err(fault_at(tree.nodes.len(), CertWhy::Cut))
 }
 
-/// Checks a tree for a wave and a capacity, 1 to 8, and tells its bound, the least over its leaves that aren't dead: no
-/// batching of the wave within the capacity costs less. Otherwise the first broken rule is told, in preorder of the
-/// nodes and within a node in the order of its tests, with the number of the node; where the list of nodes is cut, with
-/// their number, and where nodes are left after the tree is whole, with the number of the first of them. `Memory` is
-/// answered where memory runs out, or a bound doesn't fit a u64. The method is branch and price (Ryan and Foster,
-/// 1981).
-pub fn check(alloc: Global, wave: &Wave, capacity: u32, tree: &Tree) -> Result<u64, CertFault>
-    requires some { 1 ≤ capacity }
-    requires most { capacity ≤ 8 }
-    ensures right { IfOk result (IsBoundOf wave.now capacity tree.now.nodes) }
-    ensures bound { IfOk result (NoBatchingCostsLess wave.now capacity) }
-    ensures refused { IfErr result (λ fault. (fault.why ≡ why.Memory → ⊥)
-        → IsFirstBroken wave.now capacity tree.now.nodes fault) }
+// The terms of a tree with such cuts, or without cuts.
+fn terms_with<'a>(
+    wave: &'a Wave,
+    capacity: Capacity,
+    given: &Option<WrittenCuts>,
+    cuts: &'a Vec<RankCut>,
+) -> CheckTerms<'a>
+    requires value { cuts.now.items ≡ cuts_in given.now }
+    requires valid { AreCuts (length wave.now.orders) (cuts_in given.now) }
+    ensures right { AreTermsFor wave.now given.now result.step }
+    ensures terms { result ≡ terms_of wave.now capacity.most given.now result.step }
 {
     let _orders = wave.orders();
-    let capacity = Capacity { most: capacity };
-    let above = shares_of(wave, capacity);
-    let nodes = &tree.nodes;
-    let checked = CheckedNodes {
-        wave,
-        capacity,
-        nodes,
-    };
-    let shown = check_root(alloc, &checked, above)?;
+    match given {
+        None => CheckTerms::of(wave, 1, cuts, 0),
+        Some(_) => CheckTerms::of(
+            wave,
+            step_of(&wave.layout()),
+            cuts,
+            least_batches(wave, capacity),
+        ),
+    }
+}
+
+// Checks the nodes of a whole tree, above which stand duals that come to this, and tells its bound.
+fn check_nodes(alloc: Global, tree: &CheckedNodes<'_>, above: u128) -> Result<u64, CertFault>
+    requires valid { IsWave tree.now.terms.now.wave }
+    requires some { 1 ≤ tree.now.capacity.most }
+    ensures ok { IfOk result (λ bound. IsRight tree.now.terms.now
+        (pairing_of tree.now.terms.now.wave tree.now.capacity.most []) above tree.now.nodes.now []
+        (Some bound)) }
+    ensures err { IfErr result (IsRefusedWhole tree.now.terms.now
+        (pairing_of tree.now.terms.now.wave tree.now.capacity.most []) above tree.now.nodes.now) }
+{
+    let shown = check_root(alloc, tree, above)?;
     if shown.next < tree.nodes.len() {
         return Err(fault_at(shown.next, CertWhy::Cut));
     }
@@ -153,4 +169,32 @@ pub fn check(alloc: Global, wave: &Wave, capacity: u32, tree: &Tree) -> Result<u
         Ok(bound) => Ok(bound),
         Err(_) => Err(fault_at(shown.next, CertWhy::Memory)),
     }
+}
+
+/// Checks a tree for a wave and a capacity, 1 to 8, and tells its bound, the least over its leaves that aren't dead: no
+/// batching of the wave within the capacity costs less. Otherwise the first broken rule is told: at node 0 that the
+/// tree's cuts aren't cuts of the wave's orders, or more than 64; then in preorder of the nodes and within a node in the
+/// order of its tests, with the number of the node; where the list of nodes is cut, with their number, and where nodes
+/// are left after the tree is whole, with the number of the first of them. `Memory` is answered where memory runs out,
+/// or a bound doesn't fit a u64. The method is branch and price (Ryan and Foster, 1981).
+pub fn check(alloc: Global, wave: &Wave, capacity: u32, tree: &Tree) -> Result<u64, CertFault>
+    requires some { 1 ≤ capacity }
+    requires most { capacity ≤ 8 }
+    ensures right { IfOk result (IsBoundOf wave.now capacity tree.now) }
+    ensures bound { IfOk result (NoBatchingCostsLess wave.now capacity) }
+    ensures refused { IfErr result (λ fault. (fault.why ≡ why.Memory → ⊥)
+        → IsFirstBroken wave.now capacity tree.now fault) }
+{
+    let capacity = Capacity { most: capacity };
+    let cuts = match cuts_of(alloc, wave.orders(), &tree.cuts) {
+        Ok(cuts) => cuts,
+        Err(why) => return Err(fault_at(0, why)),
+    };
+    let terms = terms_with(wave, capacity, &tree.cuts, &cuts);
+    let checked = CheckedNodes {
+        terms: &terms,
+        capacity,
+        nodes: &tree.nodes,
+    };
+    check_nodes(alloc, &checked, shares_of(wave, capacity))
 }

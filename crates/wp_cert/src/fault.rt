@@ -28,9 +28,11 @@ impl fmt::Display for CertWhy {
             CertWhy::NotJson => f.write_str("not-json"),
             CertWhy::BadShape => f.write_str("bad-shape"),
             CertWhy::OutOfRange => f.write_str("out-of-range"),
+            CertWhy::BadCuts => f.write_str("bad-cuts"),
             CertWhy::Cut => f.write_str("cut"),
             CertWhy::SplitKept => f.write_str("split-kept"),
             CertWhy::DualsLength => f.write_str("duals-length"),
+            CertWhy::DecidedPrices => f.write_str("decided-prices"),
             CertWhy::SumLow => f.write_str("sum-low"),
             CertWhy::NotFeasible(batch) => {
                 f.write_str("not-feasible")?;

@@ -1,8 +1,10 @@
 //! Certificates: a bound on the cost of every batching of a wave, with what shows it. A tree splits the batchings on
-//! pairs of orders; at each node duals say how much each order costs at least.
+//! pairs of orders; at each node duals say how much each order costs at least, and in the third form of a tree prices say
+//! besides what each batch costs, and what cuts take off.
 #![tactic(auto)]
 
 mod checking;
+mod cuts;
 mod fault;
 mod known;
 mod laws;
@@ -11,6 +13,8 @@ mod node;
 mod nodes;
 mod own;
 mod path;
+mod paying;
+mod terms;
 mod tested;
 mod text;
 mod tree;
@@ -26,4 +30,6 @@ pub use laws::{
 pub use nodes::Nodes;
 pub use path::pairs_of;
 pub use text::{print_certificate, read_certificate};
-pub use tree::{CertFault, CertWhy, Certificate, Duals, Node, Own, Tree};
+pub use tree::{
+    CertFault, CertWhy, Certificate, CutPrices, Duals, Node, Own, Tree, WrittenCut, WrittenCuts,
+};

@@ -1,6 +1,7 @@
-ghost use Rattle.std.specs.Prelude.{◌≡◌, ◌<◌, ◌↔◌, ℕ, IsTrue};
+ghost use Rattle.std.specs.Prelude.{◌≡◌, ◌<◌, ◌↔◌, ℕ, IsTrue, false};
 ghost use Rattle.wp_pairs.specs.Permitted.{AreUndecided, IsDead};
 ghost use Rattle.wp_cert.specs.Paths.{IsPath, pairing_of};
+ghost use Rattle.wp_cert.specs.Trees.{IsDecided};
 
 use wp_lengths::Wave;
 use wp_pairs::{Batch, Capacity, OrderPair, Pairs};
@@ -36,4 +37,30 @@ pub fn is_dead(pairs: &Pairs, order: u32) -> bool
         return false;
     }
     !pairs.permits(Batch::empty().union(pairs.joined_to(order)))
+}
+
+// Whether the pairs don't tell of some later order whether it goes together with this one.
+fn is_open_with(pairs: &Pairs, first: u32) -> bool
+    ensures yes { IsTrue result → (second : ℕ) × AreUndecided pairs.now first second }
+    ensures no { result ≡ false → (second : ℕ) → AreUndecided pairs.now first second → ⊥ }
+{
+    for second in 0..pairs.orders() {
+        if is_open(pairs, first, second) {
+            return true;
+        }
+    }
+    false
+}
+
+/// Whether there are two orders of which the pairs don't tell whether they go together.
+pub fn has_open(pairs: &Pairs) -> bool
+    ensures yes { IsTrue result → IsDecided pairs.now → ⊥ }
+    ensures no { result ≡ false → IsDecided pairs.now }
+{
+    for first in 0..pairs.orders() {
+        if is_open_with(pairs, first) {
+            return true;
+        }
+    }
+    false
 }

@@ -7,7 +7,7 @@ use std::alloc::Global;
 use wp_model::Memory;
 use wp_pairs::OrderPair;
 
-/// What a split on the way has shown: what its duals come to; and the bound of its first subtree, where the second is
+/// What a split on the way has shown: the net of its prices; and the bound of its first subtree, where the second is
 /// due.
 #[derive(Clone, Copy)]
 pub struct Note {
@@ -16,7 +16,7 @@ pub struct Note {
 }
 
 /// The splits on the way from the root to the node that is due, each with its pair and with what it has shown. The
-/// duals that stand above that node come to `above`.
+/// net above that node is `above`.
 #[derive(Drop)]
 pub struct SplitWay {
     pub path: Vec<OrderPair>,
@@ -27,7 +27,7 @@ pub struct SplitWay {
 /// What a node leads to.
 #[derive(Clone, Copy)]
 pub enum NodeStep {
-    /// To its first subtree, where its pair goes together, below duals that come to this.
+    /// To its first subtree, where its pair goes together, below this net.
     Into(OrderPair, u128),
     /// Out of its subtree, which has this bound, or none where it is dead.
     Out(Option<u128>),
@@ -56,7 +56,7 @@ fn lower_bound(left: Option<u128>, right: Option<u128>) -> Option<u128>
 }
 
 impl SplitWay {
-    /// The way to the root, above which stand duals that come to this.
+    /// The way to the root, above which this net stands.
     pub fn to_root(alloc: Global, above: u128) -> SplitWay
         ensures path { result.path.items ≡ [] }
         ensures notes { result.notes.items ≡ [] }

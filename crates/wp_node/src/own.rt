@@ -1,4 +1,5 @@
 ghost use Rattle.std.specs.Prelude.{◌≡◌, IfOk, length, sum};
+ghost use Rattle.wp_cert.specs.Terms.{plain_terms};
 ghost use Rattle.wp_cert.specs.Trees.{IsRightOwn};
 ghost use Rattle.wp_lengths.specs.Duals.{AreDuals};
 ghost use Rattle.wp_price.specs.ShortMarks.{AreShortMarks};
@@ -6,6 +7,7 @@ ghost use Rattle.wp_node.specs.Owns.{as_own};
 ghost use Rattle.wp_node.specs.Raises.{IsStart};
 
 use crate::raise::raise_all;
+use std::alloc::Global;
 use std::thread::Threads;
 use wp_cert::Own;
 use wp_lengths::{Batching, DualWave, Marks, OrderDuals, PairedWave};
@@ -23,15 +25,16 @@ pub struct NodeOwn {
 }
 
 impl NodeOwn {
-    /// The same for a certificate. It takes no memory.
-    pub fn into_own(self) -> Own
+    /// The same for a certificate, with no other price. It takes no memory.
+    pub fn into_own(self, alloc: Global) -> Own
         ensures { result ≡ as_own self }
     {
-        Own {
-            duals: self.duals.into_listing(),
-            marks: self.marks,
-            tight: self.tight,
-        }
+        Own::plain(
+            alloc,
+            self.duals.into_listing(),
+            self.marks,
+            self.tight,
+        )
     }
 }
 
@@ -42,7 +45,7 @@ fn own_from<R: Threads + Sync, G: Gate>(
     feasible: OrderDuals,
 ) -> Result<NodeOwn, Memory>
     requires { IsStart paired.now.wave.now paired.now.pairs.now feasible }
-    ensures right { IfOk result (λ own. IsRightOwn paired.now.wave.now paired.now.pairs.now
+    ensures right { IfOk result (λ own. IsRightOwn (plain_terms paired.now.wave.now) paired.now.pairs.now
         (sum feasible) (as_own own)) }
     ensures duals { IfOk result (λ own. AreDuals own.duals) }
     ensures short { IfOk result (λ own. AreShortMarks paired.now.wave.now paired.now.pairs.now
@@ -74,7 +77,7 @@ pub fn own_of<R: Threads + Sync, G: Gate>(
 ) -> Result<NodeOwn, Memory>
     requires start { IsStart paired.now.wave.now paired.now.pairs.now above.now }
     requires count { length tried ≡ length paired.now.wave.now.orders }
-    ensures right { IfOk result (λ own. IsRightOwn paired.now.wave.now paired.now.pairs.now
+    ensures right { IfOk result (λ own. IsRightOwn (plain_terms paired.now.wave.now) paired.now.pairs.now
         (sum above.now) (as_own own)) }
     ensures duals { IfOk result (λ own. AreDuals own.duals) }
     ensures short { IfOk result (λ own. AreShortMarks paired.now.wave.now paired.now.pairs.now

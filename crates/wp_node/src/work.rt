@@ -1,4 +1,5 @@
 ghost use Rattle.std.specs.Prelude.{◌≡◌, All, IfOk, IfSome, length, slice_index, sum};
+ghost use Rattle.wp_cert.specs.Terms.{plain_terms};
 ghost use Rattle.wp_cert.specs.Trees.{IsRightOwn};
 ghost use Rattle.wp_lengths.specs.Duals.{AreDuals};
 ghost use Rattle.wp_price.specs.ShortMarks.{AreShortMarks};
@@ -353,7 +354,7 @@ pub fn work_node<R: Threads + Sync, G: Gate>(
     columns: &[Batch],
 ) -> Result<Worked, Memory>
     requires { IsStart paired.now.wave.now paired.now.pairs.now above.now }
-    ensures right { IfOk result (λ worked. IsRightOwn paired.now.wave.now paired.now.pairs.now
+    ensures right { IfOk result (λ worked. IsRightOwn (plain_terms paired.now.wave.now) paired.now.pairs.now
         (sum above.now) (as_own worked.own)) }
     ensures duals { IfOk result (λ worked. AreDuals worked.own.duals) }
     ensures short { IfOk result (λ worked. AreShortMarks paired.now.wave.now paired.now.pairs.now

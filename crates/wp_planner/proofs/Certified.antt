@@ -5,7 +5,7 @@ use Rattle.wp_lengths.specs.Waves.{IsWave, WavePicks}
 use Rattle.wp_cert.proofs.OneVerdict.{one_told}
 use Rattle.wp_cert.proofs.TextShows.{shows_bound}
 use Rattle.wp_cert.specs.Bounds.{TellsBound}
-use Rattle.wp_cert.specs.TextData.{HaveSlots, certificate_text, wave_places}
+use Rattle.wp_cert.specs.TextData.{HaveSlots, certificate_text}
 use Rattle.wp_graph.specs.PickSets.{AreSlots, PickSet}
 use Rattle.wp_machine.specs.declared.outcome.WaveHolds.{WaveHolds}
 use Rattle.wp_model.specs.Opening.{Opening}
@@ -30,11 +30,11 @@ all_slots layout opening released wave of = λ k d within.
 -- so the certificate of a good plan tells its bound
 pub tells_its_bound : (layout : Layout) (opening : Opening) (released : WaveHolds) (capacity budget : ℕ) (wave : WavePicks) (planned : Planned)
     → IsWave wave → IsWaveOf layout opening released wave → 1 ≤ capacity → capacity ≤ 8 → IsGoodPlan wave capacity budget planned
-    → TellsBound layout (certificate_text (wave_places wave) wave.cart capacity planned.tree.nodes) planned.bound
+    → TellsBound layout (certificate_text wave capacity planned.tree) planned.bound
 tells_its_bound layout opening released capacity budget wave planned valid of some most good =
-    let text = certificate_text (wave_places wave) wave.cart capacity planned.tree.nodes in
+    let text = certificate_text wave capacity planned.tree in
     subst (λ (l : Layout). TellsBound l text planned.bound) of.layout_is
-    (shows_bound wave capacity planned.tree.nodes planned.bound valid
+    (shows_bound wave capacity planned.tree planned.bound valid
     (subst (λ (l : Layout). HaveSlots l wave.orders) (sym of.layout_is) (all_slots layout opening released wave of)) some most good.sound.duals
     good.sound.bound)
 
@@ -42,11 +42,11 @@ tells_its_bound layout opening released capacity budget wave planned valid of so
 pub sheet_tells : (layout : Layout) (opening : Opening) (released : WaveHolds) (terms : Terms) (plan : WavePlan) → IsPlanOf layout opening released terms plan
     → TellsTheBound plan.wave terms.capacity plan.planned
 sheet_tells layout opening released terms plan good =
-    let text = certificate_text (wave_places plan.wave) plan.wave.cart terms.capacity plan.planned.tree.nodes in
+    let text = certificate_text plan.wave terms.capacity plan.planned.tree in
     subst (λ (l : Layout). TellsBound l text plan.planned.bound) (sym good.wave.layout_is) good.certified
 
 -- a bound that a check tells of a sheet's certificate is that of its first line
 pub check_tells : CheckedBoundsAreTold
 check_tells opening released terms plan cancelled_later sheet bound is told =
-    one_told plan.wave.layout (certificate_text (wave_places plan.wave) plan.wave.cart terms.capacity plan.planned.tree.nodes) bound plan.planned.bound told
+    one_told plan.wave.layout (certificate_text plan.wave terms.capacity plan.planned.tree) bound plan.planned.bound told
     is.certified

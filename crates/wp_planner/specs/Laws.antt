@@ -12,7 +12,7 @@ use Rattle.wp_machine.specs.Outcome.{outcome_of, outcomes_from}
 use Rattle.wp_machine.specs.declared.outcome.Outcome.TheVariants as outcome
 use Rattle.wp_machine.specs.declared.outcome.WaveHolds.{WaveHolds}
 use Rattle.wp_cert.specs.Bounds.{TellsBound}
-use Rattle.wp_cert.specs.TextData.{certificate_text, wave_places}
+use Rattle.wp_cert.specs.TextData.{certificate_text}
 use Rattle.wp_planner.specs.Released.{IsReleased, IsServed}
 use Rattle.wp_planner.specs.Sheets.{IsSheet}
 use Rattle.wp_planner.specs.Terms.{Terms}
@@ -42,6 +42,5 @@ abbrev pub CheckedBoundsAreTold : Type 0
 CheckedBoundsAreTold = (opening : Opening) (released : WaveHolds) (terms : Terms) (plan : WavePlan)
     (cancelled_later : Bool) (sheet : List ℕ) (bound : ℕ)
     → IsSheet opening released terms plan cancelled_later sheet
-    → TellsBound plan.wave.layout (certificate_text
-    (wave_places plan.wave) plan.wave.cart terms.capacity plan.planned.tree.nodes) bound
+    → TellsBound plan.wave.layout (certificate_text plan.wave terms.capacity plan.planned.tree) bound
     → bound ≡ plan.planned.bound

@@ -5,7 +5,7 @@ use Rattle.wp_model.specs.Warehouse.{Layout}
 use Rattle.wp_machine.specs.declared.outcome.WaveHolds.{WaveHolds}
 use Rattle.wp_lengths.specs.Waves.{WavePicks}
 use Rattle.wp_cert.specs.Bounds.{TellsBound}
-use Rattle.wp_cert.specs.TextData.{certificate_text, wave_places}
+use Rattle.wp_cert.specs.TextData.{certificate_text}
 use Rattle.wp_search.specs.Plans.{IsGoodPlan}
 use Rattle.wp_search.specs.declared.plan.Planned.{Planned}
 use Rattle.wp_planner.specs.Released.{IsReleased, IsWaveOf}
@@ -16,7 +16,7 @@ use Rattle.wp_planner.specs.declared.planner.WavePlan.{WavePlan}
 -- the text of the certificate of a wave's plan tells the plan's bound, by the words that a check goes by
 abbrev pub IsCertified : Layout → Terms → WavePicks → Planned → Type 0
 IsCertified layout terms wave planned =
-    TellsBound layout (certificate_text (wave_places wave) wave.cart terms.capacity planned.tree.nodes) planned.bound
+    TellsBound layout (certificate_text wave terms.capacity planned.tree) planned.bound
 
 -- a good plan of the wave that picks where the one that went out holds units, with a bracket of its linear bound where
 -- the terms ask for one, and with a certificate that tells its bound

@@ -8,7 +8,7 @@ use Rattle.wp_machine.specs.declared.outcome.WaveHolds.{WaveHolds}
 use Rattle.wp_lengths.specs.Lengths.{IsLengthOf, batch_picks}
 use Rattle.wp_lengths.specs.Waves.{WavePicks}
 use Rattle.wp_cert.specs.Bounds.{TellsBound}
-use Rattle.wp_cert.specs.TextData.{certificate_text, wave_places}
+use Rattle.wp_cert.specs.TextData.{certificate_text}
 use Rattle.wp_search.specs.declared.plan.Planned.{Planned}
 use Rattle.wp_search.specs.declared.plan.State.{State}
 use Rattle.wp_search.specs.declared.plan.State.TheVariants as state
@@ -79,12 +79,12 @@ plan_line units released capacity planned cancelled_later =
 -- the line of a plan's certificate
 abbrev pub certificate_line : WavePicks → ℕ → Planned → List ℕ
 certificate_line wave capacity planned = line
-    (codes "certificate " ++ certificate_text (wave_places wave) wave.cart capacity planned.tree.nodes)
+    (codes "certificate " ++ certificate_text wave capacity planned.tree)
 
 -- the certificate of a sheet tells the bound of its first line, by the words that a check goes by
 abbrev pub TellsTheBound : WavePicks → ℕ → Planned → Type 0
 TellsTheBound wave capacity planned =
-    TellsBound wave.layout (certificate_text (wave_places wave) wave.cart capacity planned.tree.nodes) planned.bound
+    TellsBound wave.layout (certificate_text wave capacity planned.tree) planned.bound
 
 -- the sheet of a wave that went out and its plan: a first line, the parts of its batches, numbered from 1, its
 -- certificate, its bracket of the linear bound, if it has one, and a last line; and its certificate tells the bound of

@@ -44,15 +44,18 @@ fn root_duals(tree: &Tree) -> Option<&[u64]>
     }
 }
 
-// The duals of a right tree's root, where it has its own: they are feasible.
+// The duals of a right tree's root, where it has its own and the tree has no cuts: they are feasible.
 fn known_duals(tree: &Tree) -> Option<&[u64]>
     ensures feasible { (wave : WavePicks) (capacity bound : ℕ)
-        → IsBoundOf wave capacity tree.now.nodes bound
+        → IsBoundOf wave capacity tree.now bound
         → IfSome result (λ duals. AreFeasible wave (pairs_of wave capacity) duals.now) }
     ensures count { (wave : WavePicks) (capacity bound : ℕ)
-        → IsBoundOf wave capacity tree.now.nodes bound
+        → IsBoundOf wave capacity tree.now bound
         → IfSome result (λ duals. length duals.now ≡ length wave.orders) }
 {
+    if tree.cuts.is_some() {
+        return None;
+    }
     root_duals(tree)
 }
 

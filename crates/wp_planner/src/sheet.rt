@@ -157,7 +157,7 @@ fn print_plan(text: &mut Vec<u8>, sent: &SentWave<'_>) -> Result<(), Memory>
 
 // Adds the line of the certificate.
 fn print_shown(alloc: Global, text: &mut Vec<u8>, sent: &SentWave<'_>) -> Result<(), Memory>
-    requires { HaveDualsWithin sent.now.plan.now.planned.tree.nodes }
+    requires { HaveDualsWithin sent.now.plan.now.planned.tree }
     ensures { IfOk result (λ _. text.new.items
         ≡ text.old.items ++ certificate_line sent.now.plan.now.wave sent.now.terms.now.capacity
         sent.now.plan.now.planned) }

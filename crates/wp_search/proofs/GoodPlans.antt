@@ -3,7 +3,7 @@ use Rattle.std.proofs.Common.{◌≡◌, ℕ, ◌+◌, ◌-◌, ◌*◌, ◌<◌
 use Rattle.std.specs.Prelude.{IfOk, Some, Result, Ok, Err, sum}
 use Rattle.wp_model.specs.declared.memory.Memory.{Memory}
 use Rattle.wp_lengths.specs.Waves.{WavePicks}
-use Rattle.wp_cert.specs.Trees.{IsBoundOf}
+use Rattle.wp_cert.specs.Trees.{IsBoundOf, plain_tree}
 use Rattle.std.specs.List.Sorted.{IsStrictlyIncreasing}
 use Rattle.wp_cert.proofs.BoundsHold.{bounds_hold}
 use Rattle.wp_cert.proofs.PutIntoBatches.{all_places, batching_is_put}
@@ -23,7 +23,7 @@ use Rattle.wp_search.proofs.Searches.{duals_listed, own_listed, search_bound, se
 
 module _ (wave : WavePicks) (capacity : ℕ) (shares : List ℕ) (search : TreeSearch) (bound : ℕ) (some : 1 ≤ capacity) (are : AreShares wave capacity shares)
     (is : IsSearch wave capacity (sum shares) search) (at : bound_of (units_of (sum shares)) search.tree ≡ Some bound) where
-  tree_right : IsBoundOf wave capacity (nodes_of search.tree) bound
+  tree_right : IsBoundOf wave capacity (plain_tree (nodes_of search.tree)) bound
   tree_right = search_bound wave capacity bound shares search.tree are is.right at
 
   -- what was spent is the price of the nodes with duals of their own
@@ -56,11 +56,11 @@ module _ (wave : WavePicks) (capacity : ℕ) (shares : List ℕ) (search : TreeS
 
   -- the plan of a search that has ended is good
   pub good_plan : (budget : ℕ) (planned : Planned) → HasEnded wave capacity (sum shares) search → search.budget ≡ budget
-      → planned.batching ≡ search.best.batching → planned.cost ≡ search.best.cost → planned.tree.nodes ≡ nodes_of search.tree → planned.bound ≡ bound
+      → planned.batching ≡ search.best.batching → planned.cost ≡ search.best.cost → planned.tree ≡ plain_tree (nodes_of search.tree) → planned.bound ≡ bound
       → ((planned.state ≡ states.Proven) ↔ (bound ≡ search.best.cost)) → IsGoodPlan wave capacity budget planned
   good_plan budget planned ended spends batching costs nodes bounds state =
-      let right : IsBoundOf wave capacity planned.tree.nodes planned.bound = rw (nodes, bounds) tree_right in
-      let least = bounds_hold wave capacity planned.tree.nodes planned.bound some right in record {
+      let right : IsBoundOf wave capacity planned.tree planned.bound = rw (nodes, bounds) tree_right in
+      let least = bounds_hold wave capacity planned.tree planned.bound some right in record {
         sound = record {
           batching = rw batching (batching_is_put wave capacity search.best.batching is.best.proper.batching);
           ascending = rw batching (all_places IsStrictlyIncreasing search.best.batching (λ place low. (is.best.proper.batching.each place low).ascending));

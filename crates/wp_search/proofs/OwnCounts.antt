@@ -11,7 +11,8 @@ use Rattle.wp_pairs.specs.Permitted.{AreUndecided, Pairing}
 use Rattle.wp_lengths.specs.Batchings.{no_pairs}
 use Rattle.wp_lengths.specs.Waves.{WavePicks}
 use Rattle.wp_cert.specs.Paths.{IsPath, pairing_of}
-use Rattle.wp_cert.specs.Trees.{IsBoundOf, IsRight, dead, kept, leaf, split, with_pair}
+use Rattle.wp_cert.specs.Terms.{plain_terms, terms_of}
+use Rattle.wp_cert.specs.Trees.{IsBoundOf, IsRight, dead, kept, leaf, plain_tree, split, with_pair}
 use Rattle.wp_cert.specs.declared.tree.Node.{Node}
 use Rattle.wp_cert.specs.declared.tree.Node.TheVariants as node
 use Rattle.wp_search.specs.Counts.{has_own, own_nodes}
@@ -64,9 +65,9 @@ one_less wave pairing first second left together has undecided =
 
 -- a right tree has fewer nodes with duals of their own than this power of two
 pub few_own : (wave : WavePicks) (pairing : Pairing) (above left : ℕ) (nodes rest : List Node) (bound : Option ℕ) → HasLeft wave pairing left
-    → IsRight wave pairing above nodes rest bound → own_nodes nodes + 1 ≤ own_nodes rest + 2 ^ (left + 1)
-few_own wave pairing above left _ rest _ has kept = omega (arith, own_first (node.Leaf None) rest, pow_pos (left + 1))
-few_own wave pairing above left _ rest _ has (leaf {own} right) =
+    → IsRight (plain_terms wave) pairing above nodes rest bound → own_nodes nodes + 1 ≤ own_nodes rest + 2 ^ (left + 1)
+few_own wave pairing above left _ rest _ has (kept rounded) = omega (arith, own_first (node.Leaf None) rest, pow_pos (left + 1))
+few_own wave pairing above left _ rest _ has (leaf {own} right rounded) =
     let e : left + 1 ≡ suc left = omega arith in
     omega (arith, own_first (node.Leaf (Some own)) rest, ap (λ (k : ℕ). 2 ^ k) e, two-pow-succ left, pow_pos left)
 few_own wave pairing above left _ rest _ has (dead {order} is_dead) = omega (arith, own_first (node.Dead order) rest, pow_pos (left + 1))
@@ -86,15 +87,16 @@ few_own wave pairing above (suc less) _ rest _ has (split {first} {second} {own}
     )
 
 -- so has a whole tree
-pub few_own_in_all : (wave : WavePicks) (capacity : ℕ) (nodes : List Node) (bound : ℕ) → IsBoundOf wave capacity nodes bound
+pub few_own_in_all : (wave : WavePicks) (capacity : ℕ) (nodes : List Node) (bound : ℕ) → IsBoundOf wave capacity (plain_tree nodes) bound
     → own_nodes nodes + 1 ≤ 2 ^ (length wave.orders * (length wave.orders - 1) / 2 + 1)
 few_own_in_all wave capacity nodes bound right =
     let orders = length wave.orders in
-    let few = few_own wave (no_pairs wave capacity) right.0 (orders * (orders - 1) / 2) nodes [] (Some bound) (root_left wave capacity) right.2 in
+    let few = few_own wave (no_pairs wave capacity) right.1 (orders * (orders - 1) / 2) nodes [] (Some bound) (root_left wave capacity)
+    (subst (λ (step : ℕ). IsRight (terms_of wave capacity None step) (no_pairs wave capacity) right.1 nodes [] (Some bound)) right.2 right.4) in
     omega (arith, few)
 
 -- a full budget isn't spent: where less than the price of a node is left after a right tree, the budget isn't full
-pub full_not_spent : (wave : WavePicks) (capacity : ℕ) (nodes : List Node) (bound budget left : ℕ) → IsBoundOf wave capacity nodes bound
+pub full_not_spent : (wave : WavePicks) (capacity : ℕ) (nodes : List Node) (bound budget left : ℕ) → IsBoundOf wave capacity (plain_tree nodes) bound
     → own_nodes nodes * price (length wave.orders) capacity + left ≡ budget → left < price (length wave.orders) capacity
     → full (length wave.orders) capacity ≤ budget → ⊥
 full_not_spent wave capacity nodes bound budget left right paid short enough =

@@ -13,7 +13,10 @@ use Rattle.wp_lengths.specs.Batchings.{no_pairs}
 use Rattle.wp_lengths.specs.Waves.{IsWave, WavePicks}
 use Rattle.wp_cert.specs.Text.{is_node_within}
 use Rattle.wp_cert.specs.TextData.{HaveDualsWithin}
-use Rattle.wp_cert.specs.Trees.{IsBoundOf, IsRight, dead, kept, leaf, lower_of, split, with_pair}
+use Rattle.wp_cuts.specs.Steps.{IsRoundedUp}
+use Rattle.wp_cuts.proofs.Rounding.{rounded_to_units}
+use Rattle.wp_cert.specs.Terms.{plain_terms}
+use Rattle.wp_cert.specs.Trees.{IsBoundOf, IsRight, dead, kept, leaf, lower_of, plain_tree, split, with_pair}
 use Rattle.wp_cert.specs.declared.tree.Node.{Node}
 use Rattle.wp_cert.specs.declared.tree.Node.TheVariants as node
 use Rattle.wp_cert.proofs.Alive.{HasBound as IsThere, right_has_bound}
@@ -36,20 +39,27 @@ use Rattle.wp_search.specs.declared.turn.LeafTurn.{LeafTurn}
 use Rattle.wp_search.specs.declared.turn.LeafTurn.TheVariants.{Onward, Settled, Spent, Worked as Made}
 use Rattle.wp_search.proofs.OwnCounts.{own_both, own_first}
 use Rattle.wp_node.specs.Owns.{as_own}
-use Rattle.wp_node.proofs.Owns.{own_within}
+use Rattle.wp_node.proofs.Owns.{own_within, plain_net}
 
 -- a subtree's nodes are a right tree, whatever nodes follow
 pub right_nodes : (wave : WavePicks) (pairing : Pairing) (above : ℕ) (branch : Branch) → IsBranch wave pairing above branch → (rest : List Node)
-    → IsRight wave pairing above (nodes_of branch ++ rest) rest (bound_of (units_of above) branch)
-right_nodes wave pairing above (Leaf None) is rest = kept
-right_nodes wave pairing above (Leaf (Some worked)) is rest = leaf is.right
+    → IsRight (plain_terms wave) pairing above (nodes_of branch ++ rest) rest (bound_of (units_of above) branch)
+right_nodes wave pairing above (Leaf None) is rest = kept ((rounded_to_units above (units_of above)).1 refl)
+right_nodes wave pairing above (Leaf (Some worked)) is rest =
+    leaf is.right (subst (λ (n : ℕ). IsRoundedUp 1 n (own_bound worked)) (sym (plain_net wave worked.own))
+    ((rounded_to_units (sum worked.own.duals) (own_bound worked)).1 refl))
 right_nodes wave pairing above (Dead order) is rest = dead is
 right_nodes wave pairing above (Split' cut p together q apart) is rest =
-    subst (λ (nodes : List Node). IsRight wave pairing above (node.Split cut.first cut.second (Some (as_own cut.worked.own)) ∷ nodes) rest
+    let net = sym (plain_net wave cut.worked.own) in
+    subst (λ (nodes : List Node). IsRight (plain_terms wave) pairing above (node.Split cut.first cut.second (Some (as_own cut.worked.own)) ∷ nodes) rest
     (lower_of (bound_of (own_bound cut.worked) together) (bound_of (own_bound cut.worked) apart)))
     (sym (append_assoc (nodes_of together) (nodes_of apart) rest)) (split is.0.worked.right is.0.parts
-    (right_nodes wave (with_pair pairing cut.first cut.second true) (sum cut.worked.own.duals) together is.2 (nodes_of apart ++ rest))
-    (right_nodes wave (with_pair pairing cut.first cut.second false) (sum cut.worked.own.duals) apart is.3 rest))
+    (subst (λ (n : ℕ). IsRight (plain_terms wave) (with_pair pairing cut.first cut.second true) n (nodes_of together ++ (nodes_of apart ++ rest))
+    (nodes_of apart ++ rest) (bound_of (own_bound cut.worked) together)) net
+    (right_nodes wave (with_pair pairing cut.first cut.second true) (sum cut.worked.own.duals) together is.2 (nodes_of apart ++ rest)))
+    (subst (λ (n : ℕ). IsRight (plain_terms wave) (with_pair pairing cut.first cut.second false) n (nodes_of apart ++ rest) rest
+    (bound_of (own_bound cut.worked) apart)) net
+    (right_nodes wave (with_pair pairing cut.first cut.second false) (sum cut.worked.own.duals) apart is.3 rest)))
 
 -- as many of them have duals of their own as are counted
 pub own_listed : (branch : Branch) → own_nodes (nodes_of branch) ≡ own_count branch
@@ -78,13 +88,13 @@ splits_listed bound (Split' cut p together q apart) within =
     (All-append (IsSplitWithin bound) (nodes_of together) (nodes_of apart) (splits_listed bound together within.1) (splits_listed bound apart within.2))
 
 -- and their duals are within their range
-pub duals_listed : (wave : WavePicks) (pairing : Pairing) (above : ℕ) (branch : Branch) → IsBranch wave pairing above branch → HaveDualsWithin (nodes_of branch)
+pub duals_listed : (wave : WavePicks) (pairing : Pairing) (above : ℕ) (branch : Branch) → IsBranch wave pairing above branch → HaveDualsWithin (plain_tree (nodes_of branch))
 duals_listed wave pairing above (Leaf None) is = refl
-duals_listed wave pairing above (Leaf (Some worked)) is = own_within (as_own worked.own) is.duals
+duals_listed wave pairing above (Leaf (Some worked)) is = own_within worked.own is.duals
 duals_listed wave pairing above (Dead order) is = refl
 duals_listed wave pairing above (Split' cut p together q apart) is =
-    list_all-append is_node_within (node.Split cut.first cut.second (Some (as_own cut.worked.own)) ∷ []) (nodes_of together ++ nodes_of apart)
-    ∙ both (own_within (as_own cut.worked.own) is.0.worked.duals) (list_all-append is_node_within (nodes_of together) (nodes_of apart)
+    list_all-append (is_node_within false) (node.Split cut.first cut.second (Some (as_own cut.worked.own)) ∷ []) (nodes_of together ++ nodes_of apart)
+    ∙ both (own_within cut.worked.own is.0.worked.duals) (list_all-append (is_node_within false) (nodes_of together) (nodes_of apart)
     ∙ both (duals_listed wave (with_pair pairing cut.first cut.second true) (sum cut.worked.own.duals) together is.2)
     (duals_listed wave (with_pair pairing cut.first cut.second false) (sum cut.worked.own.duals) apart is.3))
   where
@@ -146,12 +156,14 @@ price_above orders capacity = omega (
 -- the tree of a search is right, and has this bound
 pub search_bound : (wave : WavePicks) (capacity bound : ℕ) (shares : List ℕ) (branch : Branch) → AreShares wave capacity shares
     → IsBranch wave (no_pairs wave capacity) (sum shares) branch → bound_of (units_of (sum shares)) branch ≡ Some bound
-    → IsBoundOf wave capacity (nodes_of branch) bound
+    → IsBoundOf wave capacity (plain_tree (nodes_of branch)) bound
 search_bound wave capacity bound shares branch are is at = (
+  1,
   sum shares,
+  refl,
   (shares, are, refl),
-  subst (λ (b : Option ℕ). IsRight wave (no_pairs wave capacity) (sum shares) (nodes_of branch) [] b) at
-      (subst (λ (nodes : List Node). IsRight wave (no_pairs wave capacity) (sum shares) nodes [] (bound_of (units_of (sum shares)) branch))
+  subst (λ (b : Option ℕ). IsRight (plain_terms wave) (no_pairs wave capacity) (sum shares) (nodes_of branch) [] b) at
+      (subst (λ (nodes : List Node). IsRight (plain_terms wave) (no_pairs wave capacity) (sum shares) nodes [] (bound_of (units_of (sum shares)) branch))
       (append-nil (nodes_of branch)) (right_nodes wave (no_pairs wave capacity) (sum shares) branch is [])),
 )
 
@@ -159,7 +171,7 @@ search_bound wave capacity bound shares branch are is at = (
 pub search_has_bound : (wave : WavePicks) (capacity shares : ℕ) (branch : Branch) → IsWave wave → 1 ≤ capacity
     → IsBranch wave (no_pairs wave capacity) shares branch → IsSome (bound_of (units_of shares) branch)
 search_has_bound wave capacity shares branch valid some is =
-    is_some (bound_of (units_of shares) branch) (right_has_bound wave capacity shares (nodes_of branch ++ []) []
+    is_some (bound_of (units_of shares) branch) (right_has_bound (plain_terms wave) capacity shares (nodes_of branch ++ []) []
     (bound_of (units_of shares) branch) valid some (right_nodes wave (no_pairs wave capacity) shares branch is []))
   where
     is_some : (bound : Option ℕ) → IsThere bound → IsSome bound
@@ -182,7 +194,7 @@ pub cost_reached : (wave : WavePicks) (capacity bound : ℕ) (shares : List ℕ)
     → IsSearch wave capacity (sum shares) search → bound_of (units_of (sum shares)) search.tree ≡ Some bound → search.best.cost ≤ bound
     → HasEnded wave capacity (sum shares) search
 cost_reached wave capacity bound shares search some are is at low =
-    let least = bounds_hold wave capacity (nodes_of search.tree) bound some (search_bound wave capacity bound shares search.tree are is.right at) in
+    let least = bounds_hold wave capacity (plain_tree (nodes_of search.tree)) bound some (search_bound wave capacity bound shares search.tree are is.right at) in
     let same : bound ≡ search.best.cost = omega (
       arith,
       low,
@@ -287,7 +299,7 @@ settled_proper wave capacity bound shares tree batching valid some are is at set
   batching = settled.batching;
   listed = settled.listed;
   joined = optimal_joins wave capacity batching bound valid settled.batching settled.cost
-      (bounds_hold wave capacity (nodes_of tree) bound some (search_bound wave capacity bound shares tree are is at));
+      (bounds_hold wave capacity (plain_tree (nodes_of tree)) bound some (search_bound wave capacity bound shares tree are is at));
 }
 
 -- a batching that costs the bound of a search's tree is cheaper than one that costs more

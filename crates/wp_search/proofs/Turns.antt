@@ -20,6 +20,7 @@ use Rattle.wp_search.specs.declared.turn.TurnedBranch.{TurnedBranch}
 use Rattle.wp_node.specs.declared.work.Worked.{Worked}
 use Rattle.wp_node.specs.Owns.{as_own}
 use Rattle.wp_node.specs.Raises.{AreFeasibleDuals}
+use Rattle.wp_cert.specs.Terms.{plain_terms}
 use Rattle.wp_node.proofs.Owns.{right_below}
 
 -- what is permitted with a further pair is permitted without it
@@ -51,7 +52,7 @@ feasible_duals_below wave pairing new duals count feasible = record { count = co
 pub worked_below : (wave : WavePicks) (pairing : Pairing) (low high : ℕ) (worked : Worked) → low ≤ high → IsWorked wave pairing high worked
     → IsWorked wave pairing low worked
 worked_below wave pairing low high worked less is = record {
-  right = right_below wave pairing low high (as_own worked.own) less is.right;
+  right = right_below (plain_terms wave) pairing low high (as_own worked.own) less is.right;
   duals = is.duals;
   short = is.short;
 }

@@ -3,6 +3,7 @@ use Rattle.std.specs.Prelude.{◌≡◌, ℕ, ◌+◌, ◌≤◌, ⊤, true, fal
 use Rattle.std.specs.List.{flat_map}
 use Rattle.wp_pairs.specs.Permitted.{AreUndecided, IsDead, Pairing}
 use Rattle.wp_lengths.specs.Waves.{WavePicks}
+use Rattle.wp_cert.specs.Terms.{plain_terms}
 use Rattle.wp_cert.specs.Trees.{IsRightOwn, lower_of, with_pair}
 use Rattle.wp_cert.specs.declared.tree.Node.{Node}
 use Rattle.wp_cert.specs.declared.tree.Node.TheVariants as node
@@ -53,7 +54,7 @@ HasBound (Split' cut p together q apart) =
 
 -- what a node has of its own is right, its duals are within their range, and its marks are the short ones
 pub record IsWorked (wave : WavePicks) (pairing : Pairing) (above : ℕ) (worked : Worked) : Type 0 where
-  pub right : IsRightOwn wave pairing above (as_own worked.own)
+  pub right : IsRightOwn (plain_terms wave) pairing above (as_own worked.own)
   pub duals : AreDuals worked.own.duals
   pub short : AreShortMarks wave pairing worked.own.duals worked.own.marks
 

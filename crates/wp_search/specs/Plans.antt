@@ -49,11 +49,11 @@ pub record IsSoundPlan (wave : WavePicks) (capacity : ℕ) (planned : Planned) :
   pub cost : IsCost wave planned.batching planned.cost
   -- the tree is right and has this bound, so however the wave is put into batches within the capacity, carts walk no
   -- less, nor does this batching cost less
-  pub bound : IsBoundOf wave capacity planned.tree.nodes planned.bound
+  pub bound : IsBoundOf wave capacity planned.tree planned.bound
   pub least : NoWalksAreShorter wave capacity planned.bound
   pub below : planned.bound ≤ planned.cost
   -- its duals are within their range, and its marks are the short ones
-  pub duals : HaveDualsWithin planned.tree.nodes
+  pub duals : HaveDualsWithin planned.tree
   pub short : HasShortMarks wave (no_pairs wave capacity) planned.tree.nodes []
 
 -- What a budget buys for a plan.

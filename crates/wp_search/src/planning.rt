@@ -38,13 +38,11 @@ fn state_of(bound: u64, cost: u64) -> State
 
 // The tree of a subtree's nodes.
 fn tree_of(alloc: Global, branch: Branch) -> Result<Tree, Memory>
-    ensures { IfOk result (λ tree. tree.nodes ≡ nodes_of branch) }
+    ensures { IfOk result (λ tree. tree ≡ plain_tree (nodes_of branch)) }
 {
     let mut nodes = Vec::new(alloc);
     list_nodes(alloc, branch, &mut nodes)?;
-    Ok(Tree {
-        nodes: Nodes::of(nodes),
-    })
+    Ok(Tree::plain(Nodes::of(nodes)))
 }
 
 // The plan that a search found, whose tree has this bound.

@@ -7,7 +7,7 @@ use Rattle.wp_cert.proofs.Walked.{no_walks_are_shorter}
 use Rattle.wp_cert.specs.Bounds.{NoBatchingCostsLess, TellsBound}
 use Rattle.wp_cert.specs.Text.{Tells}
 use Rattle.wp_cert.specs.Trees.{IsBoundOf}
-use Rattle.wp_cert.specs.declared.tree.Node.{Node}
+use Rattle.wp_cert.specs.declared.tree.Tree.{Tree}
 use Rattle.wp_cert.specs.declared.tree.CertFault.{CertFault}
 use Rattle.wp_cert.specs.declared.tree.CertWhy.{CertWhy}
 use Rattle.wp_cert.specs.declared.tree.CertWhy.TheVariants as cert_why
@@ -28,22 +28,22 @@ use Rattle.wp_top.specs.declared.input.Input.TheVariants as input
 use Rattle.wp_words.specs.Words.{CheckNames, check}
 
 -- what a certificate shows
-pub shows_bound : (layout : Layout) (text : List ℕ) (wave : WavePicks) (capacity : ℕ) (nodes : List Node) (result : Result ℕ CertFault)
-    → Tells layout text wave capacity nodes → IfOk result (IsBoundOf wave capacity nodes) → IfOk result (NoBatchingCostsLess wave capacity)
+pub shows_bound : (layout : Layout) (text : List ℕ) (wave : WavePicks) (capacity : ℕ) (tree : Tree) (result : Result ℕ CertFault)
+    → Tells layout text wave capacity tree → IfOk result (IsBoundOf wave capacity tree) → IfOk result (NoBatchingCostsLess wave capacity)
     → IfOk result (ShowsBound layout text)
-shows_bound layout text wave capacity nodes (Ok bound) told right least = record {
-  tree = record { wave = wave; capacity = capacity; nodes = nodes; told = told; right = right };
+shows_bound layout text wave capacity tree (Ok bound) told right least = record {
+  tree = record { wave = wave; capacity = capacity; tree = tree; told = told; right = right };
   least = no_walks_are_shorter wave capacity bound least;
 }
-shows_bound layout text wave capacity nodes (Err fault) told right least = tt
+shows_bound layout text wave capacity tree (Err fault) told right least = tt
 
 -- a text that tells a tree with a bound is not refused
 pub bound_no_fault : (layout : Layout) (text : List ℕ) (bound : ℕ) (fault : CertFault) → TellsBound layout text bound
     → IsRefusedCertificate layout text fault → ⊥
 bound_no_fault layout text bound fault tree (inl none) =
-    told_not_refused layout text tree.wave tree.capacity tree.nodes fault.why tree.told none.refused
+    told_not_refused layout text tree.wave tree.capacity tree.tree fault.why tree.told none.refused
 bound_no_fault layout text bound fault tree (inr tells) =
-    told_right layout text tree.wave tells.wave tree.capacity tells.capacity tree.nodes tells.nodes bound fault tree.told tells.told tree.right tells.broken
+    told_right layout text tree.wave tells.wave tree.capacity tells.capacity tree.tree tells.tree bound fault tree.told tells.told tree.right tells.broken
 
 no_memory : (why : CertWhy) → is_memory why ≡ false → why ≡ cert_why.Memory → ⊥
 no_memory why other is = true≢false (sym (ap is_memory is) ∙ other)

@@ -7,7 +7,7 @@ use Rattle.wp_cert.specs.Refusals.{IsFirstBroken}
 use Rattle.wp_cert.specs.Text.{Tells, certificate_said}
 use Rattle.wp_cert.specs.Walks.{NoWalksAreShorter}
 use Rattle.wp_cert.specs.declared.tree.CertFault.{CertFault}
-use Rattle.wp_cert.specs.declared.tree.Node.{Node}
+use Rattle.wp_cert.specs.declared.tree.Tree.{Tree}
 use Rattle.wp_desk.specs.GoingOn.{GoesOnFrom, new_entries}
 use Rattle.wp_journal.specs.Journals.{IsJournalOf, Shows}
 use Rattle.wp_make.specs.Texts.{made_texts}
@@ -141,9 +141,9 @@ pub record ShowsBound (layout : Layout) (text : List ℕ) (bound : ℕ) : Type 0
 pub record TellsBroken (layout : Layout) (text : List ℕ) (fault : CertFault) : Type 0 where
   pub wave : WavePicks
   pub capacity : ℕ
-  pub nodes : List Node
-  pub told : Tells layout text wave capacity nodes
-  pub broken : IsFirstBroken wave capacity nodes fault
+  pub tree : Tree
+  pub told : Tells layout text wave capacity tree
+  pub broken : IsFirstBroken wave capacity tree fault
 
 -- it tells no certificate of the layout, and this is why, at node 0
 pub record TellsNone (layout : Layout) (text : List ℕ) (fault : CertFault) : Type 0 where

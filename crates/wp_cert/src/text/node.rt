@@ -1,15 +1,15 @@
 ghost use Rattle.std.specs.Prelude.{◌≡◌, ◌++◌, ◌<◌, ◌≤◌, ◌^◌, ◌∷◌, [], IfOk, IfErr, IfSome, None, Some, codes};
 ghost use Rattle.std.specs.Prelude.{option_and_then};
 ghost use Rattle.serde_json.specs.View.{view};
-ghost use Rattle.wp_cert.specs.Text.{batch_said, dead_said, each_of, has_keys, kept_said, leaf_said, list_said};
+ghost use Rattle.wp_cert.specs.Text.{batch_said, cut_said, dead_said, each_of, has_keys, keys_in, kept_said, leaf_said, list_said};
 ghost use Rattle.wp_cert.specs.Text.{mark_said, marks_said, number_said};
-ghost use Rattle.wp_cert.specs.Text.{node_of_kind, node_said, own_said, place_said, position_said, said_at};
+ghost use Rattle.wp_cert.specs.Text.{node_of_kind, node_said, own_said, place_said, plain_own_said, position_said, priced_said, said_at};
 ghost use Rattle.wp_cert.specs.Text.{split_own_said, split_said, within};
 ghost use Rattle.wp_cert.specs.declared.text.form.Unread.TheVariants as unread;
 
 use crate::text::form::{Unread, WrittenSlot};
-use crate::text::part::{CertificatePart, list_at, read_list};
-use crate::{Node, Own};
+use crate::text::part::{CertificatePart, list_at, read_at, read_list};
+use crate::{Node, Nodes, Own, WrittenCut};
 use serde_json::Value;
 use std::alloc::Global;
 use wp_lengths::Marks;
@@ -137,20 +137,88 @@ fn marks_at(alloc: Global, value: &Value, key: &str) -> Result<Marks, Unread>
     read_marks(alloc, text)
 }
 
-// The duals, the marks and the tight batches of a node.
-fn read_own(alloc: Global, value: &Value) -> Result<Own, Unread>
-    ensures ok { IfOk result (λ own. own_said (view value.now) ≡ Some own) }
-    ensures bad { IfErr result (λ fault. fault ≡ unread.BadShape → own_said (view value.now)
+impl CertificatePart for u32 {
+    ghost said = { position_said };
+
+    fn read(_alloc: Global, value: &Value) -> Result<u32, Unread> {
+        let number = value.as_u64().ok_or(Unread::BadShape)?;
+        if number <= 4_294_967_295 {
+            Ok(number as u32)
+        } else {
+            Err(Unread::BadShape)
+        }
+    }
+}
+
+impl CertificatePart for WrittenCut {
+    ghost said = { cut_said };
+
+    fn read(alloc: Global, value: &Value) -> Result<WrittenCut, Unread> {
+        if !has_keys(value, 3) {
+            return Err(Unread::BadShape);
+        }
+        let divisor = read_at(alloc, value, "divisor")?;
+        let orders = list_at(alloc, value, "orders")?;
+        let parts = list_at(alloc, value, "parts")?;
+        Ok(WrittenCut::of(divisor, orders, parts))
+    }
+}
+
+// The duals, the marks and the tight batches of a node; nothing else has a price.
+fn read_plain(alloc: Global, value: &Value) -> Result<Own, Unread>
+    ensures ok { IfOk result (λ own. plain_own_said (view value.now) ≡ Some own) }
+    ensures bad { IfErr result (λ fault. fault ≡ unread.BadShape → plain_own_said (view value.now)
         ≡ None) }
 {
     let duals = list_at(alloc, value, "duals")?;
     let marks = marks_at(alloc, value, "marks")?;
     let tight = list_at(alloc, value, "tight")?;
+    Ok(Own::plain(alloc, duals, marks, tight))
+}
+
+// What a node has of its own, with what each batch pays and a price for each cut.
+fn read_priced(alloc: Global, value: &Value, own: Own) -> Result<Own, Unread>
+    ensures ok { IfOk result (λ priced. priced_said (view value.now) own ≡ Some priced) }
+    ensures bad { IfErr result (λ fault. fault ≡ unread.BadShape → priced_said (view value.now) own
+        ≡ None) }
+{
+    let count = read_at(alloc, value, "count")?;
+    let prices = list_at(alloc, value, "prices")?;
+    let Own {
+        duals,
+        marks,
+        tight,
+        ..
+    } = own;
     Ok(Own {
         duals,
         marks,
         tight,
+        count,
+        prices,
     })
+}
+
+// What a node has of its own: in the third form with prices.
+fn read_own(alloc: Global, value: &Value, third: bool) -> Result<Own, Unread>
+    ensures ok { IfOk result (λ own. own_said third (view value.now) ≡ Some own) }
+    ensures bad { IfErr result (λ fault. fault ≡ unread.BadShape → own_said third (view value.now)
+        ≡ None) }
+{
+    let own = read_plain(alloc, value)?;
+    if third {
+        read_priced(alloc, value, own)
+    } else {
+        Ok(own)
+    }
+}
+
+// So many keys, and in the third form two more.
+pub(crate) fn keys_in(third: bool, count: usize) -> usize
+    requires { count ≤ 8 }
+    ensures { result ≡ keys_in third count }
+{
+    if third { count + 2 } else { count }
 }
 
 // A leaf that keeps its parent's duals.
@@ -166,42 +234,42 @@ fn read_kept(value: &Value) -> Result<Node, Unread>
 }
 
 // A leaf with duals of its own.
-fn read_leaf(alloc: Global, value: &Value) -> Result<Node, Unread>
-    ensures ok { IfOk result (λ node. leaf_said (view value.now) ≡ Some node) }
-    ensures bad { IfErr result (λ fault. fault ≡ unread.BadShape → leaf_said (view value.now)
+fn read_leaf(alloc: Global, value: &Value, third: bool) -> Result<Node, Unread>
+    ensures ok { IfOk result (λ node. leaf_said third (view value.now) ≡ Some node) }
+    ensures bad { IfErr result (λ fault. fault ≡ unread.BadShape → leaf_said third (view value.now)
         ≡ None) }
 {
-    if has_keys(value, 4) {
-        Ok(Node::Leaf(Some(read_own(alloc, value)?)))
+    if has_keys(value, keys_in(third, 4)) {
+        Ok(Node::Leaf(Some(read_own(alloc, value, third)?)))
     } else {
         Err(Unread::BadShape)
     }
 }
 
 // What a split has of its own: all of it or nothing.
-fn read_split_own(alloc: Global, value: &Value) -> Result<Option<Own>, Unread>
-    ensures ok { IfOk result (λ own. split_own_said (view value.now) ≡ Some own) }
-    ensures bad { IfErr result (λ fault. fault ≡ unread.BadShape → split_own_said (view value.now)
+fn read_split_own(alloc: Global, value: &Value, third: bool) -> Result<Option<Own>, Unread>
+    ensures ok { IfOk result (λ own. split_own_said third (view value.now) ≡ Some own) }
+    ensures bad { IfErr result (λ fault. fault ≡ unread.BadShape → split_own_said third (view value.now)
         ≡ None) }
 {
     if has_keys(value, 3) {
         Ok(None)
-    } else if has_keys(value, 6) {
-        Ok(Some(read_own(alloc, value)?))
+    } else if has_keys(value, keys_in(third, 6)) {
+        Ok(Some(read_own(alloc, value, third)?))
     } else {
         Err(Unread::BadShape)
     }
 }
 
 // A split on a pair of orders.
-fn read_split(alloc: Global, value: &Value) -> Result<Node, Unread>
-    ensures ok { IfOk result (λ node. split_said (view value.now) ≡ Some node) }
-    ensures bad { IfErr result (λ fault. fault ≡ unread.BadShape → split_said (view value.now)
+fn read_split(alloc: Global, value: &Value, third: bool) -> Result<Node, Unread>
+    ensures ok { IfOk result (λ node. split_said third (view value.now) ≡ Some node) }
+    ensures bad { IfErr result (λ fault. fault ≡ unread.BadShape → split_said third (view value.now)
         ≡ None) }
 {
     let first = order_at(value, "first")?;
     let second = order_at(value, "second")?;
-    let own = read_split_own(alloc, value)?;
+    let own = read_split_own(alloc, value, third)?;
     Ok(Node::Split { first, second, own })
 }
 
@@ -218,17 +286,17 @@ fn read_dead(value: &Value) -> Result<Node, Unread>
 }
 
 // A node of this kind.
-fn read_kind(alloc: Global, value: &Value, kind: &str) -> Result<Node, Unread>
-    ensures ok { IfOk result (λ node. node_of_kind (view value.now) kind.now ≡ Some node) }
+fn read_kind(alloc: Global, value: &Value, third: bool, kind: &str) -> Result<Node, Unread>
+    ensures ok { IfOk result (λ node. node_of_kind third (view value.now) kind.now ≡ Some node) }
     ensures bad { IfErr result (λ fault. fault ≡ unread.BadShape
-        → node_of_kind (view value.now) kind.now ≡ None) }
+        → node_of_kind third (view value.now) kind.now ≡ None) }
 {
     if kind == "kept" {
         read_kept(value)
     } else if kind == "leaf" {
-        read_leaf(alloc, value)
+        read_leaf(alloc, value, third)
     } else if kind == "split" {
-        read_split(alloc, value)
+        read_split(alloc, value, third)
     } else if kind == "dead" {
         read_dead(value)
     } else {
@@ -236,14 +304,41 @@ fn read_kind(alloc: Global, value: &Value, kind: &str) -> Result<Node, Unread>
     }
 }
 
-impl CertificatePart for Node {
-    ghost said = { node_said };
+// A node.
+fn read_node(alloc: Global, value: &Value, third: bool) -> Result<Node, Unread>
+    ensures ok { IfOk result (λ node. node_said third (view value.now) ≡ Some node) }
+    ensures bad { IfErr result (λ fault. fault ≡ unread.BadShape → node_said third (view value.now)
+        ≡ None) }
+{
+    let kind = value
+        .get("kind")
+        .and_then(Value::as_str)
+        .ok_or(Unread::BadShape)?;
+    read_kind(alloc, value, third, kind)
+}
 
-    fn read(alloc: Global, value: &Value) -> Result<Node, Unread> {
-        let kind = value
-            .get("kind")
-            .and_then(Value::as_str)
-            .ok_or(Unread::BadShape)?;
-        read_kind(alloc, value, kind)
+// The nodes that the items of a list say.
+fn read_nodes(alloc: Global, value: &Value, third: bool) -> Result<Vec<Node>, Unread>
+    ensures ok { IfOk result (λ nodes. list_said (node_said third) (view value.now)
+        ≡ Some nodes.items) }
+    ensures bad { IfErr result (λ fault. fault ≡ unread.BadShape
+        → list_said (node_said third) (view value.now) ≡ None) }
+{
+    let items = value.as_array().ok_or(Unread::BadShape)?;
+    let mut nodes = Vec::new(alloc);
+    for item in items {
+        nodes.push(read_node(alloc, item, third)?)?;
     }
+    Ok(nodes)
+}
+
+/// The nodes at the key of the nodes: in the third form with prices.
+pub(crate) fn nodes_of(alloc: Global, value: &Value, third: bool) -> Result<Nodes, Unread>
+    ensures ok { IfOk result (λ nodes. said_at (list_said (node_said third)) (codes "nodes")
+        (view value.now) ≡ Some nodes) }
+    ensures bad { IfErr result (λ fault. fault ≡ unread.BadShape
+        → said_at (list_said (node_said third)) (codes "nodes") (view value.now) ≡ None) }
+{
+    let member = value.get("nodes").ok_or(Unread::BadShape)?;
+    Ok(Nodes::of(read_nodes(alloc, member, third)?))
 }

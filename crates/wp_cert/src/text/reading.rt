@@ -1,21 +1,21 @@
-ghost use Rattle.std.specs.Prelude.{ℕ, List, ◌≡◌, ◌≢◌, IfOk, IfErr, None, Err, Ok, Some, option_map, true};
+ghost use Rattle.std.specs.Prelude.{ℕ, ◌≡◌, ◌≢◌, IfOk, IfErr, None, Err, Ok, Some, option_map, true};
 ghost use Rattle.serde_json.specs.View.{view};
 ghost use Rattle.wp_lengths.specs.Waves.{WavePicks};
-ghost use Rattle.wp_cert.specs.declared.tree.Node.{Node};
-ghost use Rattle.wp_cert.specs.Text.{IsSame, PickAt, Tells, any_cart_said, cart_said, certificate_said, form_said};
-ghost use Rattle.wp_cert.specs.Text.{is_within, loaded_cart};
+ghost use Rattle.wp_cert.specs.declared.tree.Tree.{Tree as TreeData};
+ghost use Rattle.wp_cert.specs.Text.{IsSame, PickAt, Tells, any_cart_said, cart_said, certificate_said, cuts_written};
+ghost use Rattle.wp_cert.specs.Text.{form_said, is_within, loaded_cart, terms_said, written_terms_said};
 ghost use Rattle.wp_cert.specs.Text.{parts_said, value_read, value_says, why_unread};
 ghost use Rattle.wp_model.specs.Warehouse.{IsUpTo};
 ghost use Rattle.wp_cert.specs.TextData.{HaveDualsWithin};
 ghost use Rattle.wp_cert.specs.declared.text.form.Unread.TheVariants as unread;
 ghost use Rattle.wp_cert.specs.declared.tree.CertWhy.TheVariants as why;
 
-use crate::text::form::{Form, Unread, WrittenCart};
-use crate::text::node::has_keys;
-use crate::text::part::{items_at, list_at, read_at};
+use crate::text::form::{Form, Unread, WrittenCart, WrittenTerms};
+use crate::text::node::{has_keys, keys_in, nodes_of};
+use crate::text::part::{list_at, read_at};
 use crate::text::ranges::is_within;
 use crate::text::wave::wave_of;
-use crate::{CertFault, CertWhy, Certificate, Nodes, Tree};
+use crate::{CertFault, CertWhy, Certificate, Tree, WrittenCuts};
 use serde_json::Value;
 use std::alloc::Global;
 use wp_graph::Layout;
@@ -51,36 +51,66 @@ fn read_cart(alloc: Global, value: &Value) -> Result<WrittenCart, Unread>
 }
 
 // The cart of a certificate: none where it has no more keys than its four parts, and one where it has two keys more.
-fn read_any_cart(alloc: Global, value: &Value) -> Result<Option<WrittenCart>, Unread>
-    ensures ok { IfOk result (λ cart. any_cart_said (view value.now) ≡ Some cart) }
-    ensures bad { IfErr result (λ fault. fault ≡ unread.BadShape → any_cart_said (view value.now)
-        ≡ None) }
+fn read_any_cart(alloc: Global, value: &Value, third: bool) -> Result<Option<WrittenCart>, Unread>
+    ensures ok { IfOk result (λ cart. any_cart_said third (view value.now) ≡ Some cart) }
+    ensures bad { IfErr result (λ fault. fault ≡ unread.BadShape
+        → any_cart_said third (view value.now) ≡ None) }
 {
-    if has_keys(value, 4) {
+    if has_keys(value, keys_in(third, 4)) {
         Ok(None)
-    } else if has_keys(value, 6) {
+    } else if has_keys(value, keys_in(third, 6)) {
         Ok(Some(read_cart(alloc, value)?))
     } else {
         Err(Unread::BadShape)
     }
 }
 
-// The four parts of a certificate that has this cart or none.
-fn read_parts(alloc: Global, value: &Value, cart: Option<WrittenCart>) -> Result<Form, Unread>
-    ensures ok { IfOk result (λ form. parts_said cart (view value.now) ≡ Some form) }
-    ensures bad { IfErr result (λ fault. fault ≡ unread.BadShape → parts_said cart (view value.now)
+// What the third form has besides: the layout's step, and cuts.
+fn read_terms(alloc: Global, value: &Value) -> Result<WrittenTerms, Unread>
+    ensures ok { IfOk result (λ terms. written_terms_said (view value.now) ≡ Some terms) }
+    ensures bad { IfErr result (λ fault. fault ≡ unread.BadShape
+        → written_terms_said (view value.now) ≡ None) }
+{
+    let step = read_at(alloc, value, "step")?;
+    let cuts = list_at(alloc, value, "cuts")?;
+    Ok(WrittenTerms { step, cuts })
+}
+
+// A certificate with a step is of the third form.
+fn read_any_terms(alloc: Global, value: &Value) -> Result<Option<WrittenTerms>, Unread>
+    ensures ok { IfOk result (λ terms. terms_said (view value.now) ≡ Some terms) }
+    ensures bad { IfErr result (λ fault. fault ≡ unread.BadShape → terms_said (view value.now)
         ≡ None) }
+{
+    if value.get("step").is_none() {
+        Ok(None)
+    } else {
+        Ok(Some(read_terms(alloc, value)?))
+    }
+}
+
+// The four parts of a certificate that has this cart or none, and is of the third form or not.
+fn read_parts(
+    alloc: Global,
+    value: &Value,
+    terms: Option<WrittenTerms>,
+    cart: Option<WrittenCart>,
+) -> Result<Form, Unread>
+    ensures ok { IfOk result (λ form. parts_said terms cart (view value.now) ≡ Some form) }
+    ensures bad { IfErr result (λ fault. fault ≡ unread.BadShape
+        → parts_said terms cart (view value.now) ≡ None) }
 {
     let version = read_at(alloc, value, "version")?;
     let capacity = read_at(alloc, value, "capacity")?;
     let orders = list_at(alloc, value, "orders")?;
-    let nodes = Nodes::of(items_at(alloc, value, "nodes")?);
+    let nodes = nodes_of(alloc, value, terms.is_some())?;
     Ok(Form {
         version,
         capacity,
         cart,
         orders,
         nodes,
+        terms,
     })
 }
 
@@ -90,8 +120,9 @@ fn read_form(alloc: Global, value: &Value) -> Result<Form, Unread>
     ensures bad { IfErr result (λ fault. fault ≡ unread.BadShape → form_said (view value.now)
         ≡ None) }
 {
-    let cart = read_any_cart(alloc, value)?;
-    read_parts(alloc, value, cart)
+    let terms = read_any_terms(alloc, value)?;
+    let cart = read_any_cart(alloc, value, terms.is_some())?;
+    read_parts(alloc, value, terms, cart)
 }
 
 impl From<Unread> for CertWhy {
@@ -131,6 +162,16 @@ fn read_text(alloc: Global, text: &Vec<u8>, layout: &Layout) -> Result<Form, Cer
     read_within(alloc, &value, layout)
 }
 
+// The cuts of a tree of the third form.
+fn cuts_of(terms: Option<WrittenTerms>) -> Option<WrittenCuts>
+    ensures { result ≡ cuts_written terms }
+{
+    match terms {
+        None => None,
+        Some(terms) => Some(terms.cuts),
+    }
+}
+
 // The certificate of what a text says.
 fn certificate_of(alloc: Global, layout: &Layout, form: Form) -> Result<Certificate, Memory>
     requires within { is_within layout.now form ≡ true }
@@ -140,12 +181,16 @@ fn certificate_of(alloc: Global, layout: &Layout, form: Form) -> Result<Certific
         ≡ option_map loaded_cart form.cart) }
     ensures capacity { IfOk result (λ certificate. certificate.capacity ≡ form.capacity) }
     ensures nodes { IfOk result (λ certificate. certificate.tree.nodes ≡ form.nodes) }
+    ensures cuts { IfOk result (λ certificate. certificate.tree.cuts ≡ cuts_written form.terms) }
     ensures range { IfOk result (λ certificate. IsUpTo 8 certificate.capacity) }
-    ensures duals { IfOk result (λ certificate. HaveDualsWithin certificate.tree.nodes) }
+    ensures duals { IfOk result (λ certificate. HaveDualsWithin certificate.tree) }
 {
     let capacity = form.capacity as u32;
     let wave = wave_of(alloc, layout, &form)?;
-    let tree = Tree { nodes: form.nodes };
+    let tree = Tree {
+        nodes: form.nodes,
+        cuts: cuts_of(form.terms),
+    };
     Ok(Certificate {
         wave,
         capacity,
@@ -156,9 +201,9 @@ fn certificate_of(alloc: Global, layout: &Layout, form: Form) -> Result<Certific
 // The certificate that a text says, or why it says none.
 fn read_told(alloc: Global, text: &Vec<u8>, layout: &Layout) -> Result<Certificate, CertWhy>
     ensures told { IfOk result (λ read. Tells layout.now text.now.items read.wave read.capacity
-        read.tree.nodes) }
+        read.tree) }
     ensures range { IfOk result (λ read. IsUpTo 8 read.capacity) }
-    ensures duals { IfOk result (λ read. HaveDualsWithin read.tree.nodes) }
+    ensures duals { IfOk result (λ read. HaveDualsWithin read.tree) }
     ensures refusal { IfErr result (λ refusal. refusal ≢ why.Memory
         → certificate_said layout.now text.now.items ≡ Err refusal) }
 {
@@ -172,10 +217,10 @@ fn read_told(alloc: Global, text: &Vec<u8>, layout: &Layout) -> Result<Certifica
 /// The certificate that a text says for a layout: its wave has that layout, its orders pick just at the slots of the
 /// text, and it has the text's cart, if there is one. A certificate is refused at node 0, in this order, as `NotJson`
 /// where the bytes aren't UTF-8 or `serde_json` reads no value in them, `BadShape` where the value isn't of a
-/// certificate's form, and `OutOfRange` where the version isn't 1 without a cart and 2 with one, the capacity isn't 1
-/// to 8, there aren't 1 to 64 orders, an order has no slot or one that the layout hasn't, a dual is above
-/// 1,000,000,000,000 sixtieths, the cart doesn't hold 1 to 40,000,000 units, there isn't one load for each order, or a
-/// load is above the units. Of two members of one key the last counts. `Memory` comes where memory ran out. Of what is
+/// certificate's form, and `OutOfRange` where the version isn't 3 with a step and cuts, and without them 1 without a
+/// cart and 2 with one, the capacity isn't 1 to 8, there aren't 1 to 64 orders, an order has no slot or one that the
+/// layout hasn't, a dual or price is above 1,000,000,000,000 sixtieths, the cart doesn't hold 1 to 40,000,000 units,
+/// there isn't one load for each order, a load is above the units, or the step isn't the layout's. Of two members of one key the last counts. `Memory` comes where memory ran out. Of what is
 /// printed of a wave, a capacity and a tree it gives them back.
 pub fn read_certificate(
     alloc: Global,
@@ -183,12 +228,12 @@ pub fn read_certificate(
     layout: &Layout,
 ) -> Result<Certificate, CertFault>
     ensures told { IfOk result (λ read. Tells layout.now text.now.items read.wave read.capacity
-        read.tree.nodes) }
+        read.tree) }
     ensures range { IfOk result (λ read. IsUpTo 8 read.capacity) }
-    ensures duals { IfOk result (λ read. HaveDualsWithin read.tree.nodes) }
-    ensures reads_back { (wave : WavePicks) (capacity : ℕ) (nodes : List Node)
-        → Tells layout.now text.now.items wave capacity nodes
-        → IfOk result (λ read. IsSame read.wave wave read.capacity capacity read.tree.nodes nodes) }
+    ensures duals { IfOk result (λ read. HaveDualsWithin read.tree) }
+    ensures reads_back { (wave : WavePicks) (capacity : ℕ) (tree : TreeData)
+        → Tells layout.now text.now.items wave capacity tree
+        → IfOk result (λ read. IsSame read.wave wave read.capacity capacity read.tree tree) }
     ensures refusal { IfErr result (λ fault. fault.why ≢ why.Memory
         → certificate_said layout.now text.now.items ≡ Err fault.why) }
     ensures node { IfErr result (λ fault. fault.node ≡ 0) }

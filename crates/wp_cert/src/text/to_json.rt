@@ -1,11 +1,13 @@
 ghost use Rattle.std.specs.Prelude.{◌≡◌, ◌<◌, ◌++◌, ◌∷◌, [], All, IfOk, None, OnOk, Some, codes, map, string_bytes, ⊤};
+ghost use Rattle.std.specs.Prelude.{false, true};
 ghost use Rattle.serde_json.specs.Data.{Data, put, string};
 ghost use Rattle.serde_json.specs.View.{members_view, view};
 ghost use Rattle.wp_pairs.specs.Batches.{IsBatch};
-ghost use Rattle.wp_cert.specs.TextData.{AreTightBatches, IsKeptNode, batch_data, dead_data, leaf_data, list_data};
+ghost use Rattle.wp_cert.specs.TextData.{AreTightBatches, IsKeptCut, IsKeptNode, IsPosition, batch_data, cut_data};
+ghost use Rattle.wp_cert.specs.TextData.{dead_data, leaf_data, list_data, own_leaf_data, own_split_data};
 ghost use Rattle.wp_cert.specs.TextData.{mark_code, marks_data, node_data, number_data, split_data};
 
-use crate::{Node, Own};
+use crate::{Node, Own, WrittenCut};
 use serde_json::{Map, Value, json};
 use std::alloc::{AllocError, Global};
 use wp_lengths::Marks;
@@ -44,6 +46,40 @@ impl ToJson for u64 {
 
     fn to_json(&self, _alloc: Global) -> Result<Value, AllocError> {
         Ok(Value::from(*self))
+    }
+}
+
+impl ToJson for u32 {
+    ghost shown = { number_data };
+
+    ghost kept = { IsPosition };
+
+    fn to_json(&self, _alloc: Global) -> Result<Value, AllocError> {
+        Ok(Value::from(*self))
+    }
+}
+
+impl ToJson for WrittenCut {
+    ghost shown = { cut_data };
+
+    ghost kept = { IsKeptCut };
+
+    fn to_json(&self, alloc: Global) -> Result<Value, AllocError> {
+        let mut members = Map::new(alloc);
+        serde_json::put(&mut members, alloc, "divisor", Value::from(self.divisor()))?;
+        serde_json::put(
+            &mut members,
+            alloc,
+            "orders",
+            list_json(alloc, self.orders())?,
+        )?;
+        serde_json::put(
+            &mut members,
+            alloc,
+            "parts",
+            list_json(alloc, self.parts())?,
+        )?;
+        Ok(Value::Object(members))
     }
 }
 
@@ -104,6 +140,21 @@ fn put_own(alloc: Global, members: &mut Map<String, Value>, own: &Own) -> Result
     )
 }
 
+// Adds what each batch pays and a price for each cut to the members of a node's object.
+fn put_prices(alloc: Global, members: &mut Map<String, Value>, own: &Own) -> Result<(), AllocError>
+    ensures { OnOk result (members_view members.new.entries
+        ≡ put (codes "prices") (list_data number_data own.now.prices)
+        (put (codes "count") (number_data own.now.count) (members_view members.old.entries))) }
+{
+    serde_json::put(members, alloc, "count", Value::from(own.count))?;
+    serde_json::put(
+        members,
+        alloc,
+        "prices",
+        list_json(alloc, own.prices.as_slice())?,
+    )
+}
+
 // Adds the kind of a node.
 fn put_kind(alloc: Global, members: &mut Map<String, Value>, kind: &str) -> Result<(), AllocError>
     ensures { OnOk result (members_view members.new.entries
@@ -114,16 +165,16 @@ fn put_kind(alloc: Global, members: &mut Map<String, Value>, kind: &str) -> Resu
 
 // A leaf that keeps its parent's duals.
 fn kept_json(alloc: Global) -> Result<Value, AllocError>
-    ensures { IfOk result (λ value. view value ≡ leaf_data None) }
+    ensures { IfOk result (λ value. view value ≡ leaf_data false None) }
 {
     let mut members = Map::new(alloc);
     put_kind(alloc, &mut members, "kept")?;
     Ok(Value::Object(members))
 }
 
-// A leaf with duals of its own.
-fn own_leaf_json(alloc: Global, own: &Own) -> Result<Value, AllocError>
-    ensures value { IfOk result (λ value. view value ≡ leaf_data (Some own.now)) }
+// A leaf with duals of its own, where nothing else has a price.
+fn plain_leaf_json(alloc: Global, own: &Own) -> Result<Value, AllocError>
+    ensures value { IfOk result (λ value. view value ≡ own_leaf_data false own.now) }
     ensures known { IfOk result (λ value. All IsBatch own.now.tight) }
 {
     let mut members = Map::new(alloc);
@@ -132,14 +183,38 @@ fn own_leaf_json(alloc: Global, own: &Own) -> Result<Value, AllocError>
     Ok(Value::Object(members))
 }
 
+// A leaf with duals and prices of its own.
+fn priced_leaf_json(alloc: Global, own: &Own) -> Result<Value, AllocError>
+    ensures value { IfOk result (λ value. view value ≡ own_leaf_data true own.now) }
+    ensures known { IfOk result (λ value. All IsBatch own.now.tight) }
+{
+    let mut members = Map::new(alloc);
+    put_kind(alloc, &mut members, "leaf")?;
+    put_own(alloc, &mut members, own)?;
+    put_prices(alloc, &mut members, own)?;
+    Ok(Value::Object(members))
+}
+
+// A leaf with duals of its own.
+fn own_leaf_json(alloc: Global, third: bool, own: &Own) -> Result<Value, AllocError>
+    ensures value { IfOk result (λ value. view value ≡ own_leaf_data third own.now) }
+    ensures known { IfOk result (λ value. All IsBatch own.now.tight) }
+{
+    if third {
+        priced_leaf_json(alloc, own)
+    } else {
+        plain_leaf_json(alloc, own)
+    }
+}
+
 // A leaf.
-fn leaf_json(alloc: Global, own: &Option<Own>) -> Result<Value, AllocError>
-    ensures value { IfOk result (λ value. view value ≡ leaf_data own.now) }
+fn leaf_json(alloc: Global, third: bool, own: &Option<Own>) -> Result<Value, AllocError>
+    ensures value { IfOk result (λ value. view value ≡ leaf_data third own.now) }
     ensures known { IfOk result (λ value. AreTightBatches own.now) }
 {
     match own {
         None => kept_json(alloc),
-        Some(own) => own_leaf_json(alloc, own),
+        Some(own) => own_leaf_json(alloc, third, own),
     }
 }
 
@@ -161,16 +236,17 @@ fn put_split(
 
 // A split that keeps its parent's duals.
 fn kept_split_json(alloc: Global, first: u32, second: u32) -> Result<Value, AllocError>
-    ensures { IfOk result (λ value. view value ≡ split_data first second None) }
+    ensures { IfOk result (λ value. view value ≡ split_data false first second None) }
 {
     let mut members = Map::new(alloc);
     put_split(alloc, &mut members, first, second)?;
     Ok(Value::Object(members))
 }
 
-// A split with duals of its own.
-fn own_split_json(alloc: Global, first: u32, second: u32, own: &Own) -> Result<Value, AllocError>
-    ensures value { IfOk result (λ value. view value ≡ split_data first second (Some own.now)) }
+// A split with duals of its own, where nothing else has a price.
+fn plain_split_json(alloc: Global, first: u32, second: u32, own: &Own) -> Result<Value, AllocError>
+    ensures value { IfOk result (λ value. view value
+        ≡ own_split_data false first second own.now) }
     ensures known { IfOk result (λ value. All IsBatch own.now.tight) }
 {
     let mut members = Map::new(alloc);
@@ -179,32 +255,75 @@ fn own_split_json(alloc: Global, first: u32, second: u32, own: &Own) -> Result<V
     Ok(Value::Object(members))
 }
 
+// A split with duals and prices of its own.
+fn priced_split_json(alloc: Global, first: u32, second: u32, own: &Own) -> Result<Value, AllocError>
+    ensures value { IfOk result (λ value. view value ≡ own_split_data true first second own.now) }
+    ensures known { IfOk result (λ value. All IsBatch own.now.tight) }
+{
+    let mut members = Map::new(alloc);
+    put_split(alloc, &mut members, first, second)?;
+    put_own(alloc, &mut members, own)?;
+    put_prices(alloc, &mut members, own)?;
+    Ok(Value::Object(members))
+}
+
+// A split with duals of its own.
+fn own_split_json(
+    alloc: Global,
+    third: bool,
+    first: u32,
+    second: u32,
+    own: &Own,
+) -> Result<Value, AllocError>
+    ensures value { IfOk result (λ value. view value
+        ≡ own_split_data third first second own.now) }
+    ensures known { IfOk result (λ value. All IsBatch own.now.tight) }
+{
+    if third {
+        priced_split_json(alloc, first, second, own)
+    } else {
+        plain_split_json(alloc, first, second, own)
+    }
+}
+
 // A split on a pair of orders.
 fn split_json(
     alloc: Global,
+    third: bool,
     first: u32,
     second: u32,
     own: &Option<Own>,
 ) -> Result<Value, AllocError>
-    ensures value { IfOk result (λ value. view value ≡ split_data first second own.now) }
+    ensures value { IfOk result (λ value. view value
+        ≡ split_data third first second own.now) }
     ensures known { IfOk result (λ value. AreTightBatches own.now) }
 {
     match own {
         None => kept_split_json(alloc, first, second),
-        Some(own) => own_split_json(alloc, first, second, own),
+        Some(own) => own_split_json(alloc, third, first, second, own),
     }
 }
 
-impl ToJson for Node {
-    ghost shown = { node_data };
-
-    ghost kept = { IsKeptNode };
-
-    fn to_json(&self, alloc: Global) -> Result<Value, AllocError> {
-        match self {
-            Node::Leaf(own) => leaf_json(alloc, own),
-            Node::Split { first, second, own } => split_json(alloc, *first, *second, own),
-            Node::Dead(order) => json!(in alloc; {"kind": "dead", "order": *order}),
-        }
+// A node: in the third form with prices.
+fn node_json(alloc: Global, third: bool, node: &Node) -> Result<Value, AllocError>
+    ensures value { IfOk result (λ value. view value ≡ node_data third node.now) }
+    ensures known { IfOk result (λ value. IsKeptNode node.now) }
+{
+    match node {
+        Node::Leaf(own) => leaf_json(alloc, third, own),
+        Node::Split { first, second, own } => split_json(alloc, third, *first, *second, own),
+        Node::Dead(order) => json!(in alloc; {"kind": "dead", "order": *order}),
     }
+}
+
+/// The list of the values as which nodes are printed: in the third form with prices.
+pub(crate) fn nodes_json(alloc: Global, third: bool, nodes: &[Node]) -> Result<Value, AllocError>
+    ensures value { IfOk result (λ value. view value ≡ list_data (node_data third) nodes.now) }
+    ensures known { IfOk result (λ value. All IsKeptNode nodes.now) }
+{
+    let mut values = Vec::new(alloc);
+    for node in nodes {
+        values.push(node_json(alloc, third, node)?)?;
+    }
+    Ok(Value::Array(values))
 }

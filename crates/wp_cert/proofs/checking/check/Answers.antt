@@ -1,32 +1,37 @@
-use Rattle.std.proofs.Common.{ℕ, ◌∙◌, ap, arith, sym}
+use Rattle.std.proofs.Common.{◌≡◌, ◌∙◌, []}
 use Rattle.std.specs.Prelude.{Some}
-use Rattle.std.proofs.lemmas.Result.{err_from_is_err_and}
+use Rattle.std.proofs.lemmas.Result.{IfErr-weaker, IfOk-weaker}
+use Rattle.wp_cert.specs.declared.tree.CertWhy.TheVariants as why
+use Rattle.wp_cert.specs.Bounds.{NoBatchingCostsLess}
+use Rattle.wp_cert.specs.Paths.{IsRefusedWhole, pairing_of}
+use Rattle.wp_cert.specs.Refusals.{IsFirstBroken}
+use Rattle.wp_cert.specs.Trees.{IsBoundOf, IsRight}
 use Rattle.wp_cert.proofs.BoundsHold.{bounds_hold}
-use Rattle.wp_cert.proofs.WholeTrees.{first_broken, left_broken, root_bound, whole_bound}
+use Rattle.wp_cert.proofs.Checked.{bound_of, cuts_broken}
+use Rattle.wp_cert.proofs.WholeTrees.{first_broken}
 use Rattle.wp_cert.proofs.checking.check.Goals as goal
 
-pub returns-in_err-shown-clause-refused : goal.returns-in_err-shown-clause-refused
-returns-in_err-shown-clause-refused c =
-    let p = err_from_is_err_and c.from_residual.result c.from_residual.ensures.1 in
-    rw (p.1, p.2) (first_broken c.args.wave.now c.args.capacity c.shares_of-above.result c.args.tree.now.nodes
-    c.shares_of-above.ensures c.in_err-shown.field-0.0 c.in_err-shown.ensures.err)
+pub returns-in-Err-clause-refused : goal.returns-in-Err-clause-refused
+returns-in-Err-clause-refused c = λ named.
+    cuts_broken c.args.wave.now c.args.capacity _ c.args.tree.now c.fault_at.result c.in-Err.why c.orders.ensures.value
+    (c.in-Err.ensures.bad (λ e. named (c.fault_at.ensures.why ∙ e))) c.fault_at.ensures.node c.fault_at.ensures.why
 
-pub returns-then-shown-len-clause-refused : goal.returns-then-shown-len-clause-refused
-returns-then-shown-len-clause-refused c = λ named.
-    left_broken c.args.wave.now c.args.capacity c.shares_of-above.result c.args.tree.now.nodes
-    c.shares_of-above.ensures c.in_ok-shown.shown.next c.in_ok-shown.shown.bound c.fault_at.result (omega (arith, c.if-shown-len.true, c.len.ensures))
-    c.in_ok-shown.ensures.ok c.fault_at.ensures.node c.fault_at.ensures.why
+pub returns-clause-right : goal.returns-clause-right
+returns-clause-right c = IfOk-weaker c.check_nodes.result
+    (λ bound. IsRight c.terms_with-terms.result (pairing_of c.terms_with-terms.result.wave c.args.capacity []) c.shares_of.result c.args.tree.now.nodes []
+    (Some bound)) (IsBoundOf c.args.wave.now c.args.capacity c.args.tree.now)
+    (λ bound right. bound_of c.args.wave.now c.args.capacity c.shares_of.result bound c.args.tree.now c.terms_with-terms.result
+    c.terms_with-terms.ensures.right c.terms_with-terms.ensures.terms c.shares_of.ensures right) c.check_nodes.ensures.ok
 
-pub unwrap-requires : goal.unwrap-requires
-unwrap-requires c =
-    root_bound c.args.wave.now c.args.capacity c.shares_of-above.result c.args.tree.now.nodes
-    c.shares_of-above.ensures _ c.in_ok-shown.shown.bound c.orders-orders.ensures.valid c.requires.some c.in_ok-shown.ensures.ok
+pub returns-clause-bound : goal.returns-clause-bound
+returns-clause-bound c = IfOk-weaker c.check_nodes.result (IsBoundOf c.args.wave.now c.args.capacity c.args.tree.now)
+    (NoBatchingCostsLess c.args.wave.now c.args.capacity)
+    (λ bound right. bounds_hold c.args.wave.now c.args.capacity c.args.tree.now bound c.requires.some right) (returns-clause-right c)
 
-pub returns-in-Ok-clause-right : goal.returns-in-Ok-clause-right
-returns-in-Ok-clause-right c =
-    whole_bound c.args.wave.now c.args.capacity c.shares_of-above.result c.args.tree.now.nodes
-    c.shares_of-above.ensures c.in_ok-shown.shown.next c.in-Ok.bound c.in_ok-shown.shown.bound (omega (arith, c.if-shown-len.false, c.len.ensures))
-    (c.unwrap.ensures ∙ ap (λ (b : ℕ). Some b) (sym c.in-Ok.ensures.1)) c.in_ok-shown.ensures.ok
-
-pub returns-in-Ok-clause-bound : goal.returns-in-Ok-clause-bound
-returns-in-Ok-clause-bound c = bounds_hold c.args.wave.now c.args.capacity c.args.tree.now.nodes c.in-Ok.bound c.requires.some (returns-in-Ok-clause-right c)
+pub returns-clause-refused : goal.returns-clause-refused
+returns-clause-refused c = IfErr-weaker c.check_nodes.result
+    (IsRefusedWhole c.terms_with-terms.result (pairing_of c.terms_with-terms.result.wave c.args.capacity []) c.shares_of.result c.args.tree.now.nodes)
+    (λ fault. (fault.why ≡ why.Memory → ⊥) → IsFirstBroken c.args.wave.now c.args.capacity c.args.tree.now fault)
+    (λ fault refused named. first_broken c.args.wave.now c.args.capacity c.shares_of.result c.terms_with-terms.result.step c.args.tree.now
+    c.terms_with-terms.result fault c.terms_with-terms.ensures.terms
+    c.terms_with-terms.ensures.right c.shares_of.ensures refused named) c.check_nodes.ensures.err

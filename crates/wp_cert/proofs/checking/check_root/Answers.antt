@@ -14,7 +14,7 @@ check_node-requires-clause-path c = way_path _ _ c.args.tree.now.nodes.now c.arg
 
 pub check_node-requires-clause-even : goal.check_node-requires-clause-even
 check_node-requires-clause-even c =
-    way_even c.args.tree.now.wave.now c.args.tree.now.capacity.most c.args.tree.now.nodes.now c.args.above _ _ _ _ c.loop-at.invariant
+    way_even c.args.tree.now.terms.now c.args.tree.now.capacity.most c.args.tree.now.nodes.now c.args.above _ _ _ _ c.loop-at.invariant
 
 pub returns-in_err-bound-clause-err : goal.returns-in_err-bound-clause-err
 returns-in_err-bound-clause-err c =
@@ -24,7 +24,7 @@ returns-in_err-bound-clause-err c =
 pub returns-clause-err : goal.returns-clause-err
 returns-clause-err c =
     let end : c.loop-at.at ≡ length c.args.tree.now.nodes.now = omega (arith, c.loop-at-test.false, c.len-at-end.ensures, c.loop-at.auto.at-end) in
-    way_refused c.args.tree.now.wave.now c.args.tree.now.capacity.most c.args.tree.now.nodes.now c.args.above _ _ _ c.loop-at.at c.fault_at.result
+    way_refused c.args.tree.now.terms.now c.args.tree.now.capacity.most c.args.tree.now.nodes.now c.args.above _ _ _ c.loop-at.at c.fault_at.result
     c.loop-at.invariant
     (cut_refused _ _ _ c.args.tree.now.nodes.now c.loop-at.at c.fault_at.result end
     (c.fault_at.ensures.node ∙ (c.len.ensures ∙ sym end)) c.fault_at.ensures.why)

@@ -9,7 +9,7 @@ returns-clause-one c = one_told
 
 pub returns-clause-accepted : goal.returns-clause-accepted
 returns-clause-accepted c = λ layout text bound tells. (
-  λ why refused. told_not_refused layout text tells.wave tells.capacity tells.nodes why tells.told refused,
-  λ wave capacity nodes fault told broken.
-      told_right layout text tells.wave wave tells.capacity capacity tells.nodes nodes bound fault tells.told told tells.right broken,
+  λ why refused. told_not_refused layout text tells.wave tells.capacity tells.tree why tells.told refused,
+  λ wave capacity tree fault told broken.
+      told_right layout text tells.wave wave tells.capacity capacity tells.tree tree bound fault tells.told told tells.right broken,
 )

@@ -1,4 +1,6 @@
-use Rattle.std.proofs.Common.{arith, refl}
+use Rattle.std.proofs.Common.{arith, refl, subst}
+use Rattle.wp_lengths.specs.Waves.{WavePicks}
+use Rattle.wp_cert.specs.Levels.{AreLevels}
 use Rattle.std.specs.Prelude.{Ok, Err}
 use Rattle.std.proofs.lemmas.Result.{err_from_is_err_and}
 use Rattle.wp_cert.proofs.Testing.{visited_all}
@@ -8,8 +10,8 @@ pub visit_all-requires : goal.visit_all-requires
 visit_all-requires c = record {
   fits = record {
     is = c.requires;
-    levels = c.none.ensures;
-    known = c.none-2.ensures c.args.tested.now.wave.now;
+    levels = subst (λ (w : WavePicks). AreLevels w c.none.result) c.wave.ensures c.none.ensures;
+    known = c.none-2.ensures c.args.tested.now.terms.now.wave;
     within = omega arith;
   };
 }

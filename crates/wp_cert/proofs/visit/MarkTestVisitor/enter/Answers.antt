@@ -1,19 +1,18 @@
 use Rattle.std.proofs.Common.{Bool, ◌+◌, arith, ap, refl, ◌∙◌}
 use Rattle.std.specs.Prelude.{Some}
-use Rattle.wp_cert.proofs.Entering.{entered_there, missing_there, past_there, too_much_there, unsound_there, within_there}
+use Rattle.wp_cert.proofs.Entering.{entered_there, missing_there, past_there, too_much_there, unsound_there}
 use Rattle.wp_cert.proofs.visit.MarkTestVisitor.enter.Goals as goal
 
-pub returns-then-not-covers-clause-enters : goal.returns-then-not-covers-clause-enters
-returns-then-not-covers-clause-enters c = record {
+pub returns-in_default-clause-enters : goal.returns-in_default-clause-enters
+returns-in_default-clause-enters c = record {
   same = refl;
   says = too_much_there c.args.visit.now c.args.self.now.tested c.requires.fits.is c.args.place.now c.requires.at c.args.self.now.next c.args.self.now.next
-      c.length_for-least.result c.length_for-least.ensures.exact (c.covers.ensures.no c.if-not-covers.true);
+      c.in_default.ensures.too_much;
 }
 
 pub returns-then-next-len-clause-enters : goal.returns-then-next-len-clause-enters
 returns-then-next-len-clause-enters c =
-    let within = within_there c.args.visit.now c.args.self.now.tested c.requires.fits.is c.args.place.now c.requires.at c.length_for-least.result
-    c.length_for-least.ensures.known (c.covers.ensures.yes c.if-not-covers.false) in record {
+    let within = c.in-Some.ensures.paid in record {
       same = refl;
       says = missing_there c.args.visit.now c.args.self.now.tested c.requires.fits.is c.args.place.now c.requires.at c.args.self.now.next
           c.args.self.now.next within (omega (arith, c.if-next-len.true, c.len.ensures));
@@ -22,15 +21,14 @@ returns-then-next-len-clause-enters c =
 pub returns-then-at-clause-fits : goal.returns-then-at-clause-fits
 returns-then-at-clause-fits c = record {
   is = c.requires.fits.is;
-  levels = c.length_for-least.ensures.levels;
-  known = c.keep.ensures c.args.self.now.tested.wave.now c.requires.fits.known c.length_for-least.ensures.known;
+  levels = c.in-Some.ensures.levels;
+  known = c.keep.ensures c.args.self.now.tested.terms.now.wave c.requires.fits.known c.in-Some.ensures.known;
   within = omega (arith, c.requires.fits.within, c.if-next-len.false, c.len.ensures);
 }
 
 pub returns-then-at-clause-enters : goal.returns-then-at-clause-enters
 returns-then-at-clause-enters c =
-    let within = within_there c.args.visit.now c.args.self.now.tested c.requires.fits.is c.args.place.now c.requires.at c.length_for-least.result
-    c.length_for-least.ensures.known (c.covers.ensures.yes c.if-not-covers.false) in record {
+    let within = c.in-Some.ensures.paid in record {
       same = refl;
       says = entered_there c.args.visit.now c.args.self.now.tested c.requires.fits.is c.args.place.now c.requires.at c.args.self.now.next within
           (c.at.ensures ∙ ap (λ (b : Bool). Some b) c.if-at.true);
@@ -45,8 +43,7 @@ returns-then-stands_for_more-clause-enters c = record {
 
 pub returns-else-stands_for_more-clause-enters : goal.returns-else-stands_for_more-clause-enters
 returns-else-stands_for_more-clause-enters c =
-    let within = within_there c.args.visit.now c.args.self.now.tested c.requires.fits.is c.args.place.now c.requires.at c.length_for-least.result
-    c.length_for-least.ensures.known (c.covers.ensures.yes c.if-not-covers.false) in record {
+    let within = c.in-Some.ensures.paid in record {
       same = refl;
       says = unsound_there c.args.visit.now c.args.self.now.tested c.requires.fits.is c.args.place.now c.requires.at c.args.self.now.next
           (c.args.self.now.next + 1) (c.at.ensures ∙ ap (λ (b : Bool). Some b) c.if-at.false) within

@@ -1,5 +1,5 @@
 use Rattle.std.proofs.Common.{◌≡◌, ℕ, List, drop, length}
-use Rattle.wp_lengths.specs.Waves.{WavePicks}
+use Rattle.wp_cert.specs.Terms.{Terms}
 use Rattle.wp_cert.specs.declared.tree.Node.{Node}
 use Rattle.wp_cert.specs.Paths.{pairing_of}
 use Rattle.wp_cert.specs.Trees.{IsRight}
@@ -12,8 +12,8 @@ decreases-loop-pair l = length l.self.path.items
 abbrev pub invariant-loop-pair : goal.invariant-loop-pair
 invariant-loop-pair l = record {
   even : length l.self.path.items ≡ length l.self.notes.items;
-  done : (wave : WavePicks) (capacity shares at next : ℕ) (nodes : List Node)
-      → IsWay wave capacity nodes shares l.fn.self.path.items l.fn.self.notes.items l.fn.self.above at
-      → IsRight wave (pairing_of wave capacity l.fn.self.path.items) l.fn.self.above (drop at nodes) (drop next nodes) l.fn.shown
-      → IsDone wave capacity nodes shares l.self.path.items l.self.notes.items next l.bound;
+  done : (terms : Terms) (capacity shares at next : ℕ) (nodes : List Node)
+      → IsWay terms capacity nodes shares l.fn.self.path.items l.fn.self.notes.items l.fn.self.above at
+      → IsRight terms (pairing_of terms.wave capacity l.fn.self.path.items) l.fn.self.above (drop at nodes) (drop next nodes) l.fn.shown
+      → IsDone terms capacity nodes shares l.self.path.items l.self.notes.items next l.bound;
 }
