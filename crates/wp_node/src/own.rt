@@ -45,8 +45,8 @@ fn own_from<R: Threads + Sync, G: Gate>(
     feasible: OrderDuals,
 ) -> Result<NodeOwn, Memory>
     requires { IsStart paired.now.wave.now paired.now.pairs.now feasible }
-    ensures right { IfOk result (λ own. IsRightOwn (plain_terms paired.now.wave.now) paired.now.pairs.now
-        (sum feasible) (as_own own)) }
+    ensures right { IfOk result (λ own. IsRightOwn (plain_terms paired.now.wave.now)
+        paired.now.pairs.now (sum feasible) (as_own own)) }
     ensures duals { IfOk result (λ own. AreDuals own.duals) }
     ensures short { IfOk result (λ own. AreShortMarks paired.now.wave.now paired.now.pairs.now
         own.duals own.marks) }
@@ -77,8 +77,8 @@ pub fn own_of<R: Threads + Sync, G: Gate>(
 ) -> Result<NodeOwn, Memory>
     requires start { IsStart paired.now.wave.now paired.now.pairs.now above.now }
     requires count { length tried ≡ length paired.now.wave.now.orders }
-    ensures right { IfOk result (λ own. IsRightOwn (plain_terms paired.now.wave.now) paired.now.pairs.now
-        (sum above.now) (as_own own)) }
+    ensures right { IfOk result (λ own. IsRightOwn (plain_terms paired.now.wave.now)
+        paired.now.pairs.now (sum above.now) (as_own own)) }
     ensures duals { IfOk result (λ own. AreDuals own.duals) }
     ensures short { IfOk result (λ own. AreShortMarks paired.now.wave.now paired.now.pairs.now
         own.duals own.marks) }

@@ -354,8 +354,8 @@ pub fn work_node<R: Threads + Sync, G: Gate>(
     columns: &[Batch],
 ) -> Result<Worked, Memory>
     requires { IsStart paired.now.wave.now paired.now.pairs.now above.now }
-    ensures right { IfOk result (λ worked. IsRightOwn (plain_terms paired.now.wave.now) paired.now.pairs.now
-        (sum above.now) (as_own worked.own)) }
+    ensures right { IfOk result (λ worked. IsRightOwn (plain_terms paired.now.wave.now)
+        paired.now.pairs.now (sum above.now) (as_own worked.own)) }
     ensures duals { IfOk result (λ worked. AreDuals worked.own.duals) }
     ensures short { IfOk result (λ worked. AreShortMarks paired.now.wave.now paired.now.pairs.now
         worked.own.duals worked.own.marks) }

@@ -4,6 +4,7 @@ use Rattle.std.specs.Prelude.{IfOk, Some, Result, Ok, Err, sum}
 use Rattle.wp_model.specs.declared.memory.Memory.{Memory}
 use Rattle.wp_lengths.specs.Waves.{WavePicks}
 use Rattle.wp_cert.specs.Trees.{IsBoundOf, plain_tree}
+use Rattle.wp_cert.specs.declared.tree.Tree.{Tree}
 use Rattle.std.specs.List.Sorted.{IsStrictlyIncreasing}
 use Rattle.wp_cert.proofs.BoundsHold.{bounds_hold}
 use Rattle.wp_cert.proofs.PutIntoBatches.{all_places, batching_is_put}
@@ -58,8 +59,8 @@ module _ (wave : WavePicks) (capacity : ℕ) (shares : List ℕ) (search : TreeS
   pub good_plan : (budget : ℕ) (planned : Planned) → HasEnded wave capacity (sum shares) search → search.budget ≡ budget
       → planned.batching ≡ search.best.batching → planned.cost ≡ search.best.cost → planned.tree ≡ plain_tree (nodes_of search.tree) → planned.bound ≡ bound
       → ((planned.state ≡ states.Proven) ↔ (bound ≡ search.best.cost)) → IsGoodPlan wave capacity budget planned
-  good_plan budget planned ended spends batching costs nodes bounds state =
-      let right : IsBoundOf wave capacity planned.tree planned.bound = rw (nodes, bounds) tree_right in
+  good_plan budget planned ended spends batching costs tree bounds state =
+      let right : IsBoundOf wave capacity planned.tree planned.bound = rw (tree, bounds) tree_right in
       let least = bounds_hold wave capacity planned.tree planned.bound some right in record {
         sound = record {
           batching = rw batching (batching_is_put wave capacity search.best.batching is.best.proper.batching);
@@ -69,24 +70,25 @@ module _ (wave : WavePicks) (capacity : ℕ) (shares : List ℕ) (search : TreeS
           bound = right;
           least = no_walks_are_shorter wave capacity planned.bound least;
           below = rw (costs) (least search.best.batching search.best.cost is.best.proper.batching is.best.cost);
-          duals = rw nodes (duals_listed wave (no_pairs wave capacity) (sum shares) search.tree is.right);
-          short = rw nodes (search_short wave (no_pairs wave capacity) (sum shares) search.tree is.right);
+          plain = ap (λ (t : Tree). t.cuts) tree;
+          duals = rw tree (duals_listed wave (no_pairs wave capacity) (sum shares) search.tree is.right);
+          short = rw tree (search_short wave (no_pairs wave capacity) (sum shares) search.tree is.right);
         };
         worth = record {
           state = rw (bounds, costs) state;
           joined = rw batching is.best.proper.joined;
-          within = rw nodes (omega (arith, all_paid, is.within, spends));
-          worked = λ count enough. ⊎_elim (λ short. inr (rw nodes (all_worked count short (omega (arith, enough, spends)))))
+          within = rw tree (omega (arith, all_paid, is.within, spends));
+          worked = λ count enough. ⊎_elim (λ short. inr (rw tree (all_worked count short (omega (arith, enough, spends)))))
               (λ done. inl (state.1 (at_cost done))) ended;
           full_tree = λ enough. ⊎_elim (λ short. absurd (not_full short (omega (arith, enough, spends)))) (λ done. state.1 (at_cost done)) ended;
-          splits = rw (nodes, bounds) (splits_listed bound search.tree (is.cuts bound at));
+          splits = rw (tree, bounds) (splits_listed bound search.tree (is.cuts bound at));
         };
       }
 
   -- so is what it is answered with
   pub good_result : (budget : ℕ) (result : Result Planned Memory) → HasEnded wave capacity (sum shares) search → search.budget ≡ budget
       → IfOk result (λ planned. planned.batching ≡ search.best.batching) → IfOk result (λ planned. planned.cost ≡ search.best.cost)
-      → IfOk result (λ planned. planned.tree.nodes ≡ nodes_of search.tree) → IfOk result (λ planned. planned.bound ≡ bound)
+      → IfOk result (λ planned. planned.tree ≡ plain_tree (nodes_of search.tree)) → IfOk result (λ planned. planned.bound ≡ bound)
       → IfOk result (λ planned. (planned.state ≡ states.Proven) ↔ (bound ≡ search.best.cost)) → IfOk result (IsGoodPlan wave capacity budget)
-  good_result budget (Ok planned) ended spends batching costs nodes bounds state = good_plan budget planned ended spends batching costs nodes bounds state
-  good_result budget (Err fault) ended spends batching costs nodes bounds state = batching
+  good_result budget (Ok planned) ended spends batching costs tree bounds state = good_plan budget planned ended spends batching costs tree bounds state
+  good_result budget (Err fault) ended spends batching costs tree bounds state = batching

@@ -88,7 +88,8 @@ splits_listed bound (Split' cut p together q apart) within =
     (All-append (IsSplitWithin bound) (nodes_of together) (nodes_of apart) (splits_listed bound together within.1) (splits_listed bound apart within.2))
 
 -- and their duals are within their range
-pub duals_listed : (wave : WavePicks) (pairing : Pairing) (above : ℕ) (branch : Branch) → IsBranch wave pairing above branch → HaveDualsWithin (plain_tree (nodes_of branch))
+pub duals_listed : (wave : WavePicks) (pairing : Pairing) (above : ℕ) (branch : Branch) → IsBranch wave pairing above branch
+    → HaveDualsWithin (plain_tree (nodes_of branch))
 duals_listed wave pairing above (Leaf None) is = refl
 duals_listed wave pairing above (Leaf (Some worked)) is = own_within worked.own is.duals
 duals_listed wave pairing above (Dead order) is = refl
@@ -194,7 +195,8 @@ pub cost_reached : (wave : WavePicks) (capacity bound : ℕ) (shares : List ℕ)
     → IsSearch wave capacity (sum shares) search → bound_of (units_of (sum shares)) search.tree ≡ Some bound → search.best.cost ≤ bound
     → HasEnded wave capacity (sum shares) search
 cost_reached wave capacity bound shares search some are is at low =
-    let least = bounds_hold wave capacity (plain_tree (nodes_of search.tree)) bound some (search_bound wave capacity bound shares search.tree are is.right at) in
+    let least = bounds_hold wave capacity (plain_tree (nodes_of search.tree)) bound some
+    (search_bound wave capacity bound shares search.tree are is.right at) in
     let same : bound ≡ search.best.cost = omega (
       arith,
       low,

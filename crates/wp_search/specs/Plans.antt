@@ -52,7 +52,8 @@ pub record IsSoundPlan (wave : WavePicks) (capacity : ℕ) (planned : Planned) :
   pub bound : IsBoundOf wave capacity planned.tree planned.bound
   pub least : NoWalksAreShorter wave capacity planned.bound
   pub below : planned.bound ≤ planned.cost
-  -- its duals are within their range, and its marks are the short ones
+  -- it is of the first two forms; its duals are within their range, and its marks are the short ones
+  pub plain : planned.tree.cuts ≡ None
   pub duals : HaveDualsWithin planned.tree
   pub short : HasShortMarks wave (no_pairs wave capacity) planned.tree.nodes []
 

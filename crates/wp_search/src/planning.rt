@@ -1,4 +1,5 @@
 ghost use Rattle.std.specs.Prelude.{◌≡◌, ◌≤◌, ◌↔◌, ◌^◌, IfOk};
+ghost use Rattle.wp_cert.specs.Trees.{plain_tree};
 ghost use Rattle.wp_search.specs.Branches.{nodes_of};
 ghost use Rattle.wp_search.specs.Plans.{IsGoodPlan};
 ghost use Rattle.wp_search.specs.declared.plan.State.TheVariants as state;
@@ -49,7 +50,7 @@ fn tree_of(alloc: Global, branch: Branch) -> Result<Tree, Memory>
 fn plan_of(alloc: Global, search: TreeSearch, bound: u64) -> Result<Planned, Memory>
     ensures batching { IfOk result (λ planned. planned.batching ≡ search.best.batching) }
     ensures cost { IfOk result (λ planned. planned.cost ≡ search.best.cost) }
-    ensures nodes { IfOk result (λ planned. planned.tree.nodes ≡ nodes_of search.tree) }
+    ensures tree { IfOk result (λ planned. planned.tree ≡ plain_tree (nodes_of search.tree)) }
     ensures bound { IfOk result (λ planned. planned.bound ≡ bound) }
     ensures state { IfOk result (λ planned. (planned.state ≡ state.Proven)
         ↔ (bound ≡ search.best.cost)) }

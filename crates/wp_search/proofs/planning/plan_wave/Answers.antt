@@ -17,4 +17,4 @@ returns g c =
     good_result c.args.wave.now c.args.capacity c.in_ok-shares.shares c.in_ok-search.search c.unwrap-bound.result c.requires.some
     c.in_ok-shares.ensures c.in_ok-search.ensures.search (rw (c.bound.ensures, c.bound-above.ensures) at c.unwrap-bound.ensures) c.args.budget
     c.plan_of.result c.in_ok-search.ensures.ended c.in_ok-search.ensures.budget c.plan_of.ensures.batching c.plan_of.ensures.cost
-    c.plan_of.ensures.nodes c.plan_of.ensures.bound c.plan_of.ensures.state
+    c.plan_of.ensures.tree c.plan_of.ensures.bound c.plan_of.ensures.state
