@@ -23,7 +23,7 @@ use Rattle.wp_waves_words.specs.Words.{WavesNames}
 
 -- what words ask of waves
 abbrev pub wave_terms : WavesNames → WaveTerms
-wave_terms names = record { wave = names.wave; most = names.most; desk = names.desk }
+wave_terms names = record { wave = names.wave; most = names.most; desk = names.desk; effort = names.effort }
 
 -- one read where a file is named
 abbrev pub reads_if : Option (List ℕ) → ℕ
