@@ -12,7 +12,7 @@ ghost use Rattle.wp_waves.specs.OpenOrders.{AreOpenOrders, IsOpenOrder};
 ghost use Rattle.wp_waves.specs.Turns.{AreTurns, one_of, rank_of, served_in};
 ghost use Rattle.wp_waves.specs.Waves.{AreWavesOf};
 ghost use Rattle.wp_waves.specs.declared.open_orders.OpenOrder.{OpenOrder as OpenOrderData};
-ghost use Rattle.wp_waves_out.specs.NamedWaves.{AreSentNamed, MayBeSent, commands_of};
+ghost use Rattle.wp_waves_out.specs.NamedWaves.{AreSentNamed, MayBeSent, SendsReleased, commands_of};
 ghost use Rattle.wp_waves_out.specs.SentOut.{AreWaveTerms, GoOut};
 ghost use Rattle.wp_waves_out.specs.Starts.{AreStarts};
 
@@ -58,11 +58,13 @@ fn starts_after<R: Threads + Sync, G: Gate>(
     machine: &mut Machine<'_>,
     named: &NamedWaves<'_>,
 ) -> Result<Vec<u64>, Memory>
+    requires same { machine.old.opening ≡ planning.now.opening.now }
     requires names { length named.now.names.now ≡ length named.now.waves.now }
     requires few { All (λ wave. length wave ≤ most_wave_orders) (waves_kept named.now.waves.now) }
     requires room { length machine.old.entries + 2 * length named.now.waves.now ≤ most_entries }
     requires done { AreDone machine.old.opening (state_after machine.old)
         (commands_of named.now.names.now (waves_kept named.now.waves.now)) }
+    requires released { SendsReleased machine.old }
     ensures starts { IfOk result (λ starts. AreStarts planning.now.layout.now
         planning.now.opening.now planning.now.terms.now.capacity
         (sent_after machine.old (commands_of named.now.names.now (waves_kept named.now.waves.now)))
@@ -86,6 +88,7 @@ fn send_named<R: Threads + Sync, G: Gate>(
     requires few { All (λ wave. length wave ≤ most_wave_orders) (waves_kept waves.now) }
     requires room { length machine.old.entries + 2 * length waves.now ≤ most_entries }
     requires done { MayBeSent machine.old (waves_kept waves.now) }
+    requires released { SendsReleased machine.old }
     ensures { IfOk result (λ out. AreSentNamed planning.now.layout.now planning.now.terms.now.capacity
         machine.old (waves_kept waves.now) out.items) }
 {

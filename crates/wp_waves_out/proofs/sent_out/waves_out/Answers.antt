@@ -13,6 +13,7 @@ use Rattle.wp_waves.proofs.KeptWaves.{kept_length}
 use Rattle.wp_waves.specs.Filling.{waves_kept}
 use Rattle.wp_waves.specs.OpenOrders.{IsOpenOrder}
 use Rattle.wp_waves.specs.declared.open_orders.OpenOrder.{OpenOrder}
+use Rattle.wp_waves_out.proofs.Filled.{sends_released}
 use Rattle.wp_waves_out.proofs.Going.{AreGoing, count_first, count_out, desk_may_be, few_first, first_kept, go_out_first, right_first, within_most}
 use Rattle.wp_waves_out.proofs.Going.{within_room}
 use Rattle.wp_waves_out.specs.NamedWaves.{AreSentNamed, MayBeSent}
@@ -68,6 +69,9 @@ send_named-requires-clause-done g c κs within =
     (λ names named. c.waves_of_served_orders_go_out.ensures h.opening (state_after h) c.requires.turns.0 c.args.turns.now c.args.terms.now.wave
     (take going all) (drop going all) names (is_opening h.opening c.count.ensures.read) c.requires.turns.1 c.requires.turns.2 c.requires.terms.wave
     (right_first _ _ all going c.in_ok-waves.ensures) named)
+
+pub send_named-requires-clause-released : goal.send_named-requires-clause-released
+send_named-requires-clause-released g c κs within = sends_released c.args.machine.now c.count.ensures.read c.count.ensures.sound
 
 pub send_named-requires-clause-room : goal.send_named-requires-clause-room
 send_named-requires-clause-room g c κs within =
