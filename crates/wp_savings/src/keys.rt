@@ -32,8 +32,8 @@ fn sought(
     let rows = ArticleRows::of(alloc, day.stock())?;
     let mut sought = SoughtOrders::new(alloc, *layout);
     for one in served {
-        let picks = rows.likely_picks(layout, day.lines(&one.order));
-        sought.add(one.rank, picks)?;
+        let slots = rows.likely_slots(alloc, layout, day.lines(&one.order))?;
+        sought.add(one.rank, slots)?;
     }
     Ok(sought)
 }
