@@ -21,13 +21,18 @@ rows_stay opening state [] same = same
 rows_stay opening state (entry ∷ entries) same =
     rows_stay opening (step opening state entry.command).state entries (step_keeps_rows opening state entry.command same)
 
+-- so do those of a history
+pub rows_after : (history : History) → AreSameRows history.opening (state_after history).rows
+rows_after history =
+    rows_stay history.opening (opening_state history.opening) history.entries (opening_same_rows history.opening)
+
 -- so after a history there are as many rows as its stock has
 pub row_count : (history : History) → length (state_after history).rows ≡ length history.opening.stock.rows
 row_count history =
     let opening = history.opening in
     let rows = (state_after history).rows in
     sym (length-map rows row_place)
-    ∙ (ap length (rows_stay opening (opening_state opening) history.entries (opening_same_rows opening)) ∙ length-map opening.stock.rows stock_row_place)
+    ∙ (ap length (rows_after history) ∙ length-map opening.stock.rows stock_row_place)
 
 -- and they are of its articles
 pub row_article : (history : History) (k : ℕ) (r : Row) → IsReadOpening history.opening → slice_get (state_after history).rows k ≡ Some r
@@ -35,8 +40,7 @@ pub row_article : (history : History) (k : ℕ) (r : Row) → IsReadOpening hist
 row_article history k r is there =
     let opening = history.opening in
     let rows = (state_after history).rows in
-    let same : map row_place rows ≡ map stock_row_place opening.stock.rows =
-    rows_stay opening (opening_state opening) history.entries (opening_same_rows opening) in
+    let same : map row_place rows ≡ map stock_row_place opening.stock.rows = rows_after history in
     let count : length rows ≡ length opening.stock.rows = row_count history in
     let was = within_some opening.stock.rows k (omega (arith, slice_get_within rows k r there, count)) in
     let places : Some (stock_row_place was.0) ≡ Some (row_place r) =

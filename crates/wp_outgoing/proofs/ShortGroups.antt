@@ -15,14 +15,20 @@ use Rattle.wp_waves.specs.Weights.{all_of}
 use Rattle.wp_waves.specs.declared.open_orders.OpenOrder.{OpenOrder}
 use Rattle.wp_waves.specs.declared.turns.OrderTurn.{OrderTurn}
 
--- what holds of each open order holds of each order of the first waves
+-- what holds of each open order holds of each that is served in its turn
+pub each_served : (P : OpenOrder → Type 0) (opening : Opening) (state : State) (listed : List OpenOrder) (turns : List OrderTurn)
+    → AreTurns opening state listed turns → All P listed → All P (served_in turns)
+each_served P opening state listed turns turns_are each =
+    let waiting = All-filter (λ one. is_waiting (standing_of opening state.waves one)) P listed each in
+    served_all P turns (All-permutation P (waiting_of opening state.waves listed) (map one_of turns) turns_are.in_turn.same waiting)
+
+-- so it holds of each order of the first waves
 pub each_in_waves : (P : OpenOrder → Type 0) (opening : Opening) (state : State) (listed : List OpenOrder) (turns : List OrderTurn) (most : ℕ)
     (waves later : List (List OpenOrder)) → AreTurns opening state listed turns → AreWavesOf most (served_in turns) (waves ++ later) → All P listed
     → All P (all_of waves)
 each_in_waves P opening state listed turns most waves later turns_are right each =
-    let waiting = All-filter (λ one. is_waiting (standing_of opening state.waves one)) P listed each in
-    let in_turn = All-permutation P (waiting_of opening state.waves listed) (map one_of turns) turns_are.in_turn.same waiting in
-    let served = All-permutation P (served_in turns) (all_of (waves ++ later)) right.once (served_all P turns in_turn) in
+    let served = All-permutation P (served_in turns) (all_of (waves ++ later)) right.once
+    (each_served P opening state listed turns turns_are each) in
     All-front P (all_of waves) (all_of later) (subst (All P) (all_append waves later) served)
 
 -- a wave of open orders has a short group

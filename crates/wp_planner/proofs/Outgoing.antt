@@ -161,7 +161,7 @@ no_wave_missing number before after name order (reply.Refilled units) out told =
 no_wave_missing number before after name order other out told = absurd (cc told)
 
 -- a wave that a step tells is filled
-step_is_filled : (opening : Opening) (number : ℕ) (state : State) (asked : Command) (out : WaveHolds) → IsOpening opening → IsSound opening state
+pub step_is_filled : (opening : Opening) (number : ℕ) (state : State) (asked : Command) (out : WaveHolds) → IsOpening opening → IsSound opening state
     → AreSameRows opening state.rows → outcome_of number state asked (step opening state asked) ≡ outcome.Released out → GoesOutFilled opening out
 step_is_filled opening number state (command.Release name) out is sound rows told = release_is_filled opening number state name out is sound rows told
 step_is_filled opening number state (command.Missing name order location quantity) out is sound rows told =

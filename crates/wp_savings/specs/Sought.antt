@@ -1,7 +1,7 @@
 -- Orders for which waves are sought.
-use Rattle.std.specs.Prelude.{◌≡◌, List}
+use Rattle.std.specs.Prelude.{List}
 use Rattle.std.specs.List.{All}
-use Rattle.wp_model.specs.Warehouse.{Layout}
+use Rattle.wp_model.specs.Warehouse.{IsSlot, Layout}
 use Rattle.wp_savings.specs.declared.orders.SoughtOrder.{SoughtOrder}
 
 -- a layout, and orders that pick in it
@@ -11,4 +11,4 @@ pub record Sought : Type 0 where
 
 -- orders pick at slots of a layout
 abbrev pub PickIn : Layout → List SoughtOrder → Type 0
-PickIn layout orders = All (λ (order : SoughtOrder). order.picks.layout ≡ layout) orders
+PickIn layout orders = All (λ (order : SoughtOrder). All (IsSlot layout) order.slots.items) orders

@@ -3,13 +3,12 @@
 #![tactic(auto)]
 
 mod filling;
+mod keys;
 mod orders;
 mod picks;
 mod plan;
 mod proposal;
 mod search;
 
-pub use orders::SoughtOrders;
-pub use picks::ArticleRows;
-pub use proposal::{Sizes, propose};
-pub use wp_waves::OpenOrder;
+pub use filling::Sizes;
+pub use keys::{Seeking, keys_for};

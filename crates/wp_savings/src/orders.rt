@@ -1,19 +1,21 @@
 //! Orders for which waves are sought, and how long tours past them are.
 ghost use Rattle.std.specs.Prelude.{◌≡◌, ◌+◌, ◌<◌, ◌^◌, [], OnOk, length};
+ghost use Rattle.std.specs.List.{All};
+ghost use Rattle.wp_model.specs.Warehouse.{IsSlot};
 ghost use Rattle.wp_savings.specs.Sought.{PickIn};
 
 use std::alloc::Global;
 use std::marker::Model;
 use wp_fast::tour_length;
 use wp_graph::{Layout, Picks};
-use wp_model::Memory;
+use wp_model::{Memory, Point};
 
 /// An order: its rank, the slots at which it would pick, a bit for each aisle in which one lies, and the length of its
 /// shortest tour alone.
 #[derive(Drop)]
 pub struct SoughtOrder {
     rank: u32,
-    picks: Picks,
+    slots: Vec<Point>,
     aisles: u64,
     length: u64,
 }
@@ -35,17 +37,24 @@ impl Model for SoughtOrders {
     ghost invariant = { λ s. PickIn s.layout s.orders.items };
 }
 
-// A bit for each aisle in which picks lie.
-fn aisles_with(layout: &Layout, picks: &Picks) -> u64
-    requires { picks.now.layout ≡ layout.now }
-{
+// A bit for each aisle in which slots lie.
+fn aisles_with(slots: &[Point]) -> u64 {
     let mut aisles = 0;
-    for aisle in 1..layout.aisles() + 1 {
-        if picks.has_in(aisle) {
-            aisles |= 1 << (aisle % 64);
-        }
+    for slot in slots {
+        aisles |= 1 << (slot.aisle % 64);
     }
     aisles
+}
+
+// Adds slots of a layout to others.
+fn join(layout: &Layout, picks: &mut Picks, slots: &[Point])
+    requires layout { picks.old.layout ≡ layout.now }
+    requires slots { All (IsSlot layout.now) slots.now }
+    ensures { picks.new.layout ≡ layout.now }
+{
+    for slot in slots {
+        picks.add(*slot);
+    }
 }
 
 impl SoughtOrders {
@@ -61,18 +70,19 @@ impl SoughtOrders {
     }
 
     /// Adds the order that is served next: its rank, and the slots of the layout at which it would pick.
-    pub fn add(&mut self, rank: u32, picks: Picks) -> Result<(), Memory>
-        requires { picks.layout ≡ self.old.layout }
+    pub fn add(&mut self, rank: u32, slots: Vec<Point>) -> Result<(), Memory>
+        requires { All (IsSlot self.old.layout) slots.items }
         ensures layout { self.new.layout ≡ self.old.layout }
         ensures count { OnOk result (length self.new.orders ≡ length self.old.orders + 1) }
     {
-        let aisles = aisles_with(&self.layout, &picks);
-        let length = tour_length(&self.layout, &picks);
+        let mut picks = Picks::new(&self.layout);
+        join(&self.layout, &mut picks, slots.as_slice());
+        let aisles = aisles_with(slots.as_slice());
         self.orders.push(SoughtOrder {
             rank,
-            picks,
+            slots,
             aisles,
-            length,
+            length: tour_length(&self.layout, &picks),
         })?;
         Ok(())
     }
@@ -105,7 +115,7 @@ impl SoughtOrders {
         ensures { picks.new.layout ≡ self.now.layout }
     {
         if let Some(order) = self.orders.get(place) {
-            picks.join(&order.picks);
+            join(&self.layout, picks, order.slots.as_slice());
         }
     }
 

@@ -1,10 +1,15 @@
 //! Where orders would pick before anything is allotted to them.
-ghost use Rattle.std.specs.Prelude.{◌≡◌};
+ghost use Rattle.std.specs.Prelude.{IfOk, OnOk};
+ghost use Rattle.std.specs.List.{All};
+ghost use Rattle.wp_model.specs.Warehouse.{IsSlot};
 
 use std::alloc::Global;
-use wp_graph::{Layout, Picks};
+use wp_graph::Layout;
 use wp_model::{Line, Location, Memory, Point, StockRow};
 use wp_tables::Stock;
+
+/// At how many slots an order would pick at most.
+const MOST_SLOTS: usize = 256;
 
 /// The rows of each article, in the order of the stock.
 #[derive(Drop)]
@@ -44,39 +49,47 @@ impl ArticleRows {
     }
 
     // Adds the slots at which a line would pick.
-    fn add_line(&self, picks: &mut Picks, layout: &Layout, line: &Line)
-        requires { picks.old.layout ≡ layout.now }
-        ensures { picks.new.layout ≡ layout.now }
+    fn add_line(&self, slots: &mut Vec<Point>, layout: &Layout, line: &Line) -> Result<(), Memory>
+        requires { All (IsSlot layout.now) slots.old.items }
+        ensures { OnOk result (All (IsSlot layout.now) slots.new.items) }
     {
         let mut wanted = line.quantity;
         for row in self.rows_of(line.article) {
             if wanted > 0 && row.on_hand > 0 {
-                add_slot(picks, layout, row.location);
+                add_slot(slots, layout, row.location)?;
                 wanted = wanted.saturating_sub(row.on_hand);
             }
         }
+        Ok(())
     }
 
     /// The slots of a layout at which an order of these lines would pick: of each line's article the rows in the order
-    /// of the stock, as far as their units on hand are wanted.
-    pub fn likely_picks(&self, layout: &Layout, lines: &[Line]) -> Picks
-        ensures { result.layout ≡ layout.now }
+    /// of the stock, as far as their units on hand are wanted, and no more than 256 slots.
+    pub fn likely_slots(
+        &self,
+        alloc: Global,
+        layout: &Layout,
+        lines: &[Line],
+    ) -> Result<Vec<Point>, Memory>
+        ensures { IfOk result (λ slots. All (IsSlot layout.now) slots.items) }
     {
-        let mut picks = Picks::new(layout);
+        let mut slots = Vec::new(alloc);
         for line in lines {
-            self.add_line(&mut picks, layout, line);
+            self.add_line(&mut slots, layout, line)?;
         }
-        picks
+        Ok(slots)
     }
 }
 
-// Adds the slot of a location, where the layout has it.
-fn add_slot(picks: &mut Picks, layout: &Layout, location: Location)
-    requires { picks.old.layout ≡ layout.now }
-    ensures { picks.new.layout ≡ layout.now }
+// Adds the slot of a location, where the layout has it and there is room for one more.
+fn add_slot(slots: &mut Vec<Point>, layout: &Layout, location: Location) -> Result<(), Memory>
+    requires { All (IsSlot layout.now) slots.old.items }
+    ensures { OnOk result (All (IsSlot layout.now) slots.new.items) }
 {
     let Location { aisle, slot, .. } = location;
-    if 1 <= aisle && aisle <= layout.aisles() && 1 <= slot && slot <= layout.slots() {
-        picks.add(Point { aisle, slot });
+    let is_slot = 1 <= aisle && aisle <= layout.aisles() && 1 <= slot && slot <= layout.slots();
+    if is_slot && slots.len() < MOST_SLOTS {
+        slots.push(Point { aisle, slot })?;
     }
+    Ok(())
 }

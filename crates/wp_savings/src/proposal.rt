@@ -1,8 +1,7 @@
 //! Keys that say which orders go well together.
 ghost use Rattle.std.specs.Prelude.{◌≡◌, ◌<◌, IfOk, length};
 
-use crate::filling::Filling;
-pub use crate::filling::Sizes;
+use crate::filling::{Filling, Sizes};
 use crate::orders::SoughtOrders;
 use crate::plan::Plan;
 use std::alloc::Global;
@@ -54,12 +53,8 @@ fn planned(
     Ok(plan)
 }
 
-/// A key for each served order: orders of equal keys make a wave that is short to walk. Group by group the order that
-/// is served first begins a wave and its first batch; of the 40 of the least rank that share most aisles with the batch
-/// the one joins that saves most; the longest order begins the next batch, until the wave is full. Then orders of equal
-/// rank change places where that makes two tours shorter, and no wave begins with another order: 80 times an order and
-/// unit of effort this is tried. The same orders always get the same keys.
-pub fn propose(
+// A key for each served order, group by group.
+pub(crate) fn propose(
     alloc: Global,
     served: &[OpenOrder],
     orders: &SoughtOrders,

@@ -9,13 +9,13 @@ use Rattle.wp_journal.specs.declared.verdict.Audit.{Audit}
 use Rattle.wp_journal.specs.declared.verdict.AuditFault.{AuditFault}
 use Rattle.wp_model.specs.History.{History}
 use Rattle.wp_model.specs.Opening.{Opening}
-use Rattle.wp_outside.specs.Outside.{Grows, NoneFalls, SameBytes, SinkTold}
+use Rattle.wp_outside.specs.Outside.{FilesTold, Grows, NoneFalls, SameBytes, SinkTold}
 use Rattle.wp_top.specs.Ends.{AreNewIn, Asked, EndsAt, HasRisen, IsRefused, ReadsWithin, most_reads}
-use Rattle.wp_top.specs.Promise.{AreGoodFiles, AsksForStore, Course, IsBadFile, Keeps, StoreStands}
+use Rattle.wp_top.specs.Promise.{AreGoodFiles, AsksForStore, Course, HaveBadFile, IsBadFile, Keeps, StoreStands}
 use Rattle.wp_top.specs.Runs.{ComesTo, IsRight, IsWrong, UsesStore, command_count}
 use Rattle.wp_top.specs.Stops.{End, Finishes, HasEnded, IsEnding, IsOfInput, complains, gives, status_number, status_of, text_of}
 use Rattle.wp_top.specs.Stores.{AreSomeKept, DiskCourse, GoesOnFromStore, HasFailed, Held, IsRefusedStore}
-use Rattle.wp_top.specs.Texts.{HaveSaid, IsHeld, Said, files_of, opening_with}
+use Rattle.wp_top.specs.Texts.{File, HaveSaid, IsHeld, Said, files_of, opening_with}
 use Rattle.wp_top.specs.declared.complaint.Complaint.TheVariants as complaint
 use Rattle.wp_top.specs.declared.complaint.StoreFinding.{StoreFinding}
 use Rattle.wp_top.specs.declared.complaint.StoreFinding.TheVariants as store_finding
@@ -48,28 +48,27 @@ ends_for_words asked run (complains complaint.Store) w is bad = absurd (not_both
 job_is : (asked : Asked) (a b : JobNames) → asked ≡ Ok a → asked ≡ Ok b → a ≡ b
 job_is asked a b p q = let same : ◌≡◌ {A = Asked} (Ok a) (Ok b) = sym p ∙ q in cc same
 
+-- files that say something have none that is bad
+pub none_bad : (old new : FilesTold) (files : List File) (said : Said) → HaveSaid (IsHeld old.holds) files said → HaveBadFile old new files → ⊥
+none_bad old new files said accepted bad =
+    none_told old.holds files bad.before bad.file bad.later said bad.said bad.text bad.why accepted bad.place bad.accepted bad.told bad.refused
+
+none_bad_of : (asked : Asked) (run : Course) (job : JobNames) (said : Said) → asked ≡ Ok job → HaveSaid (IsHeld run.files.holds) (files_of job) said
+    → IsBadFile asked run → ⊥
+none_bad_of asked run job said is accepted (other, asked_for, bad) =
+    none_bad run.files run.files' (files_of job) said accepted
+    (subst (λ (j : JobNames). HaveBadFile run.files run.files' (files_of j)) (job_is asked other job asked_for is) bad)
+
 ends_for_bad_file : (asked : Asked) (run : Course) (e : End) → IsEnding asked run.disk run.files run.files' e → IsBadFile asked run
     → status_number (status_of e) ≡ 2
-ends_for_bad_file asked run (gives text) is bad =
-    absurd (none_told run.files.holds (files_of bad.job) bad.before bad.file bad.later is.said bad.said bad.text bad.why
-    (subst (λ (j : JobNames). HaveSaid (IsHeld run.files.holds) (files_of j) is.said) (job_is asked is.job bad.job is.asked_for bad.asked_for) is.accepted)
-    bad.place
-    bad.accepted bad.told bad.refused)
-ends_for_bad_file asked run (complains (complaint.Words why)) is bad = absurd (not_both asked bad.job why bad.asked_for is.0)
+ends_for_bad_file asked run (gives text) is bad = absurd (none_bad_of asked run is.job is.said is.asked_for is.accepted bad)
+ends_for_bad_file asked run (complains (complaint.Words why)) is bad = absurd (not_both asked bad.0 why bad.1 is.0)
 ends_for_bad_file asked run (complains (complaint.Refused f why)) is bad = refl
 ends_for_bad_file asked run (complains (complaint.Fault f)) is bad =
-    absurd (bad_before_rise asked run bad f (subst (λ (j : JobNames). EndsAt run.files run.files' (files_of j) f (HasRisen run.files run.files'))
-    (job_is asked is.0 bad.job is.1 bad.asked_for) is.2))
-ends_for_bad_file asked run (complains (complaint.Wrong found)) is bad =
-    absurd (none_told run.files.holds (files_of bad.job) bad.before bad.file bad.later is.said bad.said bad.text bad.why
-    (subst (λ (j : JobNames). HaveSaid (IsHeld run.files.holds) (files_of j) is.said) (job_is asked is.job bad.job is.asked_for bad.asked_for) is.accepted)
-    bad.place
-    bad.accepted bad.told bad.refused)
-ends_for_bad_file asked run (complains complaint.Store) is bad =
-    absurd (none_told run.files.holds (files_of bad.job) bad.before bad.file bad.later is.said bad.said bad.text bad.why
-    (subst (λ (j : JobNames). HaveSaid (IsHeld run.files.holds) (files_of j) is.said) (job_is asked is.job bad.job is.asked_for bad.asked_for) is.accepted)
-    bad.place
-    bad.accepted bad.told bad.refused)
+    absurd (bad_before_rise (files_of bad.0) run.files run.files' f bad.2
+    (subst (λ (j : JobNames). EndsAt run.files run.files' (files_of j) f (HasRisen run.files run.files')) (job_is asked is.0 bad.0 is.1 bad.1) is.2))
+ends_for_bad_file asked run (complains (complaint.Wrong found)) is bad = absurd (none_bad_of asked run is.job is.said is.asked_for is.accepted bad)
+ends_for_bad_file asked run (complains complaint.Store) is bad = absurd (none_bad_of asked run is.job is.said is.asked_for is.accepted bad)
 
 ok_no_err : (a : Audit) (fault : AuditFault) → ◌≡◌ {A = Result Audit AuditFault} (Ok a) (Err fault) → ⊥
 ok_no_err a fault e = cc e
@@ -147,7 +146,7 @@ ends_for_wrong asked run (complains (complaint.Refused f why)) job said found is
     absurd (none_refused run.files run.files' (files_of job) said f why good.accepted
     (subst (λ (j : JobNames). EndsAt run.files run.files' (files_of j) f (IsRefused run.files f why)) (job_is asked is.0 job is.1 good.asked_for) is.2))
 ends_for_wrong asked run (complains (complaint.Fault f)) job said found is good store wrong =
-    absurd (none_rose (files_of job) run f good.stand
+    absurd (none_rose (files_of job) run.files run.files' f good.stand
     (subst (λ (j : JobNames). EndsAt run.files run.files' (files_of j) f (HasRisen run.files run.files')) (job_is asked is.0 job is.1 good.asked_for) is.2))
 ends_for_wrong asked run (complains (complaint.Wrong other)) job said found is good store wrong = refl
 ends_for_wrong asked run (complains complaint.Store) job said found is good store wrong =
@@ -161,7 +160,7 @@ ends_for_good asked run (complains (complaint.Refused f why)) job said is good s
     absurd (none_refused run.files run.files' (files_of job) said f why good.accepted
     (subst (λ (j : JobNames). EndsAt run.files run.files' (files_of j) f (IsRefused run.files f why)) (job_is asked is.0 job is.1 good.asked_for) is.2))
 ends_for_good asked run (complains (complaint.Fault f)) job said is good store right =
-    absurd (none_rose (files_of job) run f good.stand
+    absurd (none_rose (files_of job) run.files run.files' f good.stand
     (subst (λ (j : JobNames). EndsAt run.files run.files' (files_of j) f (HasRisen run.files run.files')) (job_is asked is.0 job is.1 good.asked_for) is.2))
 ends_for_good asked run (complains (complaint.Wrong found)) job said is good store right =
     let same = said_is asked run job is.job said is.said good is.asked_for is.accepted in

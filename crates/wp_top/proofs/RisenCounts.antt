@@ -1,19 +1,19 @@
 -- Counts of faults that stand, and those that rose.
 use Rattle.std.proofs.Common.{◌≡◌, ◌∙◌, refl, sym, ap, ap₂, subst, ℕ, ◌<◌, ◌⊎◌, inl, inr, List, [], ◌∷◌, ◌++◌, append_assoc}
 use Rattle.std.proofs.Common.{arith}
-use Rattle.wp_top.specs.Ends.{Asked, EndsAt, HasRisen}
-use Rattle.wp_top.specs.Promise.{Course, FilesStand, IsBadFile}
-use Rattle.wp_top.specs.Texts.{File, file_of, files_of}
+use Rattle.wp_outside.specs.Outside.{FilesTold}
+use Rattle.wp_top.specs.Ends.{EndsAt, HasRisen}
+use Rattle.wp_top.specs.Promise.{FilesStand, HaveBadFile}
+use Rattle.wp_top.specs.Texts.{File, file_of}
 use Rattle.wp_top.specs.declared.input.Input.{Input}
 use Rattle.wp_top.proofs.ToldFiles.{all_first, all_here, first_file, none_told, other_files}
 
 -- no count rose of a name that stands
-pub none_rose : (files : List File) (run : Course) (kind : Input) → FilesStand run files
-    → EndsAt run.files run.files' files kind (HasRisen run.files run.files') → ⊥
-none_rose files run kind stand risen =
-    let at : run.files'.faults risen.name ≡ run.files.faults risen.name =
-    all_here (λ (f : File). run.files'.faults f.name ≡ run.files.faults f.name) risen.before (file_of kind risen.name) risen.later
-    (subst (FilesStand run) risen.place stand) in
+pub none_rose : (files : List File) (old new : FilesTold) (kind : Input) → FilesStand old new files → EndsAt old new files kind (HasRisen old new) → ⊥
+none_rose files old new kind stand risen =
+    let at : new.faults risen.name ≡ old.faults risen.name =
+    all_here (λ (f : File). new.faults f.name ≡ old.faults f.name) risen.before (file_of kind risen.name) risen.later
+    (subst (FilesStand old new) risen.place stand) in
     omega (arith, risen.why, at)
 
 -- two places in one list: the same, or one before the other
@@ -39,25 +39,24 @@ up_to_file : (before : List File) (file : File) (later : List File) → before +
 up_to_file before file later = sym (append_assoc before (file ∷ []) later)
 
 -- where a file is told and refused, no count rose of a file behind it
-pub bad_before_rise : (asked : Asked) (run : Course) (bad : IsBadFile asked run) (kind : Input)
-    → EndsAt run.files run.files' (files_of bad.job) kind (HasRisen run.files run.files') → ⊥
-bad_before_rise asked run bad kind risen =
+pub bad_before_rise : (files : List File) (old new : FilesTold) (kind : Input) → HaveBadFile old new files → EndsAt old new files kind (HasRisen old new) → ⊥
+bad_before_rise files old new kind bad risen =
     elim (places risen.before (file_of kind risen.name) risen.later bad.before bad.file bad.later (sym risen.place ∙ bad.place)) as (λ _. ⊥) [
       | inl same ↦
-          (let at : run.files'.faults bad.file.name ≡ run.files.faults bad.file.name = all_here
-          (λ (f : File). run.files'.faults f.name ≡ run.files.faults f.name) bad.before bad.file [] bad.stand in
+          (let at : new.faults bad.file.name ≡ old.faults bad.file.name = all_here
+          (λ (f : File). new.faults f.name ≡ old.faults f.name) bad.before bad.file [] bad.stand in
           let name = ap (λ (f : File). f.name) same.1 in
-          omega (arith, subst (λ (n : List ℕ). run.files.faults n < run.files'.faults n) name risen.why, at))
+          omega (arith, subst (λ (n : List ℕ). old.faults n < new.faults n) name risen.why, at))
       | inr other ↦ elim other as (λ _. ⊥) [
         | inl earlier ↦
-            (let stand : FilesStand run ((risen.before ++ file_of kind risen.name ∷ earlier.0) ++ bad.file ∷ []) = subst
-            (λ (fs : List File). FilesStand run (fs ++ bad.file ∷ [])) earlier.1 bad.stand in
-            let at : run.files'.faults risen.name ≡ run.files.faults risen.name =
-            all_here (λ (f : File). run.files'.faults f.name ≡ run.files.faults f.name) risen.before (file_of kind risen.name) earlier.0
-            (all_first (λ (f : File). run.files'.faults f.name ≡ run.files.faults f.name) (risen.before ++ file_of kind risen.name ∷ earlier.0)
+            (let stand : FilesStand old new ((risen.before ++ file_of kind risen.name ∷ earlier.0) ++ bad.file ∷ []) = subst
+            (λ (fs : List File). FilesStand old new (fs ++ bad.file ∷ [])) earlier.1 bad.stand in
+            let at : new.faults risen.name ≡ old.faults risen.name =
+            all_here (λ (f : File). new.faults f.name ≡ old.faults f.name) risen.before (file_of kind risen.name) earlier.0
+            (all_first (λ (f : File). new.faults f.name ≡ old.faults f.name) (risen.before ++ file_of kind risen.name ∷ earlier.0)
             (bad.file ∷ []) stand) in
             omega (arith, risen.why, at))
-        | inr later ↦ none_told run.files.holds risen.before bad.before bad.file later.0 risen.said bad.said bad.text bad.why risen.accepted later.1
+        | inr later ↦ none_told old.holds risen.before bad.before bad.file later.0 risen.said bad.said bad.text bad.why risen.accepted later.1
             bad.accepted
             bad.told bad.refused
       ]

@@ -46,9 +46,9 @@ IsDue asked run text = IsOutput asked run.disk run.files run.files' text
 abbrev pub SinkStands : Course → Type 0
 SinkStands run = run.sink'.faults ≡ run.sink.faults
 
--- so do those of the names of files
-abbrev pub FilesStand : Course → List File → Type 0
-FilesStand run files = All (λ file. run.files'.faults file.name ≡ run.files.faults file.name) files
+-- so do those of the names of files, between these two states of files
+abbrev pub FilesStand : FilesTold → FilesTold → List File → Type 0
+FilesStand old new files = All (λ file. new.faults file.name ≡ old.faults file.name) files
 
 -- what is asked for goes on from the store
 abbrev pub AsksForStore : Asked → Type 0
@@ -63,28 +63,30 @@ StoreStands run job = UsesStore job → ((told : List ℕ) × IsToldOn run.disk 
 abbrev pub EndsWith : ℕ → ℕ → Type 0
 EndsWith due status = (status ≡ due) ⊎ (status ≡ 5)
 
--- what one of the job's files holds is told and refused, those before it are told and aren't refused, and no count of a
+-- what one of these files holds is told and refused, those before it are told and aren't refused, and no count of a
 -- name up to it rose
-pub record IsBadFile (asked : Asked) (run : Course) : Type 0 where
-  pub job : JobNames
-  pub asked_for : asked ≡ Ok job
+pub record HaveBadFile (old new : FilesTold) (files : List File) : Type 0 where
   pub before : List File
   pub file : File
   pub later : List File
-  pub place : files_of job ≡ before ++ file ∷ later
+  pub place : files ≡ before ++ file ∷ later
   pub said : Said
-  pub accepted : HaveSaid (IsTold run.files.holds) before said
+  pub accepted : HaveSaid (IsTold old.holds) before said
   pub text : List ℕ
-  pub told : IsTold run.files.holds file.name text
+  pub told : IsTold old.holds file.name text
   pub why : Refusal
   pub refused : said_with said file.kind text ≡ Err why
-  pub stand : FilesStand run (before ++ file ∷ [])
+  pub stand : FilesStand old new (before ++ file ∷ [])
+
+-- one of the job's files is so
+abbrev pub IsBadFile : Asked → Course → Type 0
+IsBadFile asked run = (job : JobNames) × (asked ≡ Ok job) × HaveBadFile run.files run.files' (files_of job)
 
 -- what the job's files hold is told, none is refused, together they say this, and no count of their names rose
 pub record AreGoodFiles (asked : Asked) (run : Course) (job : JobNames) (said : Said) : Type 0 where
   pub asked_for : asked ≡ Ok job
   pub accepted : HaveSaid (IsTold run.files.holds) (files_of job) said
-  pub stand : FilesStand run (files_of job)
+  pub stand : FilesStand run.files run.files' (files_of job)
 
 -- what a run promises that was asked for this, went so, was given this disk and left it so, and ended with this status
 pub record Keeps {D : Type 0} (asked : Asked) (run : Course) (disk disk' : D) (status : ℕ) : Type 0 where

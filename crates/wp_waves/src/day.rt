@@ -47,6 +47,13 @@ impl<'a> OpenDay<'a> {
         }
     }
 
+    /// The stock.
+    pub fn stock(&self) -> &Stock
+        ensures { result.now ≡ self.now.stock }
+    {
+        self.stock
+    }
+
     /// How many articles the stock has.
     pub fn articles(&self) -> u32
         ensures articles { result ≡ length self.now.stock.articles }

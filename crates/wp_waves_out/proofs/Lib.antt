@@ -1,2 +1,3 @@
 mod StartsSoFar
 mod Going
+mod Filled

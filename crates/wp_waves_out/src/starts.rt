@@ -1,5 +1,7 @@
 //! What the planner's start costs for waves that went out.
 ghost use Rattle.std.specs.Prelude.{◌≡◌, IfOk, length};
+ghost use Rattle.std.specs.List.{All};
+ghost use Rattle.wp_planner.specs.Released.{IsReleased};
 ghost use Rattle.wp_waves_out.specs.Starts.{AreStarts, IsStart};
 
 use std::alloc::Global;
@@ -15,22 +17,23 @@ fn start_of<R: Threads + Sync, G: Gate>(
     alloc: Global,
     wave: &WaveHolds,
 ) -> Result<u64, Memory>
+    requires { IsReleased planning.now.opening.now wave.now }
     ensures { IfOk result (IsStart planning.now.layout.now planning.now.opening.now
         planning.now.terms.now.capacity wave.now) }
 {
     match plan_for(planning, alloc, wave)? {
         Some(plan) => Ok(plan.planned.cost),
-        None => Err(Memory),
+        None => unreachable!(),
     }
 }
 
-/// What plans of waves cost that went out, one by one. An `Err` comes from a want of memory, or where a wave isn't one
-/// that can have gone out.
+/// What plans of waves cost that went out, one by one. An `Err` comes from a want of memory alone.
 pub(crate) fn starts_of<R: Threads + Sync, G: Gate>(
     planning: &Planning<'_, R, G>,
     alloc: Global,
     sent: &[WaveHolds],
 ) -> Result<Vec<u64>, Memory>
+    requires { All (IsReleased planning.now.opening.now) sent.now }
     ensures starts { IfOk result (λ starts. AreStarts planning.now.layout.now
         planning.now.opening.now planning.now.terms.now.capacity sent.now starts.items) }
     ensures count { IfOk result (λ starts. length starts.items ≡ length sent.now) }

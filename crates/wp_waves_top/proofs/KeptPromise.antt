@@ -5,7 +5,8 @@ use Rattle.wp_outside.specs.Outside.{Grows, NoneFalls, SameBytes, SinkTold}
 use Rattle.wp_top.specs.Ends.{ReadsWithin}
 use Rattle.wp_top.specs.Stops.{status_number}
 use Rattle.wp_top.specs.declared.status.Status.{Status}
-use Rattle.wp_waves_top.proofs.Statuses.{due, few_statuses, part_taken, sink_rose, sink_sound, sink_stands, when_done, when_fault, when_refused, when_words}
+use Rattle.wp_waves_top.proofs.DueEndings.{ends_for_bad_input, ends_for_false, ends_for_good, ends_for_words}
+use Rattle.wp_waves_top.proofs.Statuses.{due, few_statuses, part_taken, sink_rose, sink_sound, sink_stands, stands, when_done, when_fault, when_refused, when_words}
 use Rattle.wp_waves_top.proofs.Statuses.{when_wrong, whole}
 use Rattle.wp_waves_top.specs.Ends.{Asked, End, Finishes, HasEnded, IsEnding, most_reads, text_of}
 use Rattle.wp_waves_top.specs.Promise.{Course, Keeps}
@@ -40,6 +41,10 @@ keeps asked run ended e frame cause finishes = record {
       let w = whole asked run ended 6 e finishes status (inr refl) in
       when_wrong asked run e cause w.is w.took;
   most = few_statuses asked run ended e cause finishes;
+  bad_words = λ why bad same. stands run ended 1 e finishes same (ends_for_words asked run e why cause bad);
+  bad_file = λ names asks bad same. stands run ended 2 e finishes same (ends_for_bad_input asked run e names cause asks bad);
+  bad_content = λ names asks bad same. stands run ended 6 e finishes same (ends_for_false asked run e names cause asks bad);
+  complete = λ names asks good same. stands run ended 0 e finishes same (ends_for_good asked run e names cause asks good);
   same = frame.same;
   counts = frame.counts;
   reads = frame.reads;
@@ -64,6 +69,10 @@ keeps_nothing asked run frame same = record {
   partial = λ status. inl (nothing_more run.sink.taken run.sink'.taken (ap (λ (sink : SinkTold). sink.taken) same));
   wrong = λ status. absurd (omega (arith, status));
   most = omega arith;
+  bad_words = λ why bad same. inr refl;
+  bad_file = λ names asks bad same. inr refl;
+  bad_content = λ names asks bad same. inr refl;
+  complete = λ names asks good same. inr refl;
   same = frame.same;
   counts = frame.counts;
   reads = frame.reads;

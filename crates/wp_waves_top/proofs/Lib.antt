@@ -2,3 +2,4 @@ mod Statuses
 mod KeptPromise
 mod Endings
 mod Outputs
+mod DueEndings

@@ -77,7 +77,7 @@ before_back old mid opening (Some name) history same is =
 
 -- the tables were read, between these two states of files, and say a layout and an opening
 pub record HaveTables (names : WavesNames) (layout : Layout) (opening : Opening) (old mid : FilesTold) : Type 0 where
-  pub tables : AreTables old.holds names layout opening
+  pub tables : AreTables (IsHeld old.holds) names layout opening
   pub same : SameBytes old.holds mid.holds
   pub counts : NoneFalls old.faults mid.faults
   pub reads : mid.reads ≡ old.reads + 3

@@ -3,6 +3,7 @@ use Rattle.std.proofs.Common.{◌≡◌, ◌∙◌, refl, sym, ap, subst, ℕ, �
 use Rattle.std.proofs.Common.{arith}
 use Rattle.wp_journal.specs.declared.verdict.AuditFault.{AuditFault}
 use Rattle.wp_outside.specs.Outside.{TookPart, TookPrefix}
+use Rattle.wp_top.specs.Promise.{EndsWith}
 use Rattle.wp_top.specs.Stops.{status_number}
 use Rattle.wp_top.specs.declared.complaint.Complaint.TheVariants as shared
 use Rattle.wp_top.specs.declared.complaint.Finding.{Finding}
@@ -127,6 +128,13 @@ sink_rose asked run ended e cause (inl (is, grows, stands, sound)) same
     = absurd (neither (status_number (status_of e)) (own asked run e cause) (inl (ap status_number (sym is) ∙ same)))
 sink_rose asked run ended e cause (inr (inl (is, rose, took))) same = (rose, took)
 sink_rose asked run ended e cause (inr (inr (is, stands, took))) same = absurd (omega (arith, ap status_number is, same))
+
+-- where the sink's count stands the run ends with the status of its ending, or memory ran out
+pub stands : (run : Course) (ended : Status) (n : ℕ) (e : End) → Finishes e run.sink run.sink' ended → SinkStands run → status_number (status_of e) ≡ n
+    → EndsWith n (status_number ended)
+stands run ended n e (inl (is, grows, stood, sound)) same own = inl (ap status_number is ∙ own)
+stands run ended n e (inr (inl (is, rose, took))) same own = absurd (omega (arith, rose, same))
+stands run ended n e (inr (inr (is, stood, took))) same own = inr (ap status_number is)
 
 -- and else it didn't
 pub sink_stands : (run : Course) (ended : Status) (e : End) → Finishes e run.sink run.sink' ended → (status_number ended ≡ 4 → ⊥) → SinkStands run

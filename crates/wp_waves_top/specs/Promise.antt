@@ -1,17 +1,20 @@
 -- What a run of `waves` promises.
-use Rattle.std.specs.Prelude.{◌≡◌, ◌⊎◌, ℕ, ◌+◌, ◌≤◌, false, List, []}
+use Rattle.std.specs.Prelude.{◌≡◌, ◌⊎◌, ℕ, ◌+◌, ◌≤◌, false, List, [], Ok, Err}
 use Rattle.wp_journal.specs.declared.verdict.AuditFault.{AuditFault}
 use Rattle.wp_outside.specs.Outside.{FilesTold, Grows, NoneFalls, SameBytes, SinkTold, TookPart, TookPrefix}
 use Rattle.wp_top.specs.Ends.{ReadsWithin}
+use Rattle.wp_top.specs.Promise.{EndsWith}
 use Rattle.wp_top.specs.declared.complaint.Complaint.TheVariants as shared
 use Rattle.wp_top.specs.declared.complaint.Finding.TheVariants as finding
 use Rattle.wp_top.specs.declared.input.Input.{Input}
 use Rattle.wp_top.specs.declared.input.Refusal.{Refusal}
 use Rattle.wp_waves_top.specs.Ends.{Asked, IsCause, IsOutput, most_reads}
+use Rattle.wp_waves_top.specs.Inputs.{AreGoodInputs, IsBadInput, IsFalseJournal}
 use Rattle.wp_waves_top.specs.Texts.{waves_complaint_line}
 use Rattle.wp_waves_top.specs.declared.complaint.OpenRefusal.{OpenRefusal}
 use Rattle.wp_waves_top.specs.declared.complaint.WavesComplaint.{WavesComplaint}
 use Rattle.wp_waves_top.specs.declared.complaint.WavesComplaint.TheVariants as complaint
+use Rattle.wp_waves_words.specs.Words.{WavesNames}
 use Rattle.wp_words.specs.declared.fault.WordsFault.{WordsFault}
 
 -- what files and a sink tell before a run, and after it
@@ -67,6 +70,17 @@ pub record Keeps (asked : Asked) (run : Course) (status : ℕ) : Type 0 where
       × Complains asked run (complaint.Shared (shared.Wrong (finding.Journal fault)))
   -- there is no other status
   pub most : status ≤ 6
+  -- words that ask for no waves end with 1
+  pub bad_words : (why : WordsFault) → asked ≡ Err why → SinkStands run → EndsWith 1 status
+  -- a refused file ends with 2
+  pub bad_file : (names : WavesNames) → asked ≡ Ok names → IsBadInput run.files run.files' names → SinkStands run
+      → EndsWith 2 status
+  -- a journal that isn't right ends with 6
+  pub bad_content : (names : WavesNames) → asked ≡ Ok names → IsFalseJournal run.files run.files' names
+      → SinkStands run → EndsWith 6 status
+  -- and else the run ends with 0
+  pub complete : (names : WavesNames) → asked ≡ Ok names → AreGoodInputs run.files run.files' names
+      → SinkStands run → EndsWith 0 status
   -- each name holds what it held, no count falls, and there are no more reads than the words name files
   pub same : SameBytes run.files.holds run.files'.holds
   pub counts : NoneFalls run.files.faults run.files'.faults

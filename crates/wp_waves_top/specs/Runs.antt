@@ -23,7 +23,7 @@ use Rattle.wp_waves_words.specs.Words.{WavesNames}
 
 -- what words ask of waves
 abbrev pub wave_terms : WavesNames → WaveTerms
-wave_terms names = record { wave = names.wave; most = names.most; desk = names.desk }
+wave_terms names = record { wave = names.wave; most = names.most; desk = names.desk; effort = names.effort }
 
 -- one read where a file is named
 abbrev pub reads_if : Option (List ℕ) → ℕ
@@ -42,7 +42,7 @@ all_reads names = reads_with_open names + reads_if names.journal
 pub record IsWavesOutput (names : WavesNames) (old new : FilesTold) (output : List ℕ) : Type 0 where
   pub layout : Layout
   pub opening : Opening
-  pub tables : AreTables old.holds names layout opening
+  pub tables : AreTables (IsHeld old.holds) names layout opening
   pub listed : Option (List OpenOrder)
   pub open_file : IsOpenFile old.holds opening.orders names.open_file listed
   pub history : History
@@ -54,7 +54,7 @@ pub record IsWavesOutput (names : WavesNames) (old new : FilesTold) (output : Li
 pub record IsAtOpen (names : WavesNames) (old new : FilesTold) (Why : Opening → List ℕ → Type 0) : Type 0 where
   pub layout : Layout
   pub opening : Opening
-  pub tables : AreTables old.holds names layout opening
+  pub tables : AreTables (IsHeld old.holds) names layout opening
   pub name : List ℕ
   pub named : names.open_file ≡ Some name
   pub reads : new.reads ≡ old.reads + 4
@@ -75,7 +75,7 @@ IsOpenRisen names old new = IsAtOpen names old new (λ opening name. old.faults 
 pub record IsAtJournal (names : WavesNames) (old new : FilesTold) (Why : Opening → List ℕ → Type 0) : Type 0 where
   pub layout : Layout
   pub opening : Opening
-  pub tables : AreTables old.holds names layout opening
+  pub tables : AreTables (IsHeld old.holds) names layout opening
   pub listed : Option (List OpenOrder)
   pub open_file : IsOpenFile old.holds opening.orders names.open_file listed
   pub name : List ℕ

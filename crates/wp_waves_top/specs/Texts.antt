@@ -24,10 +24,11 @@ use Rattle.wp_waves_words.specs.Words.{WavesNames}
 abbrev pub Holds : Type 0
 Holds = List ℕ → Option (List ℕ)
 
--- the layout, the stock file and the order file say this layout and this opening, for carts of the units that the words
--- say
-pub record AreTables (holds : Holds) (names : WavesNames) (layout : Layout) (opening : Opening) : Type 0 where
-  pub said : HaveSaid (IsHeld holds) (opening_files names.layout names.stock names.orders) (tables_said layout opening)
+-- the layout, the stock file and the order file, whose texts are so, say this layout and this opening, for carts of the
+-- units that the words say
+pub record AreTables (IsText : List ℕ → List ℕ → Type 0) (names : WavesNames) (layout : Layout)
+    (opening : Opening) : Type 0 where
+  pub said : HaveSaid IsText (opening_files names.layout names.stock names.orders) (tables_said layout opening)
   pub units : opening.units ≡ names.units
 
 -- a text that isn't too long for an open file

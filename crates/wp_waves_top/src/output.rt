@@ -74,6 +74,7 @@ fn sent_text<R: Threads + Wait + Sync, G: Gate>(
         wave: words.wave,
         most: words.most,
         desk: words.desk,
+        effort: words.effort,
     };
     outgoing_text(&planning, resources.alloc, machine, listed, &asked)
 }

@@ -5,11 +5,15 @@ use Rattle.std.specs.declared.alloc.Global.{Global}
 use Rattle.wp_floor.proofs.Floors.{is_opening}
 use Rattle.wp_model.specs.History.{state_after}
 use Rattle.wp_model.specs.Limits.{most_entries, most_wave_orders}
+use Rattle.wp_model.specs.Opening.{Opening}
+use Rattle.wp_outgoing.proofs.ShortGroups.{each_served}
 use Rattle.wp_outgoing.specs.Names.{HasShortGroup}
 use Rattle.wp_outgoing.specs.Room.{waves_with_room}
 use Rattle.wp_waves.proofs.KeptWaves.{kept_length}
 use Rattle.wp_waves.specs.Filling.{waves_kept}
+use Rattle.wp_waves.specs.OpenOrders.{IsOpenOrder}
 use Rattle.wp_waves.specs.declared.open_orders.OpenOrder.{OpenOrder}
+use Rattle.wp_waves_out.proofs.Filled.{sends_released}
 use Rattle.wp_waves_out.proofs.Going.{AreGoing, count_first, count_out, desk_may_be, few_first, first_kept, go_out_first, right_first, within_most}
 use Rattle.wp_waves_out.proofs.Going.{within_room}
 use Rattle.wp_waves_out.specs.NamedWaves.{AreSentNamed, MayBeSent}
@@ -30,6 +34,13 @@ going_is slice waves going count asked most had entries same counted as_asked re
           ∙ ap (λ (n : ℕ). waves_with_room (length (waves_kept waves)) most n) read));
       few = few;
     }
+
+pub sought_waves-requires-clause-known : goal.sought_waves-requires-clause-known
+sought_waves-requires-clause-known g c κs within =
+    let h = c.args.machine.now in
+    let orders = c.args.planning.now.opening.now.orders in
+    each_served (IsOpenOrder orders) h.opening (state_after h) c.requires.turns.0 c.args.turns.now c.requires.turns.2
+    (subst (λ (o : Opening). All (IsOpenOrder o.orders) c.requires.turns.0) c.requires.same c.requires.turns.1.each)
 
 pub send_named-requires-clause-short : goal.send_named-requires-clause-short
 send_named-requires-clause-short g c κs within =
@@ -58,6 +69,9 @@ send_named-requires-clause-done g c κs within =
     (λ names named. c.waves_of_served_orders_go_out.ensures h.opening (state_after h) c.requires.turns.0 c.args.turns.now c.args.terms.now.wave
     (take going all) (drop going all) names (is_opening h.opening c.count.ensures.read) c.requires.turns.1 c.requires.turns.2 c.requires.terms.wave
     (right_first _ _ all going c.in_ok-waves.ensures) named)
+
+pub send_named-requires-clause-released : goal.send_named-requires-clause-released
+send_named-requires-clause-released g c κs within = sends_released c.args.machine.now c.count.ensures.read c.count.ensures.sound
 
 pub send_named-requires-clause-room : goal.send_named-requires-clause-room
 send_named-requires-clause-room g c κs within =

@@ -1,6 +1,7 @@
-use Rattle.std.proofs.Common.{◌≡◌}
+use Rattle.std.proofs.Common.{All}
+use Rattle.wp_model.specs.Warehouse.{IsSlot}
 use Rattle.wp_savings.proofs.picks.ArticleRows.add_line.Given as goal
 
--- the slots are of the layout
+-- all slots so far are of the layout
 abbrev pub invariant-loop-row : goal.invariant-loop-row
-invariant-loop-row l = l.picks.layout ≡ l.layout
+invariant-loop-row l = All (IsSlot l.layout) l.slots.items
