@@ -29,12 +29,7 @@ impl NodeOwn {
     pub fn into_own(self, alloc: Global) -> Own
         ensures { result ≡ as_own self }
     {
-        Own::plain(
-            alloc,
-            self.duals.into_listing(),
-            self.marks,
-            self.tight,
-        )
+        Own::plain(alloc, self.duals.into_listing(), self.marks, self.tight)
     }
 }
 

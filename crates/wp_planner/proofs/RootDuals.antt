@@ -20,14 +20,16 @@ pub root_feasible : (wave : WavePicks) (pairing : Pairing) (above : ℕ) (nodes 
     → AreFeasible wave pairing duals × (length duals ≡ pairing.orders)
 root_feasible wave pairing above _ rest _ duals (kept rounded) e = absurd (cc e)
 root_feasible wave pairing above _ rest _ duals (leaf {own = own} right rounded) e =
-    let same : own.duals ≡ duals = cc e in
-    (subst (AreFeasible wave pairing) same (λ batch total permitted long. omega (arith, right.feasible batch total permitted long)),
-    subst (λ (ds : List ℕ). length ds ≡ pairing.orders) same right.all.duals)
+    let same : own.duals ≡ duals = cc e in (
+      subst (AreFeasible wave pairing) same (λ batch total permitted long. omega (arith, right.feasible batch total permitted long)),
+      subst (λ (ds : List ℕ). length ds ≡ pairing.orders) same right.all.duals,
+    )
 root_feasible wave pairing above _ rest _ duals (dead is) e = absurd (cc e)
 root_feasible wave pairing above _ rest _ duals (split {own = own} right undecided left other) e =
-    let same : own.duals ≡ duals = cc e in
-    (subst (AreFeasible wave pairing) same (λ batch total permitted long. omega (arith, right.feasible batch total permitted long)),
-    subst (λ (ds : List ℕ). length ds ≡ pairing.orders) same right.all.duals)
+    let same : own.duals ≡ duals = cc e in (
+      subst (AreFeasible wave pairing) same (λ batch total permitted long. omega (arith, right.feasible batch total permitted long)),
+      subst (λ (ds : List ℕ). length ds ≡ pairing.orders) same right.all.duals,
+    )
 
 -- a tree that isn't said to have cuts has none
 pub no_cuts : (cuts : Option (List CutParts)) {said : Bool} → said ≡ is_some cuts → said ≡ false → cuts ≡ None
