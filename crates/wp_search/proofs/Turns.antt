@@ -1,14 +1,16 @@
 -- Turns at leaves and at nodes that are split.
 use Rattle.std.proofs.Common.{◌≡◌, ℕ, ◌+◌, ◌≤◌, ◌⊎◌, Bool, true, false, List, [], ◌∷◌, ◌++◌, length, arith, refl, ap, sym, ◌∙◌, subst, ⊎_elim}
 use Rattle.std.proofs.Math.Nat.{le-min, min-eq_left, min-le_left, min-le_right}
-use Rattle.std.proofs.lemmas.List.Elements.{Contains-append_left}
+use Rattle.std.proofs.lemmas.List.Elements.{All-nil, Contains-append_left}
 use Rattle.std.specs.Prelude.{IfOk, Option, Some, None, Result, Ok, Err, min, sum}
 use Rattle.wp_model.specs.declared.memory.Memory.{Memory}
 use Rattle.wp_pairs.specs.declared.pair.OrderPair.{OrderPair}
 use Rattle.wp_pairs.specs.Permitted.{AreUndecided, IsPermitted, Pairing}
 use Rattle.wp_lengths.specs.Waves.{WavePicks}
-use Rattle.wp_cert.specs.Trees.{lower_of, with_pair}
-use Rattle.wp_lengths.specs.Duals.{AreFeasible, units_of}
+use Rattle.wp_cert.specs.Trees.{IsRightOwn, lower_of, with_pair}
+use Rattle.wp_cuts.proofs.PlainPrices.{plain_prices_say}
+use Rattle.wp_cuts.specs.Prices.{ArePlain}
+use Rattle.wp_lengths.specs.Duals.{AreFeasible, AreTight, units_of}
 use Rattle.wp_search.specs.Branches.{IsBranch, IsFreshSplit, IsWorked, bound_of, own_bound, turns_left}
 use Rattle.wp_search.specs.Turns.{HasReason, IsNoLower, IsTurned}
 use Rattle.wp_search.specs.declared.branch.Branch.{Branch}
@@ -17,11 +19,25 @@ use Rattle.wp_search.specs.declared.branch.Cut.{Cut}
 use Rattle.wp_search.specs.declared.turn.LeafTurn.{LeafTurn}
 use Rattle.wp_search.specs.declared.turn.LeafTurn.TheVariants.{Onward, Settled, Spent, Worked as Made}
 use Rattle.wp_search.specs.declared.turn.TurnedBranch.{TurnedBranch}
+use Rattle.wp_node.specs.declared.own.NodeOwn.{NodeOwn}
 use Rattle.wp_node.specs.declared.work.Worked.{Worked}
 use Rattle.wp_node.specs.Owns.{as_own}
 use Rattle.wp_node.specs.Raises.{AreFeasibleDuals}
-use Rattle.wp_cert.specs.Terms.{plain_terms}
-use Rattle.wp_node.proofs.Owns.{right_below}
+use Rattle.wp_cert.specs.Terms.{plain_terms, prices_of}
+use Rattle.wp_node.proofs.Owns.{plain_net, right_below}
+
+-- what a node has of its own are plain prices
+plain_own : (own : NodeOwn) → ArePlain (prices_of (as_own own))
+plain_own own = record { count = refl; cuts = All-nil (λ (price : ℕ). price ≡ 0) }
+
+-- so its duals are feasible and tight
+pub own_feasible : (wave : WavePicks) (pairing : Pairing) (above : ℕ) (own : NodeOwn) → IsRightOwn (plain_terms wave) pairing above (as_own own)
+    → AreFeasible wave pairing own.duals
+own_feasible wave pairing above own right = (plain_prices_say wave pairing [] (prices_of (as_own own)) (plain_own own)).feasible.0 right.feasible
+
+pub own_tight : (wave : WavePicks) (pairing : Pairing) (above : ℕ) (own : NodeOwn) → IsRightOwn (plain_terms wave) pairing above (as_own own)
+    → AreTight wave pairing own.duals
+own_tight wave pairing above own right = (plain_prices_say wave pairing [] (prices_of (as_own own)) (plain_own own)).tight.0 right.tight
 
 -- what is permitted with a further pair is permitted without it
 pub permitted_before : (pairing : Pairing) (new : OrderPair) (batch : List ℕ)
@@ -63,7 +79,8 @@ pub worked_at : (wave : WavePicks) (pairing : Pairing) (above : ℕ) (worked : W
 worked_at wave pairing above worked less is = record {
   right = record {
     all = is.right.all;
-    raised = less;
+    allowed = is.right.allowed;
+    raised = omega (arith, less, plain_net wave worked.own);
     feasible = is.right.feasible;
     tight = is.right.tight;
     marked = is.right.marked;

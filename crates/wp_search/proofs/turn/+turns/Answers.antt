@@ -3,7 +3,7 @@ use Rattle.std.proofs.lemmas.Bool.{false≢true}
 use Rattle.wp_cert.specs.Paths.{pairing_of}
 use Rattle.wp_search.specs.Branches.{IsBranch}
 use Rattle.wp_search.specs.declared.branch.Branch.{Branch}
-use Rattle.wp_search.proofs.Turns.{feasible_duals_below, turned_apart, turned_together}
+use Rattle.wp_search.proofs.Turns.{feasible_duals_below, own_feasible, turned_apart, turned_together}
 use Rattle.wp_search.proofs.turn.+turns.Goals as goal
 
 pub take_turn-returns-then-is_together-clause-turned : goal.take_turn-returns-then-is_together-clause-turned
@@ -36,4 +36,4 @@ take_turn_below-take_turn-requires-clause-above g t c κs within =
     let wave = turner.wave.now in
     let pairing = pairing_of wave turner.capacity.most c.args.path.now.items in
     rw c.in_ok-push.ensures.items (feasible_duals_below wave pairing c.args.pair c.args.worked.now.own.duals
-    (c.requires.worked.right.all.duals ∙ refl) c.requires.worked.right.feasible)
+    (c.requires.worked.right.all.duals ∙ refl) (own_feasible wave pairing _ c.args.worked.now.own c.requires.worked.right))

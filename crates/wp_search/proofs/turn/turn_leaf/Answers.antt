@@ -2,6 +2,7 @@ use Rattle.std.proofs.Common.{◌≡◌, sum, sym, subst, arith}
 use Rattle.std.specs.Prelude.{Option}
 use Rattle.wp_pairs.specs.Permitted.{Pairing}
 use Rattle.wp_cert.specs.Paths.{pairing_of}
+use Rattle.wp_node.proofs.Owns.{plain_net}
 use Rattle.wp_node.specs.Raises.{AreFeasibleDuals}
 use Rattle.wp_search.specs.Branches.{IsBranch, IsWorked}
 use Rattle.wp_search.specs.declared.branch.Branch.TheVariants.{Leaf}
@@ -38,4 +39,4 @@ returns-in-Some g c =
     subst (λ (l : Option Worked). IsBranch wave pairing
     (sum c.args.above.now) (Leaf l)) c.in-Some.is c.requires.leaf in
     worked_turned wave c.pairs_of-pairs.result _ (sum c.args.above.now) turner.pays c.args.leaf c.in-Some.worked c.turn_worked.result same
-    c.in-Some.is is.right.raised c.turn_worked.ensures
+    c.in-Some.is (omega (arith, is.right.raised, plain_net wave c.in-Some.worked.own)) c.turn_worked.ensures

@@ -1,8 +1,11 @@
 use Rattle.std.proofs.Common.{ℕ, subst}
 use Rattle.std.specs.Prelude.{IfSome, Option}
 use Rattle.wp_pairs.specs.Permitted.{AreUndecided}
-use Rattle.wp_search.proofs.Turns.{split_turned, worked_at}
+use Rattle.wp_search.proofs.Turns.{own_tight, split_turned, worked_at}
 use Rattle.wp_search.proofs.turn.turn_worked.Goals as goal
+
+pub class_batching-requires-clause-tight : goal.class_batching-requires-clause-tight
+class_batching-requires-clause-tight g c = own_tight c.args.paired.now.wave.now c.args.paired.now.pairs.now 0 c.args.worked.own c.requires.worked.right
 
 pub returns-in_ok-split_on-in-Some : goal.returns-in_ok-split_on-in-Some
 returns-in_ok-split_on-in-Some g c = λ above less.
