@@ -23,7 +23,8 @@ ROW_WHY = (
     b"|desk-number|too-many-rows|too-many-places|too-many-orders|too-many-lines|too-many-waves"
 )
 NODE_WHY = (
-    rb"cut|split-kept|not-dead \d+|duals-length|sum-low|not-feasible( \d+)*|bad-marks|not-tight \d+|bad-pair"
+    rb"bad-cuts|cut|split-kept|not-dead \d+|duals-length|decided-prices|sum-low|not-feasible( \d+)*|bad-marks"
+    rb"|not-tight \d+|bad-pair"
 )
 KEY = b"(version|aisles|slots|pitch|clearance|spacings?|depot|end)"
 FILE = b"(layout|stock|orders|desks|certificate|journal)"

@@ -245,8 +245,28 @@ const CHECKED: &[(&str, &str)] = &[
         "node 0 decided-prices",
     ),
     (
-        "{\"capacity\":2,\"cuts\":[],\"nodes\":[{\"count\":0,\"duals\":[2040],\"kind\":\"leaf\",\"marks\":\"1\",\"prices\":[],\"tight\":[[0]]}],\"orders\":[[[3,4]]],\"step\":2,\"version\":3}",
+        "{\"capacity\":2,\"cuts\":[],\"nodes\":[{\"count\":0,\"duals\":[2040],\"kind\":\"leaf\",\"marks\":\"10\",\"prices\":[],\"tight\":[[0]]}],\"orders\":[[[3,4]]],\"step\":2,\"version\":3}",
         "bound 34",
+    ),
+    (
+        "{\"capacity\":2,\"cuts\":[{\"divisor\":2,\"orders\":[0,1,2],\"parts\":[1,1,1]},{\"divisor\":2,\"orders\":[0,1,2],\"parts\":[1,1,1]},{\"divisor\":2,\"orders\":[0,1,2],\"parts\":[1,1,1]},{\"divisor\":2,\"orders\":[0,1,2],\"parts\":[1,1,1]},{\"divisor\":2,\"orders\":[0,1,2],\"parts\":[1,1,1]},{\"divisor\":2,\"orders\":[0,1,2],\"parts\":[1,1,1]},{\"divisor\":2,\"orders\":[0,1,2],\"parts\":[1,1,1]},{\"divisor\":2,\"orders\":[0,1,2],\"parts\":[1,1,1]},{\"divisor\":2,\"orders\":[0,1,2],\"parts\":[1,1,1]},{\"divisor\":2,\"orders\":[0,1,2],\"parts\":[1,1,1]},{\"divisor\":2,\"orders\":[0,1,2],\"parts\":[1,1,1]},{\"divisor\":2,\"orders\":[0,1,2],\"parts\":[1,1,1]},{\"divisor\":2,\"orders\":[0,1,2],\"parts\":[1,1,1]},{\"divisor\":2,\"orders\":[0,1,2],\"parts\":[1,1,1]},{\"divisor\":2,\"orders\":[0,1,2],\"parts\":[1,1,1]},{\"divisor\":2,\"orders\":[0,1,2],\"parts\":[1,1,1]},{\"divisor\":2,\"orders\":[0,1,2],\"parts\":[1,1,1]},{\"divisor\":2,\"orders\":[0,1,2],\"parts\":[1,1,1]},{\"divisor\":2,\"orders\":[0,1,2],\"parts\":[1,1,1]},{\"divisor\":2,\"orders\":[0,1,2],\"parts\":[1,1,1]},{\"divisor\":2,\"orders\":[0,1,2],\"parts\":[1,1,1]},{\"divisor\":2,\"orders\":[0,1,2],\"parts\":[1,1,1]},{\"divisor\":2,\"orders\":[0,1,2],\"parts\":[1,1,1]},{\"divisor\":2,\"orders\":[0,1,2],\"parts\":[1,1,1]},{\"divisor\":2,\"orders\":[0,1,2],\"parts\":[1,1,1]},{\"divisor\":2,\"orders\":[0,1,2],\"parts\":[1,1,1]},{\"divisor\":2,\"orders\":[0,1,2],\"parts\":[1,1,1]},{\"divisor\":2,\"orders\":[0,1,2],\"parts\":[1,1,1]},{\"divisor\":2,\"orders\":[0,1,2],\"parts\":[1,1,1]},{\"divisor\":2,\"orders\":[0,1,2],\"parts\":[1,1,1]},{\"divisor\":2,\"orders\":[0,1,2],\"parts\":[1,1,1]},{\"divisor\":2,\"orders\":[0,1,2],\"parts\":[1,1,1]},{\"divisor\":2,\"orders\":[0,1,2],\"parts\":[1,1,1]},{\"divisor\":2,\"orders\":[0,1,2],\"parts\":[1,1,1]},{\"divisor\":2,\"orders\":[0,1,2],\"parts\":[1,1,1]},{\"divisor\":2,\"orders\":[0,1,2],\"parts\":[1,1,1]},{\"divisor\":2,\"orders\":[0,1,2],\"parts\":[1,1,1]},{\"divisor\":2,\"orders\":[0,1,2],\"parts\":[1,1,1]},{\"divisor\":2,\"orders\":[0,1,2],\"parts\":[1,1,1]},{\"divisor\":2,\"orders\":[0,1,2],\"parts\":[1,1,1]},{\"divisor\":2,\"orders\":[0,1,2],\"parts\":[1,1,1]},{\"divisor\":2,\"orders\":[0,1,2],\"parts\":[1,1,1]},{\"divisor\":2,\"orders\":[0,1,2],\"parts\":[1,1,1]},{\"divisor\":2,\"orders\":[0,1,2],\"parts\":[1,1,1]},{\"divisor\":2,\"orders\":[0,1,2],\"parts\":[1,1,1]},{\"divisor\":2,\"orders\":[0,1,2],\"parts\":[1,1,1]},{\"divisor\":2,\"orders\":[0,1,2],\"parts\":[1,1,1]},{\"divisor\":2,\"orders\":[0,1,2],\"parts\":[1,1,1]},{\"divisor\":2,\"orders\":[0,1,2],\"parts\":[1,1,1]},{\"divisor\":2,\"orders\":[0,1,2],\"parts\":[1,1,1]},{\"divisor\":2,\"orders\":[0,1,2],\"parts\":[1,1,1]},{\"divisor\":2,\"orders\":[0,1,2],\"parts\":[1,1,1]},{\"divisor\":2,\"orders\":[0,1,2],\"parts\":[1,1,1]},{\"divisor\":2,\"orders\":[0,1,2],\"parts\":[1,1,1]},{\"divisor\":2,\"orders\":[0,1,2],\"parts\":[1,1,1]},{\"divisor\":2,\"orders\":[0,1,2],\"parts\":[1,1,1]},{\"divisor\":2,\"orders\":[0,1,2],\"parts\":[1,1,1]},{\"divisor\":2,\"orders\":[0,1,2],\"parts\":[1,1,1]},{\"divisor\":2,\"orders\":[0,1,2],\"parts\":[1,1,1]},{\"divisor\":2,\"orders\":[0,1,2],\"parts\":[1,1,1]},{\"divisor\":2,\"orders\":[0,1,2],\"parts\":[1,1,1]},{\"divisor\":2,\"orders\":[0,1,2],\"parts\":[1,1,1]},{\"divisor\":2,\"orders\":[0,1,2],\"parts\":[1,1,1]},{\"divisor\":2,\"orders\":[0,1,2],\"parts\":[1,1,1]}],\"nodes\":[{\"count\":0,\"duals\":[2040,2040,2040],\"kind\":\"leaf\",\"marks\":\"1100100\",\"prices\":[2040,0,0,0,0,0,0,0,0,0,0,0,0,0,0,0,0,0,0,0,0,0,0,0,0,0,0,0,0,0,0,0,0,0,0,0,0,0,0,0,0,0,0,0,0,0,0,0,0,0,0,0,0,0,0,0,0,0,0,0,0,0,0,0],\"tight\":[[0],[0,1],[0,2]]}],\"orders\":[[[3,4]],[[3,4]],[[3,4]]],\"step\":2,\"version\":3}",
+        "bound 68",
+    ),
+    (
+        "{\"capacity\":2,\"cuts\":[],\"nodes\":[{\"count\":0,\"duals\":[1020,1020,1020],\"first\":0,\"kind\":\"split\",\"marks\":\"1000\",\"prices\":[],\"second\":1,\"tight\":[[0,1],[0,1],[0,2]]},{\"count\":1020,\"duals\":[510,510,1020],\"kind\":\"leaf\",\"marks\":\"100\",\"prices\":[],\"tight\":[[0,1],[0,1],[2]]},{\"count\":2040,\"duals\":[0,0,0],\"kind\":\"leaf\",\"marks\":\"1000\",\"prices\":[],\"tight\":[[0],[1],[2]]}],\"orders\":[[[3,4]],[[3,4]],[[3,4]]],\"step\":2,\"version\":3}",
+        "bound 68",
+    ),
+    (
+        "{\"capacity\":2,\"cuts\":[],\"nodes\":[{\"count\":0,\"duals\":[1020,1020,1020],\"first\":0,\"kind\":\"split\",\"marks\":\"1000\",\"prices\":[],\"second\":1,\"tight\":[[0,1],[0,1],[0,2]]},{\"count\":1020,\"duals\":[510,510,1020],\"kind\":\"leaf\",\"marks\":\"100\",\"prices\":[],\"tight\":[[0,1],[0,1],[2]]},{\"count\":1019,\"duals\":[1020,0,0],\"kind\":\"leaf\",\"marks\":\"1100\",\"prices\":[],\"tight\":[[0],[0],[0]]}],\"orders\":[[[3,4]],[[3,4]],[[3,4]]],\"step\":2,\"version\":3}",
+        "node 2 sum-low",
+    ),
+    (
+        "{\"capacity\":2,\"cuts\":[{\"divisor\":2,\"orders\":[0,1,2],\"parts\":[1,1,1]}],\"nodes\":[{\"count\":0,\"duals\":[2040,2040,2040],\"kind\":\"leaf\",\"marks\":\"1000\",\"prices\":[2040],\"tight\":[[0],[0,1],[0,2]]}],\"orders\":[[[3,4]],[[3,4]],[[3,4]]],\"step\":2,\"version\":3}",
+        "node 0 bad-marks",
+    ),
+    (
+        "{\"capacity\":2,\"cuts\":[{\"divisor\":1,\"orders\":[0,1,2],\"parts\":[1,1,1]}],\"nodes\":[],\"orders\":[[[3,4]],[[3,4]],[[3,4]]],\"step\":2,\"version\":3}",
+        "node 0 bad-cuts",
     ),
 ];
 

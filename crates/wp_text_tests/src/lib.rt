@@ -1,7 +1,7 @@
 //! Tests of what the readers of files and words make of them, and of what is printed, where no output of a run shows
-//! it: the numbers that words give, what a layout, a certificate and an entry are printed as when they were read, what
-//! the tables count, the keys of their names, names, numbers and replies, lines of sheets with the greatest numbers,
-//! and the files of made days.
+//! it: the numbers that words give, what a layout, a certificate and an entry are printed as when they were read, the
+//! steps of layouts, what the tables count, the keys of their names, names, numbers and replies, lines of sheets with
+//! the greatest numbers, and the files of made days.
 #![tactic(auto)]
 
 #[cfg(test)]
@@ -20,6 +20,8 @@ mod making;
 mod names;
 #[cfg(test)]
 mod sheets;
+#[cfg(test)]
+mod steps;
 #[cfg(test)]
 mod tables;
 #[cfg(test)]
