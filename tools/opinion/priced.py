@@ -11,9 +11,9 @@ import itertools
 import json
 import random
 
-from opinion import certificates, layouts
-from opinion.certificates import PARTS, Certificate, Pairs, Prices, Visit, Wave
-from opinion.refusals import Refusal
+from . import certificates, layouts
+from .certificates import PARTS, Certificate, Pairs, Prices, Visit, Wave
+from .refusals import Refusal
 
 MOST_ORDERS = 8
 DRAWS = 4  # of prices, before a node's own begin with what is above it
