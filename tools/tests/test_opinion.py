@@ -1,6 +1,8 @@
 """Tests of the second opinion: its lengths against every order of a few slots, its certificates against those of the
 cases, and faults that are planted in right outputs."""
 
+import collections
+import json
 import random
 import re
 import unittest
@@ -8,7 +10,7 @@ from fractions import Fraction
 
 import by_hand
 import runs
-from opinion import certificates, days, journals, json_text, layouts, making, roots, rules, tables, tours, words
+from opinion import certificates, days, journals, json_text, layouts, making, priced, roots, rules, tables, tours, words
 from opinion.refusals import Refusal
 from opinion.stock_book import Book, by_overlap
 
@@ -168,6 +170,110 @@ class Certificates(unittest.TestCase):
                             (('3,3,3', '3,3.0,3'), 'bad-shape'), (('3,3,3', '0,3,3'), 'node 0 not-feasible 0 1')):
             self.assertEqual(due, self.answer(self.CART.replace(*change).encode() if change else self.CART.encode()),
                              change)
+
+
+class Prices(unittest.TestCase):
+    """Certificates of the third form: worked ones and changes of them, and drawn ones."""
+    COUNTED = ('{"capacity":2,"cuts":[],"nodes":[{"count":2040,"duals":[0,0,0],"kind":"leaf","marks":"1000","prices":[],'
+               '"tight":[[0],[1],[2]]}],"orders":[[[3,4]],[[3,4]],[[3,4]]],"step":2,"version":3}')
+    CUT = ('{"capacity":2,"cuts":[{"divisor":2,"orders":[0,1,2],"parts":[1,1,1]}],"nodes":[{"count":0,'
+           '"duals":[2040,2040,2040],"kind":"leaf","marks":"1100100","prices":[2040],"tight":[[0],[0,1],[0,2]]}],'
+           '"orders":[[[3,4]],[[3,4]],[[3,4]]],"step":2,"version":3}')
+
+    def answer(self, text, *change):
+        """What is said of a text in which some parts are changed, each of which stands in it once."""
+        for old, new in change:
+            self.assertEqual(1, text.count(old), old)
+            text = text.replace(old, new)
+        try:
+            return certificates.bound_of(SMALL, certificates.read_certificate(text.encode(), SMALL))
+        except Refusal as why:
+            return why.line.replace('refused certificate ', '')
+
+    def test_a_count_is_worked_by_hand(self):
+        cart = '"nodes":', '"loads":[1,1,1],"units":%d,"nodes":'
+        for change, due in (((), 68), ((('2040', '2041'),), 'node 0 not-feasible 0'),
+                            ((('2040', '1020'),), 'node 0 sum-low'), ((('"1000"', '"100"'),), 'node 0 bad-marks'),
+                            ((('"1000"', '"0"'),), 'node 0 bad-marks'),
+                            ((('[0],[1]', '[0],[0]'),), 'node 0 not-tight 1'),
+                            (((cart[0], cart[1] % 1),), 102), (((cart[0], cart[1] % 2),), 68),
+                            ((('"version":3', '"version":1'),), 'out-of-range'),
+                            ((('"step":2', '"step":4'),), 'out-of-range'),
+                            ((('2040', '1000000000001'),), 'out-of-range'), ((('"cuts":[],', ''),), 'bad-shape'),
+                            ((('"step":2,', ''),), 'bad-shape'), ((('"count":2040,', ''),), 'bad-shape'),
+                            ((('"prices":[],', ''),), 'bad-shape'),
+                            ((('"cuts":[]', '"cuts":[{}]'),), 'bad-shape')):
+            self.assertEqual(due, self.answer(self.COUNTED, *change), change)
+
+    def test_a_cut_is_worked_by_hand(self):
+        cut = '{"divisor":2,"orders":[0,1,2],"parts":[1,1,1]}'
+        for change, due in (((), 68), ((('"prices":[2040]', '"prices":[2039]'),), 'node 0 not-feasible 0 1'),
+                            ((('"prices":[2040]', '"prices":[2041]'),), 'node 0 not-tight 1'),
+                            ((('"divisor":2', '"divisor":1'),), 'node 0 bad-cuts'),
+                            ((('"divisor":2', '"divisor":9'),), 'node 0 bad-cuts'),
+                            ((('"divisor":2', '"divisor":4294967296'),), 'bad-shape'),
+                            ((('[1,1,1]', '[1,1,0]'),), 'node 0 bad-cuts'),
+                            ((('[1,1,1]', '[2,1,1]'),), 'node 0 bad-cuts'),
+                            ((('[1,1,1]', '[1,1]'),), 'node 0 bad-cuts'),
+                            ((('[0,1,2]', '[0,2,1]'),), 'node 0 bad-cuts'),
+                            ((('[0,1,2]', '[0,1,3]'),), 'node 0 bad-cuts'), ((('[0,1,2]', '[]'),), 'node 0 bad-cuts'),
+                            (((cut, ','.join([cut] * 65)),), 'node 0 bad-cuts'),
+                            (((cut, ','.join([cut] * 64)), ('"prices":[2040]', '"prices":[2040%s]' % (',0' * 63))), 68),
+                            ((('"prices":[2040]', '"prices":[]'),), 'node 0 duals-length'),
+                            ((('"prices":[2040]', '"prices":[2040,0]'),), 'node 0 duals-length'),
+                            ((('"1100100"', '"1000"'),), 'node 0 bad-marks')):
+            self.assertEqual(due, self.answer(self.CUT, *change), change)
+
+    def test_where_all_is_decided_there_are_duals_alone(self):
+        one = ('{"capacity":2,"cuts":[],"nodes":[{"count":2040,"duals":[0],"kind":"leaf","marks":"1","prices":[],'
+               '"tight":[[0]]}],"orders":[[[3,4]]],"step":2,"version":3}')
+        self.assertEqual('node 0 decided-prices', self.answer(one))
+        self.assertEqual(34, self.answer(one, ('2040', '0'), ('"duals":[0]', '"duals":[2040]'), ('"1"', '"10"')))
+
+    def test_bounds_are_rounded_up_to_the_step(self):
+        for layout, step in ((layouts.Layout(2, 2, 100, 150, (300,), 1, False), 100),
+                             (layouts.Layout(1, 1, 2, 7, (), 1, False), 14),
+                             (layouts.Layout(3, 2, 6, 9, (12, 20), 1, True), 2)):
+            self.assertEqual(step, certificates.step_of(layout))
+            text = '{"capacity":2,"cuts":[],"nodes":[{"kind":"kept"}],"orders":[[[1,1]]],"step":%d,"version":3}' % step
+            share = tours.shortest(layout, tours.gathered([(1, 1)])) / 2
+            found = certificates.bound_of(layout, certificates.read_certificate(text.encode(), layout))
+            self.assertEqual((0, True), (found % step, share <= found < share + step))
+
+    def test_lengths_are_multiples_of_the_step(self):
+        dice = random.Random(6)
+        for _ in range(2000):
+            layout = layouts.read_layout(priced.layout_of(dice).encode())
+            points = [(dice.randint(1, layout.aisles), dice.randint(1, layout.slots))
+                      for _ in range(dice.randint(0, 6))]
+            self.assertEqual(0, tours.shortest(layout, tours.gathered(points)) % certificates.step_of(layout),
+                             (layout, points))
+
+    def test_drawn_certificates_are_right_and_no_batching_costs_less(self):
+        for number in range(60):
+            text, value = priced.certificate_of(random.Random(number))
+            layout = layouts.read_layout(text.encode())
+            found = certificates.read_certificate(json.dumps(value).encode(), layout)
+            self.assertLessEqual(certificates.bound_of(layout, found), priced.least_cost(layout, found), number)
+
+    def test_changed_certificates_are_refused_or_their_bound_holds(self):
+        told = collections.Counter()
+        for number in range(400):
+            dice = random.Random(number)
+            text, value = priced.certificate_of(dice)
+            layout = layouts.read_layout(text.encode())
+            try:
+                changed = json.dumps(priced.changed(dice, value)).encode()
+                found = certificates.read_certificate(changed, layout)
+                bound = certificates.bound_of(layout, found)
+            except Refusal as why:
+                told[re.sub(r'refused certificate (node \d+ )?(\S+).*', r'\2', why.line)] += 1
+                continue
+            told['bound'] += 1
+            if len(found.orders) <= priced.MOST_ORDERS:
+                self.assertLessEqual(bound, priced.least_cost(layout, found), number)
+        self.assertLessEqual({'bound', 'bad-shape', 'out-of-range', 'bad-cuts', 'duals-length', 'sum-low', 'not-feasible',
+                              'bad-marks', 'not-tight'}, set(told))
 
 
 class Files(unittest.TestCase):

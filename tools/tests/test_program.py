@@ -34,6 +34,12 @@ FAULTS = [
      '0 if done.returncode == 6 else done.returncode'),
     ('an audit that takes every journal', 'audit', rb'^refused journal .*$', 'b"audit 1 entries"',
      '0 if done.returncode == 6 else done.returncode'),
+    ('a check that rounds up once more', 'priced', rb'^bound (\d+)$', 'b"bound %d" % (int(found[1]) + 2)',
+     'done.returncode'),
+    ('a check that takes every broken tree of the third form', 'priced', rb'^refused certificate node.*$', 'b"bound 0"',
+     '0 if done.returncode == 6 else done.returncode'),
+    ('a check that takes cuts for a wrong form', 'priced', rb'^refused certificate node 0 bad-cuts$',
+     'b"refused certificate bad-shape"', 'done.returncode'),
     ('a summary with a unit more', 'make', rb'units (\d+)', 'b"units %d" % (int(found[1]) + 1)', 'done.returncode'),
 ]
 
@@ -309,7 +315,7 @@ def test_that_it_is_found(place, fault):
 
 
 # A test for each mode and for each fault, so that they run beside each other.
-for known in ('plan', 'check', 'audit', 'make', 'store', 'words'):
+for known in ('plan', 'check', 'audit', 'make', 'store', 'words', 'priced'):
     setattr(Fuzzing, 'test_nothing_is_wrong_in_mode_%s' % known, test_that_nothing_is_wrong(known))
 for number, known in enumerate(FAULTS + CART_FAULTS + SHOWN_FAULTS + STORE_FAULTS):
     name = re.sub(r'\W+', '_', known[0])

@@ -11,9 +11,9 @@ import itertools
 import json
 import random
 
-from opinion import certificates, layouts
-from opinion.certificates import PARTS, Certificate, Pairs, Prices, Visit, Wave
-from opinion.refusals import Refusal
+from . import certificates, layouts
+from .certificates import PARTS, Certificate, Pairs, Prices, Visit, Wave
+from .refusals import Refusal
 
 MOST_ORDERS = 8
 DRAWS = 4  # of prices, before a node's own begin with what is above it
@@ -222,7 +222,7 @@ def part_changed(dice, part, others):
         if how == 2:
             return part[:place] + part[max(0, place - 1):]
         return dice.sample(part, len(part))
-    key = dice.choice(sorted(part))
+    key = dice.choice(sorted(part) or ["x"])
     if dice.random() < 0.5:
         return {each: part[each] for each in part if each != key}
     return {**part, dice.choice(("units", "step", "count", "order", "first", "x", key)): dice.choice(others)}
