@@ -20,19 +20,19 @@ End = namedtuple("End", "status output errors")
 
 ROW_WHY = (
     b"columns|not-utf8|bad-name|bad-number|out-of-range|unknown-location|location-twice|unknown-article|unknown-command"
-    b"|desk-number|too-many-rows|too-many-places|too-many-orders|too-many-lines|too-many-waves"
+    b"|unknown-order|order-twice|desk-number|too-many-rows|too-many-places|too-many-orders|too-many-lines|too-many-waves"
 )
 NODE_WHY = (
     rb"cut|split-kept|not-dead \d+|duals-length|sum-low|not-feasible( \d+)*|bad-marks|not-tight \d+|bad-pair"
 )
 KEY = b"(version|aisles|slots|pitch|clearance|spacings?|depot|end)"
-FILE = b"(layout|stock|orders|desks|certificate|journal)"
+FILE = b"(layout|stock|orders|desks|certificate|open|journal)"
 
 # The one line that each status but 0, 4 and 5 has.
 LINES = {
     1: rb"refused words (no-mode|unknown-mode|bad-words|too-many-waves \d+)\n",
     2: rb"refused (layout (not-json|not-object|unknown-key|not-end|(missing-key|not-whole|out-of-range) %s)|%s too-long"
-    rb"|(stock|orders|desks) row \d+ (%s))\n" % (KEY, FILE, ROW_WHY),
+    rb"|(stock|orders|desks|open) row \d+ (%s))\n" % (KEY, FILE, ROW_WHY),
     3: rb"read fault %s\n" % FILE,
     6: rb"refused (certificate (not-json|bad-shape|out-of-range|node \d+ (%s))"
     rb"|journal (line \d+|entry \d+ printed [^\n]+ right [^\n]+)"
@@ -46,6 +46,7 @@ OUTPUTS = {
            rb"crew\n)?stock\n.*end stock\nend\n",
     "check": rb"bound \d+\n",
     "audit": rb"audit \d+ entries\n",
+    "waves": rb"desks\ndesk,command,arguments\n.*end desks\nwaves\n.*end waves\nleft\n.*end left\nend\n",
     "make": rb"made [^\n]*\ncommands \d+ released \d+ units \d+\ncost \d+ bound \d+ proven \d+\n",
 }
 
