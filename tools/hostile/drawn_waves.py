@@ -2,6 +2,9 @@
 
 import re
 
+from opinion.refusals import Refusal
+from opinion.words import read_words
+
 # The names that a run has for its files.
 FILES = ("layout.json", "stock.csv", "orders.csv", "open.csv", "journal.txt")
 NAMES = {"open": "open.csv", "journal": "journal.txt"}
@@ -102,7 +105,18 @@ def made(dice):
 
 def cart_of(words):
     """The units of a cart that words say, as words of another mode."""
-    return words[words.index("--units"):][:2] if "--units" in words else []
+    try:
+        units = read_words(words).numbers["units"]
+    except Refusal:
+        return []
+    return [] if units is None else ["--units", str(units)]
+
+
+def said_again(words):
+    """The words of a second run: those of the first, with all waves, an open file and a journal."""
+    job = read_words(words)
+    given = {**job.files, **NAMES, **{name: value for name, value in job.numbers.items() if value is not None}, "most": 500}
+    return ["waves", *(word for name, value in given.items() for word in ("--" + name, str(value)))]
 
 
 def commands_in(journal):
@@ -124,7 +138,8 @@ class Following:
         self.words, self.files, self.plan, self.again = words, files, plan, again
         self.sent = [line.split(",")[1:] for line in section(output, b"desks")[1:]]
         self.left = dict(line.split(" ", 1) for line in section(output, b"left"))
-        self.before = [words for words, _ in commands_in(files["journal.txt"])] if "--journal" in words else []
+        has_journal = "journal" in read_words(words).files
+        self.before = [words for words, _ in commands_in(files["journal.txt"])] if has_journal else []
 
     def short(self):
         """The orders that are short; with a later wave there is stock at the end that they were short of."""
@@ -159,11 +174,10 @@ class Following:
         """What is wrong with a second run after the first one's waves: each served order is told in its wave."""
         count = len(self.before) + len(self.sent)
         journal = b"".join(planned.splitlines(True)[:count + 1]) + b"end journal\n"
-        words = [word for name, word in zip([""] + self.words, self.words)
-                 if not {name, word} & {"--open", "--journal", "--most"}]
         files = {**self.files, "journal.txt": journal}
-        files.setdefault("open.csv", all_open(files["orders.csv"]))
-        end, wrong = self.again([*words, "--open", "open.csv", "--journal", "journal.txt"], files)
+        if "open" not in read_words(self.words).files:
+            files["open.csv"] = all_open(files["orders.csv"])
+        end, wrong = self.again(said_again(self.words), files)
         if wrong or end.status != 0:
             return "a second run ends with status %s: %s" % (end.status, wrong)
         told = {line.split(" ", 1)[0]: line.split(" ", 1)[1] for line in section(end.output, b"left")}
