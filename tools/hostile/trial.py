@@ -94,6 +94,8 @@ def plan_words(capacity=2, *more):
 CHECK = ["check", "--layout", "layout.json", "--certificate", "certificate.json"]
 AUDIT = ["audit", "--layout", "layout.json", "--stock", "stock.csv", "--orders", "orders.csv", "--journal",
          "journal.txt"]
+WAVES = ["waves", "--layout", "layout.json", "--stock", "stock.csv", "--orders", "orders.csv", "--wave", "2",
+         "--capacity", "2", "--open", "open.csv", "--journal", "journal.txt"]
 MAKE = "make --number 1 --aisles 2 --orders 3 --desks 1 --wave 3 --capacity 2".split()
 
 
@@ -113,6 +115,13 @@ def wave_day(places):
         "desks.csv": "desk,command,arguments\n1,submit,W1,%s\n1,release,W1\n"
         % ",".join("O%d" % order for order, _ in enumerate(places)),
     }
+
+
+def open_day(places):
+    """The day of one wave of an order at the first place alone, whose orders at all places are open."""
+    orders = ["O%d" % order for order, _ in enumerate(places)]
+    return {**wave_day(places), "desks.csv": "desk,command,arguments\n1,submit,W1,O0\n1,release,W1\n",
+            "open.csv": "order,group,rank\n" + "".join("%s,G,%d\n" % (order, at) for at, order in enumerate(orders))}
 
 
 def put(folder, files):
