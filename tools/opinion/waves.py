@@ -41,9 +41,12 @@ class Turns:
     """The turns of the open orders, by rank: the served ones in the order in which they were served, and why others are
     left."""
 
-    def __init__(self, day):
+    def __init__(self, day, receipts=None):
+        """The turns as they would be with these receipts, by article."""
         self.book, self.served, self.left = day.book, [], {}
         self.free = {article: sum(units for _, units in self.book.free_of(article)) for article in self.book.articles}
+        for article, units in (receipts or {}).items():
+            self.free[article] += units
         waiting = [one for one in day.listed if self.waits(one)]
         for one in sorted(waiting, key=lambda one: one.rank):
             self.turn(one)

@@ -1,8 +1,10 @@
 """Tests of how outputs of `waves` are judged: right ones that were worked out by hand, and the same with one change."""
 
 import unittest
+from pathlib import Path
 
 import by_hand
+import runs
 from opinion import answers, waves
 
 STOCK = 'location,article,on_hand\n1-1-L,A,5\n3-4-L,B,1\n'
@@ -186,6 +188,85 @@ class Sent(unittest.TestCase):
             self.assertEqual((2, 'refused open %s' % why), (found.status, found.line))
         self.assertEqual('read fault open', answers.refusal_of([*WORDS, '--wave', '2', '--open', 'none'], {
             'layout': by_hand.LAYOUT.encode(), 'stock': STOCK.encode(), 'orders': ORDERS.encode()}.get).line)
+
+
+class Told(unittest.TestCase):
+    """What `tools/wave waves` makes of an output."""
+
+    def told(self, output, *words, orders=ORDERS, stock=STOCK, **files):
+        folder = runs.put(Path(runs.shelf().name) / 'sent', {
+            'layout': by_hand.LAYOUT, 'stock': stock, 'orders': orders, **files,
+            'sent.txt': ''.join(line + '\n' for line in output)})
+        return runs.script('waves', 'sent.txt', *words, folder=folder), folder
+
+    def test_the_desk_file_and_a_line_of_what_goes_out(self):
+        done, _ = self.told(EXAMPLE)
+        self.assertEqual((0, EXAMPLE[1:6]), (done.status, done.output.splitlines()))
+        self.assertEqual('2 waves with 3 orders go out; 2 orders are left: 2 short\n', done.errors)
+        done, _ = self.told(EMPTY)
+        self.assertEqual((0, EMPTY[1:2]), (done.status, done.output.splitlines()))
+        self.assertEqual('0 waves with 0 orders go out; 0 orders are left\n', done.errors)
+
+    def test_the_desk_file_goes_into_a_file(self):
+        done, folder = self.told(EXAMPLE, '-o', 'desks.csv')
+        self.assertEqual((0, ''), (done.status, done.output))
+        self.assertEqual(EXAMPLE[1:6], (folder / 'desks.csv').read_text().splitlines())
+
+    def test_receipts_are_told_by_the_orders_that_they_free(self):
+        files = ['--layout', 'layout', '--stock', 'stock', '--orders', 'orders']
+        done, _ = self.told(EXAMPLE, *files)
+        self.assertEqual(['1 B more would free 1 of the orders', '1 A more would free 1 of the orders'],
+                         done.errors.splitlines()[1:])
+        # Two orders are short of A alone, and O7 of both A and B, so that no receipt of one article frees it. With O5, O6
+        # and all that is served 2 + 2 + 2 + 2 of A are wanted, 3 more than there are.
+        orders = ORDERS + 'O6,A,2\nO7,A,1\nO7,A,1\nO7,B,1\n'
+        output = [*EXAMPLE[:-2], 'O6 short A 2 1', 'O7 short A 2 1', *EXAMPLE[-2:]]
+        self.assertEqual([], faults(output, orders=orders))
+        done, _ = self.told(output, *files, orders=orders)
+        self.assertEqual(['3 A more would free 2 of the orders', '1 B more would free 1 of the orders'],
+                         done.errors.splitlines()[1:])
+
+    def test_a_receipt_goes_to_the_lower_rank_first(self):
+        files = ['--layout', 'layout', '--stock', 'stock', '--orders', 'orders', '--open', 'open']
+        listed = 'order,group,rank\nO5,W,1\nO1,W,0\nO2,W,0\nO3,W,0\nO4,W,3\n'
+        done, folder = self.told(changed(EXAMPLE, ('O4 short B 1 0\nO5 short A 2 1', 'O5 short A 2 1\nO4 short B 1 0')),
+                                 *files, '--html', 'page.html', '--unit', 'cm', open=listed)
+        self.assertEqual((0, 3), (done.status, len(done.errors.splitlines())), done.errors)
+        page = (folder / 'page.html').read_text()
+        for text in ('2 waves with 3 orders to send out, and 2 orders are left', '36\u00a0cm', '<b>W.1</b>', 'O1, O3',
+                     'wants 2 A, of which 1 are free in its turn', 'Receipts that free most orders'):
+            self.assertIn(text, page)
+
+    def test_the_page_tells_each_cause(self):
+        output = [*EXAMPLE[:11], 'left', 'O4 in W1', 'O5 over-cart 1200', 'O6 later', 'O7 short A 2 1', 'end left', 'end']
+        done, folder = self.told(output, '--html', 'page.html')
+        self.assertEqual('2 waves with 3 orders go out; 4 orders are left: 1 in a wave already, 1 over the cart, 1 short, '
+                         '1 later\n', done.errors)
+        page = (folder / 'page.html').read_text()
+        for text in ('lies in the wave W1', 'has 1200 units, more than a cart holds', 'goes out with a later wave'):
+            self.assertIn(text, page)
+        self.assertNotIn('Receipts', page)
+        done, folder = self.told(EMPTY, '--html', 'page.html')
+        page = (folder / 'page.html').read_text()
+        for text in ('0 waves with 0 orders', 'No wave goes out.', 'No open order is left.'):
+            self.assertIn(text, page)
+
+    def test_what_is_no_output_is_refused(self):
+        for output in (EXAMPLE[:-1], EXAMPLE[1:], ['refused words bad-words'], [*EXAMPLE[:8], 'wave W.2', *EXAMPLE[9:]],
+                       changed(EXAMPLE, ('wave W.1', 'wave W.3')), changed(EXAMPLE, ('O4 short', 'O4 long'))):
+            done, _ = self.told(output)
+            self.assertEqual((2, ''), (done.status, done.output))
+            self.assertIn('sent.txt', done.errors)
+
+    def test_files_of_another_run_are_refused(self):
+        files = ['--layout', 'layout', '--stock', 'stock', '--orders', 'orders']
+        done, _ = self.told(EXAMPLE, *files, orders='order,article,quantity\nO1,A,2\n')
+        self.assertEqual((2, ''), (done.status, done.output))
+        self.assertIn('name the files of that run', done.errors)
+        done, _ = self.told(EXAMPLE, *files, orders='order\n')
+        self.assertIn('refused orders row 1 columns', done.errors)
+        self.assertEqual(2, self.told(EXAMPLE, '--stock', 'stock')[0].status)
+        self.assertEqual(2, self.told(EXAMPLE, *files[:4], '--orders', 'nowhere')[0].status)
 
 
 if __name__ == '__main__':
