@@ -16,7 +16,7 @@ COMMAND = re.compile(r'(?:\./)?(tools/[\w/-]+|docs/lines-to-read|waveplan|gate)(
 # Files that a reader has or makes, and words of the system that no file of the repository has.
 OF_A_READER = {'day.txt', 'day.html', 'noon.txt', 'morning.txt', 'journal.txt', 'waveplan.store', 'layout.json',
                'stock.csv', 'orders.csv',
-               'desks.csv', 'out/waveplan', '/dev/null', 'must-fail/', 'edits/', 'data/', '/'}
+               'desks.csv', 'out/waveplan', 'out/waves', '/dev/null', 'must-fail/', 'edits/', 'data/', '/'}
 OF_THE_SYSTEM = {'lseek', 'ftruncate', 'fsync', 'malloc', 'realloc', 'unlimited', 'perf', 'LD_PRELOAD',
                  'XDG_CACHE_HOME', 'cache'}
 PLACEHOLDER = re.compile(r'NAME|\*|FOLDER|~')

@@ -10,10 +10,11 @@ from pathlib import Path
 
 COMMAND = re.compile(r'\./|tools/|echo |grep ')
 LEFT_OUT = re.compile(r'\./gate|\./waveplan --prove')
+OF_WAVES = re.compile(r'(?<![-\w])waves ')
 DAY_OF = re.compile(r'The day of `examples/([\w-]+)`')
 LINES = re.compile(r'The command prints ([0-9,]{1,9}) lines')
 # Before a block: a file that it shows, and the status with which its commands end where that isn't 0.
-SHOWN = re.compile(r'`((?:layout|stock|orders|desks|journal)\.(?:json|csv|txt))`:$')
+SHOWN = re.compile(r'`((?:layout|stock|orders|open|desks|journal)\.(?:json|csv|txt))`:$')
 ENDING = re.compile(r'ends with status ([0-9]{1,3})\b')
 # The pages, each with the example whose files it begins with.
 PAGES = {'README.md': None, 'docs/EXAMPLES.md': None, 'docs/DAY.md': 'one-day', 'docs/QUESTIONS.md': 'one-day'}
@@ -23,19 +24,20 @@ TELLING = ('tools/wave compare', 'tools/wave explain')  # commands that end with
 CONFIRMED = 'wave,order,location,quantity\nMON-08.00,SO-10235,1-42-R,8\n'
 
 
-def all_of(pages, top, program):
-    """All that was run and looked for: a place, and what is wrong there, or None."""
+def all_of(pages, top, program, waves=None):
+    """All that was run and looked for: a place, and what is wrong there, or None. Without the program waves its commands
+    are left out."""
     for page in pages:
         if page.name in PAGES:
             with tempfile.TemporaryDirectory() as room:
-                yield from Reader(page, top, program, Path(room)).all()
+                yield from Reader(page, top, (program, waves), Path(room)).all()
 
 
-def _set_up(folder, top, program, example):
-    """A folder with the program, the scripts, the examples, and the files of one of these."""
+def _set_up(folder, top, programs, example):
+    """A folder with the programs, the scripts, the examples, and the files of one of these."""
     folder.mkdir()
     launcher = folder / 'waveplan'
-    launcher.write_text('#!/bin/sh\nexec "%s" "$@"\n' % program)
+    launcher.write_text('#!/bin/sh\n[ "$1" = waves ] || exec "%s" "$@"\nexec "%s" "$@"\n' % programs)
     launcher.chmod(0o755)
     for name in ('tools', 'examples'):
         os.symlink(top / name, folder / name)
@@ -51,8 +53,8 @@ def _set_up(folder, top, program, example):
 class Reader:
     """Reads one page as a planner does who types what it prints."""
 
-    def __init__(self, page, top, program, room):
-        self.page, self.top, self.program, self.room = page, top, program, room
+    def __init__(self, page, top, programs, room):
+        self.page, self.top, self.programs, self.room = page, top, programs, room
         self.last, self.last_plan, self.folders, self.place, self.shown = '', None, {}, '', None
         self.examples = {line.section: DAY_OF.search(line.text)[1] for line in page.lines if DAY_OF.search(line.text)}
 
@@ -60,7 +62,7 @@ class Reader:
         """The folder of a section: one of its own where it begins with an example."""
         example = self.examples.get(section)
         if example not in self.folders:
-            self.folders[example] = _set_up(self.room / (example or 'first'), self.top, self.program,
+            self.folders[example] = _set_up(self.room / (example or 'first'), self.top, self.programs,
                                             example or PAGES[self.page.name])
         return self.folders[example]
 
@@ -83,18 +85,22 @@ class Reader:
             self.shown = SHOWN.search(line.text)
         found = LINES.search(line.text)
         if found:
-            count = self.last.count('\n')
+            count = (self.last or '').count('\n')
             yield self.place, None if int(found[1].replace(',', '')) == count else 'the command prints %d lines' % count
 
     def block(self, block):
         """A block of commands, a file that is shown, or what the command before it has printed."""
         folder, shown, self.shown = self.folder(block.section), self.shown, None
+        if not self.programs[1] and any(OF_WAVES.search(line) for line in block.lines if COMMAND.match(line)):
+            self.last = None
+            return
         if not COMMAND.match(block.lines[0]):
             if shown:
                 (folder / shown[1]).write_text('\n'.join(block.lines) + '\n')
                 return
             named = re.search(r'some of `([\w.]+)`', block.before)
-            yield from self.output(block.lines, (folder / named[1]).read_text() if named else self.last)
+            text = (folder / named[1]).read_text() if named else self.last
+            yield from self.output(block.lines, text) if text is not None else ()
             return
         for command in block.lines:
             if not LEFT_OUT.match(command):

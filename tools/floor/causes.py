@@ -5,7 +5,7 @@ import difflib
 import json
 import re
 
-from opinion import json_text
+from opinion import json_text, tables
 
 from . import refusals
 
@@ -13,11 +13,13 @@ FIELDS = {
     'stock': ['location', 'article', 'on_hand'],
     'orders': ['order', 'article', 'quantity'],
     'desks': ['desk', 'command'],
+    'open': ['order', 'group', 'rank'],
 }
 FORMS = {'submit': ['wave'], 'allot': ['wave'], 'release': ['wave'], 'cancel': ['wave'],
          'pick': ['wave', 'order', 'location', 'quantity'],
          'missing': ['wave', 'order', 'location', 'quantity'], 'receive': ['location', 'article', 'quantity']}
-HEADINGS = {'stock': 'location,article,on_hand', 'orders': 'order,article,quantity', 'desks': 'desk,command,arguments'}
+HEADINGS = {'stock': 'location,article,on_hand', 'orders': 'order,article,quantity', 'desks': 'desk,command,arguments',
+            'open': 'order,group,rank'}
 
 ROWS, LAYOUTS, NODES, CERTIFICATES = map(refusals.of, ('record', 'layout', 'node', 'certificate'))
 
@@ -177,6 +179,8 @@ def of_name(name, text):
         return of_location(text)
     if len(text) > 40:
         return refusals.pair('name', 'long', count=len(text))
+    if name == 'group' and tables.NAME.fullmatch(text.encode()):
+        return refusals.pair('name', 'group', count=len(text))
     bad = ' '.join('a blank' if sign == ' ' else sign for sign in sorted(set(re.sub(r'[A-Za-z0-9._-]', '', text))))
     return refusals.pair('name', 'signs', signs=bad)
 

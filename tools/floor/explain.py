@@ -1,7 +1,7 @@
 """Explains why waveplan refuses some words or files: where it stands, what is there, the usual cause and the cure.
 
 usage: tools/wave explain plan --layout FILE --stock FILE --orders FILE --desks FILE --capacity C [..]
-       tools/wave explain check|audit|make ..
+       tools/wave explain check|audit|make|waves ..
        tools/wave explain journal DAY [--orders FILE]
 
 With --names FILE, the file of `tools/wave import`, the lines behind the first have the texts of before in the place of
@@ -106,7 +106,7 @@ class Explained:
         elif self.parts[2] == 'too-long':
             self.say('file', self.file(kind))
             self.tell('file', 'too-long')
-        elif kind in ('stock', 'orders', 'desks'):
+        elif kind in causes.FIELDS:
             self.of_row(kind, int(self.parts[3]), self.parts[4])
         else:
             getattr(self, 'of_' + kind)()
@@ -220,6 +220,15 @@ class Explained:
         return 'no record of the stock file has it', causes.ROWS['unknown-article'][1] + ('; perhaps %s '
                                                                                           'is meant' % near if near
                                                                                           else '')
+
+    def of_unknown_order(self, text, data):
+        cause, cure = causes.ROWS['unknown-order']
+        near = causes.closest(text, list(answers.Files(read_words(self.words), bytes_of, answers.FULL).opening()[2]))
+        return cause, cure + ('; perhaps %s is meant' % near if near else '')
+
+    def of_order_twice(self, text, data):
+        first = next(each.number for each in tables.records(data) if each.fields[0] == text.encode())
+        return 'record %d names it too' % first, causes.ROWS['order-twice'][1]
 
     def of_certificate(self):
         self.say('file', self.file('certificate'))

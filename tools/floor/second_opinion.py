@@ -5,8 +5,10 @@ usage: tools/wave second-opinion [plan] --layout FILE --stock FILE --orders FILE
                             [--store-before FILE [--store-after FILE] | --stored] DAY
        tools/wave second-opinion [check] --layout FILE --certificate FILE ANSWER
        tools/wave second-opinion [audit] --layout FILE --stock FILE --orders FILE --journal FILE [--units N] ANSWER
+       tools/wave second-opinion [waves] --layout FILE --stock FILE --orders FILE --wave N --capacity C [--units N]
+                            [--open FILE] [--journal FILE] [--most N] [--desk D] [--effort N] ANSWER
 
-DAY is what a plan printed, ANSWER what a check or an audit printed, and - stands for standard input. The words before
+DAY is what a plan printed, ANSWER what a check, an audit or waves printed, and - stands for standard input. The words before
 it are those of the run. The files are read, each command is answered and each sheet is measured again, as
 docs/FORMATS.md, docs/RULES.md, docs/TOURS.md and docs/BATCHES.md say it: each desk's commands once and in order, each
 reply, what is held, each wave's orders in one batch within the capacity, each pick, each tour a closed walk of the
@@ -28,6 +30,10 @@ that is refused is told; the journal has their entries and then those of the des
 those of the desks' entries alone. With --store-after that file is judged too, as it is after the run. With --stored, or
 with --store 1 and no copy, the journal may begin with any entries that are answered right.
 
+Of waves it finds by itself who is served, and why the others are left. The waves of the output have to be right ones of
+just these: as many as are due, of one group, within --wave, by rank, in order, under the names that are due. Each
+command is answered in its turn after the journal, and each start lies where a batching may cost it.
+
 This is a plain program, written from the documents; nothing that it says is proved, and no promise of waveplan rests on
 it. With --units the carts hold so many units.
 
@@ -38,14 +44,15 @@ import os
 import sys
 
 from endings import RIGHT, WRONG, Trouble, Words, shortened, tell_usage
-from opinion import answers, days, stores
+from opinion import answers, days, stores, waves
 from opinion.refusals import MOST_BYTES, Refusal
-from opinion.words import FILES, GIVEN, NUMBERS, Job, number
+from opinion.words import FILES, GIVEN, NUMBERS, OPTIONAL, Job, number
 
 from . import store_keeping
 
-KINDS = {'desks': 'plan', 'certificate': 'check', 'journal': 'audit'}
+KINDS = {'wave': 'waves', 'desks': 'plan', 'certificate': 'check', 'journal': 'audit'}
 OF_A_MODE = {name for names in FILES.values() for name in names}
+NUMBERS_OF_MODES = {**NUMBERS['plan'], **NUMBERS['waves']}
 
 
 def bytes_of(name, most=MOST_BYTES + 1):
@@ -59,7 +66,7 @@ def bytes_of(name, most=MOST_BYTES + 1):
 
 def asked_words(words):
     known = Words('second-opinion')
-    for name in (*sorted(OF_A_MODE), *NUMBERS['plan'], 'store-before', 'store-after'):
+    for name in (*sorted(OF_A_MODE), *NUMBERS_OF_MODES, 'store-before', 'store-after'):
         known.add_argument('--' + name)
     known.add_argument('--stored', action='store_true')
     known.add_argument('answer', nargs='*')
@@ -73,11 +80,11 @@ def asked_words(words):
 def numbers_of(asked):
     """The numbers of the words: those of a plan where they are left out, but for the capacity, which may be any then,
     and for the budget, which isn't told where the words may not be all those of the plan."""
-    given = {name: getattr(asked, name) for name in NUMBERS['plan']}
+    given = {name: getattr(asked, name) for name in NUMBERS_OF_MODES}
     try:
-        found = {name: number(name, text, NUMBERS['plan'][name]) for name, text in given.items() if text is not None}
+        found = {name: number(name, text, NUMBERS_OF_MODES[name]) for name, text in given.items() if text is not None}
     except Refusal as why:
-        low, high = NUMBERS['plan'][why.field]
+        low, high = NUMBERS_OF_MODES[why.field]
         raise Trouble('--%s is a whole number from %d to %d, not %s'
                       % (why.field, low, high, shortened(why.text))) from None
     if 'budget' in found and 'nodes' in found:
@@ -86,13 +93,24 @@ def numbers_of(asked):
     return {'capacity': None, **GIVEN, **({} if is_whole else {'budget': None}), **found}
 
 
+def modes_of(asked):
+    """The modes that the words may be of. Those of waves may name a journal, as those of an audit do."""
+    modes = [mode for name, mode in KINDS.items() if getattr(asked, name)]
+    return [mode for mode in modes if mode != 'audit'] if 'waves' in modes else modes
+
+
+def is_lacking(mode, numbers):
+    """Whether a number is missing that is never left out."""
+    return mode == 'waves' and None in (numbers.get('wave'), numbers['capacity'])
+
+
 def job_of(asked):
     """The job that was asked for, or None where the words don't say one."""
-    modes = [mode for name, mode in KINDS.items() if getattr(asked, name)]
+    modes = modes_of(asked)
     if len(modes) != 1 or len(asked.answer) != 1 or asked.mode not in (None, *modes):
         return None
-    names, numbers = FILES[modes[0]], numbers_of(asked)
-    if not all(getattr(asked, name) for name in names):
+    names, numbers = [name for name in FILES[modes[0]] if getattr(asked, name)], numbers_of(asked)
+    if {*FILES[modes[0]]} - {*names} - {*OPTIONAL.get(modes[0], ())} or is_lacking(modes[0], numbers):
         return None
     if modes[0] == 'plan' and numbers['store'] and not asked.stored and asked.store_before is None:
         asked.store_before = store_keeping.BEFORE if os.path.lexists(store_keeping.BEFORE) else None
@@ -106,10 +124,10 @@ def job_of(asked):
 
 
 def right_line(files, mode):
-    """The line that is due, which is None for a plan whose files are read."""
+    """The line that is due, which is None for a plan or waves whose files are read."""
     try:
-        if mode == 'plan':
-            answers.opening_of(files)
+        if mode in ('plan', 'waves'):
+            answers.OF_MODES[mode](files)
             return None
         return (answers.check_of if mode == 'check' else answers.audit_of)(files)
     except Refusal as why:
@@ -133,6 +151,8 @@ def judged(asked, job, answer):
         wrong = None if answer == due else 'it says %r where %r is right' % (answer[:200], due)
         status = 6 if due.startswith(b'refused store ') else 2
         return wrong or store_fault(asked, status, answer), 'the line %s' % due.decode().strip()
+    if job.mode == 'waves':
+        return judged_waves(answers.waves_day_of(files), answer)
     opening = answers.opening_of(files)
     try:
         seen = days.judge(opening, answer, asked.stored)
@@ -146,6 +166,17 @@ def judged(asked, job, answer):
             ', a crew of %d' % shown['pickers'] if shown['pickers'] else '')
     form = '%d entries%s, %d sheets%s with %d batches and their tours%s, %d refills%s, and the stock'
     return store_fault(asked, 0, answer), form % told
+
+
+def judged_waves(day, answer):
+    """What is wrong with an output of waves, or None, and what was judged."""
+    try:
+        seen = waves.judge(day, answer)
+    except days.Fault as why:
+        return str(why), None
+    orders = sum(len(wave) for _, wave in seen.waves)
+    return None, '%d waves with %d orders and their starts, and %d orders that are left' % (len(seen.waves), orders,
+                                                                                             seen.left)
 
 
 def answer_of(asked):

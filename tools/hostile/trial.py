@@ -20,20 +20,20 @@ End = namedtuple("End", "status output errors")
 
 ROW_WHY = (
     b"columns|not-utf8|bad-name|bad-number|out-of-range|unknown-location|location-twice|unknown-article|unknown-command"
-    b"|desk-number|too-many-rows|too-many-places|too-many-orders|too-many-lines|too-many-waves"
+    b"|unknown-order|order-twice|desk-number|too-many-rows|too-many-places|too-many-orders|too-many-lines|too-many-waves"
 )
 NODE_WHY = (
     rb"bad-cuts|cut|split-kept|not-dead \d+|duals-length|decided-prices|sum-low|not-feasible( \d+)*|bad-marks"
     rb"|not-tight \d+|bad-pair"
 )
 KEY = b"(version|aisles|slots|pitch|clearance|spacings?|depot|end)"
-FILE = b"(layout|stock|orders|desks|certificate|journal)"
+FILE = b"(layout|stock|orders|desks|certificate|open|journal)"
 
 # The one line that each status but 0, 4 and 5 has.
 LINES = {
     1: rb"refused words (no-mode|unknown-mode|bad-words|too-many-waves \d+)\n",
     2: rb"refused (layout (not-json|not-object|unknown-key|not-end|(missing-key|not-whole|out-of-range) %s)|%s too-long"
-    rb"|(stock|orders|desks) row \d+ (%s))\n" % (KEY, FILE, ROW_WHY),
+    rb"|(stock|orders|desks|open) row \d+ (%s))\n" % (KEY, FILE, ROW_WHY),
     3: rb"read fault %s\n" % FILE,
     6: rb"refused (certificate (not-json|bad-shape|out-of-range|node \d+ (%s))"
     rb"|journal (line \d+|entry \d+ printed [^\n]+ right [^\n]+)"
@@ -47,6 +47,7 @@ OUTPUTS = {
            rb"crew\n)?stock\n.*end stock\nend\n",
     "check": rb"bound \d+\n",
     "audit": rb"audit \d+ entries\n",
+    "waves": rb"desks\ndesk,command,arguments\n.*end desks\nwaves\n.*end waves\nleft\n.*end left\nend\n",
     "make": rb"made [^\n]*\ncommands \d+ released \d+ units \d+\ncost \d+ bound \d+ proven \d+\n",
 }
 
@@ -94,6 +95,8 @@ def plan_words(capacity=2, *more):
 CHECK = ["check", "--layout", "layout.json", "--certificate", "certificate.json"]
 AUDIT = ["audit", "--layout", "layout.json", "--stock", "stock.csv", "--orders", "orders.csv", "--journal",
          "journal.txt"]
+WAVES = ["waves", "--layout", "layout.json", "--stock", "stock.csv", "--orders", "orders.csv", "--wave", "2",
+         "--capacity", "2", "--open", "open.csv", "--journal", "journal.txt"]
 MAKE = "make --number 1 --aisles 2 --orders 3 --desks 1 --wave 3 --capacity 2".split()
 
 
@@ -113,6 +116,13 @@ def wave_day(places):
         "desks.csv": "desk,command,arguments\n1,submit,W1,%s\n1,release,W1\n"
         % ",".join("O%d" % order for order, _ in enumerate(places)),
     }
+
+
+def open_day(places):
+    """The day of one wave of an order at the first place alone, whose orders at all places are open."""
+    orders = ["O%d" % order for order, _ in enumerate(places)]
+    return {**wave_day(places), "desks.csv": "desk,command,arguments\n1,submit,W1,O0\n1,release,W1\n",
+            "open.csv": "order,group,rank\n" + "".join("%s,G,%d\n" % (order, at) for at, order in enumerate(orders))}
 
 
 def put(folder, files):

@@ -2,7 +2,7 @@
 
 import re
 
-from . import certificates, days, journals, layouts, making, stores, tables
+from . import certificates, days, journals, layouts, making, stores, tables, waves
 from .refusals import Refusal, whole
 from .stock_book import Book
 from .words import SHOWN_NUMBERS, read_words
@@ -65,13 +65,24 @@ def audit_of(files):
     return b'audit %d entries\n' % journals.audit(files.bytes('journal'), book, files.knows['over_cart'])
 
 
+def waves_day_of(files):
+    """What the files of `waves` say. Fails with the first that is refused, or where the journal isn't right."""
+    layout, stock, orders = files.opening()
+    book, named, entries = Book(stock, orders, files.job.numbers.get('units')), files.job.files, 0
+    listed = [waves.Open(*each) for each in tables.read_open(files.bytes('open'), orders)] if 'open' in named else None
+    if 'journal' in named:
+        entries = journals.audit(files.bytes('journal'), book, files.knows['over_cart'])
+    listed = waves.open_without(book) if listed is None else listed
+    return waves.Day(layout, book, entries, listed, files.job.numbers)
+
+
 def refusal_of(words, read, knows=None, before=b''):
     """The first thing that is wrong with the words and files of a run, and with its store before it, None where nothing
     is."""
     try:
         job = read_words(words)
         files = Files(job, read, knows or FULL, before)
-        {'plan': opening_of, 'check': check_of, 'audit': audit_of, 'make': lambda files: None}[job.mode](files)
+        OF_MODES[job.mode](files)
     except Refusal as why:
         return why
     return None
@@ -87,6 +98,8 @@ def faults(words, read, status, output, knows=None, before=b''):
             return _faults_of_plan(files, status, output)
         if job.mode == 'make':
             return _faults_of_make(job, status, output)
+        if job.mode == 'waves':
+            return _faults_of_waves(files, status, output)
         right = (check_of if job.mode == 'check' else audit_of)(files)
     except Refusal as why:
         return _differs((why.status, why.line.encode() + b'\n'), (status, output))
@@ -109,6 +122,17 @@ def _faults_of_plan(files, status, output):
     return []
 
 
+def _faults_of_waves(files, status, output):
+    day = waves_day_of(files)
+    if status != 0:
+        return ['status %s and %r where waves are due' % (status, output[:200])]
+    try:
+        waves.judge(day, output)
+    except days.Fault as why:
+        return [str(why)]
+    return []
+
+
 def _faults_of_make(job, status, output):
     if status != 0:
         return ['status %s and %r where a summary is due' % (status, output[:200])]
@@ -118,3 +142,8 @@ def _faults_of_make(job, status, output):
         return ['no summary: %r' % output[:200]]
     return list(making.faults(job.numbers, [each.decode() for each in found.groups()[:2]],
                               [int(each) for each in found.groups()[2:]]))
+
+
+# What goes through the words and files of each mode.
+OF_MODES = {'plan': opening_of, 'check': check_of, 'audit': audit_of, 'make': lambda files: None,
+            'waves': waves_day_of}

@@ -20,7 +20,9 @@ HEADINGS = {
     'stock': [b'location', b'article', b'on_hand'],
     'orders': [b'order', b'article', b'quantity'],
     'desks': [b'desk', b'command', b'arguments'],
+    'open': [b'order', b'group', b'rank'],
 }
+MOST_GROUP, MOST_RANK = 32, 1000000000
 
 # The forms of the fields of each command, from the third on. A submit has up to 100 orders besides.
 FORMS = {
@@ -193,6 +195,22 @@ def read_orders(data, stock):
         tests.test(article in articles, 'unknown-article', 2)
         orders.setdefault(order, []).append((article, tests.quantity(3)))
     return orders
+
+
+def read_open(data, orders):
+    """The open orders that bytes say, over the orders: of each its name, its group and its rank."""
+    found = {}
+    for record in _behind_heading('open', data):
+        tests = Tests('open', record)
+        tests.columns(3, 3)
+        tests.texts()
+        order = tests.name_of(1)
+        tests.test(order in orders, 'unknown-order', 1)
+        tests.test(order not in found, 'order-twice', 1)
+        group = tests.name_of(2)
+        tests.test(len(group) <= MOST_GROUP, 'bad-name', 2)
+        found[order] = (order, group, tests.quantity(3, 0, MOST_RANK))
+    return list(found.values())
 
 
 def _argument(tests, form, field):

@@ -10,7 +10,9 @@ FILES = {
     'check': ('layout', 'certificate'),
     'audit': ('layout', 'stock', 'orders', 'journal'),
     'make': (),
+    'waves': ('layout', 'stock', 'orders', 'open', 'journal'),
 }
+OPTIONAL = {'waves': ('open', 'journal')}  # files that may be left out
 MOST_BUDGET = 10 ** 18
 PLAN_NUMBERS = {'capacity': (1, 8), 'budget': (0, MOST_BUDGET), 'nodes': (1, 10 ** 9), 'workers': (1, 16)}
 CART_NUMBERS = {'units': (1, 40000000)}
@@ -22,13 +24,15 @@ NUMBERS = {
     'audit': CART_NUMBERS,
     'make': {'number': (0, 2 ** 64 - 1), 'aisles': (1, 64), 'orders': (1, 10000), 'desks': (1, 8), 'wave': (1, 64),
              **PLAN_NUMBERS},
+    'waves': {'wave': (1, 64), 'capacity': (1, 8), **CART_NUMBERS, 'most': (1, 500), 'desk': (1, 8),
+              'effort': (0, 1000)},
 }
 GIVEN = {'budget': 2000000, 'nodes': None, 'workers': 1, 'units': None, 'rules': 0, 'pickers': 0, 'root': 0,
-         'store': 0}  # where they are left out
+         'store': 0, 'most': 500, 'desk': 1, 'effort': 10}  # where they are left out
 MOST_WAVES = 500
 NUMBER = re.compile(r'\+?[0-9]+|-0+')
 INSTEAD = {'nodes': 'budget'}  # what stands in the place of another, so that words have one of the two at most
-SIGNED = ('rules', 'pickers', 'root', 'store')  # whose 0 may have a minus
+SIGNED = ('rules', 'pickers', 'root', 'store', 'effort')  # whose 0 may have a minus
 
 # A mode with the names of its files and its numbers, by their options.
 Job = namedtuple('Job', 'mode files numbers')
@@ -84,7 +88,7 @@ def read_words(words):
         raise Refusal(1, 'refused words unknown-mode', None, mode)
     found = _options({*FILES[mode], *NUMBERS[mode]}, words[1:])
     for name in (*FILES[mode], *NUMBERS[mode]):
-        if name not in found and name not in GIVEN:
+        if name not in found and name not in GIVEN and name not in OPTIONAL.get(mode, ()):
             _bad(name)
     numbers = {name: number(name, found[name], bounds) if name in found else GIVEN[name]
                for name, bounds in NUMBERS[mode].items()}
@@ -94,4 +98,4 @@ def read_words(words):
     waves = -(-numbers['orders'] // numbers['wave']) if mode == 'make' else 0
     if waves > MOST_WAVES:
         raise Refusal(1, 'refused words too-many-waves %d' % waves)
-    return Job(mode, {name: found[name] for name in FILES[mode]}, numbers)
+    return Job(mode, {name: found[name] for name in FILES[mode] if name in found}, numbers)

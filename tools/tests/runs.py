@@ -13,8 +13,17 @@ from floor import entry
 TOOLS = Path(__file__).resolve().parent.parent
 TOP = TOOLS.parent
 EXAMPLES = TOP / 'examples'
-PROGRAM = os.environ.get('WAVEPLAN_PROGRAM')
+PROGRAM, WAVES = os.environ.get('WAVEPLAN_PROGRAM'), os.environ.get('WAVES_PROGRAM')
 FILES = ('layout.json', 'stock.csv', 'orders.csv', 'desks.csv')
+
+# Stands between a script and the program, and changes what it answers.
+PLANTED = '''#!''' + sys.executable + ''' -SE
+import re, subprocess, sys
+done = subprocess.run([%(program)r, *sys.argv[1:]], stdin=subprocess.DEVNULL, stdout=subprocess.PIPE)
+sys.stdout.buffer.write(re.sub(%(pattern)r, lambda found: %(new)s, done.stdout, flags=re.MULTILINE))
+sys.stdout.flush()
+sys.exit(%(status)s)
+'''
 
 
 class Done:
@@ -38,9 +47,19 @@ def script(name, *words, given=b'', folder=None):
                                   timeout=170))
 
 
+def waves(*words, folder=None):
+    """Runs the program waves."""
+    return ran(WAVES, 'waves', *words, folder=folder)
+
+
 def waveplan(*words, folder=None):
     """Runs the program."""
-    words = [PROGRAM, *map(str, words)]
+    return ran(PROGRAM, *words, folder=folder)
+
+
+def ran(program, *words, folder=None):
+    """Runs a program."""
+    words = [program, *map(str, words)]
     return Done.of(subprocess.run(words, stdin=subprocess.DEVNULL, stdout=subprocess.PIPE, stderr=subprocess.PIPE,
                                   cwd=folder,
                                   timeout=170))

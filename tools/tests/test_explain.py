@@ -132,6 +132,29 @@ WORDS = [
     ('make --number 1 --aisles 2 --orders 501 --desks 1 --wave 1 --capacity 1', 'words too-many-waves 501',
      'fewer orders'),
 ]
+OPEN = 'order,group,rank\nO1,W,0\n'
+# An open file with a mistake, the line that refuses it, and words of what is explained.
+OPEN_FILES = [
+    (STOCK, 'open row 1 columns', 'it is a file of stock'),
+    (OPEN + 'O1,W\n', 'open row 3 columns', 'it should have 3: order,group,rank'),
+    (OPEN + 'O11,W,0\n', 'open row 3 unknown-order', 'perhaps O1 is meant'),
+    (OPEN + 'O1,W,0\n', 'open row 3 order-twice', 'record 2 names it too'),
+    (OPEN.replace('W', 'g' * 33), 'open row 2 bad-name', 'the name of a group has at most 32'),
+    (OPEN.replace('W', 'g' * 41), 'open row 2 bad-name', 'it has 41 characters'),
+    (OPEN.replace('W', ''), 'open row 2 bad-name', 'field    2, group: ""'),
+    (OPEN.replace(',0', ',-1'), 'open row 2 bad-number', 'below 0'),
+    (OPEN.replace(',0', ',1000000001'), 'open row 2 out-of-range', 'ranks 0 to 1,000,000,000'),
+]
+WAVES = 'waves --layout layout.json --stock stock.csv --orders orders.csv --wave 2 --capacity 2'.split()
+WAVES_WORDS = [
+    ('--most 501', 'words bad-words', 'from 1 to 500'),
+    ('--ope open.csv', 'words bad-words', 'perhaps --open'),
+    ('--wave 3', 'words bad-words', 'it stands twice'),
+    ('--open opn.csv', 'read fault open', 'perhaps open.csv'),
+    ('--open .', 'read fault open', 'it is a folder'),
+    ('--journal stock.csv', 'journal line 1', 'it is a file of stock'),
+    ('--journal orders.csv --open stock.csv', 'open row 1 columns', 'it is a file of stock'),
+]
 PLAN = 'plan --layout layout.json --stock stock.csv --orders orders.csv --desks desks.csv --capacity 2'.split()
 
 
@@ -162,6 +185,22 @@ class Explaining(unittest.TestCase):
                 if told:
                     self.assertEqual(line_of(line), done.output.splitlines()[0])
                     self.assertIn(told, done.output)
+
+    @unittest.skipUnless(runs.WAVES, 'the program waves is not named')
+    def test_words_and_open_files_of_waves(self):
+        rows = [(text, '--open open.csv', line, told) for text, line, told in OPEN_FILES]
+        rows += [(OPEN, *row) for row in WAVES_WORDS]
+        for text, more, line, told in rows:
+            with self.subTest(line, told=told):
+                words = [*WAVES, *more.split()]
+                folder = runs.put(runs.Path(runs.shelf().name) / 'explained-waves', {**RIGHT, 'open.csv': text})
+                done, run = runs.script('explain', *words, folder=folder), runs.waves(*words[1:], folder=folder)
+                self.assertEqual(run.output, line_of(line) + '\n')
+                self.assertEqual((1, line_of(line)), (done.status, done.output.splitlines()[0]))
+                self.assertIn(told, done.output)
+                self.assertRegex(done.output, r'cure     \S')
+        done = runs.script('explain', *WAVES, '--open', 'open.csv', folder=runs.put(folder, {'open.csv': OPEN}))
+        self.assertEqual((0, 'nothing in these words and files is refused\n'), (done.status, done.output))
 
     def test_a_certificate_and_a_journal(self):
         certificate = (runs.EXAMPLES / 'one-certificate' / 'certificate.json').read_text()

@@ -729,12 +729,13 @@ class Waiting(unittest.TestCase):
 class Ending(unittest.TestCase):
     """What is said of a program that doesn't end as it is due."""
 
-    def faults(self, text):
+    def faults(self, text, name='waveplan'):
         with tempfile.TemporaryDirectory() as room:
             with open(f'{room}/program', 'w', encoding='utf-8') as it:
                 it.write(f'#!/bin/sh\n{text}\n')
             os.chmod(f'{room}/program', 0o755)
-            return list(script('statuses').faults(f'{room}/program', {'examples': f'{HOME}/examples', 'files': room}))
+            places = {'examples': f'{HOME}/examples', 'files': room}
+            return list(script('statuses').faults(name, f'{room}/program', places))
 
     def test_a_program_that_always_ends_with_0_is_told_once_for_each_other_end(self):
         self.assertEqual(len(self.faults('echo bound 68')), 13)
@@ -755,9 +756,29 @@ class Ending(unittest.TestCase):
 
     def test_a_program_that_ends_as_each_run_is_due_passes(self):
         self.assertEqual(self.faults(ENDS_AS_DUE), [])
+        self.assertEqual(self.faults(WAVES_END_AS_DUE, 'waves'), [])
+
+    def test_each_status_of_waves_is_held_to_what_is_due(self):
+        self.assertEqual(len(self.faults('echo desks', 'waves')), 11)
+        for status in range(1, 7):
+            found = self.faults(WAVES_END_AS_DUE.replace(f'exit {status}', 'exit 0'), 'waves')
+            self.assertTrue(found)
+            self.assertTrue(all(f'status 0 where {status} is due' in it for it in found), found)
 
 
-# A program that knows the runs of tools/statuses.
+# Programs that know the runs of tools/statuses.
+WAVES_END_AS_DUE = """case "$*" in
+'') echo refused words no-mode; exit 1 ;;
+plan*) echo refused words unknown-mode; exit 1 ;;
+waves) echo refused words bad-words; exit 1 ;;
+*/large/*) exit 5 ;;
+*--open*/no.json) echo refused open row 1 columns; exit 2 ;;
+*nowhere.csv) echo read fault open; exit 3 ;;
+*nowhere.txt) echo read fault journal; exit 3 ;;
+*--journal*) echo refused journal line 1; exit 6 ;;
+*/no.json*) echo refused layout not-json; exit 2 ;;
+*) printf '%s\\n' desks desk,command,arguments 'end desks' waves 'end waves' left 'end left' end || exit 4 ;;
+esac"""
 ENDS_AS_DUE = """record() { printf '\\001\\000\\000\\000\\046%s 1 cancel W1 -> refused unknown-wave\\n\\000' "$1"; }
 case "$*" in
 '') echo refused words no-mode; exit 1 ;;

@@ -39,10 +39,11 @@ def ci():
     if os.path.exists(f'{ROOM}/fails'):
         print('fn waveplan::main: not proved\\nrt: FAILED: waveplan\\n1 passed, 1 failed')
         return 1
-    os.makedirs('crates/waveplan/out')
-    with open('crates/waveplan/out/waveplan', 'w', encoding='utf-8') as it:
-        it.write('#!/bin/sh\\necho proved "$@"\\nexit 6\\n')
-    os.chmod('crates/waveplan/out/waveplan', 0o755)
+    for name in ('waveplan', 'waves'):
+        os.makedirs(f'crates/{name}/out')
+        with open(f'crates/{name}/out/{name}', 'w', encoding='utf-8') as it:
+            it.write('#!/bin/sh\\necho %s"$@"\\nexit 6\\n' % ('proved ' if name == 'waveplan' else 'proved by waves: '))
+        os.chmod(f'crates/{name}/out/{name}', 0o755)
     print('2 passed, 0 failed')
     return 0
 
@@ -63,6 +64,8 @@ def build():
 
 
 def try_unproved(words):
+    with open(f'{ROOM}/tried', 'a', encoding='utf-8') as it:
+        it.write(os.path.basename(os.getcwd()) + '\\n')
     if beside('try-seconds') != '0':
         build()
     files = [it.partition('=')[2] for it in words if it.startswith('file-') and '=' in it]
@@ -94,7 +97,7 @@ def write(path, text, is_program=False):
 
 
 class Repository(unittest.TestCase):
-    """A repository of two crates and one above them, with the launcher and the pretended kit."""
+    """A repository of three crates and one above them, with the launcher and the pretended kit."""
 
     def setUp(self):
         self.room = tempfile.mkdtemp(prefix='waveplan-test-')
@@ -107,8 +110,8 @@ class Repository(unittest.TestCase):
         for name in ('tools/floor', 'tools/opinion'):
             shutil.copytree(f'{HOME}/{name}', f'{self.home}/{name}')
         write(f'{self.home}/HANDLES', 'Handles allowed: none.\n')
-        write(f'{self.home}/crates.txt', '# lowest first\nlow:\nwaveplan: low\nabove: low\n')
-        for name, root in (('low', 'lib'), ('waveplan', 'main'), ('above', 'lib')):
+        write(f'{self.home}/crates.txt', '# lowest first\nlow:\nwaveplan: low\nwaves: low\nabove: low\n')
+        for name, root in (('low', 'lib'), ('waveplan', 'main'), ('waves', 'main'), ('above', 'lib')):
             write(f'{self.home}/crates/{name}/src/{root}.rt', '')
         write(f'{self.kit}/rt', PRETENDED_KIT, is_program=True)
         write(f'{self.kit}/rt-plant-bodies', '')
@@ -136,10 +139,11 @@ class Repository(unittest.TestCase):
         return out, told, called.returncode
 
     def program(self, text):
-        """Puts a script in the place of the proved program of these sources."""
-        write(f'{self.home}/out/waveplan', text, is_program=True)
+        """Puts a script in the place of the proved programs of these sources."""
         digest = subprocess.run([f'{self.home}/tools/sources'], stdout=subprocess.PIPE, text=True, check=True).stdout
-        write(f'{self.home}/out/waveplan.sources', digest)
+        for name in ('waveplan', 'waves'):
+            write(f'{self.home}/out/{name}', text, is_program=True)
+            write(f'{self.home}/out/{name}.sources', digest)
 
     def proofs(self):
         """How many proofs were begun."""
@@ -160,7 +164,7 @@ class Launching(Repository):
         out, told, status = self.call('plan', '--layout', 'words.txt')
         self.assertEqual((out, status), ('unproved words of a file\n', 2))
         self.assertIn('unproved build', told)
-        self.assertIn('0 of 2 crates so far, after 0 min 0', told)
+        self.assertIn('0 of 3 crates so far, after 0 min 0', told)
         self.assertIn('--prove', told)
         self.wait()
 
@@ -198,7 +202,8 @@ class Launching(Repository):
     def test_from_the_proof_on_the_proved_program_answers(self):
         out, told, status = self.call('--prove')
         self.assertEqual((out, status), ('', 0))
-        for line in ('low is proved, 1 of 2 crates', 'waveplan is proved, 2 of 2 crates', 'proved and built'):
+        for line in ('low is proved, 1 of 3 crates', 'waveplan is proved, 2 of 3 crates', 'waves is proved, 3 of 3 crates',
+                     'proved and built'):
             self.assertIn(line, told)
         self.assertEqual(self.call('plan', '--layout', 'words.txt'), ('proved plan --layout words.txt\n', '', 6))
         self.assertEqual(self.proofs(), 1)
@@ -208,12 +213,38 @@ class Launching(Repository):
             out, told, status = self.call(word)
             self.assertEqual((told, status), ('', 0))
             for text in ('usage: waveplan plan', '2000000', 'most orders that a cart takes', '[--units NUMBER]', '40000000', '[--rules 0-1]',
-                         '[--pickers 0-100]', '[--root 0-1]', '[--store 0-1]', 'waveplan.store', 'docs/FORMATS.md'):
+                         '[--pickers 0-100]', '[--root 0-1]', '[--store 0-1]', 'waveplan.store', 'docs/FORMATS.md',
+                         'waveplan waves --layout', '--wave 1-64', '[--open FILE]', '[--journal FILE]', '[--most 1-500]',
+                         '[--desk 1-8]', '[--effort 0-1000]'):
                 self.assertIn(text, out)
         out, told, status = self.call('--version')
         self.assertEqual((told, status), ('', 0))
         self.assertRegex(out, '^waveplan .*\n$')
         self.assertEqual(self.proofs(), 0)
+
+    def test_the_first_word_waves_asks_for_the_program_waves(self):
+        out, told, status = self.call('waves', '--open', 'words.txt', '--journal=words.txt')
+        self.assertEqual((out, status), ('unproved words of a file\nunproved words of a file\n', 2))
+        self.assertIn('unproved build', told)
+        with open(f'{self.kit}/tried', encoding='utf-8') as it:
+            self.assertEqual(it.read(), 'waves\n')
+        self.wait()
+        self.assertEqual(self.call('waves', '--wave', '2'), ('proved by waves: waves --wave 2\n', '', 6))
+        self.assertEqual(self.call('plan', 'waves'), ('proved plan waves\n', '', 6))
+        self.assertEqual(self.proofs(), 1)
+
+    def test_waves_has_no_store(self):
+        self.wait()
+        out, told, status = self.call('waves', '--store', '1')
+        self.assertEqual((out, status), ('proved by waves: waves --store 1\n', 6))
+        self.assertEqual([it for it in os.listdir(self.room) if it.startswith('waveplan.store')], [])
+
+    def test_one_program_alone_is_proved_again_with_the_other(self):
+        self.wait()
+        os.remove(f'{self.home}/out/waves')
+        self.assertEqual(self.call('--prove')[2], 0)
+        self.assertEqual(self.proofs(), 2)
+        self.assertEqual(self.call('waves')[0], 'proved by waves: waves\n')
 
     def test_bad_words_are_followed_by_the_usage(self):
         self.program('#!/bin/sh\necho refused words bad-words\nexit 1\n')
@@ -489,6 +520,7 @@ class Released(unittest.TestCase):
         write(f'{self.room}/RELEASE', f'version 1.0.0\ncommit {"0123456789" * 4}\n'
               'kit rattle-kit-13f logic dac8208d650f15bf\ngate 9 passed, 0 failed\n')
         write(f'{self.room}/bin/waveplan', '#!/bin/bash\necho proved "$@"\n[ "$1" != nothing ]\n', is_program=True)
+        write(f'{self.room}/bin/waves', '#!/bin/bash\necho proved by waves: "$@"\n', is_program=True)
         shutil.copy2(f'{HOME}/waveplan', self.room)
         os.makedirs(f'{self.room}/path')
         os.symlink(shutil.which('bash'), f'{self.room}/path/bash')
@@ -500,6 +532,7 @@ class Released(unittest.TestCase):
 
     def test_the_program_answers_at_once(self):
         self.assertEqual(self.call('plan', '--layout', 'x'), ('proved plan --layout x\n', '', 0))
+        self.assertEqual(self.call('waves', '--most', '1'), ('proved by waves: waves --most 1\n', '', 0))
         out, told, status = self.call('nothing')
         self.assertEqual((out, status), ('proved nothing\n', 1))
         self.assertTrue(told.startswith('usage: waveplan plan'))
@@ -516,10 +549,12 @@ class Released(unittest.TestCase):
         self.assertIn('python3 is missing here', told)
 
     def test_a_release_that_is_not_whole(self):
-        os.remove(f'{self.room}/bin/waveplan')
-        out, told, status = self.call('plan')
-        self.assertEqual((out, status), ('', 70))
-        self.assertIn('unpack it again', told)
+        for mode, name in (('plan', 'waveplan'), ('waves', 'waves')):
+            os.remove(f'{self.room}/bin/{name}')
+            out, told, status = self.call(mode)
+            self.assertEqual((out, status), ('', 70))
+            self.assertIn(f'bin/{name} is missing', told)
+            self.assertIn('unpack it again', told)
 
     def on_a_terminal(self, **where):
         """A run whose standard error is a terminal, and this terminal."""

@@ -11,15 +11,6 @@ import by_hand
 import runs
 from opinion import making
 
-# Stands between a script and the program, and changes what it answers.
-PLANTED = '''#!%(python)s -SE
-import re, subprocess, sys
-done = subprocess.run([%(program)r, *sys.argv[1:]], stdin=subprocess.DEVNULL, stdout=subprocess.PIPE)
-sys.stdout.buffer.write(re.sub(%(pattern)r, lambda found: %(new)s, done.stdout, flags=re.MULTILINE))
-sys.stdout.flush()
-sys.exit(%(status)s)
-'''
-
 # Each fault: its name, the mode in which it shows, what is looked for, what stands in its place, and the status.
 FAULTS = [
     ('costs one too high', 'plan', rb'cost (\d+)', 'b"cost %d" % (int(found[1]) + 1)', 'done.returncode'),
@@ -290,7 +281,7 @@ class Fuzzing(unittest.TestCase):
         """What is found of a fault that is planted behind the program."""
         _, mode, pattern, new, status = fault
         program = Path(runs.shelf().name) / ('planted-%d' % place)
-        program.write_text(PLANTED % {'python': sys.executable, 'program': runs.PROGRAM, 'pattern': pattern, 'new': new,
+        program.write_text(runs.PLANTED % {'program': runs.PROGRAM, 'pattern': pattern, 'new': new,
                                       'status': status})
         program.chmod(0o755)
         count = 80 if place < len(FAULTS) else 400
