@@ -12,7 +12,7 @@ returns-clause-wrong c = IfErr-weaker c.check.result _ _
     (λ fault refused named. inr (record {
       wave = _;
       capacity = _;
-      nodes = _;
+      tree = _;
       told = c.in_ok-read.ensures.told;
       broken = refused named;
     })) c.check.ensures.refused
