@@ -258,7 +258,7 @@ class Prices(unittest.TestCase):
 
     def test_changed_certificates_are_refused_or_their_bound_holds(self):
         told = collections.Counter()
-        for number in range(400):
+        for number in range(100):
             dice = random.Random(number)
             text, value = priced.certificate_of(dice)
             layout = layouts.read_layout(text.encode())
