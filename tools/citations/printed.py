@@ -25,8 +25,8 @@ CONFIRMED = 'wave,order,location,quantity\nMON-08.00,SO-10235,1-42-R,8\n'
 
 
 def all_of(pages, top, program, waves=None):
-    """All that was run and looked for: a place, and what is wrong there, or None. Without the program waves its commands
-    are left out."""
+    """All that was run and looked for: a place, and what is wrong there, or None. Without the program waves its
+    commands are left out."""
     for page in pages:
         if page.name in PAGES:
             with tempfile.TemporaryDirectory() as room:

@@ -14,10 +14,11 @@ from pathlib import Path
 
 import endings
 
-SUBCOMMANDS = {'import': 'import_table', 'split': 'split', 'waves': 'sent_waves', 'explain': 'explain', 'sheets': 'sheets', 'continue': 'continue_day',
-               'confirm': 'confirm', 'closing-stock': 'closing_stock', 'to-csv': 'to_csv', 'to-json': 'to_json',
-               'from-json': 'from_json', 'compare': 'compare', 'report': 'report', 'what-if': 'what_if',
-               'slotting': 'slotting', 'benchmark': 'benchmark', 'second-opinion': 'second_opinion'}
+SUBCOMMANDS = {'import': 'import_table', 'split': 'split', 'waves': 'sent_waves', 'explain': 'explain',
+               'sheets': 'sheets', 'continue': 'continue_day', 'confirm': 'confirm',
+               'closing-stock': 'closing_stock', 'to-csv': 'to_csv', 'to-json': 'to_json', 'from-json': 'from_json',
+               'compare': 'compare', 'report': 'report', 'what-if': 'what_if', 'slotting': 'slotting',
+               'benchmark': 'benchmark', 'second-opinion': 'second_opinion'}
 
 
 def module_of(name):

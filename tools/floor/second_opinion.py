@@ -8,8 +8,8 @@ usage: tools/wave second-opinion [plan] --layout FILE --stock FILE --orders FILE
        tools/wave second-opinion [waves] --layout FILE --stock FILE --orders FILE --wave N --capacity C [--units N]
                             [--open FILE] [--journal FILE] [--most N] [--desk D] [--effort N] ANSWER
 
-DAY is what a plan printed, ANSWER what a check, an audit or waves printed, and - stands for standard input. The words before
-it are those of the run. The files are read, each command is answered and each sheet is measured again, as
+DAY is what a plan printed, ANSWER what a check, an audit or waves printed, and - stands for standard input. The words
+before it are those of the run. The files are read, each command is answered and each sheet is measured again, as
 docs/FORMATS.md, docs/RULES.md, docs/TOURS.md and docs/BATCHES.md say it: each desk's commands once and in order, each
 reply, what is held, each wave's orders in one batch within the capacity, each pick, each tour a closed walk of the
 printed length and a shortest one, cost, bound and state, each certificate, refills and stock. With --rules 1 also what

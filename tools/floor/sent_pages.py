@@ -43,7 +43,8 @@ def of_receipts(receipts):
     """A row for each article of which a receipt would free orders; nothing where that isn't known."""
     if receipts is None:
         return ''
-    rows = [(cell(escape(each.article)), number(each.freed), number(each.units), number(each.short)) for each in receipts]
+    rows = [(cell(escape(each.article)), number(each.freed), number(each.units), number(each.short))
+            for each in receipts]
     told = ('<p>If enough of an article came, so many orders more would be served, each in its turn, and so many units '
             'more than are free would be wanted for all.</p>')
     return '<h2>Receipts that free most orders</h2>' + (

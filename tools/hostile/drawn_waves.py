@@ -15,7 +15,8 @@ MOST_WAVES = 100  # with so many at most it is tried what follows
 
 def layout_of(dice):
     aisles = dice.choice((1, 2, 3, 5, 8))
-    numbers = (aisles, dice.choice((1, 2, 4, 7)), dice.randrange(1, 4), dice.randrange(1, 9), dice.randrange(1, aisles + 1))
+    numbers = (aisles, dice.choice((1, 2, 4, 7)), dice.randrange(1, 4), dice.randrange(1, 9),
+               dice.randrange(1, aisles + 1))
     return numbers[:2], ('{"version":1,"aisles":%d,"slots":%d,"pitch":%d,"clearance":1,"spacing":%d,"depot":%d}'
                          % numbers).encode()
 
@@ -115,7 +116,8 @@ def cart_of(words):
 def said_again(words):
     """The words of a second run: those of the first, with all waves, an open file and a journal."""
     job = read_words(words)
-    given = {**job.files, **NAMES, **{name: value for name, value in job.numbers.items() if value is not None}, "most": 500}
+    numbers = {name: value for name, value in job.numbers.items() if value is not None}
+    given = {**job.files, **NAMES, **numbers, "most": 500}
     return ["waves", *(word for name, value in given.items() for word in ("--" + name, str(value)))]
 
 

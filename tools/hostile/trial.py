@@ -20,7 +20,8 @@ End = namedtuple("End", "status output errors")
 
 ROW_WHY = (
     b"columns|not-utf8|bad-name|bad-number|out-of-range|unknown-location|location-twice|unknown-article|unknown-command"
-    b"|unknown-order|order-twice|desk-number|too-many-rows|too-many-places|too-many-orders|too-many-lines|too-many-waves"
+    b"|unknown-order|order-twice|desk-number|too-many-rows|too-many-places|too-many-orders|too-many-lines"
+    b"|too-many-waves"
 )
 NODE_WHY = (
     rb"bad-cuts|cut|split-kept|not-dead \d+|duals-length|decided-prices|sum-low|not-feasible( \d+)*|bad-marks"

@@ -159,7 +159,8 @@ class Judge:
                         'the %d orders of group %s are put into more or fewer waves than due' % (len(orders), group))
         rows = ranks + ([later] if later else [])
         for earlier, behind in zip(rows, rows[1:]):
-            self.lines.test(max(earlier) <= min(behind), 'a wave of group %s has a rank above one of a later wave' % group)
+            self.lines.test(max(earlier) <= min(behind),
+                            'a wave of group %s has a rank above one of a later wave' % group)
 
     # The waves, and the orders that are left
 

@@ -129,7 +129,8 @@ class Documents(unittest.TestCase):
     def printed(self, page):
         with tempfile.TemporaryDirectory() as folder:
             self.assertTrue(Path(folder).is_dir())
-            return [why for _, why in printed.all_of([page], runs.TOP, Path(runs.PROGRAM)) if why]
+            waves = Path(runs.WAVES) if runs.WAVES else None
+            return [why for _, why in printed.all_of([page], runs.TOP, Path(runs.PROGRAM), waves) if why]
 
     def test_what_is_printed(self):
         for name in ('README.md', 'docs/EXAMPLES.md', 'docs/DAY.md'):
@@ -150,6 +151,17 @@ class Documents(unittest.TestCase):
             found = [why for _, why in printed.all_of([page], runs.TOP, program) if why]
             self.assertEqual(due in ' '.join(found), True, (new, found))
             self.assertEqual(bool(due), bool(found), (new, found))
+
+    def test_commands_of_waves_are_those_of_its_program(self):
+        """Two programs that print their names; without the second one its commands and what they print are left out."""
+        texts = {name: '#!/bin/sh\necho %s "$1"\n' % name for name in ('first', 'second')}
+        folder = runs.put(Path(runs.shelf().name) / 'two-programs', texts)
+        text = '# Examples\n\n    ./waveplan plan 1\n\n    first plan\n\n    ./waveplan waves 1\n\n    %s waves\n'
+        for name, waves, due in (('second', 'second', []), ('first', None, []),
+                                 ('first', 'second', ['no such line is printed: first waves'])):
+            page, second = Page('docs/EXAMPLES.md', text % name), folder / waves if waves else None
+            found = [why for _, why in printed.all_of([page], runs.TOP, folder / 'first', second) if why]
+            self.assertEqual(due, found)
 
     def test_wrong_lines_and_commands(self):
         head = self.texts['README.md'].split('## What the words')[0]

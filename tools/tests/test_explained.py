@@ -75,7 +75,8 @@ class Explained(unittest.TestCase):
         self.assertEqual(set(), named - set(refusals.known()))
         self.assertEqual(set(refusals.of('record')), {'columns', 'not-utf8', 'bad-name', 'bad-number', 'out-of-range',
                                                       'unknown-location', 'location-twice', 'unknown-article',
-                                                      'unknown-order', 'order-twice', 'unknown-command', 'desk-number', 'too-many-rows',
+                                                      'unknown-order', 'order-twice', 'unknown-command',
+                                                      'desk-number', 'too-many-rows',
                                                       'too-many-places', 'too-many-orders', 'too-many-lines',
                                                       'too-many-waves'})
 

@@ -545,6 +545,9 @@ class Changing(unittest.TestCase):
     def test_the_statuses_and_stores_are_tried_where_the_program_is_reached(self):
         names = [name for name, _ in self.changed.checks_for(['high', 'waveplan'])]
         self.assertEqual(names, ['waits', 'documents', 'scripts', 'proofs', 'statuses', 'stores', 'edits', 'programs'])
+        reached = [name for name, _ in self.changed.checks_for(['waves'])]
+        self.assertIn('statuses', reached)
+        self.assertNotIn('stores', reached)
         reached = [name for name, _ in self.changed.checks_for(['cases'])]
         self.assertEqual(reached, ['waits', 'documents', 'scripts', 'proofs', 'edits', 'programs'])
 
@@ -724,6 +727,22 @@ class Waiting(unittest.TestCase):
     def test_a_crate_in_which_none_may_wait_needs_no_number(self):
         self.assertEqual(self.faults('pub fn none() {}\n'), [])
         self.assertEqual(len(self.faults('pub fn none() {}\n', may_wait=1)), 1)
+
+
+class Releasing(unittest.TestCase):
+    def test_a_release_has_both_programs(self):
+        release = script('../release')
+        self.addCleanup(setattr, release.built, 'copied_to', release.built.copied_to)
+
+        def copied_to(folder):
+            for name in release.built.PROGRAMS:
+                with open(f'{folder}/{name}', 'w', encoding='utf-8') as it:
+                    it.write(f'the program {name}')
+            return [f'{folder}/{name}' for name in release.built.PROGRAMS]
+
+        release.built.copied_to = copied_to
+        self.assertEqual(list(release.proved_programs()), [('bin/waveplan', b'the program waveplan', True),
+                                                           ('bin/waves', b'the program waves', True)])
 
 
 class Ending(unittest.TestCase):

@@ -39,6 +39,20 @@ class Launched(unittest.TestCase):
         (self.home / 'bin').mkdir()
         (self.home / 'bin' / 'waveplan').symlink_to(runs.PROGRAM)
 
+    @unittest.skipUnless(runs.WAVES, 'the program waves is not named')
+    def test_the_first_word_waves_calls_the_program_waves(self):
+        (self.home / 'bin' / 'waves').symlink_to(runs.WAVES)
+        words = [word for name in runs.FILES[:3] for word in ('--' + name.split('.')[0], name)]
+        words = [str(self.home / 'waveplan'), 'waves', *words, '--wave', '2', '--capacity', '2']
+        done = subprocess.run(words, cwd=self.folder, stdin=subprocess.DEVNULL, stdout=subprocess.PIPE,
+                              stderr=subprocess.PIPE, timeout=60)
+        self.assertEqual((0, b''), (done.returncode, done.stderr))
+        self.assertTrue(done.stdout.startswith(b'desks\ndesk,command,arguments\n1,submit,W.1,'))
+        done = subprocess.run([*words, '--store', '1'], cwd=self.folder, stdin=subprocess.DEVNULL,
+                              stdout=subprocess.PIPE, stderr=subprocess.PIPE, timeout=60)
+        self.assertEqual((1, b'refused words bad-words\n'), (done.returncode, done.stdout))
+        self.assertIn(b'waveplan waves --layout FILE', done.stderr)
+
     def start(self):
         return subprocess.Popen([str(self.home / 'waveplan'), *WORDS], cwd=self.folder, stdin=subprocess.DEVNULL,
                                 stdout=subprocess.PIPE, stderr=subprocess.PIPE)

@@ -202,8 +202,8 @@ class Launching(Repository):
     def test_from_the_proof_on_the_proved_program_answers(self):
         out, told, status = self.call('--prove')
         self.assertEqual((out, status), ('', 0))
-        for line in ('low is proved, 1 of 3 crates', 'waveplan is proved, 2 of 3 crates', 'waves is proved, 3 of 3 crates',
-                     'proved and built'):
+        for line in ('low is proved, 1 of 3 crates', 'waveplan is proved, 2 of 3 crates',
+                     'waves is proved, 3 of 3 crates', 'proved and built'):
             self.assertIn(line, told)
         self.assertEqual(self.call('plan', '--layout', 'words.txt'), ('proved plan --layout words.txt\n', '', 6))
         self.assertEqual(self.proofs(), 1)

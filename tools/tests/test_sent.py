@@ -63,12 +63,14 @@ class Sent(unittest.TestCase):
     def test_each_served_order_is_in_exactly_one_wave(self):
         self.wrong('is answered', changed(EXAMPLE, ('W.2,O2', 'W.2,O1')))
         self.wrong('1 waves go out where 2 are due', [*EXAMPLE[:4], *EXAMPLE[6:9], *EXAMPLE[10:]])
-        self.wrong('are put into more or fewer waves than due', changed(EXAMPLE, ('O1,O3', 'O1'), ('orders 2', 'orders 1')))
+        self.wrong('are put into more or fewer waves than due',
+                   changed(EXAMPLE, ('O1,O3', 'O1'), ('orders 2', 'orders 1')))
 
     def test_waves_have_their_size_and_their_number(self):
         self.wrong('more orders than a wave may have', changed(EXAMPLE, ('O1,O3', 'O1,O2,O3')))
         self.wrong('3 waves go out where 2 are due',
-                   changed(EXAMPLE, ('O1,O3', 'O1'), ('1,release,W.2', '1,release,W.2\n1,submit,W.3,O3\n1,release,W.3')))
+                   changed(EXAMPLE, ('O1,O3', 'O1'),
+                           ('1,release,W.2', '1,release,W.2\n1,submit,W.3,O3\n1,release,W.3')))
         self.wrong('2 waves go out where 1 are due', EXAMPLE, wave=3)
 
     def test_orders_and_waves_stand_as_they_were_served(self):
@@ -120,7 +122,8 @@ class Sent(unittest.TestCase):
     def test_no_rank_of_a_wave_is_above_one_of_a_later_wave(self):
         ranks = 'order,group,rank\nO1,W,0\nO2,W,1\nO3,W,0\n'
         self.wrong('is due', EXAMPLE, open=ranks)
-        output = [*changed(EXAMPLE[:11], ('W.2 orders 1 ranks 0 0', 'W.2 orders 1 ranks 1 1')), 'left', 'end left', 'end']
+        output = [*changed(EXAMPLE[:11], ('W.2 orders 1 ranks 0 0', 'W.2 orders 1 ranks 1 1')), 'left', 'end left',
+                  'end']
         self.right(output, open=ranks)
         across = [*ACROSS[:11], 'left', 'end left', 'end']
         self.wrong('has a rank above one of a later wave', across, open=ranks)
@@ -178,12 +181,14 @@ class Sent(unittest.TestCase):
 
     def test_files_are_refused_at_their_first_test(self):
         heading = 'order,group,rank\n'
-        for rows, why in (('O1,G\n', 'row 2 columns'), ('O1,\udcff,x\n', 'row 2 not-utf8'), ('O 1,G,0\n', 'row 2 bad-name'),
-                          ('O9,G,x\n', 'row 2 unknown-order'), ('O1,G,0\nO1, ,x\n', 'row 3 order-twice'),
+        for rows, why in (('O1,G\n', 'row 2 columns'), ('O1,\udcff,x\n', 'row 2 not-utf8'),
+                          ('O 1,G,0\n', 'row 2 bad-name'), ('O9,G,x\n', 'row 2 unknown-order'),
+                          ('O1,G,0\nO1, ,x\n', 'row 3 order-twice'),
                           ('O1,%s,x\n' % ('g' * 33), 'row 2 bad-name'), ('O1,G,-1\n', 'row 2 bad-number'),
                           ('O1,G,1000000001\n', 'row 2 out-of-range')):
             data = (heading + rows).encode('utf-8', 'surrogateescape')
-            named = {'layout': by_hand.LAYOUT.encode(), 'stock': STOCK.encode(), 'orders': ORDERS.encode(), 'open': data}
+            named = {'layout': by_hand.LAYOUT.encode(), 'stock': STOCK.encode(), 'orders': ORDERS.encode(),
+                     'open': data}
             found = answers.refusal_of([*WORDS, '--wave', '2', '--open', 'open'], named.get)
             self.assertEqual((2, 'refused open %s' % why), (found.status, found.line))
         self.assertEqual('read fault open', answers.refusal_of([*WORDS, '--wave', '2', '--open', 'none'], {
@@ -217,8 +222,8 @@ class Told(unittest.TestCase):
         done, _ = self.told(EXAMPLE, *files)
         self.assertEqual(['1 B more would free 1 of the orders', '1 A more would free 1 of the orders'],
                          done.errors.splitlines()[1:])
-        # Two orders are short of A alone, and O7 of both A and B, so that no receipt of one article frees it. With O5, O6
-        # and all that is served 2 + 2 + 2 + 2 of A are wanted, 3 more than there are.
+        # Two orders are short of A alone, and O7 of both A and B, so that no receipt of one article frees it. With O5,
+        # O6 and all that is served 2 + 2 + 2 + 2 of A are wanted, 3 more than there are.
         orders = ORDERS + 'O6,A,2\nO7,A,1\nO7,A,1\nO7,B,1\n'
         output = [*EXAMPLE[:-2], 'O6 short A 2 1', 'O7 short A 2 1', *EXAMPLE[-2:]]
         self.assertEqual([], faults(output, orders=orders))
@@ -238,10 +243,11 @@ class Told(unittest.TestCase):
             self.assertIn(text, page)
 
     def test_the_page_tells_each_cause(self):
-        output = [*EXAMPLE[:11], 'left', 'O4 in W1', 'O5 over-cart 1200', 'O6 later', 'O7 short A 2 1', 'end left', 'end']
+        output = [*EXAMPLE[:11], 'left', 'O4 in W1', 'O5 over-cart 1200', 'O6 later', 'O7 short A 2 1', 'end left',
+                  'end']
         done, folder = self.told(output, '--html', 'page.html')
-        self.assertEqual('2 waves with 3 orders go out; 4 orders are left: 1 in a wave already, 1 over the cart, 1 short, '
-                         '1 later\n', done.errors)
+        self.assertEqual('2 waves with 3 orders go out; 4 orders are left: 1 in a wave already, 1 over the cart, '
+                         '1 short, 1 later\n', done.errors)
         page = (folder / 'page.html').read_text()
         for text in ('lies in the wave W1', 'has 1200 units, more than a cart holds', 'goes out with a later wave'):
             self.assertIn(text, page)

@@ -171,7 +171,8 @@ class Waves(Runs):
     @unittest.skipUnless(os.path.exists('/dev/full'), 'there is no full device here')
     def test_an_output_that_can_not_be_written_ends_with_4(self):
         folder, _ = self.folder()
-        words = ['waves', '--layout', 'layout', '--stock', 'stock', '--orders', 'orders', '--wave', '2', '--capacity', '2']
+        words = ['waves', '--layout', 'layout', '--stock', 'stock', '--orders', 'orders', '--wave', '2', '--capacity',
+                 '2']
         with open('/dev/full', 'wb') as full:
             self.assertEqual(4, subprocess.run([runs.WAVES, *words], cwd=folder, stdout=full).returncode)
 

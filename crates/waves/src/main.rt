@@ -102,12 +102,7 @@ fn run_given<R: Threads + Wait + Sync, F: Files, K: Sink, G: Gate>(
         (course (F.told files.old) (K.told out.old) (F.told files.new) (K.told out.new))
         (exit_status result)) }
 {
-    end_of(
-        resources,
-        words_given(resources.alloc, given),
-        files,
-        out,
-    )
+    end_of(resources, words_given(resources.alloc, given), files, out)
 }
 
 fn main(rt: HostRuntime) -> ExitCode {
