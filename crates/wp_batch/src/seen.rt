@@ -68,14 +68,10 @@ impl<'a> SeenLengths<'a> {
         })
     }
 
-    // The entry that a batch may lie in.
+    // The entry that a batch may lie in. Where there are more places than entries, these are as many as they can be.
     fn entry_of(&self, batch: Batch) -> usize {
         let place = self.places.place_of(batch).unwrap_or(0);
-        let count = self.entries.len() as u64;
-        if place < count {
-            return place as usize;
-        }
-        place.checked_rem(count).unwrap_or(0) as usize
+        (place % MOST_SEEN) as usize
     }
 
     // No promise rests on it: what a move saves is measured where it is kept.

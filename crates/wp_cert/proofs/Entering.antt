@@ -6,19 +6,21 @@ use Rattle.wp_pairs.specs.Permitted.{Pairing}
 use Rattle.std.proofs.lemmas.Bool.{cases_lt}
 use Rattle.wp_lengths.specs.Duals.{duals_of}
 use Rattle.wp_lengths.specs.Lengths.{IsLengthOf}
-use Rattle.wp_lengths.specs.Visits.{IsReach, Passed, Place, Wrong}
+use Rattle.wp_lengths.specs.Visits.{Passed, Place, Wrong}
 use Rattle.wp_cuts.specs.PricedVisits.{missing, pruned, too_much, unsound}
+use Rattle.wp_cuts.specs.Cuts.{CutParts}
 use Rattle.wp_cuts.specs.Prices.{taken_off}
 use Rattle.wp_cert.specs.declared.tree.Own.{Own}
-use Rattle.wp_cert.specs.Kept.{IsOwed}
+use Rattle.wp_cert.specs.Kept.{IsOwed, IsOwedAt, IsOwedWith}
 use Rattle.wp_cert.specs.Terms.{Terms}
 use Rattle.wp_cert.specs.Trees.{IsMarkedVisit}
 use Rattle.wp_visit.specs.declared.place.Place.{Place as PlaceData}
+use Rattle.wp_visit.specs.Items.{most_dual}
 use Rattle.wp_visit.specs.Places.{IsAt, Task}
 use Rattle.wp_visit.proofs.Children.{reached_known}
 use Rattle.wp_cert.specs.declared.tested.TestedOwn.{TestedOwn}
 use Rattle.wp_cert.specs.declared.tree.CertWhy.TheVariants as why
-use Rattle.wp_cert.specs.MarkTests.{IsEntered, IsPaidPlace, IsTestOf, IsTooMuch, SaysOf}
+use Rattle.wp_cert.specs.MarkTests.{IsEntered, IsPaidPlace, IsPlainOwn, IsTestOf, IsTooMuch, SaysOf}
 use Rattle.wp_cert.specs.Known.{IsKnown}
 use Rattle.wp_cert.specs.Visited.{HasEachLength, ReachesTooMuch, StandsForMore}
 use Rattle.wp_cert.proofs.MarkSteps.{mark_first}
@@ -76,55 +78,67 @@ module _ (task : Task) (tested : TestedOwn) (is : IsTestOf task tested) where
         (sym (mark_first tested.own.now.marks next false mark)) (unsound within reached.long reached.reaches reached.above)
 
 -- what a place owes that isn't more than sixty times what its length is no less than
-pub paid_there : (terms : Terms) (own : Own) (place : List ℕ) (off owed least : ℕ) → HasEachLength terms.wave → All (λ order. order < length terms.wave.orders) place
-    → IsKnown terms.wave place least → IsOwed (duals_of own.duals place + own.count + 0) off owed → off ≡ taken_off terms.cuts own.prices place
-    → owed ≤ 60 * least → IsPaidPlace terms own place
-paid_there terms own place off owed least lengths orders known is taken within = λ _.
+pub paid_there : (terms : Terms) (own : Own) (place : List ℕ) (owed least : ℕ) → HasEachLength terms.wave → All (λ order. order < length terms.wave.orders) place
+    → IsKnown terms.wave place least → IsOwedAt terms own place 0 owed → owed ≤ 60 * least → IsPaidPlace terms own place
+paid_there terms own place owed least lengths orders known is within = λ _.
     let one = lengths place orders in
     let pays = (is (60 * least) (omega (arith, known.small))).0 within in
-    (one.0, one.1, omega (arith, known.least one.0 one.1, pays, taken))
+    (one.0, one.1, omega (arith, known.least one.0 one.1, pays))
 
 -- what a place owes is more, so what it is charged is more than so much with what is taken off
-pub owes_more : (charged off owed most : ℕ) → IsOwed charged off owed → most < 2 ^ 64 → most < owed → most + off < charged
+pub owes_more : (charged off owed most : ℕ) → IsOwed charged off owed → most < most_dual → most < owed → most + off < charged
 owes_more charged off owed most is small short = ⊎_elim
     (λ (more : most + off < charged). more)
     (λ (within : charged ≤ most + off). let low = (is most small).1 within in absurd (omega (arith, low, short)))
     (cases_lt (most + off) charged)
 
 -- a place that isn't empty, whose length doesn't cover what it owes
-pub much_there : (terms : Terms) (own : Own) (place : List ℕ) (off owed total : ℕ) → 0 < length place → IsLengthOf terms.wave place total → total < 2 ^ 28
-    → IsOwed (duals_of own.duals place + own.count + 0) off owed → off ≡ taken_off terms.cuts own.prices place → 60 * total < owed
-    → IsTooMuch terms own place
-much_there terms own place off owed total some long small is taken short = record {
+pub much_there : (terms : Terms) (own : Own) (place : List ℕ) (owed total : ℕ) → 0 < length place → IsLengthOf terms.wave place total → total < 2 ^ 28
+    → IsOwedAt terms own place 0 owed → 60 * total < owed → IsTooMuch terms own place
+much_there terms own place owed total some long small is short = record {
   filled = some;
   total = total;
   long = long;
-  above = omega (arith, owes_more (duals_of own.duals place + own.count + 0) off owed (60 * total) is (omega (arith, small)) short, taken);
+  above = omega (
+    arith,
+    owes_more (duals_of own.duals place + own.count + 0) (taken_off terms.cuts own.prices place) owed (60 * total) is (omega (arith, small)) short,
+  );
 }
 
 -- a place whose length covers what it owes with its reach
-pub more_there : (terms : Terms) (pairing : Pairing) (own : Own) (place : List ℕ) (from reach off owed least : ℕ) → HasEachLength terms.wave
-    → All (λ order. order < length terms.wave.orders) place → IsKnown terms.wave place least → IsReach pairing own.duals place from reach
-    → IsOwed (duals_of own.duals place + own.count + reach) off owed → off ≡ taken_off terms.cuts own.prices place → owed ≤ 60 * least
-    → StandsForMore terms pairing own place from
-more_there terms pairing own place from reach off owed least lengths orders known reaches is taken within =
+pub more_there : (terms : Terms) (pairing : Pairing) (own : Own) (place : List ℕ) (from owed least : ℕ) → HasEachLength terms.wave
+    → All (λ order. order < length terms.wave.orders) place → IsKnown terms.wave place least → IsOwedWith terms pairing own place from owed
+    → owed ≤ 60 * least → StandsForMore terms pairing own place from
+more_there terms pairing own place from owed least lengths orders known with within =
     let one = lengths place orders in
-    let pays = (is (60 * least) (omega (arith, known.small))).0 within in record {
+    let pays = (with.is (60 * least) (omega (arith, known.small))).0 within in record {
       total = one.0;
-      reach = reach;
+      reach = with.reach;
       long = one.1;
-      reaches = reaches;
-      within = omega (arith, known.least one.0 one.1, pays, taken);
+      reaches = with.reaches;
+      within = omega (arith, known.least one.0 one.1, pays);
     }
 
 -- a place whose length doesn't
-pub reached_there : (terms : Terms) (pairing : Pairing) (own : Own) (place : List ℕ) (from reach off owed total : ℕ) → IsLengthOf terms.wave place total
-    → total < 2 ^ 28 → IsReach pairing own.duals place from reach → IsOwed (duals_of own.duals place + own.count + reach) off owed
-    → off ≡ taken_off terms.cuts own.prices place → 60 * total < owed → ReachesTooMuch terms pairing own place from
-reached_there terms pairing own place from reach off owed total long small reaches is taken short = record {
+pub reached_there : (terms : Terms) (pairing : Pairing) (own : Own) (place : List ℕ) (from owed total : ℕ) → IsLengthOf terms.wave place total
+    → total < 2 ^ 28 → IsOwedWith terms pairing own place from owed → 60 * total < owed → ReachesTooMuch terms pairing own place from
+reached_there terms pairing own place from owed total long small with short = record {
   total = total;
-  reach = reach;
+  reach = with.reach;
   long = long;
-  reaches = reaches;
-  above = omega (arith, owes_more (duals_of own.duals place + own.count + reach) off owed (60 * total) is (omega (arith, small)) short, taken);
+  reaches = with.reaches;
+  above = omega (
+    arith,
+    owes_more (duals_of own.duals place + own.count + with.reach) (taken_off terms.cuts own.prices place) owed (60 * total) with.is
+        (omega (arith, small)) short,
+  );
 }
+
+-- where prices are plain, what a place has in duals is what it owes
+pub plain_owed : (tested : TestedOwn) (place : List ℕ) (reach owed : ℕ) → IsPlainOwn tested → owed ≡ duals_of tested.own.now.duals place + reach
+    → IsOwedAt tested.terms.now tested.own.now place reach owed
+plain_owed tested place reach owed plain is = λ most small.
+    let none = ap (λ (cuts : List CutParts). taken_off cuts tested.own.now.prices place) plain.cuts in (
+      λ low. omega (arith, low, is, none, plain.count),
+      λ low. omega (arith, low, is, none, plain.count),
+    )

@@ -1,5 +1,5 @@
 -- Duals as a visit has them: where they come to less than its greatest dual, they are the own ones.
-use Rattle.std.proofs.Common.{◌≡◌, ◌≢◌, ◌∙◌, ℕ, ◌+◌, ◌<◌, ◌≤◌, ◌++◌, List, [], ◌∷◌, All, Contains, length, get_or, arith, refl, sym, subst, ⊎_elim}
+use Rattle.std.proofs.Common.{◌≡◌, ◌≢◌, ◌∙◌, ℕ, ◌+◌, ◌*◌, ◌<◌, ◌≤◌, ◌++◌, List, [], ◌∷◌, All, Contains, length, get_or, arith, refl, sym, subst, ⊎_elim}
 use Rattle.std.specs.Prelude.{slice_index}
 use Rattle.std.proofs.lemmas.Bool.{cases_eq, cases_lt}
 use Rattle.std.proofs.lemmas.List.{get_or_append_left, get_or_push}
@@ -7,6 +7,7 @@ use Rattle.std.proofs.lemmas.List.Elements.{All-contains}
 use Rattle.std.proofs.lemmas.List.Sums.{sum_by-cons}
 use Rattle.wp_pairs.specs.Permitted.{Pairing}
 use Rattle.wp_pairs.proofs.Members.{contains_first, contains_later}
+use Rattle.wp_lengths.proofs.DualBounds.{bounded_sum}
 use Rattle.wp_lengths.specs.Duals.{duals_of}
 use Rattle.wp_lengths.specs.Visits.{AreFurther, IsLater, IsReach}
 use Rattle.wp_visit.specs.Items.{most_dual}
@@ -17,6 +18,13 @@ limited_at : (own limited : ℕ) → IsLimited own limited → (limited ≤ own)
 limited_at own limited is = ⊎_elim
     (λ (low : own < most_dual). let e = is.low low in (omega (arith, e), λ _. sym e))
     (λ (high : most_dual ≤ own). let e = is.high high in (omega (arith, e, high), λ below. absurd (omega (arith, e, below))))
+    (cases_lt own most_dual)
+
+-- nor more than the greatest
+limited_most : (own limited : ℕ) → IsLimited own limited → limited ≤ most_dual
+limited_most own limited is = ⊎_elim
+    (λ (low : own < most_dual). let e = is.low low in omega (arith, e, low))
+    (λ (high : most_dual ≤ own). let e = is.high high in omega (arith, e))
     (cases_lt own most_dual)
 
 -- each of a batch is so limited
@@ -59,6 +67,15 @@ module _ (own limited : List ℕ) (are : AreLimited own limited) where
       → total < most_dual → total ≡ duals_of own batch
   own_total batch orders total count known is below =
       is ∙ sym (own_sum own limited batch (each_known batch orders count known) (omega (arith, is, below)))
+
+  -- a reach is no more than the greatest duals of all orders for which a place has room
+  pub reach_fits : (pairing : Pairing) (place : List ℕ) (from reach : ℕ) → pairing.orders ≡ length own → IsReach pairing limited place from reach
+      → reach + most_dual * length place ≤ most_dual * pairing.capacity
+  reach_fits pairing place from reach count reaches =
+      let each = each_further pairing place from reaches.some.0 count reaches.some.1 in
+      let low = bounded_sum (slice_index limited) most_dual reaches.some.0
+      (λ x has. limited_most (slice_index own x) (slice_index limited x) (each x has)) in
+      omega (arith, low, reaches.some.2, reaches.some.1.fits)
 
   -- a reach below the greatest dual is the reach under the own ones
   pub own_reach : (pairing : Pairing) (place : List ℕ) (from reach : ℕ) → pairing.orders ≡ length own → IsReach pairing limited place from reach

@@ -1,5 +1,5 @@
 -- How the marks of a node are tested while its permitted batches are visited.
-use Rattle.std.specs.Prelude.{◌≡◌, ℕ, ◌<◌, ◌≤◌, ◌⊎◌, true, List, [], ◌∷◌, Result, Ok, Err, drop, length, slice_index, ⊤}
+use Rattle.std.specs.Prelude.{◌≡◌, ℕ, ◌<◌, ◌≤◌, ◌⊎◌, true, List, [], ◌∷◌, Result, Ok, Err, IsTrue, drop, length, slice_index, ⊤}
 use Rattle.wp_pairs.specs.Permitted.{Pairing}
 use Rattle.wp_lengths.specs.Duals.{sixtieths_of}
 use Rattle.wp_lengths.specs.Lengths.{IsLengthOf}
@@ -38,12 +38,18 @@ pub record IsTestOf (task : Task) (tested : TestedOwn) : Type 0 where
   pub duals : AreLimited tested.own.now.duals task.duals
   pub lengths : HasEachLength tested.terms.now.wave
 
+-- a node has plain prices: its tree has no cuts, and its batches have no price
+pub record IsPlainOwn (tested : TestedOwn) : Type 0 where
+  pub cuts : tested.terms.now.cuts ≡ []
+  pub count : tested.own.now.count ≡ 0
+
 -- a test of marks goes along such a visit, and what it keeps and knows is right
 pub record FitsTest (task : Task) (test : MarkTest) : Type 0 where
   pub is : IsTestOf task test.tested
   pub levels : AreLevels test.tested.terms.now.wave test.levels
   pub known : AreKnown test.tested.terms.now.wave test.known
   pub within : test.next ≤ length test.tested.own.now.marks
+  pub plain : IsTrue test.is_plain → IsPlainOwn test.tested
 
 -- what is due is visited with the marks from one place on, and passes or is refused
 abbrev pub SaysOf : Pairing → TestedOwn → Due → ℕ → Result ⊤ CertWhy → ℕ → Type 0

@@ -15,7 +15,7 @@ use crate::terms::CheckTerms;
 use crate::tree::{CertFault, CertWhy, Node, Tree, WrittenCuts};
 use crate::way::{Met, NodeStep, SplitWay};
 use std::alloc::Global;
-use wp_cuts::{RankCut, least_batches, step_of};
+use wp_cuts::{CutTable, least_batches, step_of};
 use wp_lengths::{Wave, shares_of};
 use wp_pairs::{Capacity, OrderPair};
 
@@ -132,20 +132,20 @@ fn terms_with<'a>(
     wave: &'a Wave,
     capacity: Capacity,
     given: &Option<WrittenCuts>,
-    cuts: &'a Vec<RankCut>,
+    table: &'a CutTable<'a>,
 ) -> CheckTerms<'a>
-    requires value { cuts.now.items ≡ cuts_in given.now }
+    requires value { table.now ≡ cuts_in given.now }
     requires valid { AreCuts (length wave.now.orders) (cuts_in given.now) }
     ensures right { AreTermsFor wave.now given.now result.step }
     ensures terms { result ≡ terms_of wave.now capacity.most given.now result.step }
 {
     let _orders = wave.orders();
     match given {
-        None => CheckTerms::of(wave, 1, cuts, 0),
+        None => CheckTerms::of(wave, 1, table, 0),
         Some(_) => CheckTerms::of(
             wave,
             step_of(&wave.layout()),
-            cuts,
+            table,
             least_batches(wave, capacity),
         ),
     }
@@ -190,7 +190,10 @@ pub fn check(alloc: Global, wave: &Wave, capacity: u32, tree: &Tree) -> Result<u
         Ok(cuts) => cuts,
         Err(why) => return Err(fault_at(0, why)),
     };
-    let terms = terms_with(wave, capacity, &tree.cuts, &cuts);
+    let Ok(table) = CutTable::of(alloc, &cuts) else {
+        return Err(fault_at(0, CertWhy::Memory));
+    };
+    let terms = terms_with(wave, capacity, &tree.cuts, &table);
     let checked = CheckedNodes {
         terms: &terms,
         capacity,

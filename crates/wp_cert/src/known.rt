@@ -21,11 +21,11 @@ pub struct KnownLengths {
     kept: [KnownLength; 9],
 }
 
-// Where it is kept what is known of a batch.
-fn slot_of(batch: Batch) -> usize
+// Where it is kept what is known of a batch of so many orders.
+fn slot_of(orders: u32) -> usize
     ensures { result < 9 }
 {
-    batch.len().min(MOST_ORDERS) as usize
+    orders.min(MOST_ORDERS) as usize
 }
 
 impl KnownLengths {
@@ -44,15 +44,15 @@ impl KnownLengths {
     pub fn of(&self, batch: Batch) -> u64
         ensures { (wave : WavePicks) → AreKnown wave self.now → IsKnown wave batch result }
     {
-        let kept = self.kept[slot_of(batch)];
+        let kept = self.kept[slot_of(batch.len())];
         if kept.batch.is(batch) { kept.least } else { 0 }
     }
 
-    /// Keeps a number that the length of a batch is no less than.
-    pub fn keep(&mut self, batch: Batch, least: u64)
+    /// Keeps a number that the length of a batch of so many orders is no less than.
+    pub fn keep(&mut self, orders: u32, batch: Batch, least: u64)
         ensures { (wave : WavePicks) → AreKnown wave self.old → IsKnown wave batch least
             → AreKnown wave self.new }
     {
-        self.kept[slot_of(batch)] = KnownLength { batch, least };
+        self.kept[slot_of(orders)] = KnownLength { batch, least };
     }
 }

@@ -13,7 +13,6 @@ ghost use Rattle.wp_cert.specs.Visited.{HasEachLength};
 ghost use Rattle.wp_lengths.specs.Visits.{Passed, Place};
 
 use crate::path::has_open;
-use crate::paying::taken_off;
 use crate::terms::CheckTerms;
 use crate::tested::TestedOwn;
 use crate::tree::{CertWhy, Duals, Own};
@@ -31,7 +30,7 @@ fn has_all(terms: &CheckTerms<'_>, pairs: &Pairs, own: &Own) -> bool
 {
     own.duals.len() == pairs.orders()
         && own.tight.len() == pairs.orders()
-        && own.prices.len() as usize == terms.cuts().len()
+        && own.prices.len() as usize == terms.table().cuts().len()
 }
 
 // Whether neither batches nor cuts have a price.
@@ -127,7 +126,7 @@ fn pays_its_length(tested: &TestedOwn<'_>, batch: Batch) -> bool
     let length = terms.wave().batch_length(batch);
     let sum = sum_of(tested.own.duals.as_slice(), batch);
     let charged = sum.saturating_add(u128::from(tested.own.count));
-    let off = taken_off(terms.cuts(), tested.own.prices.as_slice(), batch);
+    let off = terms.table().taken_off(tested.own.prices.as_slice(), batch);
     let paid = u128::from(SIXTIETHS * length) + off;
     if charged == paid {
         return true;

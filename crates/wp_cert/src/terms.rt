@@ -7,7 +7,7 @@ ghost use Rattle.wp_cert.specs.Terms.{net_of};
 use crate::paying::{all_charged, taken_off_all};
 use crate::tree::Own;
 use std::marker::Model;
-use wp_cuts::{RankCut, rounded_up};
+use wp_cuts::{CutTable, rounded_up};
 use wp_lengths::Wave;
 
 /// A wave, the step to whose multiples bounds are rounded up, up to 64 cuts, and how many batches are counted, up to
@@ -16,7 +16,7 @@ use wp_lengths::Wave;
 pub struct CheckTerms<'a> {
     wave: &'a Wave,
     step: u32,
-    cuts: &'a Vec<RankCut>,
+    table: &'a CutTable<'a>,
     batches: u64,
 }
 
@@ -26,23 +26,23 @@ impl<'a> Model for CheckTerms<'a> {
 
     ghost Value = { Terms };
 
-    ghost view = { λ t. record { wave = t.wave.now; step = t.step; cuts = t.cuts.now.items; batches = t.batches } };
+    ghost view = { λ t. record { wave = t.wave.now; step = t.step; cuts = t.table.now; batches = t.batches } };
 
-    ghost invariant = { λ t. AreKeptTerms (record { wave = t.wave.now; step = t.step; cuts = t.cuts.now.items; batches = t.batches }) };
+    ghost invariant = { λ t. AreKeptTerms (record { wave = t.wave.now; step = t.step; cuts = t.table.now; batches = t.batches }) };
 }
 
 impl<'a> CheckTerms<'a> {
     /// These terms.
-    pub fn of(wave: &'a Wave, step: u32, cuts: &'a Vec<RankCut>, batches: u64) -> CheckTerms<'a>
+    pub fn of(wave: &'a Wave, step: u32, table: &'a CutTable<'a>, batches: u64) -> CheckTerms<'a>
         requires some { 1 ≤ step }
-        requires few { length cuts.now.items ≤ 64 }
         requires counted { batches ≤ 64 }
-        ensures { result ≡ record { wave = wave.now; step = step; cuts = cuts.now.items; batches = batches } }
+        ensures { result ≡ record { wave = wave.now; step = step; cuts = table.now; batches = batches } }
     {
+        let _few = table.cuts();
         CheckTerms {
             wave,
             step,
-            cuts,
+            table,
             batches,
         }
     }
@@ -54,12 +54,11 @@ impl<'a> CheckTerms<'a> {
         self.wave
     }
 
-    /// The cuts.
-    pub fn cuts(&self) -> &'a Vec<RankCut>
-        ensures value { result.now.items ≡ self.now.cuts }
-        ensures few { length self.now.cuts ≤ 64 }
+    /// The cuts, with the part of each order.
+    pub fn table(&self) -> &'a CutTable<'a>
+        ensures { result.now ≡ self.now.cuts }
     {
-        self.cuts
+        self.table
     }
 
     /// So many sixtieths of a unit of length in units, rounded up to a multiple of the step.
@@ -75,6 +74,6 @@ impl<'a> CheckTerms<'a> {
         ensures { result ≡ net_of self.now own.now }
     {
         let charged = all_charged(own.duals.as_slice(), own.count, self.batches);
-        charged.saturating_sub(taken_off_all(self.cuts, own.prices.as_slice()))
+        charged.saturating_sub(taken_off_all(self.table.cuts(), own.prices.as_slice()))
     }
 }

@@ -1,19 +1,23 @@
 ghost use Rattle.std.specs.Prelude.{◌≡◌, ◌+◌, ◌<◌, ◌≤◌, ◌^◌, All, IfErr, IfNone, IfOk, IfSome, IsTrue, [], drop, false, length};
+ghost use Rattle.wp_pairs.specs.Permitted.{Pairing};
 ghost use Rattle.wp_lengths.specs.Duals.{duals_of, sixtieths_of};
+ghost use Rattle.wp_cuts.specs.Prices.{taken_off};
 ghost use Rattle.wp_lengths.specs.Lengths.{IsLengthOf};
 ghost use Rattle.wp_lengths.specs.Visits.{IsReach, Passed, Place as PlaceDue};
 ghost use Rattle.wp_visit.specs.Places.{IsAt};
-ghost use Rattle.wp_cert.specs.Kept.{IsBill};
+ghost use Rattle.wp_cert.specs.Kept.{IsOwedAt, IsOwedWith, most_off};
+ghost use Rattle.wp_cert.specs.declared.tree.Own.{Own};
 ghost use Rattle.wp_cert.specs.Known.{AreKnown, IsKnown};
 ghost use Rattle.wp_cert.specs.Levels.{AreLevels, IsBoth};
-ghost use Rattle.wp_cert.specs.MarkTests.{IsPaidPlace, IsTestOf, IsTooMuch};
+ghost use Rattle.wp_cert.specs.MarkTests.{IsPaidPlace, IsPlainOwn, IsTestOf, IsTooMuch};
 ghost use Rattle.wp_cert.specs.Refusals.{IsRefusedVisit};
 ghost use Rattle.wp_cert.specs.Trees.{IsVisitOfAll};
 ghost use Rattle.wp_cert.specs.Visited.{HasEachLength, ReachesTooMuch, StandsForMore};
 
 use crate::known::KnownLengths;
 use crate::levels::Levels;
-use crate::paying::{Bill, owed, taken_off};
+use crate::paying::owed;
+use crate::terms::CheckTerms;
 use crate::tested::TestedOwn;
 use crate::tree::CertWhy;
 use wp_lengths::{SIXTIETHS, Wave, reach_of, sum_of};
@@ -26,15 +30,17 @@ pub struct MarkTest<'a> {
     pub levels: Levels,
     pub known: KnownLengths,
     pub next: u64,
+    // there are no cuts, and batches have no price
+    pub is_plain: bool,
 }
 
 // Whether a length in sixtieths is no less than what is owed.
-fn covers(length: u64, owed: u128) -> bool
+fn covers(length: u64, owed: u64) -> bool
     requires { length < 2 ^ 28 }
     ensures yes { IsTrue result → owed ≤ sixtieths_of length }
     ensures no { result ≡ false → sixtieths_of length < owed }
 {
-    owed <= u128::from(SIXTIETHS * length)
+    owed <= SIXTIETHS * length
 }
 
 // A number that the length of a place is no less than: what is known of the place before it.
@@ -51,7 +57,7 @@ fn known_of(wave: &Wave, known: &KnownLengths, place: &Place) -> u64
 
 // A number that the length of a place is no less than: the known one where it covers what is owed, else the length
 // itself. Only there the place is measured.
-fn length_for(wave: &Wave, levels: &mut Levels, place: &Place, known: u64, owed: u128) -> u64
+fn length_for(wave: &Wave, levels: &mut Levels, place: &Place, known: u64, owed: u64) -> u64
     requires levels { AreLevels wave.now levels.old }
     requires orders { All (λ order. order < length wave.now.orders) place.now.batch }
     requires both { IsBoth place.now }
@@ -96,46 +102,57 @@ fn reach_at(tested: &TestedOwn<'_>, visit: &Visit<'_>, place: &Place) -> u128
     reach_of(tested.pairs, duals, place.batch, place.from)
 }
 
-// What a place has in duals, and what cuts take off it.
-fn bill_of(tested: &TestedOwn<'_>, visit: &Visit<'_>, place: &Place) -> Bill
+// What a place owes, of which so much is taken off.
+fn owed_at(tested: &TestedOwn<'_>, visit: &Visit<'_>, place: &Place, off: u128) -> u64
     requires test { IsTestOf visit.now tested.now }
     requires at { IsAt visit.now place.now }
-    ensures { IsBill tested.now.terms.now tested.now.own.now place.now.batch result }
+    requires off { off ≡ taken_off tested.now.terms.now.cuts tested.now.own.now.prices place.now.batch }
+    requires small { off ≤ most_off }
+    ensures { IsOwedAt tested.now.terms.now tested.now.own.now place.now.batch 0 result }
+{
+    owed(tested.own, sum_at(tested, visit, place), off)
+}
+
+// What a place owes with its reach, where so much is taken off.
+fn owed_with(tested: &TestedOwn<'_>, visit: &Visit<'_>, place: &Place, off: u128) -> u64
+    requires test { IsTestOf visit.now tested.now }
+    requires at { IsAt visit.now place.now }
+    requires off { off ≡ taken_off tested.now.terms.now.cuts tested.now.own.now.prices place.now.batch }
+    requires small { off ≤ most_off }
+    ensures { IsOwedWith tested.now.terms.now visit.now.pairing tested.now.own.now place.now.batch
+        place.now.from result }
 {
     let sum = sum_at(tested, visit, place);
-    let prices = tested.own.prices.as_slice();
-    let off = taken_off(tested.terms.cuts(), prices, place.batch);
-    Bill { sum, off }
+    let reach = reach_at(tested, visit, place);
+    owed(tested.own, sum.saturating_add(reach), off)
 }
 
 // Tests a place itself: that it pays no more than its length, unless it is the empty one. The answer is a number that
 // its length is no less than; or else the place pays more.
 fn paid_length(
-    tested: &TestedOwn<'_>,
+    terms: &CheckTerms<'_>,
     levels: &mut Levels,
     place: &Place,
-    bill: &Bill,
+    owed: u64,
     known: u64,
 ) -> Option<u64>
-    requires levels { AreLevels tested.now.terms.now.wave levels.old }
-    requires lengths { HasEachLength tested.now.terms.now.wave }
-    requires orders { All (λ order. order < length tested.now.terms.now.wave.orders) place.now.batch }
+    requires levels { AreLevels terms.now.wave levels.old }
+    requires lengths { HasEachLength terms.now.wave }
+    requires orders { All (λ order. order < length terms.now.wave.orders) place.now.batch }
     requires both { IsBoth place.now }
     requires size { place.now.size ≡ length place.now.batch }
-    requires bill { IsBill tested.now.terms.now tested.now.own.now place.now.batch bill.now }
-    requires known { IsKnown tested.now.terms.now.wave place.now.batch known }
-    ensures levels { AreLevels tested.now.terms.now.wave levels.new }
-    ensures known { IfSome result (IsKnown tested.now.terms.now.wave place.now.batch) }
-    ensures paid { IfSome result (λ least. IsPaidPlace tested.now.terms.now tested.now.own.now
-        place.now.batch) }
-    ensures too_much { IfNone result (IsTooMuch tested.now.terms.now tested.now.own.now
-        place.now.batch) }
+    requires known { IsKnown terms.now.wave place.now.batch known }
+    ensures levels { AreLevels terms.now.wave levels.new }
+    ensures known { IfSome result (IsKnown terms.now.wave place.now.batch) }
+    ensures paid { (own : Own) → IsOwedAt terms.now own place.now.batch 0 owed
+        → IfSome result (λ least. IsPaidPlace terms.now own place.now.batch) }
+    ensures too_much { (own : Own) → IsOwedAt terms.now own place.now.batch 0 owed
+        → IfNone result (IsTooMuch terms.now own place.now.batch) }
 {
     if place.size == 0 {
         return Some(known);
     }
-    let owed = owed(tested.own, bill, 0);
-    let length = length_for(tested.terms.wave(), levels, place, known, owed);
+    let length = length_for(terms.wave(), levels, place, known, owed);
     if covers(length, owed) {
         Some(length)
     } else {
@@ -143,32 +160,81 @@ fn paid_length(
     }
 }
 
-// Whether a place that isn't entered stands for all batches that have more orders after it.
+// Whether a place that isn't entered, and owes so much with its reach, stands for all batches that have more orders
+// after it.
 fn stands_for_more(
-    tested: &TestedOwn<'_>,
+    terms: &CheckTerms<'_>,
     levels: &mut Levels,
-    visit: &Visit<'_>,
     place: &Place,
-    bill: &Bill,
+    owed: u64,
     known: u64,
 ) -> bool
-    requires levels { AreLevels tested.now.terms.now.wave levels.old }
-    requires test { IsTestOf visit.now tested.now }
-    requires at { IsAt visit.now place.now }
-    requires bill { IsBill tested.now.terms.now tested.now.own.now place.now.batch bill.now }
-    requires known { IsKnown tested.now.terms.now.wave place.now.batch known }
-    ensures levels { AreLevels tested.now.terms.now.wave levels.new }
-    ensures yes { IsTrue result
-        → StandsForMore tested.now.terms.now visit.now.pairing tested.now.own.now
-        place.now.batch place.now.from }
-    ensures no { result ≡ false
-        → ReachesTooMuch tested.now.terms.now visit.now.pairing tested.now.own.now
-        place.now.batch place.now.from }
+    requires levels { AreLevels terms.now.wave levels.old }
+    requires lengths { HasEachLength terms.now.wave }
+    requires orders { All (λ order. order < length terms.now.wave.orders) place.now.batch }
+    requires both { IsBoth place.now }
+    requires known { IsKnown terms.now.wave place.now.batch known }
+    ensures levels { AreLevels terms.now.wave levels.new }
+    ensures yes { IsTrue result → (pairing : Pairing) (own : Own)
+        → IsOwedWith terms.now pairing own place.now.batch place.now.from owed
+        → StandsForMore terms.now pairing own place.now.batch place.now.from }
+    ensures no { result ≡ false → (pairing : Pairing) (own : Own)
+        → IsOwedWith terms.now pairing own place.now.batch place.now.from owed
+        → ReachesTooMuch terms.now pairing own place.now.batch place.now.from }
 {
-    let reach = reach_at(tested, visit, place);
-    let owed = owed(tested.own, bill, reach);
-    let length = length_for(tested.terms.wave(), levels, place, known, owed);
+    let length = length_for(terms.wave(), levels, place, known, owed);
     covers(length, owed)
+}
+
+impl MarkTest<'_> {
+    // What cuts take off a place.
+    fn off_at(&self, place: &Place) -> u128
+        requires { IsTrue self.now.is_plain → IsPlainOwn self.now.tested }
+        ensures is { result ≡ taken_off self.now.tested.terms.now.cuts self.now.tested.own.now.prices
+            place.now.batch }
+        ensures small { result ≤ most_off }
+    {
+        if self.is_plain {
+            return 0;
+        }
+        let prices = self.tested.own.prices.as_slice();
+        self.tested.terms.table().taken_off(prices, place.batch)
+    }
+
+    // What a place owes, of which so much is taken off. Where prices are plain it is what the visit keeps.
+    fn owed(&self, visit: &Visit<'_>, place: &Place, off: u128) -> u64
+        requires plain { IsTrue self.now.is_plain → IsPlainOwn self.now.tested }
+        requires test { IsTestOf visit.now self.now.tested }
+        requires at { IsAt visit.now place.now }
+        requires off { off ≡ taken_off self.now.tested.terms.now.cuts self.now.tested.own.now.prices
+            place.now.batch }
+        requires small { off ≤ most_off }
+        ensures { IsOwedAt self.now.tested.terms.now self.now.tested.own.now place.now.batch 0 result }
+    {
+        if self.is_plain && place.sum < MOST_DUAL {
+            return place.sum;
+        }
+        owed_at(&self.tested, visit, place, off)
+    }
+
+    // What a place owes with its reach, where so much is taken off. Where prices are plain it is what the visit keeps.
+    fn owed_with_reach(&self, visit: &Visit<'_>, place: &Place, off: u128) -> u64
+        requires plain { IsTrue self.now.is_plain → IsPlainOwn self.now.tested }
+        requires test { IsTestOf visit.now self.now.tested }
+        requires at { IsAt visit.now place.now }
+        requires off { off ≡ taken_off self.now.tested.terms.now.cuts self.now.tested.own.now.prices
+            place.now.batch }
+        requires small { off ≤ most_off }
+        ensures { IsOwedWith self.now.tested.terms.now visit.now.pairing self.now.tested.own.now
+            place.now.batch place.now.from result }
+    {
+        let _room = visit.room_at(place);
+        let owed = place.sum + visit.reach_of(place);
+        if self.is_plain && owed < MOST_DUAL {
+            return owed;
+        }
+        owed_with(&self.tested, visit, place, off)
+    }
 }
 
 impl Visitor for MarkTest<'_> {
@@ -181,27 +247,36 @@ impl Visitor for MarkTest<'_> {
     ghost enters = { λ task old place from answer new. EntersTest task old place from answer new };
 
     fn enter(&mut self, visit: &Visit<'_>, place: &Place) -> Result<Step, CertWhy> {
-        let tested = self.tested;
-        let known = known_of(tested.terms.wave(), &self.known, place);
-        let bill = bill_of(&tested, visit, place);
-        let Some(least) = paid_length(&tested, &mut self.levels, place, &bill, known) else {
+        let terms = self.tested.terms;
+        let known = known_of(terms.wave(), &self.known, place);
+        let off = self.off_at(place);
+        let owed = self.owed(visit, place, off);
+        let Some(least) = paid_length(terms, &mut self.levels, place, owed, known) else {
             return Err(CertWhy::NotFeasible(place.batch));
         };
         let next = self.next;
-        if next == tested.own.marks.len() {
+        if next == self.tested.own.marks.len() {
             return Err(CertWhy::BadMarks);
         }
         self.next = next + 1;
-        if tested.own.marks.at(next) {
-            self.known.keep(place.batch, least);
+        if self.tested.own.marks.at(next) {
+            self.known.keep(place.size, place.batch, least);
             return Ok(Step::Deeper);
         }
-        if stands_for_more(&tested, &mut self.levels, visit, place, &bill, least) {
+        let reached = self.owed_with_reach(visit, place, off);
+        if stands_for_more(terms, &mut self.levels, place, reached, least) {
             Ok(Step::Past)
         } else {
             Err(CertWhy::BadMarks)
         }
     }
+}
+
+// Whether there are no cuts, and batches have no price.
+fn is_plain(tested: &TestedOwn<'_>) -> bool
+    ensures { IsTrue result → IsPlainOwn tested.now }
+{
+    tested.terms.table().cuts().is_empty() && tested.own.count == 0
 }
 
 /// Goes through the marks of a node from the first on, along a visit of its permitted batches. The answer is where the
@@ -219,6 +294,7 @@ pub fn go_through(tested: &TestedOwn<'_>, visit: &Visit<'_>) -> Result<u64, Cert
         levels: Levels::none(tested.terms.wave()),
         known: KnownLengths::none(),
         next: 0,
+        is_plain: is_plain(tested),
     };
     visit.visit_all(&mut test)?;
     Ok(test.next)

@@ -325,3 +325,31 @@ parts_small (q ∷ qs) divisor low all =
     let rest = parts_small qs divisor low (λ k d within. all (suc k) d (omega (arith, within))) in
     let first = (all 0 0 (omega arith)).1 in
     omega (arith, rest, first, low, sum_by-cons (λ (n : ℕ). n) q qs)
+
+-- an order of a kind has its part
+pub kind_met : (cut : CutParts) (kinds : List (List ℕ)) (row : List ℕ) (order part : ℕ) → IsRankCut 64 cut → AreKinds cut.orders cut.parts kinds → 1 ≤ part
+    → part < cut.divisor → row ≡ slice_index_or kinds (part - 1) row → Contains row order → cut_part cut order ≡ part
+kind_met cut kinds row order part valid are some low read has =
+    let whole : part - 1 + 1 ≡ part = omega (arith, some) in
+    let within : part - 1 < 7 = omega (arith, some, low, valid.high) in
+    let item : slice_index_or kinds (part - 1) [] ≡ row = get_or_default kinds (part - 1) [] row (omega (arith, within, are.whole)) ∙ sym read in
+    kind_has cut kinds 64 (part - 1) order valid are within (subst (λ (xs : List ℕ). Contains xs order) (sym item) has) ∙ whole
+
+-- an order that isn't of a kind has another
+pub kind_missed : (cut : CutParts) (kinds : List (List ℕ)) (row : List ℕ) (order part : ℕ) → IsRankCut 64 cut → AreKinds cut.orders cut.parts kinds → 1 ≤ part
+    → part < cut.divisor → row ≡ slice_index_or kinds (part - 1) row → (Contains row order → ⊥) → cut_part cut order ≡ part → ⊥
+kind_missed cut kinds row order part valid are some low read not is =
+    let whole : part - 1 + 1 ≡ part = omega (arith, some) in
+    let within : part - 1 < 7 = omega (arith, some, low, valid.high) in
+    let item : slice_index_or kinds (part - 1) [] ≡ row = get_or_default kinds (part - 1) [] row (omega (arith, within, are.whole)) ∙ sym read in
+    kind_lacks cut kinds 64 (part - 1) order valid are within (λ has. not (subst (λ (xs : List ℕ). Contains xs order) item has)) (is ∙ sym whole)
+
+-- an order with none of the parts has none
+pub none_met : (cut : CutParts) (order end : ℕ) → IsRankCut 64 cut → cut.divisor ≤ end
+    → ((part : ℕ) → 1 ≤ part → part < end → cut_part cut order ≡ part → ⊥) → 0 ≡ cut_part cut order
+none_met cut order end valid over missed =
+    let below = part_below cut.orders cut.parts cut.divisor order (omega (arith, valid.low)) valid.parts in
+    ⊎_elim
+    (λ (none : cut_part cut order < 1). let is : 0 ≡ cut_part cut order = omega (arith, none) in is)
+    (λ (some : 1 ≤ cut_part cut order). absurd (missed (cut_part cut order) some (omega (arith, below, over)) refl))
+    (cases_lt (cut_part cut order) 1)

@@ -6,6 +6,7 @@ pub mod MetCuts
 pub mod Nets
 pub mod PlainPrices
 pub mod KeptParts
+pub mod TableRows
 pub mod TakenOff
 pub mod PricedMarks
 pub mod PlainVisits

@@ -1,4 +1,5 @@
 pub mod Steps
+pub mod Tables
 pub mod Counts
 pub mod Cuts
 pub mod KeptCuts

@@ -188,6 +188,19 @@ impl RankCut {
         self.parts.as_slice()
     }
 
+    /// The part of an order, 0 where the cut doesn't have it.
+    pub fn part_of(&self, order: u32) -> u16
+        ensures is { result ≡ cut_part self.now order }
+        ensures small { result ≤ 7 }
+    {
+        for part in 1..self.divisor {
+            if self.kinds[part as usize - 1].has(order) {
+                return part as u16;
+            }
+        }
+        0
+    }
+
     // What the orders of a batch have in parts.
     fn parts_of(&self, batch: Batch) -> u32
         ensures is { result ≡ sum_by (cut_part self.now) batch }

@@ -7,6 +7,7 @@ mod cut;
 mod laws;
 mod prices;
 mod step;
+mod table;
 
 pub use counts::least_batches;
 pub use cut::{GREATEST_DIVISOR, RankCut};
@@ -17,3 +18,4 @@ pub use laws::{
 };
 pub use prices::{Prices, are_zero};
 pub use step::{rounded_up, step_of};
+pub use table::CutTable;

@@ -180,3 +180,14 @@ copies_filled originals copies same filled = λ k d within.
     let points = (get_or originals k d).points in
     let has = (same.each k d within (get_or points 0 first)).1 (Contains-get_or points 0 first there) in
     omega (arith, has.1)
+
+-- slots that are put together with those of an order, from none on
+pub put_together : (wave : WavePicks) (order : ℕ) (none points both read more : List Point) → none ≡ []
+    → ((p : Point) → Contains both p ↔ (Contains none p ⊎ Contains points p)) → read ≡ picks_of wave order
+    → ((p : Point) → Contains more p ↔ (Contains both p ⊎ Contains read p)) → (p : Point)
+    → Contains more p ↔ (Contains points p ⊎ Contains (picks_of wave order) p)
+put_together wave order none points both read more empty first is second p = (
+  λ has. ⊎_elim (λ old. inl (⊎_elim (λ bare. absurd (nothing_in none p empty bare)) (λ of. of) ((first p).0 old)))
+      (λ new. inr (subst (λ (xs : List Point). Contains xs p) is new)) ((second p).0 has),
+  λ has. (second p).1 (⊎_elim (λ old. inl ((first p).1 (inr old))) (λ new. inr (subst (λ (xs : List Point). Contains xs p) (sym is) new)) has),
+)

@@ -17,5 +17,5 @@ HaveLengths wave lengths = All (IsKeptLength wave) lengths
 
 -- the slots of a batch are those at which some order of it picks
 pub record IsPicked (wave : WavePicks) (picked : PickedBatch) : Type 0 where
-  pub layout : picked.union.layout ≡ wave.layout
-  pub points : (p : Point) → Contains picked.union.points p ↔ Contains (batch_picks wave picked.batch) p
+  pub layout : picked.union.now.layout ≡ wave.layout
+  pub points : (p : Point) → Contains picked.union.now.points p ↔ Contains (batch_picks wave picked.batch) p

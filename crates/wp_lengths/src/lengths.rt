@@ -9,10 +9,10 @@ pub struct Length {
 }
 
 /// A batch and the slots at which its orders pick.
-#[derive(Drop)]
-pub struct PickedBatch {
+#[derive(Clone, Copy)]
+pub struct PickedBatch<'a> {
     pub batch: Batch,
-    pub union: Picks,
+    pub union: &'a Picks,
 }
 
 /// Up to so many orders, from a first one on.

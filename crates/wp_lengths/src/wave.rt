@@ -1,5 +1,5 @@
 ghost use Rattle.std.specs.Prelude.{◌≡◌, ◌≤◌, ◌<◌, ◌*◌, ◌^◌, ◌↔◌, ◌⊎◌, ◌++◌, ℕ, All, Contains, IfOk, IfSome, IsTrue};
-ghost use Rattle.std.specs.Prelude.{None, Some, length};
+ghost use Rattle.std.specs.Prelude.{[], None, Some, length};
 ghost use Rattle.wp_model.specs.declared.point.Point.{Point as PointData};
 ghost use Rattle.wp_model.specs.Warehouse.{Layout as Block};
 ghost use Rattle.wp_pairs.specs.Carts.{FitsAnyCart, IsCartFor};
@@ -255,7 +255,9 @@ impl Wave {
         ensures is { IsLengthOf self.now batch result }
         ensures small { result < 2 ^ 28 }
     {
-        tour_length(&self.layout, &self.union_of(batch))
+        let mut union = Picks::new(&self.layout);
+        self.join_orders(&mut union, batch);
+        tour_length(&self.layout, &union)
     }
 
     /// Keeps the lengths of all batches of at most so many orders: from then on the length of such a batch is looked
@@ -355,9 +357,10 @@ impl Wave {
         ensures { HaveLengths self.now lengths.new }
     {
         let batch = Batch::empty();
+        let union = self.union_of(batch);
         let none = PickedBatch {
             batch,
-            union: self.union_of(batch),
+            union: &union,
         };
         let all = Later {
             first: 0,
@@ -371,7 +374,14 @@ impl Wave {
     }
 
     // Keeps the length of a batch and of each with up to so many further orders, as far as their places lie in a part.
-    fn keep_all(&self, part: &Part<'_>, lengths: &mut [Length], picked: &PickedBatch, later: Later)
+    #[cycle(keeping)]
+    fn keep_all(
+        &self,
+        part: &Part<'_>,
+        lengths: &mut [Length],
+        picked: &PickedBatch<'_>,
+        later: Later,
+    )
         requires picked { IsPicked self.now picked.now }
         requires kept { HaveLengths self.now lengths.old }
         ensures { HaveLengths self.now lengths.new }
@@ -389,42 +399,56 @@ impl Wave {
             return;
         }
         for order in later.first..self.orders() {
-            let wider = PickedBatch {
-                batch: picked.batch.with(order),
-                union: self.union_with(&picked.union, order),
+            let from = Later {
+                first: order,
+                most: later.most,
             };
-            let after = Later {
-                first: order + 1,
-                most: later.most - 1,
-            };
-            self.keep_all(part, lengths, &wider, after);
+            self.keep_wider(part, lengths, picked, from);
         }
     }
 
+    // Keeps the lengths of a batch with the first of some later orders, and with further ones of them. The slots of
+    // both are put together where they are asked for, and copied nowhere.
+    #[cycle(keeping)]
+    fn keep_wider(
+        &self,
+        part: &Part<'_>,
+        lengths: &mut [Length],
+        picked: &PickedBatch<'_>,
+        later: Later,
+    )
+        requires known { later.first < length self.now.orders }
+        requires some { 1 ≤ later.most }
+        requires picked { IsPicked self.now picked.now }
+        requires kept { HaveLengths self.now lengths.old }
+        ensures { HaveLengths self.now lengths.new }
+    {
+        let order = later.first;
+        let mut union = Picks::new(&self.layout);
+        union.join(picked.union);
+        union.join(&self.orders[order as usize]);
+        let wider = PickedBatch {
+            batch: picked.batch.with(order),
+            union: &union,
+        };
+        let after = Later {
+            first: order + 1,
+            most: later.most - 1,
+        };
+        self.keep_all(part, lengths, &wider, after);
+    }
+
     // Keeps the length of a batch at a place, if there is one.
-    fn keep_one(&self, lengths: &mut [Length], picked: &PickedBatch, place: u64)
+    fn keep_one(&self, lengths: &mut [Length], picked: &PickedBatch<'_>, place: u64)
         requires picked { IsPicked self.now picked.now }
         requires kept { HaveLengths self.now lengths.old }
         ensures { HaveLengths self.now lengths.new }
     {
         if place < lengths.len() as u64 {
             let batch = picked.batch;
-            let length = tour_length(&self.layout, &picked.union);
+            let length = tour_length(&self.layout, picked.union);
             lengths[place as usize] = Length { batch, length };
         }
-    }
-
-    // The slots of a union, and those at which one more order picks.
-    fn union_with(&self, union: &Picks, order: u32) -> Picks
-        requires known { order < length self.now.orders }
-        requires layout { union.now.layout ≡ self.now.layout }
-        ensures layout { result.layout ≡ self.now.layout }
-        ensures points { (p : PointData) → Contains result.points p
-            ↔ (Contains union.now.points p ⊎ Contains (picks_of self.now order) p) }
-    {
-        let mut wider = copy_of(&self.layout, union);
-        wider.join(&self.orders[order as usize]);
-        wider
     }
 
     /// The slots at which the orders of a batch pick.
@@ -435,11 +459,23 @@ impl Wave {
             ↔ Contains (batch_picks self.now batch) p }
     {
         let mut union = Picks::new(&self.layout);
+        self.join_orders(&mut union, batch);
+        union
+    }
+
+    // Adds the slots at which the orders of a batch pick to none.
+    fn join_orders(&self, union: &mut Picks, batch: Batch)
+        requires orders { All (λ order. order < length self.now.orders) batch }
+        requires layout { union.old.layout ≡ self.now.layout }
+        requires empty { union.old.points ≡ [] }
+        ensures layout { union.new.layout ≡ self.now.layout }
+        ensures points { (p : PointData) → Contains union.new.points p
+            ↔ Contains (batch_picks self.now batch) p }
+    {
         for (place, picks) in self.orders.iter().enumerate() {
             if batch.has(place as u32) {
                 union.join(picks);
             }
         }
-        union
     }
 }

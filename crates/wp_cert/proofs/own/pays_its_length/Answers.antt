@@ -12,7 +12,7 @@ returns-then-charged-paid c = (
       (omega (
         arith,
         (rw c.as_slice.ensures at c.sum_of-sum.ensures),
-        (rw (c.as_slice-2.ensures, c.cuts.ensures.value) at c.taken_off-off.ensures.is),
+        (rw (c.as_slice-2.ensures, c.table.ensures) at c.taken_off-off.ensures.is),
         c.taken_off-off.ensures.small,
         c.saturating_add-charged.ensures,
         c.from.ensures,
@@ -29,7 +29,7 @@ returns c = (
   λ pays. absurd (c.if-charged-paid.false (omega (
     arith,
     (rw c.as_slice.ensures at c.sum_of-sum.ensures),
-    (rw (c.as_slice-2.ensures, c.cuts.ensures.value) at c.taken_off-off.ensures.is),
+    (rw (c.as_slice-2.ensures, c.table.ensures) at c.taken_off-off.ensures.is),
     c.taken_off-off.ensures.small,
     c.saturating_add-charged.ensures,
     c.from.ensures,

@@ -13,6 +13,7 @@ visit_all-requires c = record {
     levels = subst (λ (w : WavePicks). AreLevels w c.none.result) c.wave.ensures c.none.ensures;
     known = c.none-2.ensures c.args.tested.now.terms.now.wave;
     within = omega arith;
+    plain = c.is_plain.ensures;
   };
 }
 
@@ -20,11 +21,11 @@ pub returns-in_err-visit_all-clause-err : goal.returns-in_err-visit_all-clause-e
 returns-in_err-visit_all-clause-err c =
     let p = err_from_is_err_and c.from_residual.result c.from_residual.ensures.1 in
     rw (p.1, p.2) (visited_all c.args.visit.now c.args.tested.now
-    (record { tested = c.args.tested.now; levels = c.none.result; known = c.none-2.result; next = 0 }) c.visit_all.new.visitor
+    (record { tested = c.args.tested.now; levels = c.none.result; known = c.none-2.result; next = 0; is_plain = c.is_plain.result }) c.visit_all.new.visitor
     (Err c.in_err-visit_all.field-0.0) c.requires c.in_err-visit_all.ensures.course refl refl)
 
 pub returns-clause-ok : goal.returns-clause-ok
 returns-clause-ok c =
     visited_all c.args.visit.now c.args.tested.now
-    (record { tested = c.args.tested.now; levels = c.none.result; known = c.none-2.result; next = 0 }) c.visit_all.new.visitor (Ok tt) c.requires
+    (record { tested = c.args.tested.now; levels = c.none.result; known = c.none-2.result; next = 0; is_plain = c.is_plain.result }) c.visit_all.new.visitor (Ok tt) c.requires
     c.in_ok-visit_all.ensures.course refl refl

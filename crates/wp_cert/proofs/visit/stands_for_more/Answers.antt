@@ -3,7 +3,7 @@ use Rattle.wp_lengths.specs.Lengths.{IsLengthOf}
 use Rattle.wp_lengths.specs.Waves.{WavePicks}
 use Rattle.wp_cert.specs.Known.{IsKnown}
 use Rattle.wp_cert.specs.Levels.{AreLevels}
-use Rattle.wp_cert.proofs.Entering.{more_there, orders_known, reached_there}
+use Rattle.wp_cert.proofs.Entering.{more_there, reached_there}
 use Rattle.wp_cert.proofs.visit.stands_for_more.Goals as goal
 
 pub length_for-length-requires-clause-levels : goal.length_for-length-requires-clause-levels
@@ -13,17 +13,15 @@ pub returns-clause-levels : goal.returns-clause-levels
 returns-clause-levels c = subst (λ (w : WavePicks). AreLevels w c.length_for-length.new.levels) c.wave.ensures c.length_for-length.ensures.levels
 
 pub returns-clause-yes : goal.returns-clause-yes
-returns-clause-yes c = λ yes.
-    more_there c.args.tested.now.terms.now c.args.visit.now.pairing c.args.tested.now.own.now c.args.place.now.batch c.args.place.now.from
-    c.reach_at-reach.result c.args.bill.now.off c.owed-owed.result c.length_for-length.result c.requires.test.lengths
-    (orders_known c.args.visit.now c.args.tested.now c.requires.test c.args.place.now c.requires.at)
-    (subst (λ (w : WavePicks). IsKnown w c.args.place.now.batch c.length_for-length.result) c.wave.ensures c.length_for-length.ensures.known)
-    c.reach_at-reach.ensures (rw c.requires.bill.sum at c.owed-owed.ensures) c.requires.bill.off (c.covers.ensures.yes yes)
+returns-clause-yes c = λ yes pairing own with.
+    more_there c.args.terms.now pairing own c.args.place.now.batch c.args.place.now.from c.args.owed c.length_for-length.result c.requires.lengths
+    c.requires.orders
+    (subst (λ (w : WavePicks). IsKnown w c.args.place.now.batch c.length_for-length.result) c.wave.ensures c.length_for-length.ensures.known) with
+    (c.covers.ensures.yes yes)
 
 pub returns-clause-no : goal.returns-clause-no
-returns-clause-no c = λ no_cover.
+returns-clause-no c = λ no_cover pairing own with.
     let short = c.covers.ensures.no no_cover in
-    reached_there c.args.tested.now.terms.now c.args.visit.now.pairing c.args.tested.now.own.now c.args.place.now.batch c.args.place.now.from
-    c.reach_at-reach.result c.args.bill.now.off c.owed-owed.result c.length_for-length.result
+    reached_there c.args.terms.now pairing own c.args.place.now.batch c.args.place.now.from c.args.owed c.length_for-length.result
     (subst (λ (w : WavePicks). IsLengthOf w c.args.place.now.batch c.length_for-length.result) c.wave.ensures (c.length_for-length.ensures.exact short))
-    c.length_for-length.ensures.known.small c.reach_at-reach.ensures (rw c.requires.bill.sum at c.owed-owed.ensures) c.requires.bill.off short
+    c.length_for-length.ensures.known.small with short

@@ -7,7 +7,7 @@ pub returns : goal.returns
 returns c = omega (
   arith,
   (rw c.as_slice.ensures at c.all_charged-charged.ensures),
-  (rw c.as_slice-2.ensures at c.taken_off_all.ensures.is),
+  (rw (c.as_slice-2.ensures, c.cuts.ensures.value) at c.taken_off_all.ensures.is),
   c.saturating_sub.ensures,
   ap (λ (t : Terms). t.batches * c.args.own.now.count) c.self.view_is,
   ap (λ (t : Terms). taken_off_all t.cuts c.args.own.now.prices) c.self.view_is,

@@ -10,4 +10,4 @@ pub returns-clause-is : goal.returns-clause-is
 returns-clause-is c =
     subst (λ (layout : Layout). IsShortest layout (batch_picks c.args.self.now c.args.batch) c.tour_length.result)
     (ap (λ (w : WavePicks). w.layout) c.self.view_is)
-    (same_shortest _ _ _ _ c.union_of.ensures.points c.tour_length.ensures.shortest)
+    (same_shortest _ _ _ _ c.join_orders.ensures.points c.tour_length.ensures.shortest)

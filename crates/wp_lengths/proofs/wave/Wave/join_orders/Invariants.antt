@@ -1,7 +1,7 @@
 use Rattle.std.proofs.Common.{◌≡◌, ◌↔◌, Contains}
 use Rattle.wp_model.specs.declared.point.Point.{Point}
 use Rattle.wp_lengths.proofs.Unions.{IsPickedBelow}
-use Rattle.wp_lengths.proofs.wave.Wave.union_of.Given as goal
+use Rattle.wp_lengths.proofs.wave.Wave.join_orders.Given as goal
 
 abbrev pub invariant-loop-place : goal.invariant-loop-place
 invariant-loop-place l = record {

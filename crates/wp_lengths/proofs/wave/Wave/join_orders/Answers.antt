@@ -3,8 +3,8 @@ use Rattle.std.proofs.lemmas.Bool.{both_ways}
 use Rattle.std.proofs.lemmas.List.Elements.{All-weaker}
 use Rattle.wp_lengths.specs.Waves.{WavePicks}
 use Rattle.wp_lengths.proofs.Unions.{picked_as_before, picked_by_batch, picked_more, read_of}
-use Rattle.wp_lengths.proofs.wave.Wave.union_of.Goals as goal
-use Rattle.wp_lengths.proofs.wave.Wave.union_of.Goals.{else-has, then-has}
+use Rattle.wp_lengths.proofs.wave.Wave.join_orders.Goals as goal
+use Rattle.wp_lengths.proofs.wave.Wave.join_orders.Goals.{else-has, then-has}
 
 pub loop-place-preserved : goal.loop-place-preserved
 loop-place-preserved c =
@@ -28,4 +28,4 @@ returns-clause-points c =
     sym (ap (λ (w : WavePicks). length w.orders) c.self.view_is) ∙ sym (ap length c.deref-picks-items.ensures.value) in
     picked_by_batch _ _ _ _
     (All-weaker (λ order. order < length c.args.self.now.orders) (λ order. order < c.loop-place.place)
-    (λ order low. omega (arith, low, all, c.loop-place-test.false)) c.args.batch c.requires) c.loop-place.invariant.picked
+    (λ order low. omega (arith, low, all, c.loop-place-test.false)) c.args.batch c.requires.orders) c.loop-place.invariant.picked
