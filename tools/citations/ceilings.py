@@ -7,7 +7,7 @@ CEILINGS = {
     'docs/CONTRIBUTING.md': 1005,
     'docs/CREWS.md': 770,
     'docs/DAY.md': 2190,
-    'docs/DECISIONS.md': 6285,
+    'docs/DECISIONS.md': 5575,
     'docs/DESKS.md': 2500,
     'docs/EXAMPLES.md': 2080,
     'docs/FORMATS.md': 6860,
