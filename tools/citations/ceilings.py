@@ -3,7 +3,7 @@ shorter, or its number here is raised with a reason in the commit."""
 
 CEILINGS = {
     'README.md': 1515,
-    'docs/BATCHES.md': 7155,
+    'docs/BATCHES.md': 6525,
     'docs/CONTRIBUTING.md': 1005,
     'docs/CREWS.md': 770,
     'docs/DAY.md': 2190,
@@ -12,7 +12,7 @@ CEILINGS = {
     'docs/EXAMPLES.md': 2080,
     'docs/FORMATS.md': 6860,
     'docs/MAP.md': 3595,
-    'docs/MEASURES.md': 3610,
+    'docs/MEASURES.md': 3685,
     'docs/PROMISES.md': 6880,
     'docs/QUESTIONS.md': 2150,
     'docs/RULES.md': 1905,
