@@ -16,7 +16,7 @@ CEILINGS = {
     'docs/PROMISES.md': 6880,
     'docs/QUESTIONS.md': 2150,
     'docs/RULES.md': 1905,
-    'docs/SAFETY.md': 2660,
+    'docs/SAFETY.md': 2480,
     'docs/STORE.md': 2170,
     'docs/TABLES.md': 650,
     'docs/TOURS.md': 4000,
