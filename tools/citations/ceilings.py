@@ -4,11 +4,11 @@ shorter, or its number here is raised with a reason in the commit."""
 CEILINGS = {
     'README.md': 1515,
     'docs/BATCHES.md': 6525,
-    'docs/CONTRIBUTING.md': 1005,
+    'docs/CONTRIBUTING.md': 970,
     'docs/CREWS.md': 770,
     'docs/DAY.md': 2190,
     'docs/DECISIONS.md': 5575,
-    'docs/DESKS.md': 2500,
+    'docs/DESKS.md': 2395,
     'docs/EXAMPLES.md': 2080,
     'docs/FORMATS.md': 6860,
     'docs/MAP.md': 3595,
