@@ -4,7 +4,7 @@ shorter, or its number here is raised with a reason in the commit."""
 CEILINGS = {
     'README.md': 1515,
     'docs/BATCHES.md': 6525,
-    'docs/CONTRIBUTING.md': 970,
+    'docs/CONTRIBUTING.md': 985,
     'docs/CREWS.md': 770,
     'docs/DAY.md': 2190,
     'docs/DECISIONS.md': 5575,
