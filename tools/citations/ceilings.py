@@ -11,7 +11,7 @@ CEILINGS = {
     'docs/DESKS.md': 2395,
     'docs/EXAMPLES.md': 2080,
     'docs/FORMATS.md': 6860,
-    'docs/MAP.md': 3485,
+    'docs/MAP.md': 3295,
     'docs/MEASURES.md': 3685,
     'docs/PROMISES.md': 6520,
     'docs/QUESTIONS.md': 2150,
