@@ -12,7 +12,7 @@ CEILINGS = {
     'docs/EXAMPLES.md': 2080,
     'docs/FORMATS.md': 6860,
     'docs/MAP.md': 3295,
-    'docs/MEASURES.md': 3685,
+    'docs/MEASURES.md': 3515,
     'docs/PROMISES.md': 6520,
     'docs/QUESTIONS.md': 2150,
     'docs/RULES.md': 1905,
